@@ -1,0 +1,3 @@
+mod AddressLaws
+mod LowerCase
+mod PartLaws

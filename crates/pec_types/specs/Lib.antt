@@ -1,0 +1,4 @@
+pub mod Address
+pub mod AddressReading
+pub mod Message
+pub mod Text

@@ -1,0 +1,92 @@
+ghost use Rattle.std.specs.Prelude.{◌≡◌, ℕ, ◌<◌};
+ghost use Rattle.pec_types.specs.Message.{Id};
+ghost use Rattle.pec_types.specs.declared.messages.TheConstants.{MESSAGES};
+
+use crate::addresses::Address;
+use crate::lists::Items;
+use crate::moments::Moment;
+use crate::texts::Text;
+use std::marker::Model;
+
+/// How many messages a provider may have, and the first number that no message has.
+pub const MESSAGES: u64 = 1_000_000;
+
+/// A message: the number of the provider that it was submitted to, and its number there, below 1,000,000.
+/// Contracts see both numbers.
+#[derive(Clone, Copy, Debug, PartialEq, Eq)]
+pub struct MsgId {
+    pub provider: u32,
+    pub number: u64,
+}
+
+impl Model for MsgId {
+    ghost Value = { Id };
+
+    ghost view = { λ id. record { provider = id.provider; number = id.number } };
+
+    ghost invariant = { λ id. id.number < MESSAGES };
+
+    ghost inverse = { λ id. record { provider = id.provider; number = id.number } };
+}
+
+/// What a sender wants back with a delivery receipt: the original, its brief form, or nothing (RFC 6109, section 3.1).
+#[derive(Clone, Copy, Debug, PartialEq, Eq)]
+pub enum Wish {
+    Full,
+    Brief,
+    Concise,
+}
+
+/// A recipient that stands in `To` is primary; one that stands in `Cc` alone gets a copy.
+#[derive(Clone, Copy, Debug, PartialEq, Eq)]
+pub enum Class {
+    Primary,
+    Copy,
+}
+
+/// Why a recipient's provider couldn't place a message.
+#[derive(Clone, Copy, Debug, PartialEq, Eq)]
+pub enum Refusal {
+    NoMailbox,
+    MailboxFull,
+    Virus,
+}
+
+/// What became of a message at a recipient's provider.
+#[derive(Clone, Copy, Debug, PartialEq, Eq)]
+pub enum Decision {
+    Placed,
+    Refused(Refusal),
+}
+
+/// One recipient of a message.
+#[derive(Drop)]
+pub struct Recipient {
+    pub address: Address,
+    pub class: Class,
+}
+
+/// What a message's head says of it: sender, recipients in order of first appearance, each once, and the texts that
+/// receipts repeat.
+#[derive(Drop)]
+pub struct Facts {
+    pub sender: Address,
+    pub recipients: Items<Recipient>,
+    pub wish: Wish,
+    pub subject: Option<Text>,
+    pub reference: Option<Text>,
+    pub reply: Text,
+}
+
+/// One line of a sender's book: a message, one of its certified recipients, and what is known of the two.
+#[derive(Drop)]
+pub struct BookLine {
+    pub id: MsgId,
+    pub recipient: Address,
+    pub class: Class,
+    pub accepted: Moment,
+    pub charged: Option<Moment>,
+    pub warned: Option<Moment>,
+    pub noticed: Option<Moment>,
+    pub outcome: Option<(Decision, Moment)>,
+}

@@ -1,0 +1,139 @@
+ghost use Rattle.std.specs.Prelude.{◌≡◌, ℕ, List, IfOk, position};
+ghost use Rattle.pec_types.specs.Text.{is_unprintable, AllPrintable, AnswersText};
+ghost use Rattle.pec_types.specs.declared.texts.TextFault.TheVariants as faults;
+
+use crate::faults::NoMemory;
+use std::alloc::{AllocError, Global};
+use std::marker::Model;
+
+/// Why bytes are no [`Text`].
+#[derive(Clone, Copy, Debug, PartialEq, Eq)]
+pub enum TextFault {
+    /// The place of the first byte outside 0x20 to 0x7e.
+    NotPrintable(usize),
+    NoMemory,
+}
+
+impl From<AllocError> for TextFault {
+    ghost from_gives = { λ _ fault. fault ≡ faults.NoMemory };
+
+    fn from(_: AllocError) -> Self {
+        TextFault::NoMemory
+    }
+}
+
+/// Bytes from 0x20 to 0x7e, as many as there are. This project's profile.
+#[derive(Drop)]
+pub struct Text {
+    bytes: Vec<u8>,
+}
+
+impl Model for Text {
+    ghost Value = { List ℕ };
+
+    ghost view = { λ text. text.bytes.items };
+
+    ghost invariant = { λ text. AllPrintable text.bytes.items };
+}
+
+impl Text {
+    /// The text of these bytes. `NotPrintable` gives the first byte outside 0x20 to 0x7e.
+    pub fn new(alloc: Global, bytes: &[u8]) -> Result<Text, TextFault>
+        ensures { AnswersText bytes.now result }
+    {
+        if let Some(place) = first_unprintable(bytes) {
+            return Err(TextFault::NotPrintable(place));
+        }
+        let bytes = Vec::from_slice(alloc, bytes)?;
+        Ok(Text { bytes })
+    }
+
+    /// The bytes of the text. It takes no memory.
+    pub fn bytes(&self) -> &[u8]
+        ensures value { result.now ≡ self.now }
+        ensures printable { AllPrintable self.now }
+    {
+        self.bytes.as_slice()
+    }
+
+    /// An equal text.
+    pub fn copy(&self, alloc: Global) -> Result<Text, NoMemory>
+        ensures { IfOk result (λ text. text ≡ self.now) }
+    {
+        let bytes = Vec::from_slice(alloc, self.bytes.as_slice())?;
+        Ok(Text { bytes })
+    }
+}
+
+fn first_unprintable(bytes: &[u8]) -> Option<usize>
+    ensures { result ≡ position is_unprintable bytes.now }
+{
+    bytes.iter().position(|b| *b < 0x20 || 0x7e < *b)
+}
+
+/// A list of any bytes.
+#[derive(Drop)]
+pub struct Text8 {
+    bytes: Vec<u8>,
+}
+
+impl Model for Text8 {
+    ghost Value = { List ℕ };
+
+    ghost view = { λ text. text.bytes.items };
+}
+
+impl Text8 {
+    /// The list of these bytes. It takes no memory.
+    pub fn of(bytes: Vec<u8>) -> Text8
+        ensures { result ≡ bytes.items }
+    {
+        Text8 { bytes }
+    }
+
+    /// The bytes. It takes no memory.
+    pub fn bytes(&self) -> &[u8]
+        ensures { result.now ≡ self.now }
+    {
+        self.bytes.as_slice()
+    }
+
+    /// An equal list of bytes.
+    pub fn copy(&self, alloc: Global) -> Result<Text8, NoMemory>
+        ensures { IfOk result (λ text. text ≡ self.now) }
+    {
+        let bytes = Vec::from_slice(alloc, self.bytes.as_slice())?;
+        Ok(Text8 { bytes })
+    }
+}
+
+#[cfg(test)]
+mod tests {
+    use super::*;
+    use crate::lists::Items;
+    use crate::moments::Moment;
+    use std::test::Fail;
+
+    #[test]
+    fn keeps_texts_moments_and_lists(rt: HostRuntime) -> Result<(), Fail> {
+        assert_eq!(rt;
+            Text::new(rt.alloc(), b"a\n").err(),
+            Some(TextFault::NotPrintable(1))
+        );
+        let text = Text::new(rt.alloc(), b" ~")?;
+        assert_eq!(rt; text.copy(rt.alloc())?.bytes(), b" ~".as_slice());
+        let bytes = Text8::of(Vec::from_slice(rt.alloc(), &[0, 255])?);
+        assert_eq!(rt; bytes.copy(rt.alloc())?.bytes(), [0, 255].as_slice());
+        assert_eq!(rt;
+            Moment::new(4_102_444_799).map(|moment| moment.seconds()),
+            Some(4_102_444_799)
+        );
+        assert_eq!(rt;
+            Moment::new(4_102_444_800).map(|moment| moment.seconds()),
+            None
+        );
+        let items = Items::of(vec![in rt.alloc(); 3u8, 4u8]?);
+        assert_eq!(rt; items.as_slice(), [3, 4].as_slice());
+        Ok(())
+    }
+}
