@@ -5,8 +5,8 @@ use Rattle.std.proofs.lemmas.Bool.{false≢true, eqb-false}
 use Rattle.std.proofs.lemmas.Iterator.Adapters.{position_from-zero}
 use Rattle.std.proofs.lemmas.List.{take-append-drop}
 use Rattle.std.specs.List.{flat_map, AllByRecursion, position_from}
-use Rattle.pec_types.specs.Address.{is_atom_byte, AllAtomBytes, IsAtom, IsLocal, IsDomain, dotted, IsDotted, IsAddress, lowered, CanGoOn, IsBadAt, HasNoAt, IsParted, IsAddressFault, AnswersAddress}
-use Rattle.pec_types.specs.AddressReading.{stop_at, is_at_sign, domain_read, local_read, parted_read, address_of, Gives}
+use Rattle.pec_types.specs.Address.{is_atom_byte, AllAtomBytes, IsAtom, IsLocal, IsDomain, dotted, IsDotted, IsAddress, HasDomain, lowered, CanGoOn, IsBadAt, HasNoAt, IsParted, IsAddressFault, AnswersAddress}
+use Rattle.pec_types.specs.AddressReading.{stop_at, is_at_sign, behind_sign, domain_of, domain_read, local_read, parted_read, address_of, Gives}
 use Rattle.pec_types.specs.declared.addresses.AddressFault.{AddressFault}
 use Rattle.pec_types.specs.declared.addresses.AddressFault.TheVariants.{Empty, TooLong, NoAt, BadLocal, BadDomain, NoMemory}
 use Rattle.pec_types.specs.declared.scanning.Stand.{Stand}
@@ -271,3 +271,12 @@ read_through text sign some short found local domain = (subst (λ r. AnswersAddr
   where
     whole : address_of text ≡ Ok (lowered text)
     whole = rw (sym some, le-ltb 254 (length text) short, sym found, sym local, sym domain) refl
+
+-- the domain stands behind the first `@`
+pub domain_is : (address : List ℕ) → IsAddress address → HasDomain address (domain_of address)
+unfolding domain_of
+domain_is address is = subst (λ domain. HasDomain address domain) (sym same) (record { local = is.local; local_is = is.local_is; domain_is = is.domain_is; parts = is.parts })
+  where
+  same : behind_sign address (position is_at_sign address) ≡ is.domain
+  same = ap (λ o. behind_sign address o) (position_sign address is.local is.domain (local_none is.local is.local_is) is.parts)
+    ∙ (ap (λ t. drop (length is.local + 1) t) is.parts ∙ drop-append-add is.local (64 ∷ is.domain) 1)

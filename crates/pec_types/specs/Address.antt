@@ -65,6 +65,13 @@ pub record IsLowerAddress (bytes : List ℕ) : Type 0 where
   pub address : IsAddress bytes
   pub lower : lowered bytes ≡ bytes
 
+-- an address is `local@domain`, for some local part
+pub record HasDomain (address domain : List ℕ) : Type 0 where
+  pub local : List ℕ
+  pub local_is : IsLocal local
+  pub domain_is : IsDomain domain
+  pub parts : address ≡ local ++ 64 ∷ domain
+
 -- some bytes behind this front make it right
 pub record CanGoOn (IsRight : List ℕ → Type 0) (front : List ℕ) : Type 0 where
   pub more : List ℕ

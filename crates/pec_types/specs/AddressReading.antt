@@ -41,6 +41,14 @@ stop_at stand at (b ∷ bs) = stop_unless (step_of stand b) at (λ next. stop_at
 abbrev pub is_at_sign : ℕ → Bool
 is_at_sign b = b == 64
 
+abbrev pub behind_sign : List ℕ → Option ℕ → List ℕ
+behind_sign text None = []
+behind_sign text (Some sign) = drop (sign + 1) text
+
+-- what stands behind the first `@`
+unfoldable pub domain_of : List ℕ → List ℕ
+domain_of address = behind_sign address (position is_at_sign address)
+
 -- what is left to ask of a domain that begins at this place
 abbrev pub domain_read : List ℕ → ℕ → Option ℕ → Result (List ℕ) AddressFault
 domain_read text begin None = Ok (lowered text)

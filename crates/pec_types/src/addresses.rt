@@ -1,6 +1,6 @@
-ghost use Rattle.std.specs.Prelude.{◌≡◌, ℕ, List, Ok, Err, IfOk, position};
-ghost use Rattle.pec_types.specs.Address.{AnswersAddress, IsAddress, IsAddressFault, IsLowerAddress, lowered};
-ghost use Rattle.pec_types.specs.AddressReading.{address_of, is_at_sign, Gives};
+ghost use Rattle.std.specs.Prelude.{◌≡◌, ℕ, List, Ok, Err, IfOk, IfSome, position, length, ◌<◌};
+ghost use Rattle.pec_types.specs.Address.{AnswersAddress, IsAddress, HasDomain, IsAddressFault, IsLowerAddress, lowered};
+ghost use Rattle.pec_types.specs.AddressReading.{address_of, domain_of, is_at_sign, Gives};
 ghost use Rattle.pec_types.specs.declared.addresses.AddressFault.{AddressFault};
 ghost use Rattle.pec_types.specs.declared.addresses.AddressFault.TheVariants as faults;
 
@@ -69,6 +69,14 @@ impl Address {
         self.bytes.as_slice()
     }
 
+    /// What stands behind the `@`. It takes no memory.
+    pub fn domain(&self) -> &[u8]
+        ensures domain { HasDomain self.now result.now }
+        ensures exact { result.now ≡ domain_of self.now }
+    {
+        behind_sign(self.bytes.as_slice())
+    }
+
     /// An equal address.
     pub fn copy(&self, alloc: Global) -> Result<Address, NoMemory>
         ensures { IfOk result (λ address. address ≡ self.now) }
@@ -101,6 +109,16 @@ fn read_address(alloc: Global, text: &[u8]) -> Result<Address, AddressFault>
     Ok(Address { bytes })
 }
 
+#[tactic(auto, unfolding(crate::specs::AddressReading::domain_of))]
+fn behind_sign(address: &[u8]) -> &[u8]
+    ensures { result.now ≡ domain_of address.now }
+{
+    match at_sign(address) {
+        Some(sign) => &address[sign + 1..],
+        None => &[],
+    }
+}
+
 fn lowercase(alloc: Global, text: &[u8]) -> Result<Vec<u8>, AllocError>
     ensures { IfOk result (λ bytes. bytes.items ≡ lowered text.now) }
 {
@@ -108,7 +126,8 @@ fn lowercase(alloc: Global, text: &[u8]) -> Result<Vec<u8>, AllocError>
 }
 
 fn at_sign(text: &[u8]) -> Option<usize>
-    ensures { result ≡ position is_at_sign text.now }
+    ensures sign { result ≡ position is_at_sign text.now }
+    ensures within { IfSome result (λ at. at < length text.now) }
 {
     text.iter().position(|b| *b == b'@')
 }
@@ -150,6 +169,7 @@ mod tests {
         assert_eq!(rt; read.bytes(), b"alice@alfa.example".as_slice());
         let copied = read.copy(rt.alloc())?;
         assert_eq!(rt; copied.bytes(), b"alice@alfa.example".as_slice());
+        assert_eq!(rt; copied.domain(), b"alfa.example".as_slice());
         Ok(())
     }
 

@@ -59,6 +59,27 @@ pub enum Decision {
     Refused(Refusal),
 }
 
+/// Why a provider doesn't accept a message, in the order in which the causes are looked for (RFC 6109, section 3.1.1).
+#[derive(Clone, Copy, Debug, PartialEq, Eq)]
+pub enum Cause {
+    /// The head doesn't conform.
+    Head,
+    /// There isn't exactly one `From` field that holds exactly one address.
+    From,
+    /// There is no `To` field, or the `To` fields aren't a list of addresses.
+    To,
+    /// The submitting account isn't the `From` address.
+    ReversePath,
+    /// The forward path isn't the set of the `To` and `Cc` addresses.
+    ForwardPath,
+    /// A `Bcc` field isn't blank.
+    Bcc,
+    /// The message times its recipients is over the provider's limit.
+    Size,
+    /// A screen found a virus.
+    Virus,
+}
+
 /// One recipient of a message.
 #[derive(Drop)]
 pub struct Recipient {
