@@ -277,6 +277,6 @@ pub domain_is : (address : List ℕ) → IsAddress address → HasDomain address
 unfolding domain_of
 domain_is address is = subst (λ domain. HasDomain address domain) (sym same) (record { local = is.local; local_is = is.local_is; domain_is = is.domain_is; parts = is.parts })
   where
-  same : behind_sign address (position is_at_sign address) ≡ is.domain
-  same = ap (λ o. behind_sign address o) (position_sign address is.local is.domain (local_none is.local is.local_is) is.parts)
-    ∙ (ap (λ t. drop (length is.local + 1) t) is.parts ∙ drop-append-add is.local (64 ∷ is.domain) 1)
+    same : behind_sign address (position is_at_sign address) ≡ is.domain
+    same = ap (λ o. behind_sign address o) (position_sign address is.local is.domain (local_none is.local is.local_is) is.parts)
+        ∙ (ap (λ t. drop (length is.local + 1) t) is.parts ∙ drop-append-add is.local (64 ∷ is.domain) 1)

@@ -1,3 +1,3 @@
-mod AddressLaws
+pub mod AddressLaws
 mod LowerCase
 mod PartLaws

@@ -13,6 +13,8 @@ mod texts;
 pub use addresses::{Address, AddressFault};
 pub use faults::NoMemory;
 pub use lists::Items;
-pub use messages::{BookLine, Cause, Class, Decision, Facts, MsgId, Recipient, Refusal, Wish};
+pub use messages::{
+    BookLine, Cause, Class, Decision, Facts, MESSAGES, MsgId, Recipient, Refusal, Wish,
+};
 pub use moments::Moment;
 pub use texts::{Text, Text8, TextFault};

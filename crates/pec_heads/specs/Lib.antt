@@ -1,0 +1,9 @@
+pub mod Bytes
+pub mod Lines
+pub mod Heads
+pub mod HeadReading
+pub mod Lists
+pub mod ListReading
+pub mod FactsOfHeads
+pub mod FactsReading
+pub mod Views

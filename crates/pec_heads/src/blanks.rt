@@ -1,0 +1,40 @@
+ghost use Rattle.std.specs.Prelude.{◌≡◌, ℕ, List};
+ghost use Rattle.pec_heads.specs.Bytes.{IsTrimmed, cut_blanks, skip_blanks, trimmed};
+
+/// The law of cutting: what is left stands between blanks and has none at its ends, and nothing else does.
+pub fn blanks_are_cut_at_both_ends()
+    ensures cut { (bytes : List ℕ) → IsTrimmed bytes (trimmed bytes) }
+    ensures only { (bytes value : List ℕ) → IsTrimmed bytes value → trimmed bytes ≡ value }
+{}
+
+/// The bytes without the spaces and tabs at both ends.
+#[tactic(auto, unfolding(crate::specs::Bytes::trimmed))]
+pub(crate) fn trim(bytes: &[u8]) -> &[u8]
+    ensures { result.now ≡ trimmed bytes.now }
+{
+    trim_end(trim_start(bytes))
+}
+
+pub(crate) fn trim_start(bytes: &[u8]) -> &[u8]
+    ensures { result.now ≡ skip_blanks bytes.now }
+{
+    let mut rest = bytes;
+    while let [b' ' | b'\t', behind @ ..] = rest {
+        rest = behind;
+    }
+    rest
+}
+
+#[tactic(auto, using(crate::proofs::BlankLemmas::cut_one, crate::proofs::BlankLemmas::cut_none))]
+pub(crate) fn trim_end(bytes: &[u8]) -> &[u8]
+    ensures { result.now ≡ cut_blanks bytes.now }
+{
+    let mut rest = bytes;
+    while let Some((last, front)) = rest.split_last() {
+        if *last != b' ' && *last != b'\t' {
+            return rest;
+        }
+        rest = front;
+    }
+    rest
+}

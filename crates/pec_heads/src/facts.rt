@@ -1,0 +1,233 @@
+ghost use Rattle.std.specs.Prelude.{◌≡◌, ℕ, ◌++◌, List, length, take, IfOk, OnOk};
+ghost use Rattle.std.specs.List.{list_any};
+ghost use Rattle.std.specs.Option.{option_map};
+ghost use Rattle.std.specs.Str.{bytes_eq};
+ghost use Rattle.pec_types.specs.Text.{AllPrintable};
+ghost use Rattle.pec_heads.specs.Heads.{joined_values};
+ghost use Rattle.pec_heads.specs.Lists.{is_all_blank};
+ghost use Rattle.pec_heads.specs.FactsOfHeads.{front_of, printed, printed_byte, recipients_of, reply_of, short_text, text_of, wish_of};
+ghost use Rattle.pec_heads.specs.FactsReading.{copies_of, facts_of, listed, sender_of, with_recipient, with_recipients};
+ghost use Rattle.pec_heads.specs.Views.{fields_shown};
+
+use crate::TEXT_LIMIT;
+use crate::blanks::trim;
+use crate::faults::ListFault;
+use crate::fields::Field;
+use crate::lists::addresses_of;
+use crate::lookups::{count, value};
+use pec_types::{Address, Class, Facts, Items, NoMemory, Recipient, Text, TextFault, Wish};
+use std::alloc::{AllocError, Global};
+
+/// The facts of a head with these fields.
+#[tactic(auto, unfolding(crate::specs::FactsReading::facts_of))]
+pub(crate) fn read_facts(alloc: Global, fields: &[Field]) -> Result<Option<Facts>, NoMemory>
+    ensures { IfOk result (λ found. found ≡ facts_of (fields_shown fields.now)) }
+{
+    let Some(sender) = sender(alloc, fields)? else {
+        return Ok(None);
+    };
+    let Some(to) = list(alloc, fields, b"To".as_slice())? else {
+        return Ok(None);
+    };
+    let Some(copies) = copies(alloc, fields)? else {
+        return Ok(None);
+    };
+    let recipients = recipients(alloc, to, copies)?;
+    let subject = text(alloc, fields, b"Subject".as_slice())?;
+    let reference = text(alloc, fields, b"Message-ID".as_slice())?;
+    let reply = reply(alloc, fields, &sender)?;
+    Ok(Some(Facts {
+        sender,
+        recipients: Items::of(recipients),
+        wish: wish(fields),
+        subject,
+        reference,
+        reply,
+    }))
+}
+
+/// The one address of the one `From` field.
+fn sender(alloc: Global, fields: &[Field]) -> Result<Option<Address>, NoMemory>
+    ensures { IfOk result (λ found. found ≡ sender_of (fields_shown fields.now)) }
+{
+    if count(fields, b"From".as_slice()) != 1 {
+        return Ok(None);
+    }
+    let Some(mut addresses) = list(alloc, fields, b"From".as_slice())? else {
+        return Ok(None);
+    };
+    let sender = addresses.pop();
+    if !addresses.is_empty() {
+        return Ok(None);
+    }
+    Ok(sender)
+}
+
+/// The addresses of the fields of a name, where these are a list.
+fn list(alloc: Global, fields: &[Field], name: &[u8]) -> Result<Option<Vec<Address>>, NoMemory>
+    ensures { IfOk result (λ found. option_map (λ v. v.items) found ≡ listed name.now (fields_shown fields.now)) }
+{
+    match addresses_of(alloc, fields, name) {
+        Ok(addresses) => Ok(Some(addresses)),
+        Err(ListFault::NoMemory) => Err(NoMemory),
+        Err(_) => Ok(None),
+    }
+}
+
+fn copies(alloc: Global, fields: &[Field]) -> Result<Option<Vec<Address>>, NoMemory>
+    ensures { IfOk result (λ found. option_map (λ v. v.items) found ≡ copies_of (fields_shown fields.now)) }
+{
+    if count(fields, b"Cc".as_slice()) == 0 {
+        return Ok(Some(Vec::new(alloc)));
+    }
+    let found = list(alloc, fields, b"Cc".as_slice())?;
+    Ok(found)
+}
+
+fn wish(fields: &[Field]) -> Wish
+    ensures { result ≡ wish_of (fields_shown fields.now) }
+{
+    let Some(text) = value(fields, b"X-TipoRicevuta".as_slice(), 0) else {
+        return Wish::Full;
+    };
+    if text.eq_ignore_ascii_case(b"breve".as_slice()) {
+        return Wish::Brief;
+    }
+    if text.eq_ignore_ascii_case(b"sintetica".as_slice()) {
+        return Wish::Concise;
+    }
+    Wish::Full
+}
+
+/// Those of `To`, and then those of `Cc` that don't stand in `To`, each once.
+fn recipients(
+    alloc: Global,
+    to: Vec<Address>,
+    copies: Vec<Address>,
+) -> Result<Vec<Recipient>, NoMemory>
+    ensures { IfOk result (λ all. all.items ≡ recipients_of to.items copies.items) }
+{
+    let mut all = Vec::new(alloc);
+    add_all(&mut all, to, Class::Primary)?;
+    add_all(&mut all, copies, Class::Copy)?;
+    Ok(all)
+}
+
+fn add_all(all: &mut Vec<Recipient>, addresses: Vec<Address>, class: Class) -> Result<(), NoMemory>
+    ensures { OnOk result (all.new.items ≡ with_recipients class all.old.items addresses.items) }
+{
+    for address in addresses {
+        add(all, address, class)?;
+    }
+    Ok(())
+}
+
+/// Adds a recipient, unless its address is there.
+fn add(all: &mut Vec<Recipient>, address: Address, class: Class) -> Result<(), NoMemory>
+    ensures { OnOk result (all.new.items ≡ with_recipient class all.old.items address) }
+{
+    if is_there(all.as_slice(), address.bytes()) {
+        return Ok(());
+    }
+    all.push(Recipient { address, class })?;
+    Ok(())
+}
+
+fn is_there(all: &[Recipient], address: &[u8]) -> bool
+    ensures { result ≡ list_any (λ r. bytes_eq r.address address.now) all.now }
+{
+    all.iter().any(|r| r.address.bytes() == address)
+}
+
+/// A subject or a reference: the text of the first field of a name.
+fn text(alloc: Global, fields: &[Field], name: &[u8]) -> Result<Option<Text>, NoMemory>
+    ensures { IfOk result (λ found. found ≡ text_of name.now (fields_shown fields.now)) }
+{
+    let Some(value) = value(fields, name, 0) else {
+        return Ok(None);
+    };
+    let text = short_text(alloc, value)?;
+    Ok(text)
+}
+
+/// A value made printable, cut to 900 bytes and trimmed, where anything is left.
+#[tactic(auto, unfolding(crate::specs::FactsOfHeads::short_text))]
+fn short_text(alloc: Global, value: &[u8]) -> Result<Option<Text>, NoMemory>
+    ensures { IfOk result (λ found. found ≡ short_text value.now) }
+{
+    let bytes = print(alloc, front(value))?;
+    let bytes = trim(bytes.as_slice());
+    if bytes.is_empty() {
+        return Ok(None);
+    }
+    let text = printable_text(alloc, bytes)?;
+    Ok(Some(text))
+}
+
+/// The first 900 bytes, or all where there aren't more.
+fn front(value: &[u8]) -> &[u8]
+    ensures { result.now ≡ front_of value.now }
+{
+    at_most(value, TEXT_LIMIT)
+}
+
+fn at_most(value: &[u8], limit: usize) -> &[u8]
+    ensures { result.now ≡ take limit value.now }
+{
+    if value.len() <= limit {
+        value
+    } else {
+        &value[..limit]
+    }
+}
+
+/// The first `Reply-To`, made printable, where it isn't blank and has at most 900 bytes; otherwise the sender's address.
+fn reply(alloc: Global, fields: &[Field], sender: &Address) -> Result<Text, NoMemory>
+    ensures { IfOk result (λ text. text ≡ reply_of sender.now (fields_shown fields.now)) }
+{
+    if let Some(value) = value(fields, b"Reply-To".as_slice(), 0) {
+        if !is_all_blank(value) && value.len() <= TEXT_LIMIT {
+            let bytes = print(alloc, value)?;
+            let text = printable_text(alloc, bytes.as_slice())?;
+            return Ok(text);
+        }
+    }
+    let text = printable_text(alloc, sender.bytes())?;
+    Ok(text)
+}
+
+fn is_all_blank(value: &[u8]) -> bool
+    ensures { result ≡ is_all_blank value.now }
+{
+    value.iter().all(|b| *b == b' ' || *b == b'\t')
+}
+
+/// The bytes with each tab made a space and each other byte that isn't printable a `?`.
+fn print(alloc: Global, value: &[u8]) -> Result<Vec<u8>, AllocError>
+    ensures { IfOk result (λ bytes. bytes.items ≡ printed value.now) }
+{
+    value.iter().map(|b| print_byte(*b)).collect(alloc)
+}
+
+fn print_byte(b: u8) -> u8
+    ensures { result ≡ printed_byte b }
+{
+    if b == b'\t' {
+        b' '
+    } else if b < 0x20 || 0x7e < b {
+        b'?'
+    } else {
+        b
+    }
+}
+
+fn printable_text(alloc: Global, bytes: &[u8]) -> Result<Text, NoMemory>
+    requires { AllPrintable bytes.now }
+    ensures { IfOk result (λ text. text ≡ bytes.now) }
+{
+    match Text::new(alloc, bytes) {
+        Ok(text) => Ok(text),
+        Err(TextFault::NoMemory) => Err(NoMemory),
+        Err(TextFault::NotPrintable(_)) => unreachable!(),
+    }
+}

@@ -1,0 +1,74 @@
+ghost use Rattle.std.specs.Prelude.{◌≡◌, ◌<◌, ◌≤◌, min, [], ◌++◌, length, take, drop, Some, IsErr, IfOk, OnErr, ◌↔◌, vec_len};
+ghost use Rattle.pec_outside.specs.Flow.{HasRisen};
+ghost use Rattle.pec_outside.specs.Memory.{SourceState, NextFails, no_calls, answered, faulted};
+
+use crate::calls::Calls;
+use crate::streams::{Failed, Source};
+use std::alloc::Global;
+use std::marker::Model;
+
+/// A source over bytes in memory, which gives them in pieces and fails where it is told. This project's profile.
+#[derive(Drop)]
+pub struct MemSource {
+    bytes: Vec<u8>,
+    at: usize,
+    piece: usize,
+    calls: Calls,
+}
+
+impl Model for MemSource {
+    ghost Value = { SourceState };
+
+    ghost view = { λ source. record { rest = drop source.at source.bytes.items; piece = source.piece; calls = source.calls } };
+
+    ghost invariant = { λ source. (source.at ≤ vec_len source.bytes) × (0 < source.piece) };
+}
+
+impl MemSource {
+    /// A source of these bytes that gives at most `piece` of them a read. `failing` are the numbers of the reads that
+    /// fail, counted from 0. It is given the allocator as each memory form is, and needs no memory.
+    pub fn new(_alloc: Global, bytes: Vec<u8>, piece: usize, failing: Vec<u64>) -> MemSource
+        requires { 0 < piece }
+        ensures { result ≡ record { rest = bytes.items; piece = piece; calls = no_calls failing.items } }
+    {
+        MemSource {
+            bytes,
+            at: 0,
+            piece,
+            calls: Calls::new(failing),
+        }
+    }
+}
+
+impl Source for MemSource {
+    ghost left = { λ source. Some source.rest };
+
+    ghost faults = { λ source. source.calls.faults };
+
+    /// As in the trait. It fails exactly where `failing` names the read, and gives as many bytes as the piece, the room
+    /// and the rest allow.
+    fn read(&mut self, room: &mut [u8]) -> Result<usize, Failed>
+        ensures within { IfOk result (λ n. n ≤ length room.old) }
+        ensures taken { IfOk result (λ n. self.old.rest ≡ take n room.new ++ self.new.rest) }
+        ensures end { 0 < length room.old → IfOk result (λ n. (n ≡ 0) ↔ (self.old.rest ≡ [])) }
+        ensures err { OnErr result (self.new.rest ≡ self.old.rest) }
+        ensures later { self.old.calls.faults ≤ self.new.calls.faults }
+        ensures cause { OnErr result (HasRisen self.old.calls.faults self.new.calls.faults) }
+
+        // Beyond the trait.
+        ensures fails { IsErr result ↔ NextFails self.old.calls }
+        ensures count { IfOk result (λ n. n ≡ min self.old.piece (min (length room.old) (length self.old.rest))) }
+        ensures given { IfOk result (λ n. room.new ≡ take n self.old.rest ++ drop n room.old) }
+        ensures after { IfOk result (λ n.
+            self.new ≡ record self.old { rest = drop n self.old.rest; calls = answered self.old.calls }) }
+        ensures failed { OnErr result (self.new ≡ record self.old { calls = faulted self.old.calls }) }
+        ensures unchanged { OnErr result (room.new ≡ room.old) }
+    {
+        self.calls.begin()?;
+        let rest = &self.bytes[self.at..];
+        let count = self.piece.min(room.len()).min(rest.len());
+        room[..count].copy_from_slice(&rest[..count]);
+        self.at += count;
+        Ok(count)
+    }
+}

@@ -1,0 +1,7 @@
+mod DirectoryLaws
+mod InputLaws
+mod LedgerLaws
+mod LineLaws
+mod NumberLaws
+mod OpeningLaws
+mod RunLaws

@@ -1,0 +1,184 @@
+-- One line more of the input, and what the run comes to.
+use Rattle.std.proofs.Common.{◌≡◌, ◌≢◌, ℕ, ◌+◌, ◌<◌, ◌≤◌, ◌⊎◌, Bool, true, false, cond, eqb, ltb, ◌||◌, List, [], ◌∷◌, ◌++◌, length, Option, Some, None, option_map, IfSome, Result, OnErr, codes, refl, sym, ◌∙◌, ap, subst, inl, inr, arith, append_assoc, append-nil, lt-ltb, length-append}
+use Rattle.std.proofs.lemmas.Bool.{false≢true}
+use Rattle.std.proofs.lemmas.Slice.Eq.{bytes_eq-Decides}
+use Rattle.pec_outside.specs.Flow.{behind, followed_by, Wrote, WrotePart}
+use Rattle.pec_outside.proofs.FlowLemmas.{wrote_more, wrote_part, wrote_last}
+use Rattle.pec_top.specs.House.{House}
+use Rattle.pec_top.specs.Input.{IsAtEnd, IsEnded, IsFound}
+use Rattle.pec_top.specs.Lines.{raw_lines, content_of, HasNoEnd}
+use Rattle.pec_top.specs.Run.{parts_left, Opens, script_left, found_turn, Finishes, Stops, Goes}
+use Rattle.pec_top.specs.Transcript.{Outcome, Next, goes_on, ends, Turn, ended, Parts, is_mark, onto_directory, parts_of, directory_bytes, line_bytes, script_lines, from_turn, onto_text, script_from, line_turn, long_turn, too_long_line_text, too_long_script_text}
+use Rattle.pec_top.specs.declared.ending.End.{End}
+use Rattle.pec_top.specs.declared.ending.End.TheVariants.{TooLong}
+use Rattle.pec_top.specs.declared.entries.Entry.{Entry}
+use Rattle.pec_top.specs.declared.input.Found.{Found}
+use Rattle.pec_top.specs.declared.input.Found.TheVariants as found
+use Rattle.pec_top.proofs.LineLaws.{IsFirstOf, line_there, long_there, said_size}
+
+-- Reading the directory.
+
+onto_twice : (front line : List ℕ) (parts : Parts) → onto_directory front (onto_directory line parts) ≡ onto_directory (front ++ line) parts
+onto_twice front line parts = ap (λ d. record { directory = d; script = parts.script }) (sym (append_assoc front line parts.directory))
+
+parts_line : (line : List ℕ) (lines : List (List ℕ)) (x : Bool) → is_mark line ≡ x → parts_of (line ∷ lines) ≡ cond x (record { directory = []; script = Some lines }) (onto_directory line (parts_of lines))
+parts_line line lines x is = ap (λ m. cond m (record { directory = []; script = Some lines }) (onto_directory line (parts_of lines))) is
+
+abbrev IsLine : List ℕ → Option (List ℕ) → Type 0
+IsLine line after = IsEnded line ⊎ (HasNoEnd line × IsAtEnd after)
+
+pub directory_line : (start before after : Option (List ℕ)) (directory line more : List ℕ) → parts_left start ≡ option_map (λ parts. onto_directory directory parts) (parts_left before)
+    → before ≡ behind line after → 0 < length line → IsLine line after → is_mark line ≡ false → more ≡ directory ++ line
+    → parts_left start ≡ option_map (λ parts. onto_directory more parts) (parts_left after)
+directory_line start before None directory line more so_far read some is mark added = so_far ∙ ap (λ o. option_map (λ parts. onto_directory directory parts) (parts_left o)) read
+directory_line start before (Some rest) directory line more so_far read some is mark added =
+    so_far ∙ (ap (λ o. option_map (λ parts. onto_directory directory parts) (parts_left o)) read
+    ∙ (ap (λ lines. Some (onto_directory directory (parts_of lines))) (line_there line rest some is)
+    ∙ (ap (λ parts. Some (onto_directory directory parts)) (parts_line line (raw_lines rest) false mark)
+    ∙ (ap (λ parts. Some parts) (onto_twice directory line (parts_of (raw_lines rest))) ∙ ap (λ front. Some (onto_directory front (parts_of (raw_lines rest)))) (sym added)))))
+
+pub mark_line : (start before after : Option (List ℕ)) (directory line : List ℕ) → parts_left start ≡ option_map (λ parts. onto_directory directory parts) (parts_left before)
+    → before ≡ behind line after → 0 < length line → IsLine line after → is_mark line ≡ true
+    → parts_left start ≡ option_map (λ rest. record { directory = directory; script = Some (raw_lines rest) }) after
+mark_line start before None directory line so_far read some is mark = so_far ∙ ap (λ o. option_map (λ parts. onto_directory directory parts) (parts_left o)) read
+mark_line start before (Some rest) directory line so_far read some is mark =
+    so_far ∙ (ap (λ o. option_map (λ parts. onto_directory directory parts) (parts_left o)) read
+    ∙ (ap (λ lines. Some (onto_directory directory (parts_of lines))) (line_there line rest some is)
+    ∙ (ap (λ parts. Some (onto_directory directory parts)) (parts_line line (raw_lines rest) true mark)
+    ∙ ap (λ front. Some (record { directory = front; script = Some (raw_lines rest) })) (append-nil directory))))
+
+mark_size : (line : List ℕ) → 4 < length line → is_mark line ≡ false
+mark_size line long = by_test (is_mark line) refl
+  where
+    by_test : (x : Bool) → is_mark line ≡ x → x ≡ false
+    by_test false is = refl
+    by_test true is = let same : content_of line ≡ codes "%%" = (bytes_eq-Decides (content_of line) (codes "%%")).0 is in let size : length (content_of line) ≡ 2 = ap (λ x. length x) same in let h : ⊥ = omega (arith, said_size line) in absurd h
+
+long_parts : (directory first : List ℕ) (more : List (List ℕ)) → directory_bytes + 2 < length first → directory_bytes < length (onto_directory directory (parts_of (first ∷ more))).directory
+long_parts directory first more long =
+    let mark : is_mark first ≡ false = mark_size first (omega arith) in
+    let whole : length (directory ++ (first ++ (parts_of more).directory)) ≡ length directory + (length first + length (parts_of more).directory) =
+    length-append directory (first ++ (parts_of more).directory) ∙ ap (λ n. length directory + n) (length-append first (parts_of more).directory) in
+    subst (λ (parts : Parts). directory_bytes < length (onto_directory directory parts).directory) (sym (parts_line first more false mark)) (omega (arith, whole))
+
+pub long_line : (start before after : Option (List ℕ)) (directory line : List ℕ) → parts_left start ≡ option_map (λ parts. onto_directory directory parts) (parts_left before)
+    → before ≡ behind line after → directory_bytes + 2 < length line → IsEnded line ⊎ HasNoEnd line → IfSome (parts_left start) (λ parts. directory_bytes < length parts.directory)
+long_line start before None directory line so_far read long is =
+    subst (λ o. IfSome o (λ parts. directory_bytes < length parts.directory)) (sym (so_far ∙ ap (λ o. option_map (λ parts. onto_directory directory parts) (parts_left o)) read)) tt
+long_line start before (Some rest) directory line so_far read long is =
+    let first = long_there line rest (omega arith) is in
+    subst (λ o. IfSome o (λ parts. directory_bytes < length parts.directory))
+    (sym (so_far ∙ (ap (λ o. option_map (λ parts. onto_directory directory parts) (parts_left o)) read ∙ ap (λ lines. Some (onto_directory directory (parts_of lines))) first.are)))
+    (long_parts directory first.first first.more (omega (arith, first.long)))
+
+-- A script.
+
+abbrev leads_to : Turn → (List Entry → Outcome) → Outcome
+leads_to turn f = from_turn turn.text turn.next f
+
+ends_by : (x : Bool) (one other : List ℕ) (f h : List Entry → Outcome)
+    → leads_to (cond {A = Turn} x (ended one TooLong) (ended other TooLong)) f ≡ leads_to (cond {A = Turn} x (ended one TooLong) (ended other TooLong)) h
+ends_by true one other f h = refl
+ends_by false one other f h = refl
+
+ends_alike : (number : ℕ) (f h : List Entry → Outcome) → leads_to (long_turn number) f ≡ leads_to (long_turn number) h
+unfolding long_turn
+ends_alike number f h = ends_by (ltb script_lines number) too_long_script_text (too_long_line_text number) f h
+
+or_true : (a b : Bool) → b ≡ true → (a || b) ≡ true
+or_true true b e = refl
+or_true false b e = e
+
+long_is : (house : House) (entries : List Entry) (number : ℕ) (line : List ℕ) → line_bytes + 2 < length line → line_turn house entries number line ≡ long_turn number
+unfolding line_turn
+long_is house entries number line long =
+    let over : line_bytes < length (content_of line) = omega (arith, said_size line) in
+    rw (or_true (ltb script_lines number) (ltb line_bytes (length (content_of line))) (lt-ltb line_bytes (length (content_of line)) over)) refl
+
+abbrev led : House → ℕ → Turn → Option (List ℕ) → Option Outcome
+led house number turn after = option_map (λ rest. from_turn turn.text turn.next (λ entries. script_from house entries (number + 1) (raw_lines rest))) after
+
+pub found_leads : (house : House) (entries : List Entry) (number : ℕ) (what : Found) (line : List ℕ) (before after : Option (List ℕ)) → before ≡ behind line after → IsFound (line_bytes + 2) what line after
+    → script_left house entries number before ≡ led house number (found_turn house entries number what line) after
+found_leads house entries number what line before None read is = ap (λ o. script_left house entries number o) read
+found_leads house entries number found.End line before (Some rest) read is =
+    ap (λ o. script_left house entries number o) (read ∙ (ap (λ l. Some (l ++ rest)) is.0 ∙ ap (λ r. Some r) is.1))
+found_leads house entries number found.Line line before (Some rest) read is =
+    ap (λ o. script_left house entries number o) read ∙ ap (λ lines. Some (script_from house entries number lines)) (line_there line rest is.1 is.2)
+found_leads house entries number found.Long line before (Some rest) read is =
+    let first = long_there line rest (omega (arith, is.0)) is.1 in
+    ap (λ o. script_left house entries number o) read
+    ∙ (ap (λ lines. Some (script_from house entries number lines)) first.are
+    ∙ (ap (λ (t : Turn). Some (from_turn t.text t.next (λ es. script_from house es (number + 1) first.more))) (long_is house entries number first.first (omega (arith, is.0, first.long)))
+    ∙ ap (λ o. Some o) (ends_alike number (λ es. script_from house es (number + 1) first.more) (λ es. script_from house es (number + 1) (raw_lines rest)))))
+
+-- what a turn writes is a front of what it leads to
+pub record HasFront (text : List ℕ) (outcome : Outcome) : Type 0 where
+  pub more : List ℕ
+  pub are : outcome.text ≡ text ++ more
+
+turn_front : (text : List ℕ) (next : Next) (f : List Entry → Outcome) → HasFront text (from_turn text next f)
+turn_front text (goes_on entries) f = record { more = (f entries).text; are = refl }
+turn_front text (ends end) f = record { more = []; are = sym (append-nil text) }
+
+no_none : (o : Outcome) → None ≡ Some o → ⊥
+no_none o e = cc
+
+stopped_in : (whole : Outcome) (now : Option Outcome) (before middle after : Option (List ℕ)) (house : House) (number : ℕ) (turn : Turn) (unread : Option (List ℕ)) → Goes (Some whole) now before middle
+    → now ≡ led house number turn unread → WrotePart middle after turn.text → WrotePart before after whole.text
+stopped_in whole now before middle after house number turn None goes leads part = absurd (no_none goes.0 (sym leads ∙ goes.1))
+stopped_in whole now before middle after house number turn (Some rest) goes leads part =
+    let next : Outcome = from_turn turn.text turn.next (λ entries. script_from house entries (number + 1) (raw_lines rest)) in
+    let same : goes.0 ≡ next = cc in
+    let front = turn_front turn.text turn.next (λ entries. script_from house entries (number + 1) (raw_lines rest)) in
+    wrote_part before middle after whole.text goes.0.text turn.text front.more goes.2 part (ap (λ (o : Outcome). o.text) same ∙ front.are)
+
+pub stopped : (whole now : Option Outcome) (before middle after : Option (List ℕ)) (house : House) (number : ℕ) (turn : Turn) (unread : Option (List ℕ)) → Goes whole now before middle
+    → now ≡ led house number turn unread → WrotePart middle after turn.text → Stops whole before after
+stopped None now before middle after house number turn unread goes leads part = tt
+stopped (Some whole) now before middle after house number turn unread goes leads part = stopped_in whole now before middle after house number turn unread goes leads part
+
+goes_in : (whole : Outcome) (now : Option Outcome) (before middle after : Option (List ℕ)) (house : House) (number : ℕ) (text : List ℕ) (entries : List Entry) (unread : Option (List ℕ)) → Goes (Some whole) now before middle
+    → now ≡ led house number (record { text = text; next = goes_on entries }) unread → after ≡ followed_by middle text → Goes (Some whole) (script_left house entries (number + 1) unread) before after
+goes_in whole now before middle after house number text entries None goes leads written = absurd (no_none goes.0 (sym leads ∙ goes.1))
+goes_in whole now before middle after house number text entries (Some rest) goes leads written =
+    let next : Outcome = onto_text text (script_from house entries (number + 1) (raw_lines rest)) in
+    let same : goes.0 ≡ next = cc in (
+      script_from house entries (number + 1) (raw_lines rest),
+      refl,
+      wrote_more before middle after whole.text goes.0.text text (script_from house entries (number + 1) (raw_lines rest)).text goes.2 written (ap (λ (o : Outcome). o.text) same),
+      goes.3 ∙ ap (λ (o : Outcome). o.end) same,
+    )
+
+pub goes_further : (whole now : Option Outcome) (before middle after : Option (List ℕ)) (house : House) (number : ℕ) (turn : Turn) (entries : List Entry) (unread : Option (List ℕ)) → Goes whole now before middle
+    → now ≡ led house number turn unread → turn.next ≡ goes_on entries → after ≡ followed_by middle turn.text → Goes whole (script_left house entries (number + 1) unread) before after
+goes_further None now before middle after house number turn entries unread goes leads next written = tt
+goes_further (Some whole) now before middle after house number turn entries unread goes leads next written =
+    goes_in whole now before middle after house number turn.text entries unread goes
+    (leads ∙ ap (λ n. option_map (λ rest. from_turn turn.text n (λ es. script_from house es (number + 1) (raw_lines rest))) unread) next) written
+
+ends_in : (whole : Outcome) (now : Option Outcome) (before middle after : Option (List ℕ)) (house : House) (number : ℕ) (text : List ℕ) (end : End) (unread : Option (List ℕ)) → Goes (Some whole) now before middle
+    → now ≡ led house number (record { text = text; next = ends end }) unread → after ≡ followed_by middle text → Finishes (Some whole) before after end
+ends_in whole now before middle after house number text end None goes leads written = absurd (no_none goes.0 (sym leads ∙ goes.1))
+ends_in whole now before middle after house number text end (Some rest) goes leads written =
+    let last : Outcome = record { text = text; end = end } in
+    let same : goes.0 ≡ last = cc in
+    (sym (goes.3 ∙ ap (λ (o : Outcome). o.end) same), wrote_last before middle after whole.text goes.0.text text goes.2 written (ap (λ (o : Outcome). o.text) same))
+
+pub ends_here : (whole now : Option Outcome) (before middle after : Option (List ℕ)) (house : House) (number : ℕ) (turn : Turn) (end : End) (unread : Option (List ℕ)) → Goes whole now before middle
+    → now ≡ led house number turn unread → turn.next ≡ ends end → after ≡ followed_by middle turn.text → Finishes whole before after end
+ends_here None now before middle after house number turn end unread goes leads next written = tt
+ends_here (Some whole) now before middle after house number turn end unread goes leads next written =
+    ends_in whole now before middle after house number turn.text end unread goes
+    (leads ∙ ap (λ n. option_map (λ rest. from_turn turn.text n (λ es. script_from house es (number + 1) (raw_lines rest))) unread) next) written
+
+pub turn_leads : (house : House) (entries : List Entry) (number : ℕ) (what : Found) (line said : List ℕ) (before after : Option (List ℕ)) (turn : Turn) → before ≡ behind line after → IsFound (line_bytes + 2) what line after
+    → said ≡ line → turn ≡ found_turn house entries number what said → script_left house entries number before ≡ led house number turn after
+turn_leads house entries number what line said before after turn read is same turns =
+    found_leads house entries number what line before after read is ∙ ap (λ t. led house number t after) (sym (turns ∙ ap (λ l. found_turn house entries number what l) same))
+
+pub part_as : (before after : Option (List ℕ)) (bytes text : List ℕ) → bytes ≡ text → WrotePart before after bytes → WrotePart before after text
+part_as before after bytes text same part = subst (λ b. WrotePart before after b) same part
+
+pub all_read : (what : Found) (line : List ℕ) (most : ℕ) (rest : Option (List ℕ)) → what ≡ found.End → IsFound most what line rest → IsAtEnd rest
+all_read what line most rest same is = (subst (λ w. IsFound most w line rest) same is).1

@@ -1,0 +1,16 @@
+use Rattle.std.proofs.Common.{◌≡◌, ◌+◌, ◌-◌, ◌≤◌, length}
+use Rattle.pec_outside.specs.Flow.{behind}
+use Rattle.pec_top.specs.Lines.{HasNoEnd}
+use Rattle.pec_top.proofs.input.next_line.Given as goal
+
+abbrev pub invariant-pieces : goal.invariant-pieces
+invariant-pieces g l =
+    let port = g.S.Source in
+    record {
+      read : behind l.fn.buffer (port.left l.fn.source) ≡ behind l.line.items (behind l.buffer (port.left l.source));
+      none : HasNoEnd l.line.items;
+      later : port.faults l.fn.source ≤ port.faults l.source;
+    }
+
+abbrev pub decreases-pieces : goal.decreases-pieces
+decreases-pieces g l = l.most + 1 - length l.line.items

@@ -1,0 +1,16 @@
+use Rattle.std.proofs.Common.{◌≡◌, ◌+◌, ◌-◌, ◌≤◌, length, option_map}
+use Rattle.pec_outside.specs.Flow.{behind}
+use Rattle.pec_top.specs.Run.{parts_left}
+use Rattle.pec_top.specs.Transcript.{onto_directory, directory_bytes}
+use Rattle.pec_top.proofs.opening.read_directory.Given as goal
+
+abbrev pub invariant-lines : goal.invariant-lines
+invariant-lines g l =
+    let port = g.S.Source in
+    record {
+      parts : parts_left (behind l.fn.buffer (port.left l.fn.source)) ≡ option_map (λ parts. onto_directory l.directory.items parts) (parts_left (behind l.buffer (port.left l.source)));
+      later : port.faults l.fn.source ≤ port.faults l.source;
+    }
+
+abbrev pub decreases-lines : goal.decreases-lines
+decreases-lines g l = directory_bytes + 1 - length l.directory.items

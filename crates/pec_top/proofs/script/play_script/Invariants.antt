@@ -1,0 +1,21 @@
+use Rattle.std.proofs.Common.{◌≡◌, ◌+◌, ◌-◌, ◌≤◌, []}
+use Rattle.pec_outside.specs.Flow.{behind}
+use Rattle.pec_top.specs.Run.{Goes, script_left}
+use Rattle.pec_top.specs.Transcript.{script_lines}
+use Rattle.pec_top.specs.Views.{house_shown}
+use Rattle.pec_top.proofs.script.play_script.Given as goal
+
+abbrev pub invariant-lines : goal.invariant-lines
+invariant-lines g l =
+    let port = g.S.Source in
+    let sink = g.W.Sink in
+    record {
+      goes : Goes (script_left (house_shown l.house) [] 1 (behind l.fn.buffer (port.left l.fn.source))) (script_left (house_shown l.house) l.ledger l.number (behind l.buffer (port.left l.source)))
+          (sink.held l.fn.out) (sink.held l.out);
+      number : l.number ≤ script_lines + 1;
+      source_later : port.faults l.fn.source ≤ port.faults l.source;
+      sink_later : sink.faults l.fn.out ≤ sink.faults l.out;
+    }
+
+abbrev pub decreases-lines : goal.decreases-lines
+decreases-lines g l = script_lines + 1 - l.number

@@ -1,0 +1,72 @@
+-- The lines of a script that are built: `submit PROVIDER MOMENT SENDER PATH BASE64` and `book ADDRESS`. Words stand apart
+-- by one space. This project's profile; base64 by RFC 4648 section 4, padded and canonical.
+use Rattle.std.specs.Prelude.{ℕ, Bool, ◌&&◌, ◌==◌, List, [], ◌∷◌, length, codes, Option, Some, None, nat_lt, nat_le, if◌then◌else◌}
+use Rattle.std.specs.Result.{result_ok}
+use Rattle.std.specs.Str.{bytes_eq}
+use Rattle.base64.specs.Engines.{standard}
+use Rattle.base64.specs.GeneralPurpose.{decode_of}
+use Rattle.pec_types.specs.AddressReading.{address_of}
+use Rattle.pec_top.specs.House.{House}
+use Rattle.pec_top.specs.Letters.{Letter, letter_of}
+use Rattle.pec_top.specs.Numbers.{number_of}
+use Rattle.pec_top.specs.Reading.{◌>>=◌, where_true, word_at, last_word}
+
+-- a message handed in by an account of the provider
+pub record Submission : Type 0 where
+  pub moment : ℕ
+  pub sender : List ℕ
+  pub letter : Letter
+  pub message : List ℕ
+
+pub data Command : Type 0 where
+  submit : Submission → Command
+  book : List ℕ → Command
+
+unfoldable pub moment_of : List ℕ → Option ℕ
+moment_of text = do
+  seconds ← number_of text
+  where_true (nat_lt seconds 4102444800) (Some seconds)
+
+abbrev pub address_in : List ℕ → Option (List ℕ)
+address_in text = result_ok (address_of text)
+
+unfoldable pub message_of : List ℕ → Option (List ℕ)
+message_of text = result_ok (decode_of standard text)
+
+-- a message of at most 30 MiB that is a letter to this path
+unfoldable pub letter_to : List ℕ → List ℕ → Option Letter
+letter_to path message = do
+  letter ← letter_of message
+  where_true (bytes_eq letter.recipient path && nat_le (length message) 31457280) (Some letter)
+
+-- a submission from its words
+unfoldable pub submission_of : List ℕ → List ℕ → List ℕ → List ℕ → Option Submission
+submission_of moment_text sender_text path_text message_text = do
+  moment ← moment_of moment_text
+  sender ← address_in sender_text
+  path ← address_in path_text
+  message ← message_of message_text
+  letter ← letter_to path message
+  Some (record { moment = moment; sender = sender; letter = letter; message = message })
+
+unfoldable pub submit_at : House → List ℕ → Option Command
+submit_at house text = do
+  provider ← word_at text
+  moment ← word_at provider.1
+  sender ← word_at moment.1
+  path ← word_at sender.1
+  message ← last_word path.1
+  submission ← submission_of moment.0 sender.0 path.0 message
+  where_true (bytes_eq provider.0 house.name) (Some (submit submission))
+
+unfoldable pub book_at : List ℕ → Option Command
+book_at text = do
+  word ← last_word text
+  address ← address_in word
+  Some (book address)
+
+-- the command that a line says
+unfoldable pub command_of : House → List ℕ → Option Command
+command_of house line = do
+  verb ← word_at line
+  if bytes_eq verb.0 (codes "submit") then submit_at house verb.1 else (if bytes_eq verb.0 (codes "book") then book_at verb.1 else None)

@@ -1,0 +1,17 @@
+pub mod Booking
+pub mod Commands
+pub mod Directory
+pub mod Ending
+pub mod House
+pub mod Input
+pub mod Ledger
+pub mod Letters
+pub mod Lines
+pub mod Numbers
+pub mod Play
+pub mod Printing
+pub mod Reading
+pub mod Run
+pub mod Status
+pub mod Transcript
+pub mod Views

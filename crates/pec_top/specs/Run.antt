@@ -1,0 +1,48 @@
+-- What is left of the input, and what a run does with it: the words of the contracts of its parts.
+use Rattle.std.specs.Prelude.{◌≡◌, ℕ, ◌+◌, ◌<◌, ◌≤◌, List, [], ◌∷◌, length, Option, Some, None, option_map, IfSome}
+use Rattle.pec_outside.specs.Flow.{followed_by, Wrote, WrotePart}
+use Rattle.pec_top.specs.House.{House}
+use Rattle.pec_top.specs.Input.{IsAtEnd}
+use Rattle.pec_top.specs.Lines.{raw_lines}
+use Rattle.pec_top.specs.Transcript.{Outcome, Turn, Parts, ended, directory_bytes, line_turn, long_turn, parts_of, script_from}
+use Rattle.pec_top.specs.declared.ending.End.{End}
+use Rattle.pec_top.specs.declared.ending.End.TheVariants.{Done}
+use Rattle.pec_top.specs.declared.entries.Entry.{Entry}
+use Rattle.pec_top.specs.declared.input.Found.{Found}
+use Rattle.pec_top.specs.declared.input.Found.TheVariants as found
+use Rattle.pec_top.specs.declared.opening.Opening.{Opening}
+use Rattle.pec_top.specs.declared.opening.Opening.TheVariants.{Script, NoScript, TooLong}
+
+-- the parts of what is left to read
+abbrev pub parts_left : Option (List ℕ) → Option Parts
+parts_left unread = option_map (λ text. parts_of (raw_lines text)) unread
+
+-- What reading a directory gives, from what there was to read to what is left.
+abbrev pub Opens : Opening → Option (List ℕ) → Option (List ℕ) → Type 0
+Opens (Script directory) before after = (length directory.items ≤ directory_bytes)
+    × (parts_left before ≡ option_map (λ rest. record { directory = directory.items; script = Some (raw_lines rest) }) after)
+Opens NoScript before after = IfSome (parts_left before) (λ parts. (length parts.directory ≤ directory_bytes) × (parts.script ≡ None))
+Opens TooLong before after = IfSome (parts_left before) (λ parts. directory_bytes < length parts.directory)
+
+-- what the script that is left comes to, from these entries and this number on
+abbrev pub script_left : House → List Entry → ℕ → Option (List ℕ) → Option Outcome
+script_left house entries number unread = option_map (λ text. script_from house entries number (raw_lines text)) unread
+
+-- what is found leads where its line does; the end of the input ends the run
+abbrev pub found_turn : House → List Entry → ℕ → Found → List ℕ → Turn
+found_turn house entries number found.End line = ended [] Done
+found_turn house entries number found.Line line = line_turn house entries number line
+found_turn house entries number found.Long line = long_turn number
+
+-- a run that ended so has written the text of its outcome, where the outcome is told
+abbrev pub Finishes : Option Outcome → Option (List ℕ) → Option (List ℕ) → End → Type 0
+Finishes told before after end = IfSome told (λ outcome. (end ≡ outcome.end) × (after ≡ followed_by before outcome.text))
+
+-- a run that was stopped has written a front of it
+abbrev pub Stops : Option Outcome → Option (List ℕ) → Option (List ℕ) → Type 0
+Stops told before after = IfSome told (λ outcome. WrotePart before after outcome.text)
+
+-- of the whole outcome, all but what the outcome from here on writes was written
+abbrev pub Goes : Option Outcome → Option Outcome → Option (List ℕ) → Option (List ℕ) → Type 0
+Goes None now before after = Unit {0}
+Goes (Some whole) now before after = (rest : Outcome) × (now ≡ Some rest) × Wrote before after whole.text rest.text × (whole.end ≡ rest.end)

@@ -1,0 +1,160 @@
+ghost use Rattle.std.specs.Prelude.{◌≡◌, ℕ, List, option_map, Option, IfOk};
+ghost use Rattle.pec_top.specs.Commands.{book_at, command_of, letter_to, message_of, moment_of, submission_of, submit_at};
+ghost use Rattle.pec_top.specs.Views.{command_shown, house_shown, letter_shown, submission_shown};
+
+use crate::house::House;
+use crate::letters::{Letter, read_address, read_letter};
+use crate::numbers::read_number;
+use crate::reading::{last_word, next_word};
+use base64::DecodeAllocError;
+use base64::engine::general_purpose::STANDARD;
+use pec_types::{Address, Moment, NoMemory, Text8};
+use std::alloc::Global;
+
+/// The greatest message that is taken, in bytes: 30 MiB.
+const MESSAGE_BYTES: usize = 31_457_280;
+
+/// A message that an account of the provider hands in.
+#[derive(Drop)]
+pub(crate) struct Submission {
+    pub(crate) moment: Moment,
+    pub(crate) sender: Address,
+    pub(crate) letter: Letter,
+    pub(crate) message: Text8,
+}
+
+/// What a line of a script says.
+#[derive(Drop)]
+pub(crate) enum Command {
+    Submit(Submission),
+    Book(Address),
+}
+
+/// The command that a line says, `None` where it is no line that is built.
+#[tactic(auto, unfolding(crate::specs::Commands::command_of))]
+pub(crate) fn read_command(
+    alloc: Global,
+    house: &House,
+    line: &[u8],
+) -> Result<Option<Command>, NoMemory>
+    ensures { IfOk result (λ found. option_map command_shown found ≡ command_of (house_shown house.now) line.now) }
+{
+    let Some((verb, rest)) = next_word(line) else {
+        return Ok(None);
+    };
+    if verb == b"submit".as_slice() {
+        let command = read_submit(alloc, house, rest)?;
+        return Ok(command);
+    }
+    if verb == b"book".as_slice() {
+        let command = read_book(alloc, rest)?;
+        return Ok(command);
+    }
+    Ok(None)
+}
+
+#[tactic(auto, unfolding(crate::specs::Commands::submit_at))]
+fn read_submit(alloc: Global, house: &House, text: &[u8]) -> Result<Option<Command>, NoMemory>
+    ensures { IfOk result (λ found. option_map command_shown found ≡ submit_at (house_shown house.now) text.now) }
+{
+    let Some((provider, rest)) = next_word(text) else {
+        return Ok(None);
+    };
+    let Some((moment, rest)) = next_word(rest) else {
+        return Ok(None);
+    };
+    let Some((sender, rest)) = next_word(rest) else {
+        return Ok(None);
+    };
+    let Some((path, rest)) = next_word(rest) else {
+        return Ok(None);
+    };
+    let Some(message) = last_word(rest) else {
+        return Ok(None);
+    };
+    let Some(submission) = read_submission(alloc, moment, sender, path, message)? else {
+        return Ok(None);
+    };
+    if provider != house.name.as_slice() {
+        return Ok(None);
+    }
+    Ok(Some(Command::Submit(submission)))
+}
+
+#[tactic(auto, unfolding(crate::specs::Commands::submission_of))]
+fn read_submission(
+    alloc: Global,
+    moment: &[u8],
+    sender: &[u8],
+    path: &[u8],
+    message: &[u8],
+) -> Result<Option<Submission>, NoMemory>
+    ensures { IfOk result (λ found. option_map submission_shown found ≡ submission_of moment.now sender.now path.now message.now) }
+{
+    let Some(moment) = read_moment(moment) else {
+        return Ok(None);
+    };
+    let Some(sender) = read_address(alloc, sender)? else {
+        return Ok(None);
+    };
+    let Some(path) = read_address(alloc, path)? else {
+        return Ok(None);
+    };
+    let Some(message) = decoded(alloc, message)? else {
+        return Ok(None);
+    };
+    let Some(letter) = read_letter_to(alloc, &path, &message)? else {
+        return Ok(None);
+    };
+    Ok(Some(Submission {
+        moment,
+        sender,
+        letter,
+        message: Text8::of(message),
+    }))
+}
+
+#[tactic(auto, unfolding(crate::specs::Commands::book_at))]
+fn read_book(alloc: Global, text: &[u8]) -> Result<Option<Command>, NoMemory>
+    ensures { IfOk result (λ found. option_map command_shown found ≡ book_at text.now) }
+{
+    let Some(word) = last_word(text) else {
+        return Ok(None);
+    };
+    let Some(address) = read_address(alloc, word)? else {
+        return Ok(None);
+    };
+    Ok(Some(Command::Book(address)))
+}
+
+#[tactic(auto, unfolding(crate::specs::Commands::moment_of))]
+fn read_moment(text: &[u8]) -> Option<Moment>
+    ensures { result ≡ moment_of text.now }
+{
+    let seconds = read_number(text)?;
+    Moment::new(seconds)
+}
+
+#[tactic(auto, unfolding(crate::specs::Commands::message_of))]
+fn decoded(alloc: Global, text: &[u8]) -> Result<Option<Vec<u8>>, NoMemory>
+    ensures { IfOk result (λ found. option_map (λ bytes. bytes.items) found ≡ message_of text.now) }
+{
+    match STANDARD.decode(alloc, text) {
+        Ok(bytes) => Ok(Some(bytes)),
+        Err(DecodeAllocError::DecodeError(_)) => Ok(None),
+        Err(DecodeAllocError::OutOfMemory) => Err(NoMemory),
+    }
+}
+
+#[tactic(auto, unfolding(crate::specs::Commands::letter_to))]
+fn read_letter_to(alloc: Global, path: &Address, message: &[u8]) -> Result<Option<Letter>, NoMemory>
+    ensures { IfOk result (λ found. option_map letter_shown found ≡ letter_to path.now message.now) }
+{
+    let Some(letter) = read_letter(alloc, message)? else {
+        return Ok(None);
+    };
+    if letter.recipient.bytes() != path.bytes() || message.len() > MESSAGE_BYTES {
+        return Ok(None);
+    }
+    Ok(Some(letter))
+}

@@ -1,0 +1,52 @@
+ghost use Rattle.pec_top.specs.Ending.{stop_of};
+ghost use Rattle.pec_top.specs.declared.ending.Stop.TheVariants as stops;
+ghost use Rattle.std.specs.Prelude.{◌≡◌};
+
+use crate::input::InputFault;
+use pec_outside::Failed;
+use pec_types::NoMemory;
+
+/// How a run ends, where no device fails and memory is there.
+#[derive(Clone, Copy, Debug, PartialEq, Eq)]
+pub(crate) enum End {
+    Done,
+    Usage,
+    Refused,
+    TooLong,
+}
+
+/// What stops a run before its end.
+#[derive(Clone, Copy, Debug, PartialEq, Eq)]
+pub(crate) enum Stop {
+    NoMemory,
+    ReadFault,
+    WriteFault,
+}
+
+impl From<NoMemory> for Stop {
+    ghost from_gives = { λ _ stop. stop ≡ stops.NoMemory };
+
+    fn from(_: NoMemory) -> Self {
+        Stop::NoMemory
+    }
+}
+
+impl From<InputFault> for Stop {
+    ghost from_gives = { λ fault stop. stop ≡ stop_of fault };
+
+    fn from(fault: InputFault) -> Self {
+        match fault {
+            InputFault::NoMemory => Stop::NoMemory,
+            InputFault::ReadFault => Stop::ReadFault,
+        }
+    }
+}
+
+/// A write failed.
+impl From<Failed> for Stop {
+    ghost from_gives = { λ _ stop. stop ≡ stops.WriteFault };
+
+    fn from(_: Failed) -> Self {
+        Stop::WriteFault
+    }
+}

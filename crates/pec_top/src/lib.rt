@@ -1,0 +1,28 @@
+//! The top call.
+#![tactic(auto)]
+
+mod booking;
+mod commands;
+mod directory;
+mod ending;
+mod entries;
+mod house;
+mod input;
+mod ledger;
+mod letters;
+mod lines;
+mod numbers;
+mod opening;
+mod play;
+mod printing;
+mod reading;
+mod run;
+mod script;
+mod status;
+mod top;
+mod turns;
+
+pub use lines::lines_are_the_text;
+pub use numbers::numbers_are_read_as_they_are_printed;
+pub use status::Status;
+pub use top::run_pec;

@@ -1,0 +1,78 @@
+ghost use Rattle.std.specs.Prelude.{◌≡◌, ◌≢◌, ◌≤◌, [], Some, None, IfOk, OnErr, IsErrOf};
+ghost use Rattle.pec_outside.specs.Flow.{behind, HasRisen};
+ghost use Rattle.pec_top.specs.Input.{IsAtEnd};
+ghost use Rattle.pec_top.specs.Run.{Finishes, Stops, found_turn, script_left};
+ghost use Rattle.pec_top.specs.Transcript.{script_lines};
+ghost use Rattle.pec_top.specs.Views.{house_shown, turn_shown};
+ghost use Rattle.pec_top.specs.declared.ending.End.TheVariants.{Done, Usage};
+
+use crate::ending::{End, Stop};
+use crate::house::House;
+use crate::input::{Buffer, Found, next_line};
+use crate::ledger::Ledger;
+use crate::turns::{LINE_BYTES, Turn, take_line, take_long_line};
+use pec_outside::{Sink, Source, write_all};
+use pec_types::NoMemory;
+use std::alloc::Global;
+
+/// Plays the lines that are left, each written before the next is read.
+pub(crate) fn play_script<S: Source, W: Sink>(
+    alloc: Global,
+    house: &House,
+    source: &mut S,
+    buffer: &mut Buffer,
+    out: &mut W,
+) -> Result<End, Stop>
+    ensures ok { IfOk result (λ end. Finishes (script_left (house_shown house.now) [] 1 (behind buffer.old (S.left source.old))) (W.held out.old) (W.held out.new) end) }
+    ensures err { OnErr result (Stops (script_left (house_shown house.now) [] 1 (behind buffer.old (S.left source.old))) (W.held out.old) (W.held out.new)) }
+    ensures not_usage { IfOk result (λ end. end ≢ Usage) }
+    ensures all_read { IfOk result (λ end. end ≡ Done → IsAtEnd (behind buffer.new (S.left source.new))) }
+    ensures read_fault { IsErrOf result Stop.ReadFault → HasRisen (S.faults source.old) (S.faults source.new) }
+    ensures write_fault { IsErrOf result Stop.WriteFault → HasRisen (W.faults out.old) (W.faults out.new) }
+    ensures source_later { S.faults source.old ≤ S.faults source.new }
+    ensures sink_later { W.faults out.old ≤ W.faults out.new }
+{
+    let mut ledger = Ledger::new(alloc);
+    let mut line = Vec::new(alloc);
+    let mut number = 1u64;
+    'lines: loop {
+        line.clear();
+        let found = next_line(source, buffer, &mut line, LINE_BYTES + 2)?;
+        let turn = take_found(alloc, house, &mut ledger, number, found, &line)?;
+        write_all(out, &turn.text)?;
+        if let Some(end) = turn.end {
+            return Ok(end);
+        }
+        number += 1;
+    }
+}
+
+/// Plays what was found at this number.
+fn take_found(
+    alloc: Global,
+    house: &House,
+    ledger: &mut Ledger,
+    number: u64,
+    found: Found,
+    line: &[u8],
+) -> Result<Turn, NoMemory>
+    ensures turn { IfOk result (λ turn. turn_shown turn ledger.new ≡ found_turn (house_shown house.now) ledger.old number found line.now) }
+    ensures bound { IfOk result (λ turn. turn.end ≡ None → number ≤ script_lines) }
+    ensures done { IfOk result (λ turn. turn.end ≡ Some Done → found ≡ Found.End) }
+    ensures not_usage { IfOk result (λ turn. turn.end ≢ Some Usage) }
+{
+    match found {
+        Found::End => Ok(Turn {
+            text: Vec::new(alloc),
+            end: Some(End::Done),
+        }),
+        Found::Line => {
+            let turn = take_line(alloc, house, ledger, number, line)?;
+            Ok(turn)
+        }
+        Found::Long => {
+            let turn = take_long_line(alloc, ledger, number)?;
+            Ok(turn)
+        }
+    }
+}

@@ -1,0 +1,62 @@
+ghost use Rattle.std.specs.Prelude.{◌≡◌};
+ghost use Rattle.pec_top.specs.Status.{code_of, status_of, stop_status as status_of_stop};
+
+use crate::ending::{End, Stop};
+
+/// How a run of the program ended. This project's profile.
+#[derive(Clone, Copy, Debug, PartialEq, Eq)]
+pub enum Status {
+    /// The input was read to its end, and all commands were played.
+    Done,
+    /// The words are none of the program's forms.
+    Usage,
+    /// The input has no `%%` line, or the directory or a line of the script is refused.
+    Refused,
+    /// The input couldn't be read on.
+    ReadFault,
+    /// The output couldn't be written.
+    WriteFault,
+    NoMemory,
+    /// The directory, a line or the number of lines is past its limit.
+    InputTooLong,
+}
+
+impl Status {
+    /// The exit status of the program.
+    pub fn code(&self) -> u8
+        ensures { result ≡ code_of self.now }
+    {
+        match self {
+            Status::Done => 0,
+            Status::Usage => 2,
+            Status::Refused => 3,
+            Status::ReadFault => 4,
+            Status::WriteFault => 5,
+            Status::NoMemory => 6,
+            Status::InputTooLong => 12,
+        }
+    }
+}
+
+/// The status of a run that ended so.
+pub(crate) fn end_status(end: End) -> Status
+    ensures { result ≡ status_of end }
+{
+    match end {
+        End::Done => Status::Done,
+        End::Usage => Status::Usage,
+        End::Refused => Status::Refused,
+        End::TooLong => Status::InputTooLong,
+    }
+}
+
+/// The status of a run that was stopped so.
+pub(crate) fn stop_status(stop: Stop) -> Status
+    ensures { result ≡ status_of_stop stop }
+{
+    match stop {
+        Stop::NoMemory => Status::NoMemory,
+        Stop::ReadFault => Status::ReadFault,
+        Stop::WriteFault => Status::WriteFault,
+    }
+}
