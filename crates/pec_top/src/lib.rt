@@ -26,3 +26,6 @@ pub use lines::lines_are_the_text;
 pub use numbers::numbers_are_read_as_they_are_printed;
 pub use status::Status;
 pub use top::run_pec;
+
+#[cfg(test)]
+mod tests;
