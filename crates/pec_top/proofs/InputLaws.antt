@@ -1,5 +1,5 @@
 -- Pieces of lines: what is taken up to an LF, and what that is of the lines of a text.
-use Rattle.std.proofs.Common.{◌≡◌, ℕ, suc, ◌+◌, ◌<◌, ◌≤◌, Bool, true, false, cond, eqb, ltb, ◌||◌, List, [], ◌∷◌, ◌++◌, length, take, drop, position, Option, Some, None, MatchOption, MatchBool, refl, sym, ◌∙◌, ap, subst, inl, arith, append_assoc, eqb-true, ltb-true, ltb-false, length-append}
+use Rattle.std.proofs.Common.{◌≡◌, ℕ, suc, ◌+◌, ◌<◌, Bool, true, false, cond, eqb, ltb, ◌||◌, List, [], ◌∷◌, ◌++◌, length, take, drop, position, Option, Some, None, MatchOption, MatchBool, refl, sym, ◌∙◌, ap, subst, inl, arith, append_assoc, eqb-true, ltb-true, ltb-false, length-append}
 use Rattle.std.proofs.lemmas.Bool.{false≢true, eqb-false}
 use Rattle.std.proofs.lemmas.Iterator.Adapters.{position_from-zero}
 use Rattle.std.proofs.lemmas.List.{length-take-le}

@@ -1,15 +1,14 @@
 -- What a ledger comes to with one more entry.
-use Rattle.std.proofs.Common.{◌≡◌, ℕ, suc, ◌+◌, ◌<◌, ◌≤◌, max, Bool, true, false, cond, List, [], ◌∷◌, ◌++◌, length, get_or, take, map, filter, fold, Option, Some, None, if◌then◌else◌, refl, sym, ◌∙◌, ap, append_assoc, append-nil, length-append, arith}
+use Rattle.std.proofs.Common.{◌≡◌, ℕ, ◌+◌, ◌<◌, ◌≤◌, max, Bool, true, false, cond, List, [], ◌∷◌, ◌++◌, length, get_or, take, map, filter, fold, if◌then◌else◌, refl, sym, ◌∙◌, ap, append_assoc, append-nil, length-append, arith}
 use Rattle.std.proofs.lemmas.List.{length-take-le, map-append, take_more}
 use Rattle.std.proofs.lemmas.List.Elements.{filter-append}
-use Rattle.std.specs.List.{flat_map}
 use Rattle.std.specs.Str.{bytes_eq}
 use Rattle.pec_types.specs.declared.messages.BookLine.{BookLine}
 use Rattle.pec_types.specs.declared.messages.Recipient.{Recipient}
 use Rattle.pec_types.specs.declared.messages.TheConstants.{MESSAGES}
 use Rattle.pec_top.specs.Booking.{line_of, lines_of, entry_lines}
 use Rattle.pec_top.specs.House.{House, is_certified}
-use Rattle.pec_top.specs.Ledger.{Message, Half, empty, joined, moment_of, message_by, adds, step, half_of, Row, row_of, rows_of, rows_from, lines_owned, book_of}
+use Rattle.pec_top.specs.Ledger.{Message, Half, empty, moment_of, message_by, step, half_of, Row, row_of, rows_of, rows_from, lines_owned, book_of}
 use Rattle.pec_top.specs.declared.entries.Entry.{Entry}
 use Rattle.pec_top.specs.declared.entries.Entry.TheVariants.{Accepted, NotAccepted}
 

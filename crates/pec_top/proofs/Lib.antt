@@ -4,4 +4,7 @@ mod LedgerLaws
 mod LineLaws
 mod NumberLaws
 mod OpeningLaws
+mod PathLaws
+mod PlayLaws
 mod RunLaws
+mod ScriptLaws

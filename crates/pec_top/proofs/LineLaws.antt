@@ -1,6 +1,5 @@
 -- The lines of a text: what ends a line, and what a line says.
-use Rattle.std.proofs.Common.{◌≡◌, ◌≢◌, ℕ, ◌+◌, ◌-◌, ◌<◌, ◌≤◌, ◌⊎◌, min, Bool, true, false, cond, eqb, List, [], ◌∷◌, ◌++◌, length, take, refl, sym, ◌∙◌, ap, subst, inl, inr, arith, append_assoc, append-nil, eqb-true, length-append, length-take}
-use Rattle.std.proofs.lemmas.Bool.{false≢true}
+use Rattle.std.proofs.Common.{◌≡◌, ◌≢◌, ℕ, ◌+◌, ◌-◌, ◌<◌, ◌≤◌, ◌⊎◌, Bool, true, false, cond, eqb, List, [], ◌∷◌, ◌++◌, length, refl, sym, ◌∙◌, ap, inl, inr, arith, append_assoc, append-nil, eqb-true, length-take}
 use Rattle.std.specs.List.{onto_first, concat}
 use Rattle.pec_top.specs.Input.{IsEnded}
 use Rattle.pec_top.specs.Lines.{raw_lines, HasNoEnd, ends_with, without_last, without_return, content_of}

@@ -1,12 +1,12 @@
 -- A text is read as a number exactly where the number is printed so.
-use Rattle.std.proofs.Common.{◌≡◌, ℕ, ◌+◌, ◌-◌, ◌*◌, ◌^◌, ◌<◌, ◌≤◌, Bool, true, false, cond, not, ◌&&◌, ◌||◌, eqb, ltb, List, [], ◌∷◌, length, get_or, Option, Some, None, option_and_then, refl, sym, ◌∙◌, ap, subst, arith, rules, eqb-true, ltb-true, ltb-false, le-ltb, lt-ltb}
+use Rattle.std.proofs.Common.{◌≡◌, ℕ, ◌+◌, ◌-◌, ◌*◌, ◌^◌, ◌<◌, ◌≤◌, Bool, true, false, cond, not, ◌&&◌, ◌||◌, eqb, ltb, List, [], ◌∷◌, length, get_or, Option, Some, None, option_and_then, refl, sym, ◌∙◌, ap, arith, rules, eqb-true, ltb-true, ltb-false, le-ltb, lt-ltb}
 use Rattle.std.specs.Char.{is_ascii_digit}
 use Rattle.std.specs.Fmt.{decimal}
 use Rattle.std.specs.List.{list_all}
 use Rattle.std.proofs.lemmas.Bool.{false≢true, eqb-false}
 use Rattle.std.proofs.lemmas.Fmt.{decimal-digits_value, digits_decimal, digits_value-decimal, decimal_nonempty, first_decimal, decimal_digit}
 use Rattle.std.proofs.lemmas.Str.Parse.{IsNumeralModel, numerals_by_fold}
-use Rattle.pec_top.specs.Numbers.{with_digit, with_digits, is_numeral, number_of}
+use Rattle.pec_top.specs.Numbers.{with_digits, is_numeral, number_of}
 
 -- what digits are worth behind a number
 abbrev read_on : ℕ → List ℕ → ℕ

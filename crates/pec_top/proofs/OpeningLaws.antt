@@ -1,11 +1,11 @@
 -- What reading the directory says of the whole outcome.
-use Rattle.std.proofs.Common.{◌≡◌, ℕ, ◌<◌, ◌≤◌, Bool, true, false, cond, ltb, List, [], ◌∷◌, ◌++◌, length, Option, Some, None, option_map, IfSome, codes, refl, sym, ◌∙◌, ap, subst, lt-ltb, le-ltb}
+use Rattle.std.proofs.Common.{◌≡◌, ℕ, ◌<◌, ◌≤◌, List, [], ◌∷◌, ◌++◌, length, Option, Some, None, option_map, IfSome, codes, refl, sym, ◌∙◌, ap, subst, lt-ltb, le-ltb}
 use Rattle.pec_outside.specs.Flow.{behind}
-use Rattle.pec_top.specs.Directory.{Opened, opened_of}
+use Rattle.pec_top.specs.Directory.{opened_of}
 use Rattle.pec_top.specs.Input.{IsAtEnd}
 use Rattle.pec_top.specs.Lines.{raw_lines}
 use Rattle.pec_top.specs.Run.{parts_left, Opens}
-use Rattle.pec_top.specs.Transcript.{Outcome, Parts, directory_bytes, parts_of, parts_outcome, opened_outcome}
+use Rattle.pec_top.specs.Transcript.{Parts, directory_bytes, parts_of, parts_outcome, opened_outcome}
 use Rattle.pec_top.specs.declared.ending.End.TheVariants as ends
 use Rattle.pec_top.specs.declared.opening.Opening.{Opening}
 use Rattle.pec_top.specs.declared.opening.Opening.TheVariants.{Script, NoScript, TooLong}

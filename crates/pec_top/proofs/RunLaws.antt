@@ -1,20 +1,19 @@
 -- One line more of the input, and what the run comes to.
-use Rattle.std.proofs.Common.{◌≡◌, ◌≢◌, ℕ, ◌+◌, ◌<◌, ◌≤◌, ◌⊎◌, Bool, true, false, cond, eqb, ltb, ◌||◌, List, [], ◌∷◌, ◌++◌, length, Option, Some, None, option_map, IfSome, Result, OnErr, codes, refl, sym, ◌∙◌, ap, subst, inl, inr, arith, append_assoc, append-nil, lt-ltb, length-append}
-use Rattle.std.proofs.lemmas.Bool.{false≢true}
+use Rattle.std.proofs.Common.{◌≡◌, ℕ, ◌+◌, ◌<◌, ◌⊎◌, Bool, true, false, cond, ltb, ◌||◌, List, [], ◌∷◌, ◌++◌, length, Option, Some, None, option_map, IfSome, codes, refl, sym, ◌∙◌, ap, subst, arith, append_assoc, append-nil, lt-ltb, length-append}
 use Rattle.std.proofs.lemmas.Slice.Eq.{bytes_eq-Decides}
-use Rattle.pec_outside.specs.Flow.{behind, followed_by, Wrote, WrotePart}
+use Rattle.pec_outside.specs.Flow.{behind, followed_by, WrotePart}
 use Rattle.pec_outside.proofs.FlowLemmas.{wrote_more, wrote_part, wrote_last}
 use Rattle.pec_top.specs.House.{House}
 use Rattle.pec_top.specs.Input.{IsAtEnd, IsEnded, IsFound}
 use Rattle.pec_top.specs.Lines.{raw_lines, content_of, HasNoEnd}
-use Rattle.pec_top.specs.Run.{parts_left, Opens, script_left, found_turn, Finishes, Stops, Goes}
+use Rattle.pec_top.specs.Run.{parts_left, script_left, found_turn, Finishes, Stops, Goes}
 use Rattle.pec_top.specs.Transcript.{Outcome, Next, goes_on, ends, Turn, ended, Parts, is_mark, onto_directory, parts_of, directory_bytes, line_bytes, script_lines, from_turn, onto_text, script_from, line_turn, long_turn, too_long_line_text, too_long_script_text}
 use Rattle.pec_top.specs.declared.ending.End.{End}
 use Rattle.pec_top.specs.declared.ending.End.TheVariants.{TooLong}
 use Rattle.pec_top.specs.declared.entries.Entry.{Entry}
 use Rattle.pec_top.specs.declared.input.Found.{Found}
 use Rattle.pec_top.specs.declared.input.Found.TheVariants as found
-use Rattle.pec_top.proofs.LineLaws.{IsFirstOf, line_there, long_there, said_size}
+use Rattle.pec_top.proofs.LineLaws.{line_there, long_there, said_size}
 
 -- Reading the directory.
 

@@ -1,5 +1,5 @@
 -- How a book is written, entry by entry. That this gives the book of the ledger is proved of `book_lines`.
-use Rattle.std.specs.Prelude.{ℕ, List, [], ◌∷◌, Option, None, if◌then◌else◌}
+use Rattle.std.specs.Prelude.{ℕ, List, [], ◌∷◌, None, if◌then◌else◌}
 use Rattle.std.specs.List.{flat_map}
 use Rattle.std.specs.Str.{bytes_eq}
 use Rattle.pec_types.specs.Message.{Id}

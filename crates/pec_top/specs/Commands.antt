@@ -1,21 +1,21 @@
 -- The lines of a script that are built: `submit PROVIDER MOMENT SENDER PATH BASE64` and `book ADDRESS`. Words stand apart
 -- by one space. This project's profile; base64 by RFC 4648 section 4, padded and canonical.
-use Rattle.std.specs.Prelude.{ℕ, Bool, ◌&&◌, ◌==◌, List, [], ◌∷◌, length, codes, Option, Some, None, nat_lt, nat_le, if◌then◌else◌}
+use Rattle.std.specs.Prelude.{ℕ, List, codes, Option, Some, None, nat_lt, if◌then◌else◌}
 use Rattle.std.specs.Result.{result_ok}
 use Rattle.std.specs.Str.{bytes_eq}
 use Rattle.base64.specs.Engines.{standard}
 use Rattle.base64.specs.GeneralPurpose.{decode_of}
 use Rattle.pec_types.specs.AddressReading.{address_of}
 use Rattle.pec_top.specs.House.{House}
-use Rattle.pec_top.specs.Letters.{Letter, letter_of}
 use Rattle.pec_top.specs.Numbers.{number_of}
+use Rattle.pec_top.specs.Paths.{path_of}
 use Rattle.pec_top.specs.Reading.{◌>>=◌, where_true, word_at, last_word}
 
 -- a message handed in by an account of the provider
 pub record Submission : Type 0 where
   pub moment : ℕ
   pub sender : List ℕ
-  pub letter : Letter
+  pub path : List (List ℕ)
   pub message : List ℕ
 
 pub data Command : Type 0 where
@@ -33,21 +33,14 @@ address_in text = result_ok (address_of text)
 unfoldable pub message_of : List ℕ → Option (List ℕ)
 message_of text = result_ok (decode_of standard text)
 
--- a message of at most 30 MiB that is a letter to this path
-unfoldable pub letter_to : List ℕ → List ℕ → Option Letter
-letter_to path message = do
-  letter ← letter_of message
-  where_true (bytes_eq letter.recipient path && nat_le (length message) 31457280) (Some letter)
-
 -- a submission from its words
 unfoldable pub submission_of : List ℕ → List ℕ → List ℕ → List ℕ → Option Submission
 submission_of moment_text sender_text path_text message_text = do
   moment ← moment_of moment_text
   sender ← address_in sender_text
-  path ← address_in path_text
+  path ← path_of path_text
   message ← message_of message_text
-  letter ← letter_to path message
-  Some (record { moment = moment; sender = sender; letter = letter; message = message })
+  Some (record { moment = moment; sender = sender; path = path; message = message })
 
 unfoldable pub submit_at : House → List ℕ → Option Command
 submit_at house text = do

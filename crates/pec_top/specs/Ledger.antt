@@ -1,9 +1,8 @@
 -- A provider's ledger: its entries in order, and what they come to. A half is a record of lists that only grow at their
 -- ends, and holds no bytes of messages. RFC 6109 section 3.1 for acceptance and non-acceptance; the rest is this
 -- project's profile.
-use Rattle.std.specs.Prelude.{◌≡◌, ℕ, ◌+◌, max, Bool, List, [], ◌∷◌, ◌++◌, length, map, filter, fold, Option, Some, None, is_none, if◌then◌else◌}
+use Rattle.std.specs.Prelude.{ℕ, ◌+◌, max, List, [], ◌∷◌, ◌++◌, map, filter, fold, Option, Some, None, is_none, if◌then◌else◌}
 use Rattle.std.specs.Str.{bytes_eq}
-use Rattle.pec_types.specs.Message.{Id}
 use Rattle.pec_types.specs.declared.messages.BookLine.{BookLine}
 use Rattle.pec_types.specs.declared.messages.Cause.{Cause}
 use Rattle.pec_types.specs.declared.messages.Recipient.{Recipient}

@@ -5,13 +5,14 @@ pub mod Ending
 pub mod House
 pub mod Input
 pub mod Ledger
-pub mod Letters
 pub mod Lines
 pub mod Numbers
+pub mod Paths
 pub mod Play
 pub mod Printing
 pub mod Reading
 pub mod Run
+pub mod Script
 pub mod Status
 pub mod Transcript
 pub mod Views

@@ -1,6 +1,6 @@
 -- The lines of an input, each with its end, so that nothing is lost: a line ends with LF, and the last piece is a line
 -- where it isn't empty. What a line says is without its LF, and without a CR before that. This project's profile.
-use Rattle.std.specs.Prelude.{◌≡◌, ◌≢◌, ℕ, ◌-◌, Bool, true, false, ◌==◌, List, [], ◌∷◌, length, take, slice_index, if◌then◌else◌, Option, Some, None, option_map}
+use Rattle.std.specs.Prelude.{◌≢◌, ℕ, ◌-◌, Bool, false, ◌==◌, List, [], ◌∷◌, length, take, slice_index, if◌then◌else◌}
 use Rattle.std.specs.List.{onto_first, AllByRecursion}
 
 abbrev pub raw_lines : List ℕ → List (List ℕ)

@@ -1,10 +1,11 @@
--- What a command does: the lines that are written, and the provider's entries afterwards. Admission by RFC 6109 section
--- 3.1.1, of which one cause is looked for today; the rest is this project's profile.
-use Rattle.std.specs.Prelude.{◌≡◌, ◌≢◌, ℕ, ◌<◌, ◌≤◌, Bool, true, false, not, nat_lt, nat_le, List, [], ◌∷◌, ◌++◌, length, codes, if◌then◌else◌}
-use Rattle.std.specs.Str.{bytes_eq}
-use Rattle.pec_types.specs.declared.messages.Cause.TheVariants.{ReversePath}
-use Rattle.pec_types.specs.declared.messages.Class.TheVariants.{Primary}
-use Rattle.pec_types.specs.declared.messages.Recipient.{Recipient}
+-- What a command does: the lines that are written, and the provider's entries afterwards. Admission is that of RFC 6109
+-- section 3.1.1; the rest is this project's profile.
+use Rattle.std.specs.Prelude.{◌≡◌, ℕ, ◌<◌, ◌≤◌, true, false, not, nat_lt, nat_le, List, [], ◌∷◌, ◌++◌, length, codes, if◌then◌else◌}
+use Rattle.pec_points.specs.Admission.{admission_of}
+use Rattle.pec_points.specs.declared.admission.Admission.{Admission}
+use Rattle.pec_points.specs.declared.admission.Admission.TheVariants as admissions
+use Rattle.pec_types.specs.declared.messages.Cause.{Cause}
+use Rattle.pec_types.specs.declared.messages.Facts.{Facts}
 use Rattle.pec_top.specs.Commands.{Command, submit, book, Submission}
 use Rattle.pec_top.specs.House.{House, is_account}
 use Rattle.pec_top.specs.Ledger.{half_of, book_of}
@@ -18,11 +19,19 @@ no_account_text = codes "no-account\n"
 abbrev pub full_text : List ℕ
 full_text = codes "full\n"
 
-abbrev pub accepted_entry : Submission → Entry
-accepted_entry s = Accepted s.moment s.sender (record { address = s.letter.recipient; class = Primary } ∷ []) s.message
+-- the greatest size of a message times its recipients, in bytes
+abbrev pub message_limit : ℕ
+message_limit = 31457280
 
-abbrev pub refused_entry : Submission → Entry
-refused_entry s = NotAccepted s.moment s.sender ReversePath (s.letter.recipient ∷ []) s.message
+-- what the access point says of a submission
+abbrev pub admission : Submission → Admission
+admission s = admission_of message_limit s.sender s.path s.message
+
+abbrev pub accepted_entry : Submission → Facts → Entry
+accepted_entry s facts = Accepted s.moment s.sender facts.recipients s.message
+
+abbrev pub refused_entry : Submission → Cause → Entry
+refused_entry s cause = NotAccepted s.moment s.sender cause s.path s.message
 
 abbrev pub last_of : List Entry → ℕ
 last_of entries = (half_of entries).last
@@ -39,12 +48,12 @@ pub data Plays (house : House) (entries : List Entry) (command : Command) (text 
       → text ≡ clock_back_text (last_of entries) → after ≡ entries → Plays house entries command text after
   full : (s : Submission) → command ≡ submit s → is_account house s.sender ≡ true → last_of entries ≤ s.moment → 1000000 ≤ count_of entries
       → text ≡ full_text → after ≡ entries → Plays house entries command text after
-  not_accepted : (s : Submission) → command ≡ submit s → is_account house s.sender ≡ true → last_of entries ≤ s.moment → count_of entries < 1000000
-      → bytes_eq s.sender s.letter.author ≡ false
-      → text ≡ not_accepted_text house.domain (count_of entries) ReversePath → after ≡ entries ++ refused_entry s ∷ [] → Plays house entries command text after
-  accepted : (s : Submission) → command ≡ submit s → is_account house s.sender ≡ true → last_of entries ≤ s.moment → count_of entries < 1000000
-      → bytes_eq s.sender s.letter.author ≡ true
-      → text ≡ accepted_text house.domain (count_of entries) → after ≡ entries ++ accepted_entry s ∷ [] → Plays house entries command text after
+  not_accepted : (s : Submission) (cause : Cause) → command ≡ submit s → is_account house s.sender ≡ true → last_of entries ≤ s.moment → count_of entries < 1000000
+      → admission s ≡ admissions.Not cause
+      → text ≡ not_accepted_text house.domain (count_of entries) cause → after ≡ entries ++ refused_entry s cause ∷ [] → Plays house entries command text after
+  accepted : (s : Submission) (facts : Facts) → command ≡ submit s → is_account house s.sender ≡ true → last_of entries ≤ s.moment → count_of entries < 1000000
+      → admission s ≡ admissions.Accepted facts
+      → text ≡ accepted_text house.domain (count_of entries) → after ≡ entries ++ accepted_entry s facts ∷ [] → Plays house entries command text after
   no_book : (account : List ℕ) → command ≡ book account → is_account house account ≡ false
       → text ≡ no_account_text → after ≡ entries → Plays house entries command text after
   booked : (account : List ℕ) → command ≡ book account → is_account house account ≡ true
@@ -61,14 +70,14 @@ kept_as entries text = record { text = text; after = entries }
 abbrev pub with_entry : List Entry → Entry → List ℕ → Played
 with_entry entries entry text = record { text = text; after = entries ++ entry ∷ [] }
 
-unfoldable pub admitted : House → List Entry → Submission → Played
-admitted house entries s = if bytes_eq s.sender s.letter.author then with_entry entries (accepted_entry s) (accepted_text house.domain (count_of entries))
-    else with_entry entries (refused_entry s) (not_accepted_text house.domain (count_of entries) ReversePath)
+abbrev pub admitted : House → List Entry → Submission → Admission → Played
+admitted house entries s (admissions.Accepted facts) = with_entry entries (accepted_entry s facts) (accepted_text house.domain (count_of entries))
+admitted house entries s (admissions.Not cause) = with_entry entries (refused_entry s cause) (not_accepted_text house.domain (count_of entries) cause)
 
 unfoldable pub submitted : House → List Entry → Submission → Played
 submitted house entries s = if not (is_account house s.sender) then kept_as entries no_account_text
     else (if nat_lt s.moment (last_of entries) then kept_as entries (clock_back_text (last_of entries))
-    else (if nat_le 1000000 (count_of entries) then kept_as entries full_text else admitted house entries s))
+    else (if nat_le 1000000 (count_of entries) then kept_as entries full_text else admitted house entries s (admission s)))
 
 unfoldable pub book_answer : House → List Entry → List ℕ → List ℕ
 book_answer house entries account = if is_account house account then book_text house.domain (book_of house (half_of entries) account) else no_account_text

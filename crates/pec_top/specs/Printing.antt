@@ -1,5 +1,5 @@
 -- The lines of output. A message is named `pec.<number in seven digits>@<domain of its provider>`. This project's profile.
-use Rattle.std.specs.Prelude.{ℕ, ◌-◌, List, [], ◌∷◌, ◌++◌, length, take, codes, Option, Some, None}
+use Rattle.std.specs.Prelude.{ℕ, ◌-◌, List, ◌++◌, length, take, codes, Option, Some, None}
 use Rattle.std.specs.Fmt.{decimal}
 use Rattle.std.specs.List.{flat_map}
 use Rattle.pec_types.specs.declared.messages.BookLine.{BookLine}

@@ -1,5 +1,5 @@
 -- Words for readers of texts: what a reader finds, or nothing.
-use Rattle.std.specs.Prelude.{ℕ, ◌+◌, ◌==◌, Bool, List, [], ◌∷◌, length, take, drop, position, Option, Some, None, option_and_then, option_map, if◌then◌else◌, is_none}
+use Rattle.std.specs.Prelude.{ℕ, ◌+◌, ◌==◌, Bool, List, length, take, drop, position, Option, Some, None, option_and_then, option_map, if◌then◌else◌, is_none}
 use Rattle.std.specs.Str.{bytes_eq}
 
 infixl 10 ◌>>=◌

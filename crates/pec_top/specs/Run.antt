@@ -1,8 +1,7 @@
 -- What is left of the input, and what a run does with it: the words of the contracts of its parts.
-use Rattle.std.specs.Prelude.{◌≡◌, ℕ, ◌+◌, ◌<◌, ◌≤◌, List, [], ◌∷◌, length, Option, Some, None, option_map, IfSome}
+use Rattle.std.specs.Prelude.{◌≡◌, ℕ, ◌<◌, ◌≤◌, List, [], length, Option, Some, None, option_map, IfSome}
 use Rattle.pec_outside.specs.Flow.{followed_by, Wrote, WrotePart}
 use Rattle.pec_top.specs.House.{House}
-use Rattle.pec_top.specs.Input.{IsAtEnd}
 use Rattle.pec_top.specs.Lines.{raw_lines}
 use Rattle.pec_top.specs.Transcript.{Outcome, Turn, Parts, ended, directory_bytes, line_turn, long_turn, parts_of, script_from}
 use Rattle.pec_top.specs.declared.ending.End.{End}

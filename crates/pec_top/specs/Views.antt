@@ -3,7 +3,6 @@ use Rattle.std.specs.Prelude.{ℕ, List, Option, Some, None}
 use Rattle.pec_top.specs.Commands as commands
 use Rattle.pec_top.specs.Directory as directory
 use Rattle.pec_top.specs.House as house
-use Rattle.pec_top.specs.Letters as letters
 use Rattle.pec_top.specs.Play as play
 use Rattle.pec_top.specs.declared.commands.Command.{Command}
 use Rattle.pec_top.specs.declared.commands.Command.TheVariants.{Submit, Book}
@@ -14,17 +13,13 @@ use Rattle.pec_top.specs.Transcript as transcript
 use Rattle.pec_top.specs.declared.ending.End.{End}
 use Rattle.pec_top.specs.declared.entries.Entry.{Entry}
 use Rattle.pec_top.specs.declared.house.House.{House}
-use Rattle.pec_top.specs.declared.letters.Letter.{Letter}
 use Rattle.pec_top.specs.declared.turns.Turn.{Turn}
-
-abbrev pub letter_shown : Letter → letters.Letter
-letter_shown letter = record { author = letter.author; recipient = letter.recipient }
 
 abbrev pub house_shown : House → house.House
 house_shown h = record { name = h.name.items; domain = h.domain.items; accounts = h.accounts.items }
 
 abbrev pub submission_shown : Submission → commands.Submission
-submission_shown s = record { moment = s.moment; sender = s.sender; letter = letter_shown s.letter; message = s.message }
+submission_shown s = record { moment = s.moment; sender = s.sender; path = s.path.items; message = s.message }
 
 abbrev pub command_shown : Command → commands.Command
 command_shown (Submit s) = commands.submit (submission_shown s)

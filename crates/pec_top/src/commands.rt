@@ -1,25 +1,23 @@
 ghost use Rattle.std.specs.Prelude.{◌≡◌, ℕ, List, option_map, Option, IfOk};
-ghost use Rattle.pec_top.specs.Commands.{book_at, command_of, letter_to, message_of, moment_of, submission_of, submit_at};
-ghost use Rattle.pec_top.specs.Views.{command_shown, house_shown, letter_shown, submission_shown};
+ghost use Rattle.pec_top.specs.Commands.{book_at, command_of, message_of, moment_of, submission_of, submit_at};
+ghost use Rattle.pec_top.specs.Views.{command_shown, house_shown, submission_shown};
 
+use crate::addresses::read_address;
 use crate::house::House;
-use crate::letters::{Letter, read_address, read_letter};
 use crate::numbers::read_number;
+use crate::paths::read_path;
 use crate::reading::{last_word, next_word};
 use base64::DecodeAllocError;
 use base64::engine::general_purpose::STANDARD;
 use pec_types::{Address, Moment, NoMemory, Text8};
 use std::alloc::Global;
 
-/// The greatest message that is taken, in bytes: 30 MiB.
-const MESSAGE_BYTES: usize = 31_457_280;
-
 /// A message that an account of the provider hands in.
 #[derive(Drop)]
 pub(crate) struct Submission {
     pub(crate) moment: Moment,
     pub(crate) sender: Address,
-    pub(crate) letter: Letter,
+    pub(crate) path: Vec<Address>,
     pub(crate) message: Text8,
 }
 
@@ -97,19 +95,16 @@ fn read_submission(
     let Some(sender) = read_address(alloc, sender)? else {
         return Ok(None);
     };
-    let Some(path) = read_address(alloc, path)? else {
+    let Some(path) = read_path(alloc, path)? else {
         return Ok(None);
     };
     let Some(message) = decoded(alloc, message)? else {
         return Ok(None);
     };
-    let Some(letter) = read_letter_to(alloc, &path, &message)? else {
-        return Ok(None);
-    };
     Ok(Some(Submission {
         moment,
         sender,
-        letter,
+        path,
         message: Text8::of(message),
     }))
 }
@@ -144,17 +139,4 @@ fn decoded(alloc: Global, text: &[u8]) -> Result<Option<Vec<u8>>, NoMemory>
         Err(DecodeAllocError::DecodeError(_)) => Ok(None),
         Err(DecodeAllocError::OutOfMemory) => Err(NoMemory),
     }
-}
-
-#[tactic(auto, unfolding(crate::specs::Commands::letter_to))]
-fn read_letter_to(alloc: Global, path: &Address, message: &[u8]) -> Result<Option<Letter>, NoMemory>
-    ensures { IfOk result (λ found. option_map letter_shown found ≡ letter_to path.now message.now) }
-{
-    let Some(letter) = read_letter(alloc, message)? else {
-        return Ok(None);
-    };
-    if letter.recipient.bytes() != path.bytes() || message.len() > MESSAGE_BYTES {
-        return Ok(None);
-    }
-    Ok(Some(letter))
 }

@@ -7,8 +7,8 @@ ghost use Rattle.pec_top.specs.Directory.{opened_of, opened_data, document_of, h
 ghost use Rattle.pec_top.specs.House.{is_certified};
 ghost use Rattle.pec_top.specs.Views.{house_shown, opened_shown};
 
+use crate::addresses::read_address;
 use crate::house::{House, has_address, is_certified};
-use crate::letters::read_address;
 use pec_types::{Address, NoMemory};
 use std::alloc::{AllocError, Global};
 use toml::Value;

@@ -1,6 +1,7 @@
 //! The top call.
 #![tactic(auto)]
 
+mod addresses;
 mod booking;
 mod commands;
 mod directory;
@@ -9,10 +10,10 @@ mod entries;
 mod house;
 mod input;
 mod ledger;
-mod letters;
 mod lines;
 mod numbers;
 mod opening;
+mod paths;
 mod play;
 mod printing;
 mod reading;
@@ -24,6 +25,8 @@ mod turns;
 
 pub use lines::lines_are_the_text;
 pub use numbers::numbers_are_read_as_they_are_printed;
+pub use play::a_command_plays_in_one_way;
+pub use script::a_script_plays_in_one_way;
 pub use status::Status;
 pub use top::run_pec;
 

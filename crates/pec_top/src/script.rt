@@ -1,10 +1,13 @@
-ghost use Rattle.std.specs.Prelude.{◌≡◌, ◌≢◌, ◌≤◌, [], Some, None, IfOk, OnErr, IsErrOf};
+ghost use Rattle.std.specs.Prelude.{◌≡◌, ◌≢◌, ◌≤◌, ℕ, List, [], Some, None, IfOk, OnErr, IsErrOf};
 ghost use Rattle.pec_outside.specs.Flow.{behind, HasRisen};
+ghost use Rattle.pec_top.specs.House as houses;
 ghost use Rattle.pec_top.specs.Input.{IsAtEnd};
 ghost use Rattle.pec_top.specs.Run.{Finishes, Stops, found_turn, script_left};
-ghost use Rattle.pec_top.specs.Transcript.{script_lines};
+ghost use Rattle.pec_top.specs.Script.{PlaysScript};
+ghost use Rattle.pec_top.specs.Transcript.{script_from, script_lines};
 ghost use Rattle.pec_top.specs.Views.{house_shown, turn_shown};
 ghost use Rattle.pec_top.specs.declared.ending.End.TheVariants.{Done, Usage};
+ghost use Rattle.pec_top.specs.declared.entries.Entry as entry;
 
 use crate::ending::{End, Stop};
 use crate::house::House;
@@ -76,3 +79,13 @@ fn take_found(
         }
     }
 }
+
+/// A script plays in one way and in no other: each line from where the one before it led, to an end of one kind. What the
+/// transcript of a run holds behind its directory is this. This project's profile.
+pub fn a_script_plays_in_one_way()
+    ensures some { (house : houses.House) (entries : List entry.Entry) (number : ℕ) (lines : List (List ℕ))
+        → PlaysScript house entries number lines (script_from house entries number lines).text (script_from house entries number lines).end }
+    ensures one { (house : houses.House) (entries : List entry.Entry) (number : ℕ) (lines : List (List ℕ)) (text : List ℕ) (end : End)
+        → PlaysScript house entries number lines text end
+        → (text ≡ (script_from house entries number lines).text) × (end ≡ (script_from house entries number lines).end) }
+{}

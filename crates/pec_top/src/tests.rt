@@ -1,7 +1,10 @@
 //! The program over memory: what is written for a script, at faults and at the limits.
 
+ghost use Rattle.std.specs.Prelude.{◌<◌};
+
 use crate::status::Status;
 use crate::top::run_pec;
+use base64::engine::general_purpose::STANDARD;
 use pec_outside::{MemSink, MemSource};
 use std::alloc::{AllocError, Global};
 use std::test::Fail;
@@ -9,10 +12,6 @@ use std::test::Fail;
 /// A directory with the provider `alfa` and the accounts alice and anna.
 const DIRECTORY: &[u8] = b"[[provider]]\nname = \"alfa\"\nmanagedDomains = [\"alfa.example\"]\n\
 [[provider.account]]\naddress = \"alice@alfa.example\"\n[[provider.account]]\naddress = \"Anna@alfa.example\"\n";
-
-/// `From: alice@alfa.example`, `To: anna@alfa.example`, `Subject: Ciao`, an empty line and `Salve`, in base64.
-const CIAO: &str =
-    "RnJvbTogYWxpY2VAYWxmYS5leGFtcGxlDQpUbzogYW5uYUBhbGZhLmV4YW1wbGUNClN1YmplY3Q6IENpYW8NCg0KU2FsdmUNCg==";
 
 /// What a run wrote, and its status.
 #[derive(Drop)]
@@ -52,28 +51,46 @@ fn input_of(alloc: Global, script: &[u8]) -> Result<Vec<u8>, AllocError> {
     Ok(input)
 }
 
-/// A script with `{}` for the message.
+/// A script where `{}` holds a message: its base64 is written, with CRLF for each `|`.
 fn script_of(alloc: Global, text: &str) -> Result<Vec<u8>, AllocError> {
     let mut script = Vec::new(alloc);
+    let mut message = Vec::new(alloc);
+    let mut inside = false;
     for b in text.as_bytes() {
-        if *b == b'*' {
-            script.extend_from_slice(CIAO.as_bytes())?;
-        } else {
+        if *b == b'{' {
+            inside = true;
+        } else if *b == b'}' {
+            let encoded = STANDARD.encode(alloc, &message)?;
+            script.extend_from_slice(encoded.as_bytes())?;
+            message.clear();
+            inside = false;
+        } else if !inside {
             script.push(*b)?;
+        } else if *b == b'|' {
+            message.extend_from_slice(b"\r\n")?;
+        } else {
+            message.push(*b)?;
         }
     }
     Ok(script)
 }
 
-const FIRST: &str =
-    "submit alfa 1704186000 alice@alfa.example anna@alfa.example *\nbook alice@alfa.example\n";
+const FIRST: &str = "submit alfa 1704186000 alice@alfa.example anna@alfa.example \
+{From: alice@alfa.example|To: anna@alfa.example|Subject: Ciao||Salve|}\nbook alice@alfa.example\n";
 
 const FIRST_OUTPUT: &[u8] = b"accepted pec.0000000@alfa.example\n\
 pec.0000000@alfa.example anna@alfa.example primary 1704186000 - - - open\nbook 1\n";
 
+/// What the program does with this script behind the directory.
+fn played(alloc: Global, text: &str) -> Result<Ran, AllocError> {
+    let script = script_of(alloc, text)?;
+    let input = input_of(alloc, &script)?;
+    run(alloc, &["run"], &input, 100, &[], &[])
+}
+
 #[test]
 fn plays_scripts(rt: HostRuntime) -> Result<(), Fail> {
-    let cases: [(&str, &str, Status); 14] = [
+    let rows: [(&str, &str, Status); 7] = [
         (
             FIRST,
             "accepted pec.0000000@alfa.example\npec.0000000@alfa.example anna@alfa.example primary 1704186000 - - - open\nbook 1\n",
@@ -86,6 +103,36 @@ fn plays_scripts(rt: HostRuntime) -> Result<(), Fail> {
             Status::Done,
         ),
         ("book zoe@alfa.example\n", "no-account\n", Status::Done),
+        (
+            "book anna@alfa.example\nbook\n",
+            "book 0\nrefused line 2 not-built\n",
+            Status::Refused,
+        ),
+        (
+            "submit alfa 1704186000 zoe@alfa.example anna@alfa.example {||}\n",
+            "no-account\n",
+            Status::Done,
+        ),
+        (
+            "submit alfa 1704186000 Alice@alfa.example anna@alfa.example {From: alice@alfa.example|To: anna@alfa.example||}\n\
+             submit alfa 1704185999 alice@alfa.example anna@alfa.example {From: alice@alfa.example|To: anna@alfa.example||}\n\
+             submit alfa 1704186000 anna@alfa.example anna@alfa.example {From: alice@alfa.example|To: anna@alfa.example||}\n\
+             submit alfa 4102444799 alice@alfa.example anna@alfa.example {From: alice@alfa.example|To: anna@alfa.example||}\n",
+            "accepted pec.0000000@alfa.example\nclock-back 1704186000\nnot-accepted pec.0000001@alfa.example reverse-path\naccepted pec.0000002@alfa.example\n",
+            Status::Done,
+        ),
+    ];
+    for (text, output, status) in rows {
+        let ran = played(rt.alloc(), text)?;
+        assert_eq!(rt; ran.text.as_slice(), output.as_bytes(), "at {text:?}");
+        assert_eq!(rt; ran.status, status, "at {text:?}");
+    }
+    Ok(())
+}
+
+#[test]
+fn refuses_lines(rt: HostRuntime) -> Result<(), Fail> {
+    let rows: [(&str, &str, Status); 10] = [
         (
             "tick alfa 1\n",
             "refused line 1 not-built\n",
@@ -102,46 +149,85 @@ fn plays_scripts(rt: HostRuntime) -> Result<(), Fail> {
             Status::Refused,
         ),
         (
-            "submit beta 1704186000 alice@alfa.example anna@alfa.example *\n",
+            "submit beta 1 a@a b@b {|}\n",
             "refused line 1 not-built\n",
             Status::Refused,
         ),
         (
-            "submit alfa 01704186000 alice@alfa.example anna@alfa.example *\n",
+            "submit alfa 01 a@a b@b {|}\n",
             "refused line 1 not-built\n",
             Status::Refused,
         ),
         (
-            "submit alfa 4102444800 alice@alfa.example anna@alfa.example *\n",
+            "submit alfa 4102444800 a@a b@b {|}\n",
             "refused line 1 not-built\n",
             Status::Refused,
         ),
         (
-            "submit alfa 1704186000 anna@alfa.example anna@alfa.example *\n",
-            "not-accepted pec.0000000@alfa.example reverse-path\n",
-            Status::Done,
+            "submit alfa 1 a@a b@b, {|}\n",
+            "refused line 1 not-built\n",
+            Status::Refused,
         ),
         (
-            "submit alfa 1704186000 zoe@alfa.example anna@alfa.example *\n",
+            "submit alfa 1 a@a b@b AA=\n",
+            "refused line 1 not-built\n",
+            Status::Refused,
+        ),
+        (
+            "submit alfa 1 a@a b@b,c@c {|}\n",
             "no-account\n",
             Status::Done,
         ),
+        ("submit alfa 1 a@a b@b \n", "no-account\n", Status::Done),
+    ];
+    for (text, output, status) in rows {
+        let ran = played(rt.alloc(), text)?;
+        assert_eq!(rt; ran.text.as_slice(), output.as_bytes(), "at {text:?}");
+        assert_eq!(rt; ran.status, status, "at {text:?}");
+    }
+    Ok(())
+}
+
+#[test]
+fn admits_and_books(rt: HostRuntime) -> Result<(), Fail> {
+    let rows: [(&str, &str, Status); 5] = [
         (
-            "submit alfa 1704186000 Alice@alfa.example anna@alfa.example *\nsubmit alfa 1704185999 alice@alfa.example anna@alfa.example *\n\
-             submit alfa 1704186000 anna@alfa.example anna@alfa.example *\nsubmit alfa 4102444799 alice@alfa.example anna@alfa.example *\n",
-            "accepted pec.0000000@alfa.example\nclock-back 1704186000\nnot-accepted pec.0000001@alfa.example reverse-path\naccepted pec.0000002@alfa.example\n",
+            "submit alfa 1704186000 alice@alfa.example bob@beta.example {From: anna@alfa.example|To: bob@beta.example|Bcc: carl@beta.example||}\n\
+             submit alfa 1704186000 anna@alfa.example bob@beta.example {From: anna@alfa.example|To: bob@beta.example|Bcc: carl@beta.example||}\n",
+            "not-accepted pec.0000000@alfa.example reverse-path\nnot-accepted pec.0000001@alfa.example bcc\n",
             Status::Done,
         ),
         (
-            "book anna@alfa.example\nbook\n",
-            "book 0\nrefused line 2 not-built\n",
-            Status::Refused,
+            "submit alfa 1704186000 alice@alfa.example a@b VG86IGFAYgoK\n",
+            "not-accepted pec.0000000@alfa.example from\n",
+            Status::Done,
+        ),
+        (
+            "submit alfa 1 alice@alfa.example a@b {From: alice@alfa.example|To: a@b|}\n\
+             submit alfa 1 alice@alfa.example a@b {From: alice@alfa.example||}\n\
+             submit alfa 1 alice@alfa.example a@b,c@b {From: alice@alfa.example|To: a@b||}\n",
+            "not-accepted pec.0000000@alfa.example head\nnot-accepted pec.0000001@alfa.example to\nnot-accepted pec.0000002@alfa.example forward-path\n",
+            Status::Done,
+        ),
+        (
+            "submit alfa 1704186000 alice@alfa.example Alice@alfa.example,anna@alfa.example {From: alice@alfa.example|To: anna@alfa.example|Cc: Anna@alfa.example, alice@alfa.example||}\n\
+             book alice@alfa.example\n",
+            "accepted pec.0000000@alfa.example\npec.0000000@alfa.example anna@alfa.example primary 1704186000 - - - open\n\
+             pec.0000000@alfa.example alice@alfa.example copy 1704186000 - - - open\nbook 2\n",
+            Status::Done,
+        ),
+        (
+            "submit alfa 1 alice@alfa.example x@posta.example,anna@alfa.example {From: alice@alfa.example|To: anna@alfa.example, x@posta.example||}\n\
+             submit alfa 2 anna@alfa.example x@posta.example {From: Anna@ALFA.example|To: x@posta.example||}\n\
+             submit alfa 3 alice@alfa.example alice@alfa.example {From: alice@alfa.example|To: alice@alfa.example||}\n\
+             book alice@alfa.example\nbook anna@alfa.example\n",
+            "accepted pec.0000000@alfa.example\naccepted pec.0000001@alfa.example\naccepted pec.0000002@alfa.example\n\
+             pec.0000000@alfa.example anna@alfa.example primary 1 - - - open\npec.0000002@alfa.example alice@alfa.example primary 3 - - - open\nbook 2\nbook 0\n",
+            Status::Done,
         ),
     ];
-    for (text, output, status) in cases {
-        let script = script_of(rt.alloc(), text)?;
-        let input = input_of(rt.alloc(), &script)?;
-        let ran = run(rt.alloc(), &["run"], &input, 100, &[], &[])?;
+    for (text, output, status) in rows {
+        let ran = played(rt.alloc(), text)?;
         assert_eq!(rt; ran.text.as_slice(), output.as_bytes(), "at {text:?}");
         assert_eq!(rt; ran.status, status, "at {text:?}");
     }
@@ -201,9 +287,14 @@ fn reads_pieces_ends_and_cuts(rt: HostRuntime) -> Result<(), Fail> {
     for cut in 0..input.len() {
         let ran = run(rt.alloc(), &["run"], &input[..cut], 64, &[], &[])?;
         let whole = FIRST_OUTPUT.starts_with(&ran.text);
-        // A cut inside the last word leaves the address of nobody.
+        // A cut inside the last word leaves less of a message, or the address of nobody.
+        let less = ran.text.as_slice()
+            == b"not-accepted pec.0000000@alfa.example head\n".as_slice();
         let nobody = ran.text.ends_with(b"no-account\n");
-        assert!(rt; whole || nobody || ran.status == Status::Refused, "cut at {cut}");
+        assert!(rt;
+            whole || less || nobody || ran.status == Status::Refused,
+            "cut at {cut}"
+        );
         assert!(rt; ran.text.len() <= FIRST_OUTPUT.len() + 30, "cut at {cut}");
     }
     Ok(())

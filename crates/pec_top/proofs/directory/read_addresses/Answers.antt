@@ -1,6 +1,4 @@
-use Rattle.std.proofs.Common.{◌≡◌, ◌++◌, ◌∷◌, [], drop, ◌+◌, option_map, sym, ◌∙◌, subst}
-use Rattle.toml.specs.View.{items_view}
-use Rattle.pec_top.specs.Directory.{addresses_in}
+use Rattle.std.proofs.Common.{sym, ◌∙◌}
 use Rattle.pec_top.proofs.DirectoryLaws.{account_step}
 use Rattle.pec_top.proofs.directory.read_addresses.Goals as goal
 

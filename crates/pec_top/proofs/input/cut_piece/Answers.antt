@@ -1,4 +1,4 @@
-use Rattle.std.proofs.Common.{sym, ◌∙◌, ap, length, drop, ◌≡◌}
+use Rattle.std.proofs.Common.{sym, ◌∙◌}
 use Rattle.std.proofs.Math.Seq.{drop-length}
 use Rattle.pec_top.proofs.InputLaws.{feed_at, no_feed}
 use Rattle.pec_top.proofs.input.cut_piece.Goals as goal

@@ -2,7 +2,6 @@ use Rattle.std.proofs.Common.{◌≡◌, ◌+◌, ◌++◌, length, subst, sym, 
 use Rattle.pec_outside.specs.Flow.{behind}
 use Rattle.pec_top.specs.Input.{IsFound}
 use Rattle.pec_top.specs.Transcript.{directory_bytes, is_mark}
-use Rattle.pec_top.specs.declared.input.Found.TheVariants.{Line, Long}
 use Rattle.pec_top.proofs.RunLaws.{directory_line, mark_line, long_line}
 use Rattle.pec_top.proofs.opening.read_directory.Goals as goal
 

@@ -1,5 +1,4 @@
-use Rattle.std.proofs.Common.{◌≡◌, sym, ◌∙◌, ap, subst}
-use Rattle.pec_top.specs.Directory.{Opened, opened_of}
+use Rattle.std.proofs.Common.{sym, ◌∙◌, ap, subst}
 use Rattle.pec_top.specs.Lines.{raw_lines}
 use Rattle.pec_top.specs.Status.{EndsAs}
 use Rattle.pec_top.specs.Transcript.{opened_outcome}

@@ -1,4 +1,4 @@
-use Rattle.std.proofs.Common.{◌≡◌, ◌+◌, ◌-◌, ◌≤◌, []}
+use Rattle.std.proofs.Common.{◌+◌, ◌-◌, ◌≤◌, []}
 use Rattle.pec_outside.specs.Flow.{behind}
 use Rattle.pec_top.specs.Run.{Goes, script_left}
 use Rattle.pec_top.specs.Transcript.{script_lines}

@@ -1,6 +1,3 @@
-use Rattle.std.proofs.Common.{◌<◌, length, sym, subst, ◌∙◌, ap}
-use Rattle.pec_types.specs.declared.messages.TheConstants.{MESSAGES}
-use Rattle.pec_top.specs.Ledger.{moment_of}
 use Rattle.pec_top.proofs.LedgerLaws.{kept}
 use Rattle.pec_top.proofs.ledger.Ledger.append.Goals as goal
 

@@ -1,0 +1,10 @@
+-- What is left has the same bytes before its blanks as all of them.
+use Rattle.std.proofs.Common.{◌≡◌, length}
+use Rattle.pec_heads.specs.Bytes.{cut_blanks}
+use Rattle.pec_bodies.proofs.blanks.trim_end.Given as goal
+
+abbrev pub invariant-loop-last : goal.invariant-loop-last
+invariant-loop-last l = cut_blanks l.rest ≡ cut_blanks l.bytes
+
+abbrev pub decreases-loop-last : goal.decreases-loop-last
+decreases-loop-last l = length l.rest

@@ -1,0 +1,10 @@
+-- What is left has the same bytes behind its blanks as all of them.
+use Rattle.std.proofs.Common.{◌≡◌, length}
+use Rattle.pec_heads.specs.Bytes.{skip_blanks}
+use Rattle.pec_bodies.proofs.blanks.trim_start.Given as goal
+
+abbrev pub invariant-loop-rest : goal.invariant-loop-rest
+invariant-loop-rest l = skip_blanks l.rest ≡ skip_blanks l.bytes
+
+abbrev pub decreases-loop-rest : goal.decreases-loop-rest
+decreases-loop-rest l = length l.rest

@@ -1,0 +1,19 @@
+-- The parts so far and those among the lines that are left are all.
+use Rattle.std.proofs.Common.{◌≡◌, ◌+◌, ◌≤◌, [], drop, length, map}
+use Rattle.pec_heads.specs.Lines.{whole_lines}
+use Rattle.pec_bodies.specs.Multiparts.{last_piece}
+use Rattle.pec_bodies.specs.PartsReading.{wholes_from}
+use Rattle.pec_bodies.proofs.cutting.wholes_behind.Given as goal
+
+abbrev pub invariant-loop-line : goal.invariant-loop-line
+invariant-loop-line l = record {
+  read : wholes_from l.body l.boundary (last_piece (drop l.opening l.body)) (map (λ whole. whole.now) l.wholes.items) l.start l.end l.at (whole_lines l.rest)
+      ≡ wholes_from l.body l.boundary (last_piece (drop l.opening l.body)) [] l.opening l.opening l.opening (whole_lines (drop l.opening l.body));
+  last : last_piece l.rest ≡ last_piece (drop l.opening l.body);
+  place : l.at + length l.rest ≡ length l.body;
+  starts : l.start ≤ l.end;
+  ends : l.end ≤ l.at;
+}
+
+abbrev pub decreases-loop-line : goal.decreases-loop-line
+decreases-loop-line l = length l.rest

@@ -1,0 +1,87 @@
+ghost use Rattle.std.specs.Prelude.{◌≡◌, ℕ, ◌≤◌, [], drop, length, map, IfSome};
+ghost use Rattle.std.specs.Option.{option_map};
+ghost use Rattle.pec_heads.specs.Lines.{whole_lines};
+ghost use Rattle.pec_bodies.specs.Multiparts.{last_piece};
+ghost use Rattle.pec_bodies.specs.PartsReading.{cut_of, opening_from, wholes_from};
+ghost use Rattle.pec_bodies.specs.Giving.{GivesParts};
+
+use crate::faults::BodyFault;
+use crate::lines::{content, first_line};
+use crate::marks::{Mark, mark_of};
+use std::alloc::Global;
+
+/// The parts of a body, as slices of it.
+#[tactic(auto, unfolding(crate::specs::PartsReading::cut_of))]
+pub(crate) fn cut<'a>(
+    alloc: Global,
+    body: &'a [u8],
+    boundary: &[u8],
+) -> Result<Vec<&'a [u8]>, BodyFault>
+    ensures { GivesParts (λ wholes. map (λ whole. whole.now) wholes.items) result (cut_of boundary.now body.now) }
+{
+    let Some(start) = opening(body, boundary) else {
+        return Err(BodyFault::NoOpening);
+    };
+    let wholes = wholes_behind(alloc, body, boundary, start)?;
+    Ok(wholes)
+}
+
+/// The place behind the first delimiter.
+fn opening(body: &[u8], boundary: &[u8]) -> Option<usize>
+    ensures value { option_map (λ start. (start, whole_lines (drop start body.now))) result ≡ opening_from boundary.now 0 (whole_lines body.now) }
+    ensures last { IfSome result (λ start. last_piece (drop start body.now) ≡ last_piece body.now) }
+    ensures within { IfSome result (λ start. start ≤ length body.now) }
+{
+    let mut at = 0;
+    let mut rest = body;
+    while let Some((line, behind)) = first_line(rest) {
+        at += line.len() + 1;
+        if mark_of(content(line), boundary) == Mark::Delimiter {
+            return Some(at);
+        }
+        rest = behind;
+    }
+    None
+}
+
+/// The parts behind the first delimiter, which ends at `opening`.
+fn wholes_behind<'a>(
+    alloc: Global,
+    body: &'a [u8],
+    boundary: &[u8],
+    opening: usize,
+) -> Result<Vec<&'a [u8]>, BodyFault>
+    requires { opening ≤ length body.now }
+    ensures { GivesParts (λ wholes. map (λ whole. whole.now) wholes.items) result (wholes_from body.now boundary.now (last_piece (drop opening body.now)) [] opening opening opening (whole_lines (drop opening body.now))) }
+{
+    let mut wholes = Vec::new(alloc);
+    let mut start = opening;
+    let mut end = opening;
+    let mut at = opening;
+    let mut rest = &body[opening..];
+    while let Some((line, behind)) = first_line(rest) {
+        let bytes = content(line);
+        rest = behind;
+        match mark_of(bytes, boundary) {
+            Mark::Text => {
+                end = at + bytes.len();
+                at += line.len() + 1;
+            }
+            Mark::Delimiter => {
+                wholes.push(&body[start..end])?;
+                at += line.len() + 1;
+                start = at;
+                end = at;
+            }
+            Mark::Closing => {
+                wholes.push(&body[start..end])?;
+                return Ok(wholes);
+            }
+        }
+    }
+    if mark_of(rest, boundary) == Mark::Closing {
+        wholes.push(&body[start..end])?;
+        return Ok(wholes);
+    }
+    Err(BodyFault::NoClosing)
+}

@@ -1,0 +1,5 @@
+pub mod Heads
+pub mod Sets
+pub mod Rows
+pub mod Laws
+pub mod Values

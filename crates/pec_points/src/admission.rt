@@ -1,0 +1,214 @@
+ghost use Rattle.std.specs.Prelude.{◌≡◌, ◌*◌, ◌↔◌, ◌⊎◌, ℕ, List, length, nat_lt, IfOk};
+ghost use Rattle.std.specs.List.{list_all, list_any};
+ghost use Rattle.std.specs.Option.{option_map};
+ghost use Rattle.pec_heads.specs.FactsOfHeads.{has_address};
+ghost use Rattle.pec_heads.specs.FactsReading.{listed, sender_of};
+ghost use Rattle.pec_heads.specs.Lists.{is_all_blank};
+ghost use Rattle.pec_types.specs.declared.messages.Cause.{Cause as CauseShown};
+ghost use Rattle.pec_types.specs.declared.messages.Facts.{Facts as FactsShown};
+ghost use Rattle.pec_points.specs.Table.{IsAccepted, IsCause};
+ghost use Rattle.pec_points.specs.declared.admission.Admission.TheVariants as answers;
+ghost use Rattle.pec_points.specs.Admission.{admission_in, admission_of, has_blind_copies, has_recipient, head_in, is_path_of};
+
+use pec_heads::{Head, HeadFault, ListFault};
+use pec_types::{Address, Cause, Facts, NoMemory, Recipient};
+use std::alloc::Global;
+
+/// What an access point answers on a message.
+#[derive(Drop)]
+pub enum Admission {
+    /// The message is accepted. These are the facts of its head.
+    Accepted(Facts),
+    /// The message isn't accepted, for this cause.
+    Not(Cause),
+}
+
+/// The law of admission: of each message, submitted by an account for a path under a limit, some cause is that of the first row that
+/// applies, or it is accepted, never both; and there is one cause, and one account of the facts.
+pub fn a_message_has_one_answer()
+    ensures some { (limit : ℕ) (sender : List ℕ) (path : List (List ℕ)) (message : List ℕ)
+        → ((cause : CauseShown) × IsCause limit sender path message cause) ⊎ ((facts : FactsShown) × IsAccepted limit sender path message facts) }
+    ensures either { (limit : ℕ) (sender : List ℕ) (path : List (List ℕ)) (message : List ℕ) (cause : CauseShown) (facts : FactsShown)
+        → IsCause limit sender path message cause → IsAccepted limit sender path message facts → ⊥ }
+    ensures cause { (limit : ℕ) (sender : List ℕ) (path : List (List ℕ)) (message : List ℕ) (cause other : CauseShown)
+        → IsCause limit sender path message cause → IsCause limit sender path message other → cause ≡ other }
+    ensures facts { (limit : ℕ) (sender : List ℕ) (path : List (List ℕ)) (message : List ℕ) (facts others : FactsShown)
+        → IsAccepted limit sender path message facts → IsAccepted limit sender path message others → facts ≡ others }
+{}
+
+/// The admission of a message that an account submits for a forward path, at a provider with this limit in bytes
+/// (RFC 6109, section 3.1.1).
+pub fn admit(
+    alloc: Global,
+    limit: u64,
+    sender: &Address,
+    path: &[Address],
+    message: &[u8],
+) -> Result<Admission, NoMemory>
+    // The cause is exactly that of the first row of the table that applies.
+    ensures refused { (cause : CauseShown) → IfOk result (λ admission. (admission ≡ answers.Not cause) ↔ IsCause limit sender.now path.now message.now cause) }
+    // The message is accepted exactly where no row applies, with the facts of its head.
+    ensures accepted { (facts : FactsShown) → IfOk result (λ admission. (admission ≡ answers.Accepted facts) ↔ IsAccepted limit sender.now path.now message.now facts) }
+    // The same answer as a function, for definitions that build on it.
+    ensures exact { IfOk result (λ admission. admission ≡ admission_of limit sender.now path.now message.now) }
+{
+    admit_message(alloc, limit, sender, path, message)
+}
+
+#[tactic(auto, unfolding(crate::specs::Admission::admission_in, crate::specs::Admission::admission_of, crate::specs::Admission::cause_of))]
+fn admit_message(
+    alloc: Global,
+    limit: u64,
+    sender: &Address,
+    path: &[Address],
+    message: &[u8],
+) -> Result<Admission, NoMemory>
+    ensures { IfOk result (λ admission. admission ≡ admission_of limit sender.now path.now message.now) }
+{
+    let Some(head) = read_head(alloc, message)? else {
+        return Ok(Admission::Not(Cause::Head));
+    };
+    let admission = admit_head(alloc, limit, sender, path, message.len(), &head)?;
+    Ok(admission)
+}
+
+/// The head at the front of a message, where there is one.
+#[tactic(auto, unfolding(crate::specs::Admission::head_in))]
+fn read_head(alloc: Global, message: &[u8]) -> Result<Option<Head>, NoMemory>
+    ensures { IfOk result (λ found. found ≡ head_in message.now) }
+{
+    match Head::read(alloc, message) {
+        Ok((head, _)) => Ok(Some(head)),
+        Err(HeadFault::NoMemory) => Err(NoMemory),
+        Err(_) => Ok(None),
+    }
+}
+
+/// The admission of a message of so many bytes with this head.
+#[tactic(auto, unfolding(crate::specs::Admission::admission_in))]
+fn admit_head(
+    alloc: Global,
+    limit: u64,
+    sender: &Address,
+    path: &[Address],
+    bytes: usize,
+    head: &Head,
+) -> Result<Admission, NoMemory>
+    ensures { IfOk result (λ admission. admission ≡ admission_in limit sender.now path.now bytes head.now) }
+{
+    let Some(from) = from_address(alloc, head)? else {
+        return Ok(Admission::Not(Cause::From));
+    };
+    let Some(_) = list(alloc, head, b"To".as_slice())? else {
+        return Ok(Admission::Not(Cause::To));
+    };
+    if from.bytes() != sender.bytes() {
+        return Ok(Admission::Not(Cause::ReversePath));
+    }
+    let Some(facts) = head.facts(alloc)? else {
+        return Ok(Admission::Not(Cause::ForwardPath));
+    };
+    let recipients = facts.recipients.as_slice();
+    if !is_path_of(path, recipients) {
+        return Ok(Admission::Not(Cause::ForwardPath));
+    }
+    if has_blind_copies(head) {
+        return Ok(Admission::Not(Cause::Bcc));
+    }
+    if is_over(limit, bytes, recipients.len()) {
+        return Ok(Admission::Not(Cause::Size));
+    }
+    Ok(Admission::Accepted(facts))
+}
+
+/// The one address of the one `From` field.
+fn from_address(alloc: Global, head: &Head) -> Result<Option<Address>, NoMemory>
+    ensures { IfOk result (λ found. found ≡ sender_of head.now) }
+{
+    if head.count(b"From".as_slice()) != 1 {
+        return Ok(None);
+    }
+    let Some(mut addresses) = list(alloc, head, b"From".as_slice())? else {
+        return Ok(None);
+    };
+    let from = addresses.pop();
+    if !addresses.is_empty() {
+        return Ok(None);
+    }
+    Ok(from)
+}
+
+/// The addresses of the fields of a name, where these are a list.
+fn list(alloc: Global, head: &Head, name: &[u8]) -> Result<Option<Vec<Address>>, NoMemory>
+    ensures { IfOk result (λ found. option_map (λ v. v.items) found ≡ listed name.now head.now) }
+{
+    match head.addresses(alloc, name) {
+        Ok(addresses) => Ok(Some(addresses)),
+        Err(ListFault::NoMemory) => Err(NoMemory),
+        Err(_) => Ok(None),
+    }
+}
+
+/// The path is the set of the recipients' addresses. No more of these are looked at than the path has, and one.
+#[tactic(auto, unfolding(crate::specs::Admission::is_path_of))]
+fn is_path_of(path: &[Address], recipients: &[Recipient]) -> bool
+    ensures { result ≡ is_path_of path.now recipients.now }
+{
+    are_on(path, recipients) && are_among(recipients, path)
+}
+
+fn are_on(path: &[Address], recipients: &[Recipient]) -> bool
+    ensures { result ≡ list_all (λ r. has_address path.now r.address) recipients.now }
+{
+    recipients.iter().all(|r| is_on(path, r.address.bytes()))
+}
+
+fn is_on(path: &[Address], address: &[u8]) -> bool
+    ensures { result ≡ has_address path.now address.now }
+{
+    path.iter().any(|other| other.bytes() == address)
+}
+
+fn are_among(recipients: &[Recipient], path: &[Address]) -> bool
+    ensures { result ≡ list_all (λ address. has_recipient recipients.now address) path.now }
+{
+    path.iter()
+        .all(|address| is_among(recipients, address.bytes()))
+}
+
+fn is_among(recipients: &[Recipient], address: &[u8]) -> bool
+    ensures { result ≡ has_recipient recipients.now address.now }
+{
+    recipients.iter().any(|r| r.address.bytes() == address)
+}
+
+/// Some `Bcc` field has a value that isn't blank.
+#[tactic(auto, unfolding(crate::specs::Admission::has_blind_copies))]
+fn has_blind_copies(head: &Head) -> bool
+    ensures { result ≡ has_blind_copies head.now }
+{
+    for i in 0..head.count(b"Bcc".as_slice()) {
+        if let Some(value) = head.value(b"Bcc".as_slice(), i) {
+            if !is_all_blank(value) {
+                return true;
+            }
+        }
+    }
+    false
+}
+
+fn is_all_blank(value: &[u8]) -> bool
+    ensures { result ≡ is_all_blank value.now }
+{
+    value.iter().all(|b| *b == b' ' || *b == b'\t')
+}
+
+/// So many bytes for each recipient are over the limit. The product may have no place in 64 bits.
+fn is_over(limit: u64, bytes: usize, recipients: usize) -> bool
+    ensures { result ≡ nat_lt limit (bytes * recipients) }
+{
+    match (bytes as u64).checked_mul(recipients as u64) {
+        Some(size) => limit < size,
+        None => true,
+    }
+}

@@ -1,0 +1,213 @@
+//! Tables whose answers were worked out by hand from the admission table of RFC 6109 and from this project's profile.
+use crate::{Admission, admit};
+use pec_types::{Address, Cause, Class, Facts};
+use std::alloc::Global;
+use std::test::Fail;
+
+/// What is answered on a message of the account a@a, for a path whose addresses are parted by spaces.
+fn answer(alloc: Global, limit: u64, path: &[u8], message: &[u8]) -> Result<Admission, Fail> {
+    let sender = Address::read(alloc, b"A@a".as_slice())?;
+    let mut addresses = Vec::new(alloc);
+    for address in path.split(|b| *b == b' ') {
+        addresses.push(Address::read(alloc, address)?)?;
+    }
+    let admission = admit(alloc, limit, &sender, addresses.as_slice(), message)?;
+    Ok(admission)
+}
+
+/// The cause, or None where the message is accepted.
+fn cause(alloc: Global, limit: u64, path: &[u8], message: &[u8]) -> Result<Option<Cause>, Fail> {
+    match answer(alloc, limit, path, message)? {
+        Admission::Accepted(_) => Ok(None),
+        Admission::Not(cause) => Ok(Some(cause)),
+    }
+}
+
+#[test]
+fn rows(rt: HostRuntime) -> Result<(), Fail> {
+    let table = [
+        (
+            b"b@b".as_slice(),
+            b"From a@a\nTo: b@b\n\n".as_slice(),
+            Some(Cause::Head),
+        ),
+        (
+            b"b@b".as_slice(),
+            b"From: a@a\nTo: b@b\n".as_slice(),
+            Some(Cause::Head),
+        ),
+        (
+            b"b@b".as_slice(),
+            b"To: b@b\n\n".as_slice(),
+            Some(Cause::From),
+        ),
+        (
+            b"b@b".as_slice(),
+            b"From: a@a\nFrom: a@a\nTo: b@b\n\n".as_slice(),
+            Some(Cause::From),
+        ),
+        (
+            b"b@b".as_slice(),
+            b"From: a@a, a@a\nTo: b@b\n\n".as_slice(),
+            Some(Cause::From),
+        ),
+        (
+            b"b@b".as_slice(),
+            b"From: a@a\nCc: b@b\n\n".as_slice(),
+            Some(Cause::To),
+        ),
+        (
+            b"b@b".as_slice(),
+            b"From: a@a\nTo: \nCc: b@b\n\n".as_slice(),
+            Some(Cause::To),
+        ),
+        (
+            b"b@b".as_slice(),
+            b"From: c@a\nTo: b@b\n\n".as_slice(),
+            Some(Cause::ReversePath),
+        ),
+        (
+            b"b@b".as_slice(),
+            b"From: a@a\nTo: b@b\nCc:\n\n".as_slice(),
+            Some(Cause::ForwardPath),
+        ),
+        (
+            b"b@b".as_slice(),
+            b"From: a@a\nTo: b@b\nCc: c@c\n\n".as_slice(),
+            Some(Cause::ForwardPath),
+        ),
+        (
+            b"b@b c@c".as_slice(),
+            b"From: a@a\nTo: b@b\n\n".as_slice(),
+            Some(Cause::ForwardPath),
+        ),
+        (
+            b"b@b".as_slice(),
+            b"From: a@a\nTo: b@b\nBcc: \nBCC: x\n\n".as_slice(),
+            Some(Cause::Bcc),
+        ),
+        (
+            b"b@b".as_slice(),
+            b"From: a@a\nTo: b@b\nBcc: ,\n\n".as_slice(),
+            Some(Cause::Bcc),
+        ),
+        (
+            b"b@b".as_slice(),
+            b"From: a@a\nTo: b@b\nBcc:\n \t\n\n".as_slice(),
+            None,
+        ),
+        (
+            b"c@c B@b b@b c@c".as_slice(),
+            b"From: a@a\nTo: b@b\nCc: c@c, b@b\n\n".as_slice(),
+            None,
+        ),
+        (
+            b"B@B C@C".as_slice(),
+            b"FROM: <A@A>\nTO: B@B\nCC: C@C\n\nX".as_slice(),
+            None,
+        ),
+    ];
+    for (path, message, want) in table {
+        assert_eq!(rt;
+            cause(rt.alloc(), 1000, path, message)?,
+            want,
+            "{message:?}"
+        );
+    }
+    Ok(())
+}
+
+/// In each of these messages all rows from one on apply, as far as they can together.
+#[test]
+fn the_first_row_wins(rt: HostRuntime) -> Result<(), Fail> {
+    let table = [
+        (
+            b"c@c".as_slice(),
+            b"Bcc: x\nCc:\n".as_slice(),
+            Some(Cause::Head),
+        ),
+        (
+            b"c@c".as_slice(),
+            b"Bcc: x\nCc:\n\n".as_slice(),
+            Some(Cause::From),
+        ),
+        (
+            b"c@c".as_slice(),
+            b"From: c@a\nBcc: x\nCc:\n\n".as_slice(),
+            Some(Cause::To),
+        ),
+        (
+            b"c@c".as_slice(),
+            b"From: c@a\nBcc: x\nTo: b@b\nCc:\n\n".as_slice(),
+            Some(Cause::ReversePath),
+        ),
+        (
+            b"c@c".as_slice(),
+            b"From: c@a\nBcc: x\nTo: b@b\n\n".as_slice(),
+            Some(Cause::ReversePath),
+        ),
+        (
+            b"c@c".as_slice(),
+            b"From: a@a\nBcc: x\nTo: b@b\n\n".as_slice(),
+            Some(Cause::ForwardPath),
+        ),
+        (
+            b"b@b".as_slice(),
+            b"From: a@a\nBcc: x\nTo: b@b\n\n".as_slice(),
+            Some(Cause::Bcc),
+        ),
+        (
+            b"b@b".as_slice(),
+            b"From: a@a\nTo: b@b\n\n".as_slice(),
+            Some(Cause::Size),
+        ),
+    ];
+    for (path, message, want) in table {
+        assert_eq!(rt; cause(rt.alloc(), 1, path, message)?, want, "{message:?}");
+    }
+    Ok(())
+}
+
+/// The bytes count once for each different recipient.
+#[test]
+fn sizes(rt: HostRuntime) -> Result<(), Fail> {
+    let one = b"From: a@a\nTo: b@b\n\n".as_slice();
+    let two = b"From: a@a\nTo: b@b,c@c\n\n".as_slice();
+    let again = b"From: a@a\nTo: b@b,B@b\nCc: b@b\n\n".as_slice();
+    let table = [
+        (19, b"b@b".as_slice(), one, None),
+        (18, b"b@b".as_slice(), one, Some(Cause::Size)),
+        (46, b"b@b c@c".as_slice(), two, None),
+        (45, b"b@b c@c".as_slice(), two, Some(Cause::Size)),
+        (31, b"b@b b@b".as_slice(), again, None),
+        (30, b"b@b b@b".as_slice(), again, Some(Cause::Size)),
+    ];
+    for (limit, path, message, want) in table {
+        assert_eq!(rt;
+            cause(rt.alloc(), limit, path, message)?,
+            want,
+            "{limit} {message:?}"
+        );
+    }
+    Ok(())
+}
+
+fn accepted(admission: Admission) -> Option<Facts> {
+    match admission {
+        Admission::Accepted(facts) => Some(facts),
+        Admission::Not(_) => None,
+    }
+}
+
+#[test]
+fn accepted_facts(rt: HostRuntime) -> Result<(), Fail> {
+    let message = b"From: a@a\nTo: b@b\nCc: c@c\nSubject: Ciao\n\n".as_slice();
+    let admission = answer(rt.alloc(), 1000, b"c@c b@b".as_slice(), message)?;
+    let facts = accepted(admission).expect(&rt, "an acceptance");
+    assert_eq!(rt; facts.sender.bytes(), b"a@a".as_slice());
+    let recipients = facts.recipients.as_slice();
+    assert_eq!(rt; recipients.len(), 2);
+    assert_eq!(rt; recipients[1].address.bytes(), b"c@c".as_slice());
+    assert_eq!(rt; recipients[1].class, Class::Copy);
+    Ok(())
+}
