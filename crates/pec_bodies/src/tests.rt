@@ -146,31 +146,41 @@ fn boundaries(rt: HostRuntime) -> Result<(), Fail> {
     Ok(())
 }
 
+/// A client's message with two attachments, of which the second has no name.
 #[test]
 fn heads_and_bodies_of_parts(rt: HostRuntime) -> Result<(), Fail> {
     let (head, _) = Head::read(
         rt.alloc(),
-        b"content-type: multipart/mixed; boundary=XYZ\n\n".as_slice(),
+        b"From: Alice <alice@alfa.example>\r\nTo: \"Bob, Ufficio\" <bob@beta.example>\r\n\
+        Subject: =?utf-8?q?Perch=C3=A9?=\r\nMessage-ID: <c1@client.example>\r\nX-TipoRicevuta: breve\r\nMIME-Version: 1.0\r\n\
+        Content-Type: multipart/mixed; boundary=XYZ\r\n\r\n"
+            .as_slice(),
     )?;
-    let body =
-        b"--XYZ\r\nContent-Type: text/plain\r\n\r\nBuongiorno\r\n--XYZ\r\nA: b\r\n\r\nabc\r\n--XYZ--\r\n";
+    let body = b"--XYZ\r\nContent-Type: text/plain\r\n\r\nBuongiorno\r\n\
+        --XYZ\r\nContent-Type: text/plain; name=\"nota.txt\"\r\nContent-Disposition: attachment; filename=\"nota.txt\"\r\n\r\n\
+        The quick brown fox jumps over the lazy dog\r\n\
+        --XYZ\r\nContent-Type: application/octet-stream\r\nContent-Disposition: attachment\r\n\r\nabc\r\n--XYZ--\r\n";
     let parts = Parts::read(rt.alloc(), &head, body.as_slice())?;
-    assert_eq!(rt; parts.count(), 2);
+    assert_eq!(rt; parts.count(), 3);
     assert_eq!(rt;
         parts.part(0).map(|part| part.body),
         Some(b"Buongiorno".as_slice())
     );
     assert_eq!(rt;
         parts.part(1).map(|part| part.body),
+        Some(b"The quick brown fox jumps over the lazy dog".as_slice())
+    );
+    assert_eq!(rt;
+        parts.part(2).map(|part| part.body),
         Some(b"abc".as_slice())
     );
-    assert!(rt; parts.part(2).is_none());
-    let first = parts.head(0).expect(&rt, "a head");
+    assert!(rt; parts.part(3).is_none());
+    let first = parts.head(1).expect(&rt, "a head");
     assert_eq!(rt;
-        first.field(b"Content-Type".as_slice()),
-        Some(b"text/plain".as_slice())
+        first.field(b"Content-Disposition".as_slice()),
+        Some(b"attachment; filename=\"nota.txt\"".as_slice())
     );
-    assert!(rt; parts.head(2).is_none());
+    assert!(rt; parts.head(3).is_none());
     Ok(())
 }
 

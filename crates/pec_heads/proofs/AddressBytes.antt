@@ -55,4 +55,4 @@ in_dotted p a IsPart f bytes h = rw h.parts (none_append p h.first (flat_map dot
 pub none_in : (p : ℕ → Bool) → Avoids p → (bytes : List ℕ) → IsAddress bytes → NonePass p bytes
 none_in p a bytes h =
     rw h.parts (none_append p h.local (64 ∷ h.domain) (in_dotted p a IsAtom (in_atom p a) h.local h.local_is)
-        (none_more p 64 h.domain a.at (in_dotted p a IsLabel (in_label p a) h.domain h.domain_is)))
+    (none_more p 64 h.domain a.at (in_dotted p a IsLabel (in_label p a) h.domain h.domain_is)))

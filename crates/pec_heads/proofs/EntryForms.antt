@@ -33,7 +33,7 @@ avoids_marks = record {
   alphanumeric = λ b e. no_mark b (letter_60 b e) (letter_34 b e);
   hyphen = refl;
   dot = refl;
-  at = refl
+  at = refl;
 }
 
 none_marked : (bytes : List ℕ) → NonePass is_mark bytes → has_mark bytes ≡ false
@@ -56,9 +56,9 @@ bare_no_mark entry h =
     let t = trimmed_is entry
     in ap has_mark t.parts ∙ list_any-append is_mark (t.left ++ trimmed entry) t.right
     ∙ or_from (has_mark (t.left ++ trimmed entry)) (has_mark t.right)
-        (list_any-append is_mark t.left (trimmed entry)
-        ∙ or_from (has_mark t.left) (has_mark (trimmed entry)) (blanks_no_mark t.left t.left_blank) (none_marked (trimmed entry) (none_in is_mark avoids_marks (trimmed entry) h)))
-        (blanks_no_mark t.right t.right_blank)
+    (list_any-append is_mark t.left (trimmed entry)
+    ∙ or_from (has_mark t.left) (has_mark (trimmed entry)) (blanks_no_mark t.left t.left_blank) (none_marked (trimmed entry) (none_in is_mark avoids_marks (trimmed entry) h)))
+    (blanks_no_mark t.right t.right_blank)
 
 angled_mark : (entry address : List ℕ) → IsAngled entry address → has_mark entry ≡ true
 angled_mark entry address a =

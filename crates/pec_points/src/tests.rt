@@ -168,17 +168,115 @@ fn the_first_row_wins(rt: HostRuntime) -> Result<(), Fail> {
     Ok(())
 }
 
+/// A message for each pair of rows from 2 on that can apply together: 2 with 3, 4, 5, 6; 3 with 4, 5, 6; 4 with 5, 6, 7;
+/// 5 with 6, 7; 6 with 7. Without a head no other row applies, and without a sender and recipients no size is over.
+#[test]
+fn the_smaller_number_wins(rt: HostRuntime) -> Result<(), Fail> {
+    let table = [
+        (
+            99,
+            b"b@b".as_slice(),
+            b"Subject: x\n\n".as_slice(),
+            Cause::From,
+        ),
+        (
+            99,
+            b"b@b".as_slice(),
+            b"To: b@b\n\n".as_slice(),
+            Cause::From,
+        ),
+        (
+            99,
+            b"c@c".as_slice(),
+            b"From: a@a, a@a\nTo: b@b\n\n".as_slice(),
+            Cause::From,
+        ),
+        (
+            99,
+            b"b@b".as_slice(),
+            b"To: b@b\nBcc: x\n\n".as_slice(),
+            Cause::From,
+        ),
+        (
+            99,
+            b"b@b".as_slice(),
+            b"From: c@a\n\n".as_slice(),
+            Cause::To,
+        ),
+        (
+            99,
+            b"b@b".as_slice(),
+            b"From: a@a\n\n".as_slice(),
+            Cause::To,
+        ),
+        (
+            99,
+            b"b@b".as_slice(),
+            b"From: a@a\nBcc: x\n\n".as_slice(),
+            Cause::To,
+        ),
+        (
+            99,
+            b"c@c".as_slice(),
+            b"From: c@a\nTo: b@b\n\n".as_slice(),
+            Cause::ReversePath,
+        ),
+        (
+            99,
+            b"b@b".as_slice(),
+            b"From: c@a\nTo: b@b\nBcc: x\n\n".as_slice(),
+            Cause::ReversePath,
+        ),
+        (
+            1,
+            b"b@b".as_slice(),
+            b"From: c@a\nTo: b@b\n\n".as_slice(),
+            Cause::ReversePath,
+        ),
+        (
+            99,
+            b"c@c".as_slice(),
+            b"From: a@a\nTo: b@b\nBcc: x\n\n".as_slice(),
+            Cause::ForwardPath,
+        ),
+        (
+            1,
+            b"c@c".as_slice(),
+            b"From: a@a\nTo: b@b\n\n".as_slice(),
+            Cause::ForwardPath,
+        ),
+        (
+            1,
+            b"b@b".as_slice(),
+            b"From: a@a\nTo: b@b\nBcc: x\n\n".as_slice(),
+            Cause::Bcc,
+        ),
+    ];
+    for (limit, path, message, want) in table {
+        assert_eq!(rt;
+            cause(rt.alloc(), limit, path, message)?,
+            Some(want),
+            "{message:?}"
+        );
+    }
+    Ok(())
+}
+
 /// The bytes count once for each different recipient.
 #[test]
 fn sizes(rt: HostRuntime) -> Result<(), Fail> {
     let one = b"From: a@a\nTo: b@b\n\n".as_slice();
+    let one_more = b"From: a@a\nTo: b@b\n\nX".as_slice();
     let two = b"From: a@a\nTo: b@b,c@c\n\n".as_slice();
+    let two_more = b"From: a@a\nTo: b@b,c@c\n\nX".as_slice();
     let again = b"From: a@a\nTo: b@b,B@b\nCc: b@b\n\n".as_slice();
     let table = [
         (19, b"b@b".as_slice(), one, None),
         (18, b"b@b".as_slice(), one, Some(Cause::Size)),
+        (19, b"b@b".as_slice(), one_more, Some(Cause::Size)),
         (46, b"b@b c@c".as_slice(), two, None),
         (45, b"b@b c@c".as_slice(), two, Some(Cause::Size)),
+        (46, b"b@b c@c".as_slice(), two_more, Some(Cause::Size)),
         (31, b"b@b b@b".as_slice(), again, None),
         (30, b"b@b b@b".as_slice(), again, Some(Cause::Size)),
     ];

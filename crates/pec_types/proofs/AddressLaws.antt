@@ -1,17 +1,16 @@
 -- The answer on a text is its address, or its fault, by the grammar; and each text has one answer.
-use Rattle.std.proofs.Common.{◌≡◌, ◌≢◌, ℕ, zero, suc, ◌+◌, ◌<◌, ◌≤◌, Bool, true, false, cond, eqb, ltb, List, [], ◌∷◌, ◌++◌, length, take, drop, position, Option, Some, None, MatchOption, Result, Ok, Err, IsTrue, refl, sym, ◌∙◌, ap, subst, inl, inr, arith, add-one, append_assoc, eqb-true, ltb-true, ltb-false, le-ltb, lt-ltb, length-append}
-use Rattle.std.proofs.Math.Seq.{take-append_seam, drop-append-add, take-length}
+use Rattle.std.proofs.Common.{◌≡◌, ◌≢◌, ℕ, zero, suc, ◌+◌, ◌<◌, ◌≤◌, Bool, true, false, cond, eqb, ltb, List, [], ◌∷◌, ◌++◌, length, take, drop, position, Option, Some, None, MatchOption, Result, Ok, Err, refl, sym, ◌∙◌, ap, subst, arith, append_assoc, eqb-true, ltb-true, ltb-false, le-ltb, lt-ltb}
+use Rattle.std.proofs.Math.Seq.{take-append_seam, drop-append-add}
 use Rattle.std.proofs.lemmas.Bool.{false≢true, eqb-false}
 use Rattle.std.proofs.lemmas.Iterator.Adapters.{position_from-zero}
 use Rattle.std.proofs.lemmas.List.{take-append-drop}
 use Rattle.std.specs.List.{flat_map, AllByRecursion, position_from}
-use Rattle.pec_types.specs.Address.{is_atom_byte, AllAtomBytes, IsAtom, IsLocal, IsDomain, dotted, IsDotted, IsAddress, HasDomain, lowered, CanGoOn, IsBadAt, HasNoAt, IsParted, IsAddressFault, AnswersAddress}
+use Rattle.pec_types.specs.Address.{is_atom_byte, AllAtomBytes, IsAtom, IsLocal, IsDomain, dotted, IsAddress, HasDomain, lowered, CanGoOn, IsBadAt, HasNoAt, IsParted, IsAddressFault, AnswersAddress}
 use Rattle.pec_types.specs.AddressReading.{stop_at, is_at_sign, behind_sign, domain_of, domain_read, local_read, parted_read, address_of, Gives}
 use Rattle.pec_types.specs.declared.addresses.AddressFault.{AddressFault}
 use Rattle.pec_types.specs.declared.addresses.AddressFault.TheVariants.{Empty, TooLong, NoAt, BadLocal, BadDomain, NoMemory}
-use Rattle.pec_types.specs.declared.scanning.Stand.{Stand}
 use Rattle.pec_types.specs.declared.scanning.Stand.TheVariants.{AtomBegins, LabelBegins}
-use Rattle.pec_types.proofs.PartLaws.{stop_told, StopTells, IsBadFrom}
+use Rattle.pec_types.proofs.PartLaws.{stop_told, StopTells}
 
 -- A part alone.
 

@@ -1,11 +1,11 @@
 -- An address in lower case is an address, and is in lower case.
-use Rattle.std.proofs.Common.{◌≡◌, ℕ, ◌+◌, ◌<◌, ◌≤◌, ◌⊎◌, Bool, true, false, eqb, ltb, List, [], ◌∷◌, ◌++◌, length, map, IsTrue, refl, sym, ◌∙◌, ap, subst, inl, inr, arith, ltb-true, ltb-false}
+use Rattle.std.proofs.Common.{◌≡◌, ℕ, ◌+◌, ◌≤◌, ◌⊎◌, Bool, true, false, eqb, ltb, List, [], ◌∷◌, ◌++◌, length, map, refl, sym, ◌∙◌, ap, subst, inl, inr, arith, ltb-true, ltb-false}
 use Rattle.std.proofs.lemmas.Bool.Decides.{nat_tests}
 use Rattle.std.proofs.lemmas.List.{length-map, map-append}
 use Rattle.std.proofs.lemmas.Str.Ascii.{lowercase_is, lowercase-lowercase}
 use Rattle.std.specs.Char.{is_ascii_alphanumeric, to_ascii_lowercase}
 use Rattle.std.specs.List.{flat_map, AllByRecursion}
-use Rattle.pec_types.specs.Address.{is_atom_byte, AllAtomBytes, IsAtom, IsLabel, IsLocal, IsDomain, ends_well, dotted, IsDotted, IsAddress, lowered, IsLowerAddress}
+use Rattle.pec_types.specs.Address.{is_atom_byte, AllAtomBytes, IsAtom, IsLabel, ends_well, dotted, IsDotted, IsAddress, lowered, IsLowerAddress}
 
 -- a byte is no capital, or it is one
 abbrev LowerCases : ℕ → Type 0

@@ -1,9 +1,9 @@
 -- A reader that goes through a part of an address byte by byte stops exactly where the grammar puts the fault.
-use Rattle.std.proofs.Common.{◌≡◌, ℕ, zero, suc, ◌+◌, ◌-◌, ◌<◌, ◌≤◌, Bool, true, false, cond, eqb, ltb, List, [], ◌∷◌, ◌++◌, length, take, Option, Some, None, MatchOption, IsTrue, ◌⊎◌, inl, inr, refl, sym, ◌∙◌, ap, subst, arith, eqb-true, ltb-true, ltb-false}
+use Rattle.std.proofs.Common.{◌≡◌, ℕ, suc, ◌+◌, ◌-◌, ◌<◌, ◌≤◌, Bool, true, false, cond, eqb, ltb, List, [], ◌∷◌, ◌++◌, length, take, Option, Some, None, MatchOption, IsTrue, ◌⊎◌, inl, inr, refl, sym, ◌∙◌, ap, subst, arith, eqb-true, ltb-true, ltb-false}
 use Rattle.std.proofs.lemmas.Bool.{false≢true}
 use Rattle.std.specs.Char.{is_ascii_alphanumeric}
 use Rattle.std.specs.List.{flat_map, AllByRecursion}
-use Rattle.pec_types.specs.Address.{is_atom_byte, AllAtomBytes, IsAtom, IsLabel, IsLocal, IsDomain, ends_well, dotted, IsDotted, CanGoOn, IsBadAt}
+use Rattle.pec_types.specs.Address.{is_atom_byte, AllAtomBytes, IsAtom, IsLabel, ends_well, dotted, IsDotted, CanGoOn, IsBadAt}
 use Rattle.pec_types.specs.AddressReading.{in_label, step_of, may_end, stop_unless, stop_at}
 use Rattle.pec_types.specs.declared.scanning.Stand.{Stand}
 use Rattle.pec_types.specs.declared.scanning.Stand.TheVariants.{AtomBegins, InAtom, LabelBegins, BehindLetter, BehindHyphen}

@@ -2,7 +2,7 @@
 -- a domain of labels joined by dots (RFC 1035 section 2.3.1, digits allowed in front), no quoted local part, no domain
 -- literal, no comment, at most 254 bytes. Letters may be capitals and are kept in lower case.
 use Rattle.std.specs.Prelude.{◌≡◌, ◌≢◌, ℕ, ◌+◌, ◌<◌, ◌≤◌, Bool, true, false, ◌||◌, ◌==◌, List, [], ◌∷◌, ◌++◌, length, take, codes, if◌then◌else◌, Result, Ok, Err, IsTrue}
-use Rattle.std.specs.List.{list_any, list_all, flat_map, AllByRecursion}
+use Rattle.std.specs.List.{list_any, flat_map, AllByRecursion}
 use Rattle.std.specs.Char.{is_ascii_alphanumeric}
 use Rattle.std.specs.Str.{str_to_ascii_lowercase}
 use Rattle.pec_types.specs.declared.addresses.AddressFault.{AddressFault}

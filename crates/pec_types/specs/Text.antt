@@ -1,5 +1,5 @@
 -- Printable texts: bytes from 0x20 to 0x7e. This project's profile.
-use Rattle.std.specs.Prelude.{◌≡◌, ℕ, List, Bool, not, ◌&&◌, ◌||◌, true, nat_lt, nat_le, position, None, Some, Ok, Err, Result}
+use Rattle.std.specs.Prelude.{◌≡◌, ℕ, List, Bool, ◌||◌, nat_lt, position, None, Some, Ok, Err, Result}
 use Rattle.pec_types.specs.declared.texts.TextFault.{TextFault}
 use Rattle.pec_types.specs.declared.texts.TextFault.TheVariants.{NotPrintable, NoMemory}
 

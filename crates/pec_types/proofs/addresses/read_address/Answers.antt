@@ -1,4 +1,4 @@
-use Rattle.std.proofs.Common.{◌≡◌, ◌+◌, None, arith, drop}
+use Rattle.std.proofs.Common.{arith}
 use Rattle.std.proofs.lemmas.List.{take_rest}
 use Rattle.pec_types.proofs.AddressLaws.{read_through}
 use Rattle.pec_types.proofs.LowerCase.{kept_address}

@@ -1,5 +1,4 @@
-use Rattle.std.proofs.Common.{subst, Ok, Err}
-use Rattle.pec_types.specs.Address.{lowered}
+use Rattle.std.proofs.Common.{subst}
 use Rattle.pec_types.specs.AddressReading.{Gives}
 use Rattle.pec_types.proofs.AddressLaws.{answered_so, each_fault, only_address}
 use Rattle.pec_types.proofs.addresses.Address.read.Goals as goal
