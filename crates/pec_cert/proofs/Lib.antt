@@ -1,0 +1,9 @@
+pub mod Calendar
+pub mod Certs
+pub mod Checks
+pub mod Numbers
+pub mod Parts
+pub mod Printable
+pub mod Puts
+pub mod Texts
+pub mod Whole

@@ -1,0 +1,20 @@
+use Rattle.std.proofs.Common.{subst}
+use Rattle.pec_grammar.specs.Reading.{standing, Fails}
+use Rattle.pec_grammar.proofs.Repeats.{goes_on, ends_here, shrinks}
+use Rattle.pec_cert.specs.Reading.{received_at}
+use Rattle.pec_cert.proofs.Parts.{received, received_lawful, received_has_byte}
+use Rattle.pec_cert.proofs.shape.all_received.Goals as goal
+
+pub returns-in-Err-Stop : goal.returns-in-Err-Stop
+returns-in-Err-Stop c =
+    let stopped = subst (λ e. Fails e (received_at (standing c.others.at))) c.in-Err-Stop.field-0-is c.in-Err-Stop.ensures in
+    rw (c.of.ensures, c.tried.ensures, c.in-Err-Stop.stop-is) (ends_here received_at c.others.all.items (standing c.others.at) _ _ c.others.invariant stopped)
+
+pub others-smaller : goal.others-smaller
+others-smaller c = shrinks received received_lawful received_has_byte (standing c.others.at) (standing c.in-Ok.taken.1) c.in-Ok.taken.0 c.in-Ok.ensures
+
+pub others-preserved : goal.others-preserved
+others-preserved c =
+    let less = shrinks received received_lawful received_has_byte (standing c.others.at) (standing c.in-Ok.taken.1) c.in-Ok.taken.0 c.in-Ok.ensures in
+    rw c.in_ok-push.ensures.items
+    (goes_on received_at c.others.all.items (standing c.others.at) (standing c.in-Ok.taken.1) c.in-Ok.taken.0 _ c.others.invariant c.in-Ok.ensures less)

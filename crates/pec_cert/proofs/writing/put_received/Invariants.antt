@@ -1,0 +1,12 @@
+use Rattle.std.proofs.Common.{◌≡◌, ◌++◌, take}
+use Rattle.std.specs.Prelude.{codes}
+use Rattle.std.specs.List.{flat_map, AllByRecursion}
+use Rattle.pec_types.specs.Address.{IsLowerAddress}
+use Rattle.pec_cert.specs.Markup.{element}
+use Rattle.pec_cert.proofs.writing.put_received.Given as goal
+
+abbrev pub invariant-loop-address : goal.invariant-loop-address
+invariant-loop-address l = record {
+  lines : l.out.items ≡ l.fn.out.items ++ flat_map (element (codes "ricezione")) (take l.address-index l.received);
+  lower : AllByRecursion IsLowerAddress (take l.address-index l.received);
+}

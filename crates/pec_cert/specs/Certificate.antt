@@ -1,0 +1,141 @@
+-- Certification texts: which text says what, and what a reader answers on any text. RFC 6109 section 4.4 for what they are for; their
+-- spelling, and which faults come where, are this project's profile.
+use Rattle.std.specs.Prelude.{◌≡◌, ℕ, ◌⊎◌, List, [], ◌∷◌, ◌++◌, length, map, Option, Some, None, IfSome, Result, Ok, Err, codes}
+use Rattle.std.specs.List.{flat_map, AllByRecursion}
+use Rattle.pec_types.specs.Address.{IsLowerAddress}
+use Rattle.pec_types.specs.Text.{AllPrintable}
+use Rattle.pec_grammar.specs.FirstFault.{FirstFault}
+use Rattle.pec_grammar.specs.Grammar.{optional_text, AllOfSome}
+use Rattle.pec_cert.specs.Markup.{escape, opening, element}
+use Rattle.pec_cert.specs.Stamp.{Instant}
+use Rattle.pec_cert.specs.Shown.{zone_text, day_text, IsShown, AnswersShown}
+use Rattle.pec_cert.specs.Lines.{front_text, addressee_opening, addressee_text, shown_text, wish_text, text_of, IsShape}
+use Rattle.pec_cert.specs.declared.certificates.CertData.{CertData}
+use Rattle.pec_cert.specs.declared.certificates.CertRecipient.{CertRecipient}
+use Rattle.pec_cert.specs.declared.lines.Addressee.{Addressee}
+use Rattle.pec_cert.specs.declared.lines.Shown.{Shown}
+use Rattle.pec_cert.specs.declared.lines.Lines.{Lines}
+use Rattle.pec_cert.specs.declared.dates.Part.{Part}
+use Rattle.pec_cert.specs.declared.dates.Part.TheVariants.{Zone, Day, Time}
+use Rattle.pec_cert.specs.declared.faults.CertFault.{CertFault}
+use Rattle.pec_cert.specs.declared.faults.CertFault.TheVariants.{Syntax, BadDate, BadAddress, NoMemory}
+
+abbrev pub addressee : CertRecipient → Addressee
+addressee r = record { certified = r.certified; address = r.address }
+
+-- the lines of a certificate, whose moment is shown so
+abbrev pub lines_of : CertData → Shown → Lines
+lines_of c shown = record {
+  kind = c.kind;
+  error = c.error;
+  sender = c.sender;
+  recipients = map addressee c.recipients;
+  reply = c.reply;
+  subject = c.subject;
+  provider = c.provider;
+  shown = shown;
+  id = c.id;
+  reference = c.reference;
+  wish = c.wish;
+  delivered = c.delivered;
+  received = c.received;
+  detail = c.detail;
+}
+
+-- addresses are in lower case, texts are printable, and there is a recipient
+pub record CanBeWritten (c : CertData) : Type 0 where
+  pub sender : IsLowerAddress c.sender
+  pub recipients : AllOfSome (λ (r : CertRecipient). IsLowerAddress r.address) c.recipients
+  pub reply : AllPrintable c.reply
+  pub subject : IfSome c.subject AllPrintable
+  pub provider : AllPrintable c.provider
+  pub id : AllPrintable c.id
+  pub reference : IfSome c.reference AllPrintable
+  pub delivered : IfSome c.delivered IsLowerAddress
+  pub received : AllByRecursion IsLowerAddress c.received
+  pub detail : IfSome c.detail AllPrintable
+
+-- the text certifies this
+pub record IsCert (c : CertData) (text : List ℕ) : Type 0 where
+  pub shown : Shown
+  pub stamp : IsShown shown c.stamp
+  pub written : CanBeWritten c
+  pub spelled : text ≡ text_of (lines_of c shown)
+
+-- The values of a text that aren't any text or any digits, in their order, each with all that stands before it.
+
+pub data Value : Type 0 where
+  address : (bytes : List ℕ) → Value
+  clock : (shown : Shown) → Value
+
+-- an address in each of these lines, behind an opening tag
+abbrev pub values_from : {X : Type 0} → (X → List ℕ) → (X → List ℕ) → (X → List ℕ) → List ℕ → List X → List (List ℕ × Value)
+values_from tag bytes line front [] = []
+values_from tag bytes line front (x ∷ xs) = (front ++ tag x, address (bytes x)) ∷ values_from tag bytes line (front ++ line x) xs
+
+abbrev pub addressees_from : List ℕ → List Addressee → List (List ℕ × Value)
+addressees_from front rs = values_from (λ (r : Addressee). addressee_opening r.certified) (λ (r : Addressee). r.address) addressee_text front rs
+
+abbrev pub delivered_from : List ℕ → Option (List ℕ) → List (List ℕ × Value)
+delivered_from front None = []
+delivered_from front (Some bytes) = (front ++ opening (codes "consegna"), address bytes) ∷ []
+
+abbrev pub received_from : List ℕ → List (List ℕ) → List (List ℕ × Value)
+received_from front texts = values_from (λ _. opening (codes "ricezione")) (λ bytes. bytes) (element (codes "ricezione")) front texts
+
+abbrev pub before_recipients : Lines → List ℕ
+before_recipients l = front_text l.kind l.error ++ element (codes "mittente") l.sender
+
+abbrev pub before_shown : Lines → List ℕ
+before_shown l =
+    before_recipients l ++ (flat_map addressee_text l.recipients
+    ++ (element (codes "risposte") l.reply
+    ++ (optional_text (element (codes "oggetto")) l.subject
+    ++ (codes "</intestazione>\r\n<dati>\r\n"
+    ++ element (codes "gestore-emittente") l.provider))))
+
+abbrev pub before_delivered : Lines → List ℕ
+before_delivered l =
+    before_shown l ++ (shown_text l.shown
+    ++ (element (codes "identificativo") l.id
+    ++ (optional_text (element (codes "msgid")) l.reference
+    ++ optional_text wish_text l.wish)))
+
+abbrev pub before_received : Lines → List ℕ
+before_received l = before_delivered l ++ optional_text (element (codes "consegna")) l.delivered
+
+abbrev pub values : Lines → List (List ℕ × Value)
+values l =
+    (front_text l.kind l.error ++ opening (codes "mittente"), address l.sender)
+    ∷ (addressees_from (before_recipients l) l.recipients
+    ++ ((before_shown l ++ codes "<data zona=\"", clock l.shown)
+    ∷ (delivered_from (before_delivered l) l.delivered
+    ++ received_from (before_received l) l.received)))
+
+abbrev pub IsGood : Value → Type 0
+IsGood (address bytes) = IsLowerAddress bytes
+IsGood (clock shown) = (stamp : Instant) × IsShown shown stamp
+
+-- the text before a part of what is shown
+abbrev pub before_part : List ℕ → Shown → Part → List ℕ
+before_part front shown Zone = front
+before_part front shown Day = front ++ (zone_text shown.zone ++ codes "\">\r\n<giorno>")
+before_part front shown Time = front ++ (zone_text shown.zone ++ codes "\">\r\n<giorno>") ++ (day_text shown.day ++ codes "</giorno>\r\n<ora>")
+
+-- the fault of a value that is wrong
+abbrev pub IsFaultOf : List ℕ → Value → CertFault → Type 0
+IsFaultOf front (address bytes) (BadAddress place) = (IsLowerAddress bytes → ⊥) × (place ≡ length front)
+IsFaultOf front (clock shown) (BadDate place) = (part : Part) × AnswersShown shown (Err part) × (place ≡ length (before_part front shown part))
+IsFaultOf front value fault = ⊥
+
+-- the fault of the first value that is wrong
+abbrev pub IsFirstFault : List (List ℕ × Value) → CertFault → Type 0
+IsFirstFault [] fault = ⊥
+IsFirstFault (v ∷ vs) fault = IsFaultOf v.0 v.1 fault ⊎ (IsGood v.1 × IsFirstFault vs fault)
+
+-- What a reader answers on a text. Want of memory is free.
+abbrev pub AnswersCert : List ℕ → Result CertData CertFault → Type 0
+AnswersCert text (Ok c) = IsCert c text
+AnswersCert text (Err (Syntax place)) = FirstFault IsShape text place
+AnswersCert text (Err NoMemory) = Unit {0}
+AnswersCert text (Err fault) = (l : Lines) × IsShape l text × IsFirstFault (values l) fault

@@ -1,0 +1,24 @@
+-- What is answered on the values of a text, or on some of them in a row.
+use Rattle.std.specs.Prelude.{◌≡◌, ℕ, List, Result, Ok, Err}
+use Rattle.std.specs.List.{AllByRecursion}
+use Rattle.pec_cert.specs.Certificate.{Value, IsGood, IsFirstFault, CanBeWritten, lines_of, values}
+use Rattle.pec_cert.specs.Shown.{IsShown}
+use Rattle.pec_cert.specs.declared.certificates.CertData.{CertData}
+use Rattle.pec_cert.specs.declared.lines.Lines.{Lines}
+use Rattle.pec_cert.specs.declared.faults.CertFault.{CertFault}
+use Rattle.pec_cert.specs.declared.faults.CertFault.TheVariants.{NoMemory}
+
+abbrev pub AllGood : List (List ℕ × Value) → Type 0
+AllGood vs = AllByRecursion (λ (v : List ℕ × Value). IsGood v.1) vs
+
+-- all are good, and this was made of them; or the first fault among them
+abbrev pub Checked : {X : Type 0} → List (List ℕ × Value) → (X → Type 0) → Result X CertFault → Type 0
+Checked vs Made (Ok x) = AllGood vs × Made x
+Checked vs Made (Err NoMemory) = Unit {0}
+Checked vs Made (Err fault) = IsFirstFault vs fault
+
+-- the certificate that lines say
+pub record Says (l : Lines) (c : CertData) : Type 0 where
+  pub stamp : IsShown l.shown c.stamp
+  pub written : CanBeWritten c
+  pub lines : l ≡ lines_of c l.shown

@@ -1,0 +1,156 @@
+-- How the shape of a certification text is read: its parts as grammars. That they spell the text of `Lines`, and are read exactly, are laws
+-- of the crate.
+use Rattle.std.specs.Prelude.{◌≡◌, ℕ, ◌+◌, ◌-◌, ◌*◌, ◌<◌, Bool, true, false, not, ◌&&◌, ◌||◌, ◌==◌, List, [], ◌∷◌, ◌++◌, Option, Some, None, Result, Ok, Err, codes}
+use Rattle.std.specs.Char.{is_ascii_digit}
+use Rattle.std.specs.List.{flat_map}
+use Rattle.pec_types.specs.Text.{is_unprintable, AllPrintable}
+use Rattle.pec_types.specs.declared.messages.Wish.{Wish}
+use Rattle.pec_types.specs.declared.messages.Wish.TheVariants.{Full, Brief, Concise}
+use Rattle.pec_grammar.specs.Grammar.{Cursor, Read, Grammar, ◌>>=◌, byte_at, both_at, seen_at, word_at, led_at, ended_at, otherwise, choice_at, optional_at, many_at, several_at}
+use Rattle.pec_cert.specs.Markup.{escape, opening, closing}
+use Rattle.pec_cert.specs.declared.certificates.CertKind.{CertKind}
+use Rattle.pec_cert.specs.declared.certificates.CertKind.TheVariants as kinds
+use Rattle.pec_cert.specs.declared.certificates.CertError.{CertError}
+use Rattle.pec_cert.specs.declared.certificates.CertError.TheVariants as errors
+use Rattle.pec_cert.specs.declared.lines.Addressee.{Addressee}
+use Rattle.pec_cert.specs.declared.lines.Lines.{Lines}
+use Rattle.pec_cert.specs.declared.lines.ShownZone.{ShownZone}
+use Rattle.pec_cert.specs.declared.lines.ShownDay.{ShownDay}
+use Rattle.pec_cert.specs.declared.lines.ShownTime.{ShownTime}
+use Rattle.pec_cert.specs.declared.lines.Shown.{Shown}
+
+-- Text.
+
+-- a byte that stands for itself
+abbrev pub is_plain : ℕ → Bool
+is_plain c = not (is_unprintable c || (c == 38 || (c == 60 || (c == 62 || c == 34))))
+
+abbrev pub escapes : List (List ℕ × ℕ)
+escapes = (codes "&amp;", 38) ∷ (codes "&lt;", 60) ∷ (codes "&gt;", 62) ∷ (codes "&quot;", 34) ∷ []
+
+unfoldable pub char_at : Cursor → Read ℕ
+char_at at = otherwise (byte_at is_plain at) at (choice_at escapes)
+
+-- text, and the closing tag behind it
+unfoldable pub content_at : List ℕ → Cursor → Read (List ℕ)
+content_at end_tag = ended_at (many_at char_at) end_tag
+
+unfoldable pub element_at : List ℕ → List ℕ → Cursor → Read (List ℕ)
+element_at start_tag end_tag = led_at start_tag (content_at end_tag)
+
+-- Numbers.
+
+unfoldable pub digit_at : Cursor → Read ℕ
+digit_at = seen_at (λ b. b - 48) (byte_at is_ascii_digit)
+
+unfoldable pub two_at : Cursor → Read ℕ
+two_at = seen_at (λ p. p.0 * 10 + p.1) (both_at digit_at digit_at)
+
+unfoldable pub four_at : Cursor → Read ℕ
+four_at = seen_at (λ p. p.0 * 100 + p.1) (both_at two_at two_at)
+
+-- What is shown of a moment.
+
+abbrev pub signs : List (List ℕ × Bool)
+signs = (codes "+", true) ∷ (codes "-", false) ∷ []
+
+abbrev pub zone_from : Bool × (ℕ × ℕ) → ShownZone
+zone_from p = record { ahead = p.0; hours = p.1.0; minutes = p.1.1 }
+
+unfoldable pub zone_at : Cursor → Read ShownZone
+zone_at = seen_at zone_from (both_at (choice_at signs) (both_at two_at two_at))
+
+abbrev pub day_from : ℕ × (ℕ × ℕ) → ShownDay
+day_from p = record { day = p.0; month = p.1.0; year = p.1.1 }
+
+unfoldable pub day_at : Cursor → Read ShownDay
+day_at = seen_at day_from (both_at two_at (led_at (codes "/") (both_at two_at (led_at (codes "/") four_at))))
+
+abbrev pub time_from : ℕ × (ℕ × ℕ) → ShownTime
+time_from p = record { hour = p.0; minute = p.1.0; second = p.1.1 }
+
+unfoldable pub time_at : Cursor → Read ShownTime
+time_at = seen_at time_from (both_at two_at (led_at (codes ":") (both_at two_at (led_at (codes ":") two_at))))
+
+abbrev pub shown_from : ShownZone × (ShownDay × ShownTime) → Shown
+shown_from p = record { zone = p.0; day = p.1.0; time = p.1.1 }
+
+unfoldable pub shown_at : Cursor → Read Shown
+shown_at =
+    seen_at shown_from (led_at (codes "<data zona=\"") (both_at zone_at (led_at (codes "\">\r\n<giorno>") (both_at day_at (led_at (codes "</giorno>\r\n<ora>")
+    (ended_at time_at (codes "</ora>\r\n</data>\r\n")))))))
+
+-- The lines.
+
+abbrev pub kind_table : List (List ℕ × CertKind)
+kind_table =
+    (codes "accettazione", kinds.Acceptance) ∷ (codes "non-accettazione", kinds.NonAcceptance) ∷ (codes "presa-in-carico", kinds.Charge)
+    ∷ (codes "avvenuta-consegna", kinds.Delivery) ∷ (codes "posta-certificata", kinds.Envelope) ∷ (codes "errore-consegna", kinds.DeliveryError)
+    ∷ (codes "preavviso-errore-consegna", kinds.DelayNotice) ∷ (codes "rilevazione-virus", kinds.VirusDetection) ∷ []
+
+abbrev pub error_table : List (List ℕ × CertError)
+error_table =
+    (codes "nessuno", errors.Nothing) ∷ (codes "no-dest", errors.NoRecipient) ∷ (codes "no-dominio", errors.NoDomain) ∷ (codes "virus", errors.Virus)
+    ∷ (codes "altro", errors.Other) ∷ []
+
+unfoldable pub front_at : Cursor → Read (CertKind × CertError)
+front_at =
+    led_at (codes "<?xml version=\"1.0\" encoding=\"UTF-8\"?>\r\n<postacert tipo=\"")
+    (both_at (choice_at kind_table) (led_at (codes "\" errore=\"") (ended_at (choice_at error_table) (codes "\">\r\n<intestazione>\r\n"))))
+
+abbrev pub class_table : List (List ℕ × Bool)
+class_table = (codes "certificato", true) ∷ (codes "esterno", false) ∷ []
+
+abbrev pub addressee_from : Bool × List ℕ → Addressee
+addressee_from p = record { certified = p.0; address = p.1 }
+
+unfoldable pub addressee_at : Cursor → Read Addressee
+addressee_at =
+    seen_at addressee_from (led_at (codes "<destinatari tipo=\"") (both_at (choice_at class_table) (led_at (codes "\">") (content_at (codes "</destinatari>\r\n")))))
+
+abbrev pub wish_table : List (List ℕ × Wish)
+wish_table = (codes "completa", Full) ∷ (codes "breve", Brief) ∷ (codes "sintetica", Concise) ∷ []
+
+unfoldable pub wish_at : Cursor → Read Wish
+wish_at = led_at (codes "<ricevuta tipo=\"") (ended_at (choice_at wish_table) (codes "\"/>\r\n"))
+
+unfoldable pub received_at : Cursor → Read (List ℕ)
+received_at = element_at (codes "<ricezione>") (codes "</ricezione>\r\n")
+
+-- all of them
+unfoldable pub lines_at : Cursor → Read Lines
+lines_at at = do
+  front ← front_at at
+  sender ← element_at (codes "<mittente>") (codes "</mittente>\r\n") front.1
+  recipients ← several_at addressee_at sender.1
+  reply ← element_at (codes "<risposte>") (codes "</risposte>\r\n") recipients.1
+  subject ← optional_at (element_at (codes "<oggetto>") (codes "</oggetto>\r\n")) reply.1
+  between ← word_at (codes "</intestazione>\r\n<dati>\r\n") subject.1
+  provider ← element_at (codes "<gestore-emittente>") (codes "</gestore-emittente>\r\n") between.1
+  shown ← shown_at provider.1
+  id ← element_at (codes "<identificativo>") (codes "</identificativo>\r\n") shown.1
+  reference ← optional_at (element_at (codes "<msgid>") (codes "</msgid>\r\n")) id.1
+  wish ← optional_at wish_at reference.1
+  delivered ← optional_at (element_at (codes "<consegna>") (codes "</consegna>\r\n")) wish.1
+  received ← many_at received_at delivered.1
+  detail ← optional_at (element_at (codes "<errore-esteso>") (codes "</errore-esteso>\r\n")) received.1
+  end ← word_at (codes "</dati>\r\n</postacert>\r\n") detail.1
+  Ok (
+    record {
+      kind = front.0.0;
+      error = front.0.1;
+      sender = sender.0;
+      recipients = recipients.0;
+      reply = reply.0;
+      subject = subject.0;
+      provider = provider.0;
+      shown = shown.0;
+      id = id.0;
+      reference = reference.0;
+      wish = wish.0;
+      delivered = delivered.0;
+      received = received.0;
+      detail = detail.0;
+    },
+    end.1,
+  )
