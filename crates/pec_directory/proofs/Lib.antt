@@ -1,0 +1,7 @@
+mod Entering
+mod Feeds
+mod Forms
+mod Keeping
+mod Lookups
+mod Steps
+mod Walking

@@ -1,0 +1,96 @@
+ghost use Rattle.std.specs.Prelude.{◌≡◌, ◌≤◌, ◌==◌, nat_lt, false, [], length, option_map};
+ghost use Rattle.toml.specs.View.{items_view, view};
+ghost use Rattle.pec_directory.specs.Directory.{providers_of};
+ghost use Rattle.pec_directory.specs.Views.{Gives};
+ghost use Rattle.pec_directory.specs.Walk.{count_of, directory_in, directory_of, most_providers, providers_from, providers_in};
+
+use crate::directories::Directory;
+use crate::drafts::Draft;
+use crate::faults::DirectoryFault;
+use crate::fields::tables_of;
+use crate::settling::read_provider;
+use pec_index::Index;
+use std::alloc::Global;
+use toml::Value;
+
+/// The greatest number of providers of a directory.
+const MOST_PROVIDERS: usize = 16;
+
+/// The directory that a text is, or its first fault.
+#[tactic(auto, unfolding(crate::specs::Walk::directory_of, crate::specs::Walk::document_of))]
+pub(crate) fn read_text(alloc: Global, text: &str) -> Result<Directory, DirectoryFault>
+    ensures { Gives providers_of result (directory_of text.now) }
+{
+    let table = match toml::table_from_str(alloc, text) {
+        Ok(table) => table,
+        Err(fault) if fault.is_memory() => return Err(DirectoryFault::NoMemory),
+        Err(_) => return Err(DirectoryFault::NotToml),
+    };
+    let directory = read_whole(alloc, &Value::Table(table))?;
+    Ok(directory)
+}
+
+/// What the table of a directory says.
+#[tactic(auto, unfolding(crate::specs::Walk::directory_in))]
+fn read_whole(alloc: Global, whole: &Value) -> Result<Directory, DirectoryFault>
+    ensures { Gives providers_of result (directory_in (view whole.now)) }
+{
+    let Some(values) = providers_in(whole) else {
+        return Err(DirectoryFault::NoProvider);
+    };
+    if is_none(values) {
+        return Err(DirectoryFault::NoProvider);
+    }
+    if are_many(values) {
+        return Err(DirectoryFault::TooMany);
+    }
+    let directory = read_providers(alloc, values)?;
+    Ok(directory)
+}
+
+/// The tables of the providers.
+#[tactic(auto, unfolding(crate::specs::Walk::providers_in))]
+fn providers_in(whole: &Value) -> Option<&[Value]>
+    ensures { option_map (λ values. items_view values.now) result ≡ providers_in (view whole.now) }
+{
+    let value = whole.get("provider")?;
+    tables_of(value)
+}
+
+#[tactic(auto, using(crate::proofs::Steps::count_view))]
+fn is_none(values: &[Value]) -> bool
+    ensures { result ≡ (count_of (items_view values.now) == 0) }
+{
+    values.is_empty()
+}
+
+/// Whether there are more than a directory may have.
+#[tactic(auto, using(crate::proofs::Steps::count_view))]
+fn are_many(values: &[Value]) -> bool
+    ensures many { result ≡ nat_lt most_providers (count_of (items_view values.now)) }
+    ensures few { result ≡ false → length values.now ≤ most_providers }
+{
+    values.len() > MOST_PROVIDERS
+}
+
+/// The directory of the providers in these tables.
+fn read_providers(alloc: Global, values: &[Value]) -> Result<Directory, DirectoryFault>
+    requires { length values.now ≤ most_providers }
+    ensures { Gives providers_of result (providers_from [] (items_view values.now)) }
+{
+    let mut draft = Draft {
+        providers: Vec::new(alloc),
+        homes: Index::new(alloc),
+        accounts: 0,
+    };
+    let mut places = Index::new(alloc);
+    for value in values {
+        read_provider(alloc, &mut draft, &mut places, value)?;
+    }
+    let Draft {
+        providers,
+        homes,
+        ..
+    } = draft;
+    Ok(Directory::new(providers, homes, places))
+}
