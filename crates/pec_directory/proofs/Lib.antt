@@ -1,7 +1,9 @@
+mod Canonicals
 mod Entering
 mod Feeds
 mod Forms
 mod Keeping
+mod Laws
 mod Lookups
 mod Steps
 mod Walking

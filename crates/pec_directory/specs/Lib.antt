@@ -4,5 +4,6 @@ pub mod Drafts
 pub mod Feeding
 pub mod Fields
 pub mod Indexes
+pub mod Lawful
 pub mod Views
 pub mod Walk

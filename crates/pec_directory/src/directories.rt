@@ -1,7 +1,9 @@
-ghost use Rattle.std.specs.Prelude.{◌≡◌, ◌≤◌, Some, length, option_map};
-ghost use Rattle.pec_directory.specs.Directory.{named, providers_of};
+ghost use Rattle.std.specs.Prelude.{◌≡◌, ◌≤◌, ℕ, List, Ok, Some, length, option_map};
+ghost use Rattle.pec_directory.specs.Canonical.{canonical};
+ghost use Rattle.pec_directory.specs.Directory.{Provider as Shown, named, providers_of};
 ghost use Rattle.pec_directory.specs.Indexes.{reached};
-ghost use Rattle.pec_directory.specs.Walk.{most_providers};
+ghost use Rattle.pec_directory.specs.Lawful.{IsLawful};
+ghost use Rattle.pec_directory.specs.Walk.{directory_of, most_providers};
 
 use crate::accounts::Account;
 use crate::digesting::digest;
@@ -28,11 +30,13 @@ impl Model for Directory {
 
     ghost Value = { List Kept };
 
+    ghost use Rattle.pec_directory.specs.Directory.{providers_of};
     ghost use Rattle.pec_directory.specs.Indexes.{IsIndexed};
+    ghost use Rattle.pec_directory.specs.Lawful.{IsLawful};
 
     ghost view = { λ directory. directory.providers.items };
 
-    ghost invariant = { λ directory. IsIndexed directory.providers.items directory.homes directory.places };
+    ghost invariant = { λ directory. IsIndexed directory.providers.items directory.homes directory.places × IsLawful (providers_of directory.providers.items) };
 }
 
 impl Directory {
@@ -40,6 +44,7 @@ impl Directory {
     ghost use Rattle.pec_directory.specs.Canonical.{digest_of};
     ghost use Rattle.pec_directory.specs.Directory.{account_of, home_of, named, providers_of};
     ghost use Rattle.pec_directory.specs.Indexes.{IsIndexed};
+    ghost use Rattle.pec_directory.specs.Lawful.{IsLawful};
     ghost use Rattle.pec_directory.specs.Views.{Gives};
     ghost use Rattle.pec_directory.specs.Walk.{directory_of, most_providers};
 
@@ -49,7 +54,8 @@ impl Directory {
         homes: Index<u32>,
         places: Index<Place>,
     ) -> Directory
-        requires { IsIndexed providers.items homes places }
+        requires indexed { IsIndexed providers.items homes places }
+        requires lawful { IsLawful (providers_of providers.items) }
         ensures { result ≡ providers.items }
     {
         Directory {
@@ -77,6 +83,8 @@ impl Directory {
     pub fn count(&self) -> u32
         ensures count { result ≡ length self.now }
         ensures few { result ≤ most_providers }
+        // What holds of every directory, for whoever builds on one.
+        ensures lawful { IsLawful (providers_of self.now) }
     {
         self.providers.len() as u32
     }
@@ -111,6 +119,17 @@ impl Directory {
         place_of_name(self.providers.as_slice(), name)
     }
 }
+
+/// The law of directories: names differ, each domain is one provider's, receipts go to an address in their provider's domains, no two
+/// accounts have one address and each is in its provider's domains; and what else docs/formats.md asks of a directory.
+pub fn a_directory_is_lawful()
+    ensures { (text : List ℕ) (providers : List Shown) → directory_of text ≡ Ok providers → IsLawful providers }
+{}
+
+/// The law of canonical texts: two directories with one canonical text are one.
+pub fn a_canonical_text_is_one_directory()
+    ensures { (providers others : List Shown) → IsLawful providers → IsLawful others → canonical providers ≡ canonical others → providers ≡ others }
+{}
 
 /// The account at a place.
 fn account_at(providers: &[Provider], place: Place) -> Option<&Account>

@@ -1,4 +1,4 @@
-ghost use Rattle.std.specs.Prelude.{◌≡◌, ◌≤◌, ◌==◌, nat_lt, false, [], length, option_map};
+ghost use Rattle.std.specs.Prelude.{◌≡◌, ◌<◌, ◌≤◌, ◌==◌, nat_lt, false, [], length, option_map};
 ghost use Rattle.toml.specs.View.{items_view, view};
 ghost use Rattle.pec_directory.specs.Directory.{providers_of};
 ghost use Rattle.pec_directory.specs.Views.{Gives};
@@ -59,7 +59,8 @@ fn providers_in(whole: &Value) -> Option<&[Value]>
 
 #[tactic(auto, using(crate::proofs::Steps::count_view))]
 fn is_none(values: &[Value]) -> bool
-    ensures { result ≡ (count_of (items_view values.now) == 0) }
+    ensures none { result ≡ (count_of (items_view values.now) == 0) }
+    ensures some { result ≡ false → 0 < length values.now }
 {
     values.is_empty()
 }
@@ -75,7 +76,8 @@ fn are_many(values: &[Value]) -> bool
 
 /// The directory of the providers in these tables.
 fn read_providers(alloc: Global, values: &[Value]) -> Result<Directory, DirectoryFault>
-    requires { length values.now ≤ most_providers }
+    requires some { 0 < length values.now }
+    requires few { length values.now ≤ most_providers }
     ensures { Gives providers_of result (providers_from [] (items_view values.now)) }
 {
     let mut draft = Draft {

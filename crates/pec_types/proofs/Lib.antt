@@ -1,3 +1,3 @@
 pub mod AddressLaws
-mod LowerCase
+pub mod LowerCase
 mod PartLaws

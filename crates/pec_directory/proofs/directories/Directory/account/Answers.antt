@@ -11,7 +11,7 @@ returns-in_err-place c =
     let address = c.bytes.result.now in
     rw (← c.self.view_is, ← c.bytes.ensures.value)
     (ap (option_map (λ account. account.now)) c.from_residual.ensures
-    ∙ ap (reached providers) (c.in_err-place.ensures ∙ c.self.invariant.places_are address)
+    ∙ ap (reached providers) (c.in_err-place.ensures ∙ c.self.invariant.0.places_are address)
     ∙ account-found address providers [] providers refl)
 
 pub returns : goal.returns
@@ -21,5 +21,5 @@ returns c =
     let address = c.bytes.result.now in
     rw (← c.self.view_is, ← c.bytes.ensures.value)
     (rw c.as_slice.ensures.value at c.account_at.ensures
-    ∙ ap (reached providers) (c.in_ok-place.ensures ∙ c.self.invariant.places_are address)
+    ∙ ap (reached providers) (c.in_ok-place.ensures ∙ c.self.invariant.0.places_are address)
     ∙ account-found address providers [] providers refl)

@@ -8,4 +8,4 @@ unfolding home_of manager_of
 returns c =
     let domain = c.domain.result.now in
     rw (← c.self.view_is, ← c.domain.ensures.exact)
-    (c.copied.ensures ∙ c.get.ensures ∙ c.self.invariant.homes_are domain ∙ manager-found domain 0 (providers_of c.self.inside.providers.items))
+    (c.copied.ensures ∙ c.get.ensures ∙ c.self.invariant.0.homes_are domain ∙ manager-found domain 0 (providers_of c.self.inside.providers.items))
