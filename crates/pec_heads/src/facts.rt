@@ -1,4 +1,4 @@
-ghost use Rattle.std.specs.Prelude.{◌≡◌, ℕ, ◌++◌, List, length, take, IfOk, OnOk};
+ghost use Rattle.std.specs.Prelude.{◌≡◌, ℕ, ◌++◌, List, length, IfOk, OnOk};
 ghost use Rattle.std.specs.List.{list_any};
 ghost use Rattle.std.specs.Option.{option_map};
 ghost use Rattle.std.specs.Str.{bytes_eq};
@@ -12,15 +12,16 @@ ghost use Rattle.pec_heads.specs.Views.{fields_shown};
 use crate::TEXT_LIMIT;
 use crate::blanks::trim;
 use crate::faults::ListFault;
-use crate::fields::Field;
+use crate::fields::Fields;
 use crate::lists::addresses_of;
 use crate::lookups::{count, value};
+use crate::parts::at_most;
 use pec_types::{Address, Class, Facts, Items, NoMemory, Recipient, Text, TextFault, Wish};
 use std::alloc::{AllocError, Global};
 
 /// The facts of a head with these fields.
 #[tactic(auto, unfolding(crate::specs::FactsReading::facts_of))]
-pub(crate) fn read_facts(alloc: Global, fields: &[Field]) -> Result<Option<Facts>, NoMemory>
+pub(crate) fn read_facts(alloc: Global, fields: &Fields) -> Result<Option<Facts>, NoMemory>
     ensures { IfOk result (λ found. found ≡ facts_of (fields_shown fields.now)) }
 {
     let Some(sender) = sender(alloc, fields)? else {
@@ -47,7 +48,7 @@ pub(crate) fn read_facts(alloc: Global, fields: &[Field]) -> Result<Option<Facts
 }
 
 /// The one address of the one `From` field.
-fn sender(alloc: Global, fields: &[Field]) -> Result<Option<Address>, NoMemory>
+fn sender(alloc: Global, fields: &Fields) -> Result<Option<Address>, NoMemory>
     ensures { IfOk result (λ found. found ≡ sender_of (fields_shown fields.now)) }
 {
     if count(fields, b"From".as_slice()) != 1 {
@@ -64,7 +65,7 @@ fn sender(alloc: Global, fields: &[Field]) -> Result<Option<Address>, NoMemory>
 }
 
 /// The addresses of the fields of a name, where these are a list.
-fn list(alloc: Global, fields: &[Field], name: &[u8]) -> Result<Option<Vec<Address>>, NoMemory>
+fn list(alloc: Global, fields: &Fields, name: &[u8]) -> Result<Option<Vec<Address>>, NoMemory>
     ensures { IfOk result (λ found. option_map (λ v. v.items) found ≡ listed name.now (fields_shown fields.now)) }
 {
     match addresses_of(alloc, fields, name) {
@@ -74,7 +75,7 @@ fn list(alloc: Global, fields: &[Field], name: &[u8]) -> Result<Option<Vec<Addre
     }
 }
 
-fn copies(alloc: Global, fields: &[Field]) -> Result<Option<Vec<Address>>, NoMemory>
+fn copies(alloc: Global, fields: &Fields) -> Result<Option<Vec<Address>>, NoMemory>
     ensures { IfOk result (λ found. option_map (λ v. v.items) found ≡ copies_of (fields_shown fields.now)) }
 {
     if count(fields, b"Cc".as_slice()) == 0 {
@@ -84,7 +85,7 @@ fn copies(alloc: Global, fields: &[Field]) -> Result<Option<Vec<Address>>, NoMem
     Ok(found)
 }
 
-fn wish(fields: &[Field]) -> Wish
+fn wish(fields: &Fields) -> Wish
     ensures { result ≡ wish_of (fields_shown fields.now) }
 {
     let Some(text) = value(fields, b"X-TipoRicevuta".as_slice(), 0) else {
@@ -140,7 +141,7 @@ fn is_there(all: &[Recipient], address: &[u8]) -> bool
 }
 
 /// A subject or a reference: the text of the first field of a name.
-fn text(alloc: Global, fields: &[Field], name: &[u8]) -> Result<Option<Text>, NoMemory>
+fn text(alloc: Global, fields: &Fields, name: &[u8]) -> Result<Option<Text>, NoMemory>
     ensures { IfOk result (λ found. found ≡ text_of name.now (fields_shown fields.now)) }
 {
     let Some(value) = value(fields, name, 0) else {
@@ -171,18 +172,8 @@ fn front(value: &[u8]) -> &[u8]
     at_most(value, TEXT_LIMIT)
 }
 
-fn at_most(value: &[u8], limit: usize) -> &[u8]
-    ensures { result.now ≡ take limit value.now }
-{
-    if value.len() <= limit {
-        value
-    } else {
-        &value[..limit]
-    }
-}
-
 /// The first `Reply-To`, made printable, where it isn't blank and has at most 900 bytes; otherwise the sender's address.
-fn reply(alloc: Global, fields: &[Field], sender: &Address) -> Result<Text, NoMemory>
+fn reply(alloc: Global, fields: &Fields, sender: &Address) -> Result<Text, NoMemory>
     ensures { IfOk result (λ text. text ≡ reply_of sender.now (fields_shown fields.now)) }
 {
     if let Some(value) = value(fields, b"Reply-To".as_slice(), 0) {

@@ -12,7 +12,7 @@ ghost use Rattle.pec_heads.specs.declared.faults.ListFault.TheVariants as wrong;
 
 use crate::facts::read_facts;
 use crate::faults::{HeadFault, ListFault};
-use crate::fields::Field;
+use crate::fields::Fields;
 use crate::lists::addresses_of;
 use crate::lookups::{count, value};
 use crate::reading::read_fields;
@@ -48,7 +48,7 @@ pub fn a_head_has_one_account()
 /// its unfolded value.
 #[derive(Drop)]
 pub struct Head {
-    fields: Vec<Field>,
+    fields: Fields,
 }
 
 impl Model for Head {
@@ -59,7 +59,7 @@ impl Model for Head {
 
     ghost use Rattle.pec_heads.specs.Views.{fields_shown};
 
-    ghost view = { λ head. fields_shown head.fields.items };
+    ghost view = { λ head. fields_shown head.fields };
 }
 
 impl Head {
@@ -82,21 +82,21 @@ impl Head {
     pub fn field(&self, name: &[u8]) -> Option<&[u8]>
         ensures { option_map (λ v. v.now) result ≡ slice_get (values_of name.now self.now) 0 }
     {
-        value(self.fields.as_slice(), name, 0)
+        value(&self.fields, name, 0)
     }
 
     /// How many fields have this name, whatever the case of its letters. It takes no memory.
     pub fn count(&self, name: &[u8]) -> usize
         ensures { result ≡ length (values_of name.now self.now) }
     {
-        count(self.fields.as_slice(), name)
+        count(&self.fields, name)
     }
 
     /// As `field`, for the field of this name with number i, counted from 0. It takes no memory.
     pub fn value(&self, name: &[u8], i: usize) -> Option<&[u8]>
         ensures { option_map (λ v. v.now) result ≡ slice_get (values_of name.now self.now) i }
     {
-        value(self.fields.as_slice(), name, i)
+        value(&self.fields, name, i)
     }
 
     /// The addresses of the list that the values of all fields of this name are, joined by commas (RFC 5322, section 3.4,
@@ -112,7 +112,7 @@ impl Head {
         // The same answer as a function of the values, for definitions that build on it.
         ensures exact { GivesList (λ read. read.items) result (list_of (joined_values name.now self.now)) }
     {
-        addresses_of(alloc, self.fields.as_slice(), name)
+        addresses_of(alloc, &self.fields, name)
     }
 
     /// What the head says of its message (RFC 6109, section 3.1, within this project's profile). `None` exactly where there
@@ -124,6 +124,6 @@ impl Head {
         // The same answer as a function of the fields, for definitions that build on it.
         ensures exact { IfOk result (λ found. found ≡ facts_of self.now) }
     {
-        read_facts(alloc, self.fields.as_slice())
+        read_facts(alloc, &self.fields)
     }
 }

@@ -10,6 +10,7 @@ mod heads;
 mod lines;
 mod lists;
 mod lookups;
+mod parts;
 mod quoting;
 mod reading;
 #[cfg(test)]
