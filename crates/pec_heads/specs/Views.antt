@@ -1,10 +1,16 @@
 -- What contracts see of this crate's private types.
 use Rattle.std.specs.Prelude.{◌≡◌, ℕ, ◌≤◌, List, [], ◌∷◌, length, map, Result, Ok, Err}
+use Rattle.std.specs.BTreeSet.{contains_by}
+use Rattle.std.specs.Cmp.Lexicographic.{slice_cmp}
+use Rattle.std.specs.List.{list_any}
+use Rattle.std.specs.Ordering.{nat_cmp}
+use Rattle.std.specs.Str.{bytes_eq}
 use Rattle.pec_heads.specs.Bytes.{part_of}
 use Rattle.pec_heads.specs.Heads.{NamedValue, cut}
 use Rattle.pec_heads.specs.HeadReading.{Role, ends, more, opens}
 use Rattle.pec_heads.specs.declared.fields.Fields.{Fields}
 use Rattle.pec_heads.specs.declared.fields.Start.{Start}
+use Rattle.pec_heads.specs.declared.recipients.Gathered.{Gathered}
 use Rattle.pec_heads.specs.declared.reading.Line.{Line}
 use Rattle.pec_heads.specs.declared.reading.Line.TheVariants as lines
 use Rattle.pec_heads.specs.declared.faults.HeadFault.{HeadFault}
@@ -37,6 +43,10 @@ AllStartWithin size (s ∷ behind) = (s.name ≤ size) × (s.value ≤ size) × 
 
 abbrev pub AreStored : Fields → Type 0
 AreStored fields = AllStartWithin (length fields.bytes.items) fields.starts.items
+
+-- the set has exactly the addresses of the recipients
+abbrev pub AreKnown : Gathered → Type 0
+AreKnown gathered = (address : List ℕ) → contains_by (λ key. slice_cmp nat_cmp address key.items) gathered.known ≡ list_any (λ r. bytes_eq r.address address) gathered.all.items
 
 abbrev pub role_shown : Line → Role
 role_shown lines.Empty = ends

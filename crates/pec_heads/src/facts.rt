@@ -1,12 +1,10 @@
-ghost use Rattle.std.specs.Prelude.{◌≡◌, ℕ, ◌++◌, List, length, IfOk, OnOk};
-ghost use Rattle.std.specs.List.{list_any};
+ghost use Rattle.std.specs.Prelude.{◌≡◌, ℕ, List, length, IfOk};
 ghost use Rattle.std.specs.Option.{option_map};
-ghost use Rattle.std.specs.Str.{bytes_eq};
 ghost use Rattle.pec_types.specs.Text.{AllPrintable};
 ghost use Rattle.pec_heads.specs.Heads.{joined_values};
 ghost use Rattle.pec_heads.specs.Lists.{is_all_blank};
-ghost use Rattle.pec_heads.specs.FactsOfHeads.{front_of, printed, printed_byte, recipients_of, reply_of, short_text, text_of, wish_of};
-ghost use Rattle.pec_heads.specs.FactsReading.{copies_of, facts_of, listed, sender_of, with_recipient, with_recipients};
+ghost use Rattle.pec_heads.specs.FactsOfHeads.{front_of, printed, printed_byte, reply_of, short_text, text_of, wish_of};
+ghost use Rattle.pec_heads.specs.FactsReading.{copies_of, facts_of, listed, sender_of};
 ghost use Rattle.pec_heads.specs.Views.{fields_shown};
 
 use crate::TEXT_LIMIT;
@@ -16,7 +14,8 @@ use crate::fields::Fields;
 use crate::lists::addresses_of;
 use crate::lookups::{count, value};
 use crate::parts::at_most;
-use pec_types::{Address, Class, Facts, Items, NoMemory, Recipient, Text, TextFault, Wish};
+use crate::recipients::recipients;
+use pec_types::{Address, Facts, Items, NoMemory, Text, TextFault, Wish};
 use std::alloc::{AllocError, Global};
 
 /// The facts of a head with these fields.
@@ -98,46 +97,6 @@ fn wish(fields: &Fields) -> Wish
         return Wish::Concise;
     }
     Wish::Full
-}
-
-/// Those of `To`, and then those of `Cc` that don't stand in `To`, each once.
-fn recipients(
-    alloc: Global,
-    to: Vec<Address>,
-    copies: Vec<Address>,
-) -> Result<Vec<Recipient>, NoMemory>
-    ensures { IfOk result (λ all. all.items ≡ recipients_of to.items copies.items) }
-{
-    let mut all = Vec::new(alloc);
-    add_all(&mut all, to, Class::Primary)?;
-    add_all(&mut all, copies, Class::Copy)?;
-    Ok(all)
-}
-
-fn add_all(all: &mut Vec<Recipient>, addresses: Vec<Address>, class: Class) -> Result<(), NoMemory>
-    ensures { OnOk result (all.new.items ≡ with_recipients class all.old.items addresses.items) }
-{
-    for address in addresses {
-        add(all, address, class)?;
-    }
-    Ok(())
-}
-
-/// Adds a recipient, unless its address is there.
-fn add(all: &mut Vec<Recipient>, address: Address, class: Class) -> Result<(), NoMemory>
-    ensures { OnOk result (all.new.items ≡ with_recipient class all.old.items address) }
-{
-    if is_there(all.as_slice(), address.bytes()) {
-        return Ok(());
-    }
-    all.push(Recipient { address, class })?;
-    Ok(())
-}
-
-fn is_there(all: &[Recipient], address: &[u8]) -> bool
-    ensures { result ≡ list_any (λ r. bytes_eq r.address address.now) all.now }
-{
-    all.iter().any(|r| r.address.bytes() == address)
 }
 
 /// A subject or a reference: the text of the first field of a name.

@@ -13,6 +13,7 @@ mod lookups;
 mod parts;
 mod quoting;
 mod reading;
+mod recipients;
 #[cfg(test)]
 mod tests;
 
