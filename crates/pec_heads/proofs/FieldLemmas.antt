@@ -72,7 +72,7 @@ pub opened : (bytes name rest : List ℕ) (starts : List Start) (new : Start) �
     → fields_at ((bytes ++ name) ++ rest) (starts ++ new ∷ []) ≡ fields_at bytes starts ++ stored_as name rest ∷ []
 opened bytes name rest starts new within at value =
     let e : fields_at (bytes ++ (name ++ rest)) (starts ++ new ∷ []) ≡ fields_at bytes starts ++ field_at (bytes ++ (name ++ rest)) new [] ∷ []
-        = opens bytes (name ++ rest) starts new within at
+    = opens bytes (name ++ rest) starts new within at
     in rw (← new_field bytes name rest new at value, append_assoc bytes name rest) e
 
 within_opened : (size : ℕ) (starts : List Start) (new : Start) → new.name ≤ size → new.value ≤ size → AllStartWithin size starts → AllStartWithin size (starts ++ new ∷ [])

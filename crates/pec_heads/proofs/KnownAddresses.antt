@@ -15,6 +15,7 @@ use Rattle.std.specs.declared.cmp.Ordering.TheVariants.{Less, Equal, Greater}
 use Rattle.pec_types.specs.declared.messages.Recipient.{Recipient}
 use Rattle.pec_types.specs.declared.messages.Class.{Class}
 use Rattle.pec_heads.specs.FactsOfHeads.{recipient}
+use Rattle.pec_heads.specs.FactsReading.{with_recipient}
 
 abbrev Key : Type 0
 Key = Vec ℕ Global
@@ -68,3 +69,10 @@ pub known_more : (class : Class) (all : List Recipient) (keys new : List Key) (k
 known_more class all keys new key address e f known x =
     rw (e, inserted x keys key, known x, f, is_eq-slice_cmp x address, nat_list_eq_equiv.symm x address, list_any-append (λ (r : Recipient). bytes_eq r.address x) all (recipient class address ∷ []))
     (turned (bytes_eq address x) (list_any (λ r. bytes_eq r.address x) all))
+
+pub with_known : (class : Class) (all : List Recipient) (address : List ℕ) → list_any (λ r. bytes_eq r.address address) all ≡ true → all ≡ with_recipient class all address
+with_known class all address e = rw e refl
+
+pub with_new : (class : Class) (all more : List Recipient) (address : List ℕ) → list_any (λ r. bytes_eq r.address address) all ≡ false → more ≡ all ++ recipient class address ∷ []
+    → more ≡ with_recipient class all address
+with_new class all more address e f = rw e f

@@ -2,13 +2,12 @@ ghost use Rattle.std.specs.Prelude.{◌≡◌, ℕ, List, length, IfOk};
 ghost use Rattle.std.specs.Option.{option_map};
 ghost use Rattle.pec_types.specs.Text.{AllPrintable};
 ghost use Rattle.pec_heads.specs.Heads.{joined_values};
-ghost use Rattle.pec_heads.specs.Lists.{is_all_blank};
 ghost use Rattle.pec_heads.specs.FactsOfHeads.{front_of, printed, printed_byte, reply_of, short_text, text_of, wish_of};
 ghost use Rattle.pec_heads.specs.FactsReading.{copies_of, facts_of, listed, sender_of};
 ghost use Rattle.pec_heads.specs.Views.{fields_shown};
 
 use crate::TEXT_LIMIT;
-use crate::blanks::trim;
+use crate::blanks::{is_all_blank, trim};
 use crate::faults::ListFault;
 use crate::fields::Fields;
 use crate::lists::addresses_of;
@@ -144,12 +143,6 @@ fn reply(alloc: Global, fields: &Fields, sender: &Address) -> Result<Text, NoMem
     }
     let text = printable_text(alloc, sender.bytes())?;
     Ok(text)
-}
-
-fn is_all_blank(value: &[u8]) -> bool
-    ensures { result ≡ is_all_blank value.now }
-{
-    value.iter().all(|b| *b == b' ' || *b == b'\t')
 }
 
 /// The bytes with each tab made a space and each other byte that isn't printable a `?`.

@@ -1,11 +1,12 @@
-ghost use Rattle.std.specs.Prelude.{◌≡◌, ◌≢◌, ◌⊎◌, ◌↔◌, ℕ, List, length, slice_get, Ok, Err, IfErr, IfOk, IsErrAnd, MatchOption, MatchResult};
+ghost use Rattle.std.specs.Prelude.{◌≡◌, ◌≢◌, ◌⊎◌, ◌↔◌, ℕ, List, length, not, slice_get, Ok, Err, IfErr, IfOk, IsErrAnd, MatchOption, MatchResult};
+ghost use Rattle.std.specs.List.{list_any};
 ghost use Rattle.std.specs.Option.{option_map};
 ghost use Rattle.pec_types.specs.declared.messages.Facts.{Facts as FactsShown};
 ghost use Rattle.pec_heads.specs.FactsOfHeads.{HasNoFacts, IsFacts};
 ghost use Rattle.pec_heads.specs.FactsReading.{facts_of};
 ghost use Rattle.pec_heads.specs.Heads.{AnswersHead, HasHead, HasHeadFault, IsFaulty, IsHead, NamedValue, OrNoMemory, joined_values, values_of};
 ghost use Rattle.pec_heads.specs.HeadReading.{read_of};
-ghost use Rattle.pec_heads.specs.Lists.{HasList, HasListFault, IsAngled, IsBare, IsEntry, IsList, IsListFault};
+ghost use Rattle.pec_heads.specs.Lists.{HasList, HasListFault, IsAngled, IsBare, IsEntry, IsList, IsListFault, is_all_blank};
 ghost use Rattle.pec_heads.specs.ListReading.{list_of};
 ghost use Rattle.pec_heads.specs.Views.{Gives, GivesList};
 ghost use Rattle.pec_heads.specs.declared.faults.ListFault.TheVariants as wrong;
@@ -14,7 +15,7 @@ use crate::facts::read_facts;
 use crate::faults::{HeadFault, ListFault};
 use crate::fields::Fields;
 use crate::lists::addresses_of;
-use crate::lookups::{count, value};
+use crate::lookups::{count, is_filled, value};
 use crate::reading::read_fields;
 use pec_types::{Address, Facts, NoMemory};
 use std::alloc::Global;
@@ -97,6 +98,13 @@ impl Head {
         ensures { option_map (λ v. v.now) result ≡ slice_get (values_of name.now self.now) i }
     {
         value(&self.fields, name, i)
+    }
+
+    /// Whether a field of this name has a value that isn't blank. It goes over the fields once, and takes no memory.
+    pub fn is_filled(&self, name: &[u8]) -> bool
+        ensures { result ≡ list_any (λ value. not (is_all_blank value)) (values_of name.now self.now) }
+    {
+        is_filled(&self.fields, name)
     }
 
     /// The addresses of the list that the values of all fields of this name are, joined by commas (RFC 5322, section 3.4,

@@ -1,11 +1,13 @@
-ghost use Rattle.std.specs.Prelude.{◌≡◌, ℕ, List, length, slice_get};
+ghost use Rattle.std.specs.Prelude.{◌≡◌, ℕ, List, [], ◌∷◌, length, not, slice_get};
+ghost use Rattle.std.specs.List.{list_any};
 ghost use Rattle.std.specs.Option.{option_map};
 ghost use Rattle.std.specs.Str.{str_eq_ignore_ascii_case};
 ghost use Rattle.pec_heads.specs.Bytes.{part_of, trimmed};
-ghost use Rattle.pec_heads.specs.Heads.{values_of};
-ghost use Rattle.pec_heads.specs.Views.{end_before, fields_shown};
+ghost use Rattle.pec_heads.specs.Heads.{cut, values_of};
+ghost use Rattle.pec_heads.specs.Lists.{is_all_blank};
+ghost use Rattle.pec_heads.specs.Views.{end_before, field_at, fields_shown};
 
-use crate::blanks::trim;
+use crate::blanks::{is_all_blank, trim};
 use crate::fields::{Fields, Start};
 use crate::parts::part;
 
@@ -42,6 +44,28 @@ pub(crate) fn value<'a>(fields: &'a Fields, name: &[u8], i: usize) -> Option<&'a
         rest = behind;
     }
     None
+}
+
+/// Whether a field of this name has a value that isn't blank.
+pub(crate) fn is_filled(fields: &Fields, name: &[u8]) -> bool
+    ensures { result ≡ list_any (λ value. not (is_all_blank value)) (values_of name.now (fields_shown fields.now)) }
+{
+    let bytes = fields.bytes.as_slice();
+    let mut rest = fields.starts.as_slice();
+    while let [start, behind @ ..] = rest {
+        if fills(bytes, *start, behind, name) {
+            return true;
+        }
+        rest = behind;
+    }
+    false
+}
+
+/// Whether the field that starts there, before those behind it, has this name and a value that isn't blank.
+fn fills(bytes: &[u8], start: Start, behind: &[Start], name: &[u8]) -> bool
+    ensures { result ≡ list_any (λ value. not (is_all_blank value)) (values_of name.now (cut (field_at bytes.now start behind.now) ∷ [])) }
+{
+    has_name(bytes, start, name) && !is_all_blank(value_at(bytes, start, behind))
 }
 
 /// Whether the field that starts there has this name.

@@ -1,19 +1,17 @@
 -- An address that the set has stands among the recipients, and one that it hasn't comes to both.
-use Rattle.std.proofs.Common.{refl, sym, ◌∙◌}
-use Rattle.pec_heads.proofs.KnownAddresses.{known_more}
+use Rattle.std.proofs.Common.{sym, ◌∙◌}
+use Rattle.pec_heads.proofs.KnownAddresses.{known_more, with_known, with_new}
 use Rattle.pec_heads.proofs.recipients.Gathered.add.Goals as goal
 
 pub returns-then-contains-clause-added : goal.returns-then-contains-clause-added
 returns-then-contains-clause-added c =
     let there = rw c.bytes.ensures.value at c.if-contains.ensures
-    in let e = sym (c.requires c.args.address) ∙ sym there
-    in rw e refl
+    in with_known c.args.class c.args.self.now.all.items c.args.address (sym (c.requires c.args.address) ∙ sym there)
 
 pub returns-clause-added : goal.returns-clause-added
 returns-clause-added c =
     let absent = rw c.bytes.ensures.value at c.if-contains.ensures
-    in let e = sym (c.requires c.args.address) ∙ sym absent
-    in rw (c.in_ok-push.ensures.items, e) refl
+    in with_new c.args.class c.args.self.now.all.items c.push.new.self.items c.args.address (sym (c.requires c.args.address) ∙ sym absent) c.in_ok-push.ensures.items
 
 pub returns-clause-known : goal.returns-clause-known
 returns-clause-known c =
