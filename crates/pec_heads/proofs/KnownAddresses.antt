@@ -1,5 +1,5 @@
 -- The set of the addresses of recipients, with one more.
-use Rattle.std.proofs.Common.{◌≡◌, ℕ, List, [], ◌∷◌, ◌++◌, Bool, true, false, ◌||◌, refl, ap, sym, ◌∙◌, Vec, Global}
+use Rattle.std.proofs.Common.{◌≡◌, ℕ, List, [], ◌∷◌, ◌++◌, Bool, true, false, not, ◌||◌, refl, ap, sym, ◌∙◌, Vec, Global}
 use Rattle.std.proofs.lemmas.Cmp.{nat_list_eq_equiv}
 use Rattle.std.proofs.lemmas.List.Folds.{list_any-append}
 use Rattle.std.proofs.lemmas.Map.Text.{is_eq-slice_cmp}
@@ -64,15 +64,30 @@ turned false false = refl
 
 -- where a set has the addresses of the recipients, it has them with one more on both sides
 pub known_more : (class : Class) (all : List Recipient) (keys new : List Key) (key : Key) (address : List ℕ) → new ≡ insert_key key_cmp keys key → key.items ≡ address
-    → ((x : List ℕ) → has x keys ≡ list_any (λ r. bytes_eq r.address x) all)
-    → (x : List ℕ) → has x new ≡ list_any (λ r. bytes_eq r.address x) (all ++ recipient class address ∷ [])
+    → ((x : List ℕ) → has x keys ≡ list_any (λ r. bytes_eq r.address x) all) → (x : List ℕ) → has x new ≡ list_any (λ r. bytes_eq r.address x) (all ++ recipient class address ∷ [])
 known_more class all keys new key address e f known x =
     rw (e, inserted x keys key, known x, f, is_eq-slice_cmp x address, nat_list_eq_equiv.symm x address, list_any-append (λ (r : Recipient). bytes_eq r.address x) all (recipient class address ∷ []))
     (turned (bytes_eq address x) (list_any (λ r. bytes_eq r.address x) all))
 
-pub with_known : (class : Class) (all : List Recipient) (address : List ℕ) → list_any (λ r. bytes_eq r.address address) all ≡ true → all ≡ with_recipient class all address
-with_known class all address e = rw e refl
+abbrev Knows : List Key → List Recipient → Type 0
+Knows keys all = (x : List ℕ) → has x keys ≡ list_any (λ r. bytes_eq r.address x) all
 
-pub with_new : (class : Class) (all more : List Recipient) (address : List ℕ) → list_any (λ r. bytes_eq r.address address) all ≡ false → more ≡ all ++ recipient class address ∷ []
-    → more ≡ with_recipient class all address
-with_new class all more address e f = rw e f
+is_there : (is_new there : Bool) → is_new ≡ not there → is_new ≡ false → there ≡ true
+is_there is_new true e f = refl
+is_there is_new false e f = cc
+
+is_absent : (is_new there : Bool) → is_new ≡ not there → is_new ≡ true → there ≡ false
+is_absent is_new true e f = cc
+is_absent is_new false e f = refl
+
+pub with_known : (class : Class) (all : List Recipient) (keys : List Key) (key : Key) (address : List ℕ) (is_new : Bool) → key.items ≡ address
+    → Knows keys all → is_new ≡ not (has key.items keys) → is_new ≡ false → all ≡ with_recipient class all address
+with_known class all keys key address is_new e known f g =
+    let there : list_any (λ (r : Recipient). bytes_eq r.address address) all ≡ true = rw (← known address, ← e) (is_there is_new (has key.items keys) f g)
+    in rw there refl
+
+pub with_new : (class : Class) (all more : List Recipient) (keys : List Key) (key : Key) (address : List ℕ) (is_new : Bool) → key.items ≡ address
+    → Knows keys all → is_new ≡ not (has key.items keys) → is_new ≡ true → more ≡ all ++ recipient class address ∷ [] → more ≡ with_recipient class all address
+with_new class all more keys key address is_new e known f g h =
+    let absent : list_any (λ (r : Recipient). bytes_eq r.address address) all ≡ false = rw (← known address, ← e) (is_absent is_new (has key.items keys) f g)
+    in rw absent h

@@ -62,11 +62,11 @@ impl Gathered {
         ensures added { OnOk result (self.new.all.items ≡ with_recipient class self.old.all.items address) }
         ensures known { OnOk result (AreKnown self.new) }
     {
-        if self.known.contains(address.bytes()) {
+        let key = Vec::from_slice(alloc, address.bytes())?;
+        let is_new = self.known.insert(key)?;
+        if !is_new {
             return Ok(());
         }
-        let key = Vec::from_slice(alloc, address.bytes())?;
-        self.known.insert(key)?;
         self.all.push(Recipient { address, class })?;
         Ok(())
     }
