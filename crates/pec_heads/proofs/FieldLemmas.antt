@@ -1,11 +1,11 @@
 -- Fields in one store: one more, and the last of them going on.
-use Rattle.std.proofs.Common.{◌≡◌, ℕ, ◌+◌, ◌-◌, ◌≤◌, ◌==◌, List, [], ◌∷◌, ◌++◌, length, take, drop, suc, refl, ap, sym, ◌∙◌, arith, append_assoc, length-append, length-drop}
+use Rattle.std.proofs.Common.{◌≡◌, ℕ, ◌-◌, ◌≤◌, List, [], ◌∷◌, ◌++◌, length, drop, suc, refl, ap, arith, append_assoc, length-append, length-drop}
 use Rattle.std.proofs.Math.Seq.{drop-append_seam}
 use Rattle.std.proofs.lemmas.List.{take_all, take-append-le, drop-append-le}
 use Rattle.pec_heads.specs.Bytes.{part_of}
 use Rattle.pec_heads.specs.Heads.{NamedValue}
 use Rattle.pec_heads.specs.HeadReading.{onto_last}
-use Rattle.pec_heads.specs.Views.{AllStartWithin, end_before, field_at, fields_at}
+use Rattle.pec_heads.specs.Views.{AllStartWithin, field_at, fields_at}
 use Rattle.pec_heads.specs.declared.fields.Start.{Start}
 
 abbrev pub grown : NamedValue → List ℕ → NamedValue
