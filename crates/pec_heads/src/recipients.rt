@@ -21,7 +21,7 @@ pub(crate) fn recipients(
     Ok(gathered.all)
 }
 
-/// Gathered in their order, and the set of their addresses. In a tree an address is found without going over all of them,
+/// Recipients in their order, and the set of their addresses. In a tree an address is found without going over all of them,
 /// whatever addresses a message has.
 #[derive(Drop)]
 struct Gathered {
