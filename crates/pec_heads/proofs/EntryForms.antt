@@ -1,9 +1,9 @@
 -- An entry is an address with blanks round it, or a phrase and an address in `<` and `>`: only the second has a `<` or a quote.
-use Rattle.std.proofs.Common.{◌≡◌, ℕ, ◌==◌, List, [], ◌∷◌, ◌++◌, Bool, true, false, not, ◌||◌, ◌⊎◌, ◌↔◌, inl, inr, MatchBool, refl, ap, sym, ◌∙◌}
+use Rattle.std.proofs.Common.{◌≡◌, ℕ, ◌==◌, List, [], ◌∷◌, ◌++◌, Bool, true, false, not, ◌⊎◌, ◌↔◌, inl, inr, MatchBool, refl, ap, ◌∙◌}
 use Rattle.std.proofs.lemmas.Bool.{false≢true, and_parts, eqb-true, ne_eqb, not-true, or_cases, or_from, or_right}
 use Rattle.std.proofs.lemmas.List.Folds.{list_any-append}
 use Rattle.std.specs.Char.{is_ascii_alphanumeric}
-use Rattle.std.specs.List.{list_all, list_any}
+use Rattle.std.specs.List.{list_all}
 use Rattle.pec_types.specs.Address.{is_atom_byte, IsAddress}
 use Rattle.pec_heads.specs.Bytes.{is_blank, AreBlanks, NonePass, trimmed}
 use Rattle.pec_heads.specs.Lists.{is_mark, is_quote, has_mark, IsAngled, IsBare, IsEntry}

@@ -1,19 +1,19 @@
 -- The entries of a text, one after another, and the values of a name joined by commas.
-use Rattle.std.proofs.Common.{◌≡◌, ℕ, ◌+◌, ◌-◌, ◌<◌, ◌≤◌, List, [], ◌∷◌, ◌++◌, false, ◌&&◌, length, take, drop, Option, Some, None, Result, Ok, Err, refl, ap, sym, ◌∙◌, arith, add-one, append_assoc, length-append, length-drop}
+use Rattle.std.proofs.Common.{◌≡◌, ℕ, ◌+◌, ◌-◌, ◌<◌, ◌≤◌, List, [], ◌∷◌, ◌++◌, false, ◌&&◌, length, map, take, drop, Option, Some, None, Result, Ok, Err, refl, ap, sym, ◌∙◌, arith, add-one, append_assoc, length-append, length-drop}
 use Rattle.std.proofs.lemmas.Bool.{cond_both, le-leb, lt-leb}
 use Rattle.std.proofs.Math.Seq.{take-append_seam, drop-drop}
-use Rattle.std.proofs.lemmas.List.{append-nil, drop_all, length-take-le}
+use Rattle.std.proofs.lemmas.List.{append-nil, length-take-le}
 use Rattle.std.specs.List.{flat_map, join_with_byte, onto_first, position}
 use Rattle.std.specs.Option.{option_map}
-use Rattle.pec_heads.specs.Heads.{values_of}
 use Rattle.pec_heads.specs.Lists.{is_comma, is_ink}
 use Rattle.pec_heads.specs.ListReading.{is_outside, after, comma_from, before_comma, entries_from, entries_at, list_from, with_entry, with_comma}
 use Rattle.pec_heads.specs.declared.faults.ListFault.{ListFault}
 use Rattle.pec_heads.specs.declared.faults.ListFault.TheVariants.{Syntax, BadAddress, Empty, NoMemory}
 use Rattle.pec_heads.specs.declared.quoting.Quoting.{Quoting}
 use Rattle.pec_heads.specs.declared.quoting.Quoting.TheVariants.{Outside}
-use Rattle.pec_heads.specs.Views.{IsWrong, fields_shown}
-use Rattle.pec_heads.specs.declared.fields.Field.{Field}
+use Rattle.pec_heads.specs.Heads.{cut, values_of}
+use Rattle.pec_heads.specs.Views.{IsWrong, fields_at}
+use Rattle.pec_heads.specs.declared.fields.Start.{Start}
 
 -- ---- the first entry
 
@@ -91,10 +91,8 @@ pub joined_is : (vs : List (List ℕ)) → take (length (flat_map with_comma vs)
 joined_is [] = refl
 joined_is (v ∷ vs) = rw (comma_last vs v) (front_of (join_with_byte 44 (v ∷ vs)) 44)
 
-pub all_joined : (fields : List Field) (n : ℕ) (name before popped : List ℕ) (len : ℕ) → length fields ≤ n
-    → before ++ flat_map with_comma (values_of name (fields_shown (drop n fields))) ≡ flat_map with_comma (values_of name (fields_shown fields))
-    → len ≡ length before → popped ≡ take (len - 1) before → popped ≡ join_with_byte 44 (values_of name (fields_shown fields))
-all_joined fields n name before popped len end all size e =
-    let none : drop n fields ≡ [] = drop_all n fields end
-    in let b : before ≡ flat_map with_comma (values_of name (fields_shown fields)) = sym (append-nil before) ∙ rw none at all
-    in rw (e, size, b) (joined_is (values_of name (fields_shown fields)))
+pub all_joined : (bytes : List ℕ) (rest : List Start) (name before popped : List ℕ) (len : ℕ) (vs : List (List ℕ)) → length rest < 1
+    → before ++ flat_map with_comma (values_of name (map cut (fields_at bytes rest))) ≡ flat_map with_comma vs
+    → len ≡ length before → popped ≡ take (len - 1) before → popped ≡ join_with_byte 44 vs
+all_joined bytes [] name before popped len vs end all size e = rw (e, size, sym (append-nil before) ∙ all) (joined_is vs)
+all_joined bytes (s ∷ rest) name before popped len vs end all size e = absurd (omega arith)

@@ -3,11 +3,11 @@ use Rattle.std.proofs.Common.{◌≡◌, ℕ, ◌≤◌, ◌==◌, nat_lt, nat_l
 use Rattle.std.proofs.lemmas.Bool.{cond_both, and_parts, and_from, or_cases, or_from, not-true, not_from_false, leb-true, le-ltb, eqb-true}
 use Rattle.std.proofs.lemmas.List.{take-map}
 use Rattle.std.proofs.lemmas.List.Folds.{list_all-append}
-use Rattle.std.specs.List.{list_all, list_any, flat_map, AllByRecursion}
+use Rattle.std.specs.List.{list_all, list_any}
 use Rattle.std.specs.Char.{is_ascii_alphanumeric}
 use Rattle.std.specs.Int.{is_in_range}
 use Rattle.pec_types.specs.Text.{is_unprintable, AllPrintable}
-use Rattle.pec_types.specs.Address.{is_atom_byte, AllAtomBytes, IsAtom, ends_well, IsLabel, dotted, IsDotted, IsAddress, IsLowerAddress}
+use Rattle.pec_types.specs.Address.{is_atom_byte, IsLowerAddress}
 use Rattle.pec_heads.specs.Bytes.{NonePass, trimmed}
 use Rattle.pec_heads.specs.FactsOfHeads.{front_of, printed_byte, printed, short_text}
 use Rattle.pec_heads.specs.declared.TheConstants.{TEXT_LIMIT}

@@ -14,5 +14,6 @@ pub mod AddressBytes
 pub mod EntryForms
 pub mod ListLaws
 pub mod FactSteps
+pub mod KnownAddresses
 pub mod RecipientLaws
 pub mod FactLaws

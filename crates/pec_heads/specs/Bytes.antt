@@ -1,5 +1,5 @@
 -- Words on lists of bytes that the other definitions share.
-use Rattle.std.specs.Prelude.{◌≡◌, ℕ, ◌==◌, List, [], ◌∷◌, ◌++◌, Bool, not, true, false, ◌||◌, if◌then◌else◌}
+use Rattle.std.specs.Prelude.{◌≡◌, ℕ, ◌-◌, ◌==◌, take, drop, List, [], ◌∷◌, ◌++◌, Bool, not, true, false, ◌||◌, if◌then◌else◌}
 use Rattle.std.specs.List.{list_all}
 
 -- space and tab (RFC 5322, section 2.2.2: WSP)
@@ -16,6 +16,10 @@ begins_blank (b ∷ bs) = is_blank b
 -- no byte passes the test
 abbrev pub NonePass : (ℕ → Bool) → List ℕ → Type 0
 NonePass p bytes = list_all (λ b. not (p b)) bytes ≡ true
+
+-- the bytes from a place up to another, as far as there are any
+unfoldable pub part_of : ℕ → ℕ → List ℕ → List ℕ
+part_of from to bytes = take (to - from) (drop from bytes)
 
 -- front is what stands before the first byte that passes the test
 pub record FirstOf (p : ℕ → Bool) (bytes front : List ℕ) : Type 0 where

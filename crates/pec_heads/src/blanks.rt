@@ -1,5 +1,6 @@
 ghost use Rattle.std.specs.Prelude.{◌≡◌, ℕ, List};
 ghost use Rattle.pec_heads.specs.Bytes.{IsTrimmed, cut_blanks, skip_blanks, trimmed};
+ghost use Rattle.pec_heads.specs.Lists.{is_all_blank};
 
 /// The law of cutting: what is left stands between blanks and has none at its ends, and nothing else does.
 pub fn blanks_are_cut_at_both_ends()
@@ -37,4 +38,11 @@ pub(crate) fn trim_end(bytes: &[u8]) -> &[u8]
         rest = front;
     }
     rest
+}
+
+/// Whether there are only spaces and tabs.
+pub(crate) fn is_all_blank(value: &[u8]) -> bool
+    ensures { result ≡ is_all_blank value.now }
+{
+    value.iter().all(|b| *b == b' ' || *b == b'\t')
 }

@@ -1,26 +1,25 @@
-ghost use Rattle.std.specs.Prelude.{◌≡◌, ℕ, ◌++◌, List, length, take, IfOk, OnOk};
-ghost use Rattle.std.specs.List.{list_any};
+ghost use Rattle.std.specs.Prelude.{◌≡◌, ℕ, List, length, IfOk};
 ghost use Rattle.std.specs.Option.{option_map};
-ghost use Rattle.std.specs.Str.{bytes_eq};
 ghost use Rattle.pec_types.specs.Text.{AllPrintable};
 ghost use Rattle.pec_heads.specs.Heads.{joined_values};
-ghost use Rattle.pec_heads.specs.Lists.{is_all_blank};
-ghost use Rattle.pec_heads.specs.FactsOfHeads.{front_of, printed, printed_byte, recipients_of, reply_of, short_text, text_of, wish_of};
-ghost use Rattle.pec_heads.specs.FactsReading.{copies_of, facts_of, listed, sender_of, with_recipient, with_recipients};
+ghost use Rattle.pec_heads.specs.FactsOfHeads.{front_of, printed, printed_byte, reply_of, short_text, text_of, wish_of};
+ghost use Rattle.pec_heads.specs.FactsReading.{copies_of, facts_of, listed, sender_of};
 ghost use Rattle.pec_heads.specs.Views.{fields_shown};
 
 use crate::TEXT_LIMIT;
-use crate::blanks::trim;
+use crate::blanks::{is_all_blank, trim};
 use crate::faults::ListFault;
-use crate::fields::Field;
+use crate::fields::Fields;
 use crate::lists::addresses_of;
 use crate::lookups::{count, value};
-use pec_types::{Address, Class, Facts, Items, NoMemory, Recipient, Text, TextFault, Wish};
+use crate::parts::at_most;
+use crate::recipients::recipients;
+use pec_types::{Address, Facts, Items, NoMemory, Text, TextFault, Wish};
 use std::alloc::{AllocError, Global};
 
 /// The facts of a head with these fields.
 #[tactic(auto, unfolding(crate::specs::FactsReading::facts_of))]
-pub(crate) fn read_facts(alloc: Global, fields: &[Field]) -> Result<Option<Facts>, NoMemory>
+pub(crate) fn read_facts(alloc: Global, fields: &Fields) -> Result<Option<Facts>, NoMemory>
     ensures { IfOk result (λ found. found ≡ facts_of (fields_shown fields.now)) }
 {
     let Some(sender) = sender(alloc, fields)? else {
@@ -47,7 +46,7 @@ pub(crate) fn read_facts(alloc: Global, fields: &[Field]) -> Result<Option<Facts
 }
 
 /// The one address of the one `From` field.
-fn sender(alloc: Global, fields: &[Field]) -> Result<Option<Address>, NoMemory>
+fn sender(alloc: Global, fields: &Fields) -> Result<Option<Address>, NoMemory>
     ensures { IfOk result (λ found. found ≡ sender_of (fields_shown fields.now)) }
 {
     if count(fields, b"From".as_slice()) != 1 {
@@ -64,7 +63,7 @@ fn sender(alloc: Global, fields: &[Field]) -> Result<Option<Address>, NoMemory>
 }
 
 /// The addresses of the fields of a name, where these are a list.
-fn list(alloc: Global, fields: &[Field], name: &[u8]) -> Result<Option<Vec<Address>>, NoMemory>
+fn list(alloc: Global, fields: &Fields, name: &[u8]) -> Result<Option<Vec<Address>>, NoMemory>
     ensures { IfOk result (λ found. option_map (λ v. v.items) found ≡ listed name.now (fields_shown fields.now)) }
 {
     match addresses_of(alloc, fields, name) {
@@ -74,7 +73,7 @@ fn list(alloc: Global, fields: &[Field], name: &[u8]) -> Result<Option<Vec<Addre
     }
 }
 
-fn copies(alloc: Global, fields: &[Field]) -> Result<Option<Vec<Address>>, NoMemory>
+fn copies(alloc: Global, fields: &Fields) -> Result<Option<Vec<Address>>, NoMemory>
     ensures { IfOk result (λ found. option_map (λ v. v.items) found ≡ copies_of (fields_shown fields.now)) }
 {
     if count(fields, b"Cc".as_slice()) == 0 {
@@ -84,7 +83,7 @@ fn copies(alloc: Global, fields: &[Field]) -> Result<Option<Vec<Address>>, NoMem
     Ok(found)
 }
 
-fn wish(fields: &[Field]) -> Wish
+fn wish(fields: &Fields) -> Wish
     ensures { result ≡ wish_of (fields_shown fields.now) }
 {
     let Some(text) = value(fields, b"X-TipoRicevuta".as_slice(), 0) else {
@@ -99,48 +98,8 @@ fn wish(fields: &[Field]) -> Wish
     Wish::Full
 }
 
-/// Those of `To`, and then those of `Cc` that don't stand in `To`, each once.
-fn recipients(
-    alloc: Global,
-    to: Vec<Address>,
-    copies: Vec<Address>,
-) -> Result<Vec<Recipient>, NoMemory>
-    ensures { IfOk result (λ all. all.items ≡ recipients_of to.items copies.items) }
-{
-    let mut all = Vec::new(alloc);
-    add_all(&mut all, to, Class::Primary)?;
-    add_all(&mut all, copies, Class::Copy)?;
-    Ok(all)
-}
-
-fn add_all(all: &mut Vec<Recipient>, addresses: Vec<Address>, class: Class) -> Result<(), NoMemory>
-    ensures { OnOk result (all.new.items ≡ with_recipients class all.old.items addresses.items) }
-{
-    for address in addresses {
-        add(all, address, class)?;
-    }
-    Ok(())
-}
-
-/// Adds a recipient, unless its address is there.
-fn add(all: &mut Vec<Recipient>, address: Address, class: Class) -> Result<(), NoMemory>
-    ensures { OnOk result (all.new.items ≡ with_recipient class all.old.items address) }
-{
-    if is_there(all.as_slice(), address.bytes()) {
-        return Ok(());
-    }
-    all.push(Recipient { address, class })?;
-    Ok(())
-}
-
-fn is_there(all: &[Recipient], address: &[u8]) -> bool
-    ensures { result ≡ list_any (λ r. bytes_eq r.address address.now) all.now }
-{
-    all.iter().any(|r| r.address.bytes() == address)
-}
-
 /// A subject or a reference: the text of the first field of a name.
-fn text(alloc: Global, fields: &[Field], name: &[u8]) -> Result<Option<Text>, NoMemory>
+fn text(alloc: Global, fields: &Fields, name: &[u8]) -> Result<Option<Text>, NoMemory>
     ensures { IfOk result (λ found. found ≡ text_of name.now (fields_shown fields.now)) }
 {
     let Some(value) = value(fields, name, 0) else {
@@ -171,18 +130,8 @@ fn front(value: &[u8]) -> &[u8]
     at_most(value, TEXT_LIMIT)
 }
 
-fn at_most(value: &[u8], limit: usize) -> &[u8]
-    ensures { result.now ≡ take limit value.now }
-{
-    if value.len() <= limit {
-        value
-    } else {
-        &value[..limit]
-    }
-}
-
 /// The first `Reply-To`, made printable, where it isn't blank and has at most 900 bytes; otherwise the sender's address.
-fn reply(alloc: Global, fields: &[Field], sender: &Address) -> Result<Text, NoMemory>
+fn reply(alloc: Global, fields: &Fields, sender: &Address) -> Result<Text, NoMemory>
     ensures { IfOk result (λ text. text ≡ reply_of sender.now (fields_shown fields.now)) }
 {
     if let Some(value) = value(fields, b"Reply-To".as_slice(), 0) {
@@ -194,12 +143,6 @@ fn reply(alloc: Global, fields: &[Field], sender: &Address) -> Result<Text, NoMe
     }
     let text = printable_text(alloc, sender.bytes())?;
     Ok(text)
-}
-
-fn is_all_blank(value: &[u8]) -> bool
-    ensures { result ≡ is_all_blank value.now }
-{
-    value.iter().all(|b| *b == b' ' || *b == b'\t')
 }
 
 /// The bytes with each tab made a space and each other byte that isn't printable a `?`.

@@ -1,46 +1,64 @@
-ghost use Rattle.std.specs.Prelude.{◌≡◌, ℕ, List, ◌++◌, IfOk, OnOk, option_map, slice_get, length};
-ghost use Rattle.std.specs.Str.{str_eq_ignore_ascii_case};
-ghost use Rattle.pec_heads.specs.Bytes.{trimmed};
-ghost use Rattle.pec_heads.specs.Heads.{NamedValue, values_of};
+ghost use Rattle.std.specs.Prelude.{◌≡◌, ℕ, List, [], ◌∷◌, ◌++◌, ◌==◌, length, OnOk};
+ghost use Rattle.pec_heads.specs.Heads.{NamedValue};
+ghost use Rattle.pec_heads.specs.HeadReading.{onto_last};
 
-use crate::blanks::trim;
 use std::alloc::{AllocError, Global};
 
-/// A field: its name, and its unfolded value with the blanks at both ends.
-#[derive(Drop)]
-pub(crate) struct Field {
-    name: Vec<u8>,
-    raw: Vec<u8>,
+/// Where the name and the value of a field start. The name ends where its value starts, and that where the next field does.
+#[derive(Clone, Copy)]
+pub(crate) struct Start {
+    pub(crate) name: usize,
+    pub(crate) value: usize,
 }
 
-impl Field {
-    ghost use Rattle.pec_heads.specs.Views.{raw_field};
+/// Fields in their order. The bytes of all names and unfolded values stand one behind the other in one store, so that a field
+/// takes no memory of its own but for its start.
+#[derive(Drop)]
+pub(crate) struct Fields {
+    pub(crate) bytes: Vec<u8>,
+    pub(crate) starts: Vec<Start>,
+}
 
-    pub(crate) fn new(alloc: Global, name: &[u8], rest: &[u8]) -> Result<Field, AllocError>
-        ensures { IfOk result (λ field. raw_field field ≡ record { name = name.now; value = rest.now }) }
+impl Fields {
+    ghost use Rattle.pec_heads.specs.Views.{AreStored, raw_fields};
+
+    pub(crate) fn new(alloc: Global) -> Fields
+        ensures none { raw_fields result ≡ [] }
+        ensures stored { AreStored result }
     {
-        let name = Vec::from_slice(alloc, name)?;
-        let raw = Vec::from_slice(alloc, rest)?;
-        Ok(Field { name, raw })
+        Fields {
+            bytes: Vec::new(alloc),
+            starts: Vec::new(alloc),
+        }
     }
 
-    /// Puts the bytes of a line that goes on with this field at the end of its value.
-    pub(crate) fn go_on(&mut self, bytes: &[u8]) -> Result<(), AllocError>
-        ensures { OnOk result (raw_field self.new ≡ record { name = self.old.name.items; value = self.old.raw.items ++ bytes.now }) }
+    pub(crate) fn is_empty(&self) -> bool
+        ensures { result ≡ (length (raw_fields self.now) == 0) }
     {
-        self.raw.extend_from_slice(bytes)?;
+        self.starts.is_empty()
+    }
+
+    /// Adds a field.
+    pub(crate) fn open(&mut self, name: &[u8], rest: &[u8]) -> Result<(), AllocError>
+        requires { AreStored self.old }
+        ensures opened { OnOk result (raw_fields self.new ≡ raw_fields self.old ++ record { name = name.now; value = rest.now } ∷ []) }
+        ensures stored { OnOk result (AreStored self.new) }
+    {
+        let at = self.bytes.len();
+        self.bytes.extend_from_slice(name)?;
+        let value = self.bytes.len();
+        self.bytes.extend_from_slice(rest)?;
+        self.starts.push(Start { name: at, value })?;
         Ok(())
     }
 
-    pub(crate) fn value(&self) -> &[u8]
-        ensures { result.now ≡ trimmed self.now.raw.items }
+    /// Puts the bytes of a line that goes on with the last field at the end of its value.
+    pub(crate) fn go_on(&mut self, bytes: &[u8]) -> Result<(), AllocError>
+        requires { AreStored self.old }
+        ensures grown { OnOk result (raw_fields self.new ≡ onto_last (raw_fields self.old) bytes.now) }
+        ensures stored { OnOk result (AreStored self.new) }
     {
-        trim(self.raw.as_slice())
-    }
-
-    pub(crate) fn has_name(&self, name: &[u8]) -> bool
-        ensures { result ≡ str_eq_ignore_ascii_case self.now.name.items name.now }
-    {
-        self.name.as_slice().eq_ignore_ascii_case(name)
+        self.bytes.extend_from_slice(bytes)?;
+        Ok(())
     }
 }

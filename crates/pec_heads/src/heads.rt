@@ -1,20 +1,21 @@
-ghost use Rattle.std.specs.Prelude.{◌≡◌, ◌≢◌, ◌⊎◌, ◌↔◌, ℕ, List, length, slice_get, Ok, Err, IfErr, IfOk, IsErrAnd, MatchOption, MatchResult};
+ghost use Rattle.std.specs.Prelude.{◌≡◌, ◌≢◌, ◌⊎◌, ◌↔◌, ℕ, List, length, not, slice_get, Ok, Err, IfErr, IfOk, IsErrAnd, MatchOption, MatchResult};
+ghost use Rattle.std.specs.List.{list_any};
 ghost use Rattle.std.specs.Option.{option_map};
 ghost use Rattle.pec_types.specs.declared.messages.Facts.{Facts as FactsShown};
 ghost use Rattle.pec_heads.specs.FactsOfHeads.{HasNoFacts, IsFacts};
 ghost use Rattle.pec_heads.specs.FactsReading.{facts_of};
 ghost use Rattle.pec_heads.specs.Heads.{AnswersHead, HasHead, HasHeadFault, IsFaulty, IsHead, NamedValue, OrNoMemory, joined_values, values_of};
 ghost use Rattle.pec_heads.specs.HeadReading.{read_of};
-ghost use Rattle.pec_heads.specs.Lists.{HasList, HasListFault, IsAngled, IsBare, IsEntry, IsList, IsListFault};
+ghost use Rattle.pec_heads.specs.Lists.{HasList, HasListFault, IsAngled, IsBare, IsEntry, IsList, IsListFault, is_all_blank};
 ghost use Rattle.pec_heads.specs.ListReading.{list_of};
 ghost use Rattle.pec_heads.specs.Views.{Gives, GivesList};
 ghost use Rattle.pec_heads.specs.declared.faults.ListFault.TheVariants as wrong;
 
 use crate::facts::read_facts;
 use crate::faults::{HeadFault, ListFault};
-use crate::fields::Field;
+use crate::fields::Fields;
 use crate::lists::addresses_of;
-use crate::lookups::{count, value};
+use crate::lookups::{count, is_filled, value};
 use crate::reading::read_fields;
 use pec_types::{Address, Facts, NoMemory};
 use std::alloc::Global;
@@ -48,7 +49,7 @@ pub fn a_head_has_one_account()
 /// its unfolded value.
 #[derive(Drop)]
 pub struct Head {
-    fields: Vec<Field>,
+    fields: Fields,
 }
 
 impl Model for Head {
@@ -59,7 +60,7 @@ impl Model for Head {
 
     ghost use Rattle.pec_heads.specs.Views.{fields_shown};
 
-    ghost view = { λ head. fields_shown head.fields.items };
+    ghost view = { λ head. fields_shown head.fields };
 }
 
 impl Head {
@@ -82,21 +83,28 @@ impl Head {
     pub fn field(&self, name: &[u8]) -> Option<&[u8]>
         ensures { option_map (λ v. v.now) result ≡ slice_get (values_of name.now self.now) 0 }
     {
-        value(self.fields.as_slice(), name, 0)
+        value(&self.fields, name, 0)
     }
 
     /// How many fields have this name, whatever the case of its letters. It takes no memory.
     pub fn count(&self, name: &[u8]) -> usize
         ensures { result ≡ length (values_of name.now self.now) }
     {
-        count(self.fields.as_slice(), name)
+        count(&self.fields, name)
     }
 
     /// As `field`, for the field of this name with number i, counted from 0. It takes no memory.
     pub fn value(&self, name: &[u8], i: usize) -> Option<&[u8]>
         ensures { option_map (λ v. v.now) result ≡ slice_get (values_of name.now self.now) i }
     {
-        value(self.fields.as_slice(), name, i)
+        value(&self.fields, name, i)
+    }
+
+    /// Whether a field of this name has a value that isn't blank. It goes over the fields once, and takes no memory.
+    pub fn is_filled(&self, name: &[u8]) -> bool
+        ensures { result ≡ list_any (λ value. not (is_all_blank value)) (values_of name.now self.now) }
+    {
+        is_filled(&self.fields, name)
     }
 
     /// The addresses of the list that the values of all fields of this name are, joined by commas (RFC 5322, section 3.4,
@@ -112,7 +120,7 @@ impl Head {
         // The same answer as a function of the values, for definitions that build on it.
         ensures exact { GivesList (λ read. read.items) result (list_of (joined_values name.now self.now)) }
     {
-        addresses_of(alloc, self.fields.as_slice(), name)
+        addresses_of(alloc, &self.fields, name)
     }
 
     /// What the head says of its message (RFC 6109, section 3.1, within this project's profile). `None` exactly where there
@@ -124,6 +132,6 @@ impl Head {
         // The same answer as a function of the fields, for definitions that build on it.
         ensures exact { IfOk result (λ found. found ≡ facts_of self.now) }
     {
-        read_facts(alloc, self.fields.as_slice())
+        read_facts(alloc, &self.fields)
     }
 }

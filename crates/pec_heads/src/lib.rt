@@ -10,8 +10,10 @@ mod heads;
 mod lines;
 mod lists;
 mod lookups;
+mod parts;
 mod quoting;
 mod reading;
+mod recipients;
 #[cfg(test)]
 mod tests;
 

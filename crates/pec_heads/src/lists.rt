@@ -3,15 +3,16 @@ ghost use Rattle.std.specs.List.{flat_map};
 ghost use Rattle.std.specs.Option.{option_map};
 ghost use Rattle.pec_types.specs.AddressReading.{address_of};
 ghost use Rattle.pec_heads.specs.Bytes.{trimmed};
-ghost use Rattle.pec_heads.specs.Heads.{joined_values, values_of};
+ghost use Rattle.pec_heads.specs.Heads.{cut, joined_values, values_of};
 ghost use Rattle.pec_heads.specs.Lists.{has_mark, is_ink};
 ghost use Rattle.pec_heads.specs.ListReading.{angled_of, bare_of, before_close, before_comma, comma_from, entries_at, entry_of, inside_of, list_from, list_of, or_syntax, with_entry, with_comma};
-ghost use Rattle.pec_heads.specs.Views.{GivesList, fields_shown};
+ghost use Rattle.pec_heads.specs.Views.{GivesList, field_at, fields_shown};
 ghost use Rattle.pec_heads.specs.declared.quoting.Quoting.TheVariants as quotings;
 
 use crate::blanks::{trim, trim_end};
 use crate::faults::ListFault;
-use crate::fields::Field;
+use crate::fields::{Fields, Start};
+use crate::lookups::{has_name, value_at};
 use crate::quoting::{angle, comma};
 use pec_types::{Address, AddressFault};
 use std::alloc::{AllocError, Global};
@@ -19,7 +20,7 @@ use std::alloc::{AllocError, Global};
 /// The addresses of the list that the values of a name are, joined by commas.
 pub(crate) fn addresses_of(
     alloc: Global,
-    fields: &[Field],
+    fields: &Fields,
     name: &[u8],
 ) -> Result<Vec<Address>, ListFault>
     ensures { GivesList (λ v. v.items) result (list_of (joined_values name.now (fields_shown fields.now))) }
@@ -153,25 +154,34 @@ fn before_close(text: &[u8]) -> Option<&[u8]>
 }
 
 /// The values of the fields of a name, joined by commas.
-fn joined(alloc: Global, fields: &[Field], name: &[u8]) -> Result<Vec<u8>, AllocError>
+fn joined(alloc: Global, fields: &Fields, name: &[u8]) -> Result<Vec<u8>, AllocError>
     ensures { IfOk result (λ text. text.items ≡ joined_values name.now (fields_shown fields.now)) }
 {
+    let bytes = fields.bytes.as_slice();
+    let mut rest = fields.starts.as_slice();
     let mut text = Vec::new(alloc);
-    for field in fields {
-        add_value(&mut text, field, name)?;
+    while let [start, behind @ ..] = rest {
+        add_value(&mut text, bytes, *start, behind, name)?;
+        rest = behind;
     }
     text.pop();
     Ok(text)
 }
 
 /// Adds the value of a field of this name, and a comma.
-fn add_value(text: &mut Vec<u8>, field: &Field, name: &[u8]) -> Result<(), AllocError>
-    ensures { OnOk result (text.new.items ≡ text.old.items ++ flat_map with_comma (values_of name.now (fields_shown (field.now ∷ [])))) }
+fn add_value(
+    text: &mut Vec<u8>,
+    bytes: &[u8],
+    start: Start,
+    behind: &[Start],
+    name: &[u8],
+) -> Result<(), AllocError>
+    ensures { OnOk result (text.new.items ≡ text.old.items ++ flat_map with_comma (values_of name.now (cut (field_at bytes.now start behind.now) ∷ []))) }
 {
-    if !field.has_name(name) {
+    if !has_name(bytes, start, name) {
         return Ok(());
     }
-    text.extend_from_slice(field.value())?;
+    text.extend_from_slice(value_at(bytes, start, behind))?;
     text.push(b',')?;
     Ok(())
 }

@@ -2,21 +2,21 @@ ghost use Rattle.std.specs.Prelude.{◌≡◌, ℕ, ◌+◌, ◌<◌, ◌^◌, L
 ghost use Rattle.std.specs.List.{list_all};
 ghost use Rattle.pec_heads.specs.Bytes.{begins_blank};
 ghost use Rattle.pec_heads.specs.Heads.{is_control, is_colon, is_name, is_name_byte};
-ghost use Rattle.pec_heads.specs.HeadReading.{added, head_of, line_of, onto_last, role_of};
-ghost use Rattle.pec_heads.specs.Views.{Gives, line_answer, role_shown, raw_fields};
+ghost use Rattle.pec_heads.specs.HeadReading.{added, head_of, line_of, role_of};
+ghost use Rattle.pec_heads.specs.Views.{AreStored, Gives, line_answer, role_shown, raw_fields};
 
 use crate::LINE_LIMIT;
 use crate::faults::HeadFault;
-use crate::fields::Field;
+use crate::fields::Fields;
 use crate::lines::{content, first_line};
 use std::alloc::{AllocError, Global};
 
 /// The fields at the front of a message, and the place after the empty line that ends them.
 #[tactic(auto, unfolding(crate::specs::HeadReading::head_of))]
-pub(crate) fn read_fields(alloc: Global, message: &[u8]) -> Result<(Vec<Field>, usize), HeadFault>
-    ensures { Gives (λ read. (raw_fields read.0.items, read.1)) result (head_of message.now) }
+pub(crate) fn read_fields(alloc: Global, message: &[u8]) -> Result<(Fields, usize), HeadFault>
+    ensures { Gives (λ read. (raw_fields read.0, read.1)) result (head_of message.now) }
 {
-    let mut fields = Vec::new(alloc);
+    let mut fields = Fields::new(alloc);
     let mut place = 0;
     let mut rest = message;
     while let Some((line, behind)) = first_line(rest) {
@@ -25,7 +25,7 @@ pub(crate) fn read_fields(alloc: Global, message: &[u8]) -> Result<(Vec<Field>, 
         if let Line::Empty = read {
             return Ok((fields, place));
         }
-        add(alloc, &mut fields, read)?;
+        add(&mut fields, read)?;
         rest = behind;
     }
     Err(HeadFault::NoEnd)
@@ -121,28 +121,14 @@ fn colon(line: &[u8]) -> Option<usize>
 }
 
 /// Adds what a line says to the fields before it.
-fn add(alloc: Global, fields: &mut Vec<Field>, line: Line<'_>) -> Result<(), AllocError>
-    ensures { OnOk result (raw_fields fields.new.items ≡ added (raw_fields fields.old.items) (role_shown line.entry)) }
+fn add(fields: &mut Fields, line: Line<'_>) -> Result<(), AllocError>
+    requires { AreStored fields.old }
+    ensures added { OnOk result (raw_fields fields.new ≡ added (raw_fields fields.old) (role_shown line.entry)) }
+    ensures stored { OnOk result (AreStored fields.new) }
 {
     match line {
         Line::Empty => Ok(()),
-        Line::More(bytes) => go_on(fields, bytes),
-        Line::Field { name, rest } => {
-            let field = Field::new(alloc, name, rest)?;
-            fields.push(field)?;
-            Ok(())
-        }
+        Line::More(bytes) => fields.go_on(bytes),
+        Line::Field { name, rest } => fields.open(name, rest),
     }
-}
-
-/// Puts the bytes at the end of the last field's value.
-fn go_on(fields: &mut Vec<Field>, bytes: &[u8]) -> Result<(), AllocError>
-    ensures { OnOk result (raw_fields fields.new.items ≡ onto_last (raw_fields fields.old.items) bytes.now) }
-{
-    let Some(mut last) = fields.pop() else {
-        return Ok(());
-    };
-    last.go_on(bytes)?;
-    fields.push(last)?;
-    Ok(())
 }

@@ -101,6 +101,26 @@ fn values(rt: HostRuntime) -> Result<(), Fail> {
     Ok(())
 }
 
+#[test]
+fn folded(rt: HostRuntime) -> Result<(), Fail> {
+    let text = b"A:\n x\nB: y\r\n z\nC: \n\t\na: w\n\tv\nc:\n\n";
+    let (head, _) = Head::read(rt.alloc(), text.as_slice())?;
+    let table = [
+        (b"A".as_slice(), 0, b"x".as_slice()),
+        (b"A".as_slice(), 1, b"w\tv".as_slice()),
+        (b"b".as_slice(), 0, b"y z".as_slice()),
+        (b"C".as_slice(), 0, b"".as_slice()),
+        (b"C".as_slice(), 1, b"".as_slice()),
+    ];
+    for (name, i, want) in table {
+        assert!(rt; is_value(head.value(name, i), want), "{name:?} {i}");
+    }
+    assert!(rt; head.is_filled(b"a".as_slice()));
+    assert!(rt; !head.is_filled(b"c".as_slice()));
+    assert!(rt; !head.is_filled(b"D".as_slice()));
+    Ok(())
+}
+
 /// The addresses of the field `To` with this value, each with a space, or the fault.
 fn list(rt: &impl Abort, alloc: Global, value: &[u8]) -> Result<Vec<u8>, ListFault> {
     let mut text = Vec::from_slice(alloc, b"To:".as_slice())?;

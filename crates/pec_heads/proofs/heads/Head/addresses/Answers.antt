@@ -5,7 +5,7 @@ use Rattle.pec_heads.proofs.heads.Head.addresses.Goals as goal
 
 pub returns : goal.returns
 returns c =
-    let e = rw (c.as_slice.ensures.value, c.self.view_is) at c.addresses_of.ensures
+    let e = rw c.self.view_is at c.addresses_of.ensures
     in record {
       found = list_found (λ v. v.items) (joined_values c.args.name.now c.args.self.now) c.addresses_of.result e;
       fault = list_fault (λ v. v.items) (joined_values c.args.name.now c.args.self.now) c.addresses_of.result e;

@@ -16,7 +16,7 @@ pub returns-in_err-fields-clause-each : goal.returns-in_err-fields-clause-each
 returns-in_err-fields-clause-each c = each_one c.args.message.now c.from_residual.result (returns-in_err-fields-clause-answer c)
 
 pub returns-clause-answer : goal.returns-clause-answer
-returns-clause-answer c = ok_answers c.args.message.now (raw_fields c.in_ok-fields.fields.items, c.in_ok-fields.place) c.in_ok-fields.ensures
+returns-clause-answer c = ok_answers c.args.message.now (raw_fields c.in_ok-fields.fields, c.in_ok-fields.place) c.in_ok-fields.ensures
 
 pub returns-clause-only : goal.returns-clause-only
 returns-clause-only c = only_one c.args.message.now _ (returns-clause-answer c)
