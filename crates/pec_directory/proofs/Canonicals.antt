@@ -1,5 +1,5 @@
 -- A canonical text is that of one directory: its lines are cut at their ends, each line at its first space, and an account's at its last two.
-use Rattle.std.proofs.Common.{◌≡◌, ◌≢◌, ℕ, suc, zero, ◌+◌, ◌-◌, ◌*◌, ◌/◌, ◌%◌, ◌^◌, ◌<◌, ◌≤◌, Bool, true, false, not, ◌&&◌, eqb, List, [], ◌∷◌, ◌++◌, length, codes, get_or, Result, Ok, refl, sym, ap, subst, ◌∙◌, arith, rules, append_assoc}
+use Rattle.std.proofs.Common.{◌≡◌, ℕ, suc, zero, ◌+◌, ◌-◌, ◌*◌, ◌/◌, ◌%◌, ◌^◌, ◌<◌, ◌≤◌, Bool, true, false, not, ◌&&◌, eqb, List, [], ◌∷◌, ◌++◌, codes, get_or, Result, Ok, refl, sym, ap, subst, ◌∙◌, arith, rules, append_assoc}
 use Rattle.std.specs.Prelude.{slice_index}
 use Rattle.std.specs.Fmt.{decimal}
 use Rattle.std.specs.List.{flat_map, list_all, AllByRecursion}
@@ -16,8 +16,8 @@ use Rattle.pec_cert.proofs.Printable.{printable_address}
 use Rattle.pec_cert.proofs.Texts.{all_printable}
 use Rattle.pec_directory.specs.Canonical.{account_line, account_value, back_of, canonical, domain_line, front_of, line_of, provider_text}
 use Rattle.pec_directory.specs.Directory.{Account, Provider}
-use Rattle.pec_directory.specs.Fields.{has_length, is_name, is_visible, is_visible_byte}
-use Rattle.pec_directory.specs.Lawful.{AllPrint, AreNext, AreNextAccounts, IsLawful, IsNext, IsNextAccount}
+use Rattle.pec_directory.specs.Fields.{has_length, is_visible, is_visible_byte}
+use Rattle.pec_directory.specs.Lawful.{AllPrint, AreNext, AreNextAccounts, IsLawful}
 use Rattle.pec_directory.proofs.Forms.{name_printable, visible_printable}
 
 -- ---- cutting at a byte
