@@ -1,0 +1,5 @@
+pub mod Directory
+pub mod Fields
+pub mod Indexes
+pub mod Views
+pub mod Walk
