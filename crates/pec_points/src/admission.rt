@@ -1,6 +1,7 @@
-ghost use Rattle.std.specs.Prelude.{◌≡◌, ◌*◌, ◌↔◌, ◌⊎◌, ℕ, List, length, nat_lt, IfOk};
+ghost use Rattle.std.specs.Prelude.{◌≡◌, ◌*◌, ◌<◌, ◌↔◌, ◌⊎◌, ℕ, List, length, nat_lt, IfOk};
 ghost use Rattle.std.specs.List.{list_all, list_any};
 ghost use Rattle.std.specs.Option.{option_map};
+ghost use Rattle.pec_directory.specs.Directory.{providers_of};
 ghost use Rattle.pec_heads.specs.FactsOfHeads.{has_address};
 ghost use Rattle.pec_heads.specs.FactsReading.{listed, sender_of};
 ghost use Rattle.pec_heads.specs.Lists.{is_all_blank};
@@ -9,7 +10,9 @@ ghost use Rattle.pec_types.specs.declared.messages.Facts.{Facts as FactsShown};
 ghost use Rattle.pec_points.specs.Table.{IsAccepted, IsCause};
 ghost use Rattle.pec_points.specs.declared.admission.Admission.TheVariants as answers;
 ghost use Rattle.pec_points.specs.Admission.{admission_in, admission_of, has_blind_copies, has_recipient, head_in, is_path_of};
+ghost use Rattle.pec_points.specs.Limits.{limit_of};
 
+use pec_directory::Directory;
 use pec_heads::{Head, HeadFault, ListFault};
 use pec_types::{Address, Cause, Facts, NoMemory, Recipient};
 use std::alloc::Global;
@@ -36,23 +39,37 @@ pub fn a_message_has_one_answer()
         → IsAccepted limit sender path message facts → IsAccepted limit sender path message others → facts ≡ others }
 {}
 
-/// The admission of a message that an account submits for a forward path, at a provider with this limit in bytes
-/// (RFC 6109, section 3.1.1).
+/// The admission of a message that an account submits for a forward path, at the provider of a number of the directory, from 0
+/// (RFC 6109, section 3.1.1). The limit is the one that the directory gives this provider, in bytes.
 pub fn admit(
     alloc: Global,
-    limit: u64,
+    directory: &Directory,
+    provider: u32,
     sender: &Address,
     path: &[Address],
     message: &[u8],
 ) -> Result<Admission, NoMemory>
+    requires { provider < length directory.now }
     // The cause is exactly that of the first row of the table that applies.
-    ensures refused { (cause : CauseShown) → IfOk result (λ admission. (admission ≡ answers.Not cause) ↔ IsCause limit sender.now path.now message.now cause) }
+    ensures refused { (cause : CauseShown) → IfOk result (λ admission. (admission ≡ answers.Not cause) ↔ IsCause (limit_of (providers_of directory.now) provider) sender.now path.now message.now cause) }
     // The message is accepted exactly where no row applies, with the facts of its head.
-    ensures accepted { (facts : FactsShown) → IfOk result (λ admission. (admission ≡ answers.Accepted facts) ↔ IsAccepted limit sender.now path.now message.now facts) }
+    ensures accepted { (facts : FactsShown) → IfOk result (λ admission. (admission ≡ answers.Accepted facts) ↔ IsAccepted (limit_of (providers_of directory.now) provider) sender.now path.now message.now facts) }
     // The same answer as a function, for definitions that build on it.
-    ensures exact { IfOk result (λ admission. admission ≡ admission_of limit sender.now path.now message.now) }
+    ensures exact { IfOk result (λ admission. admission ≡ admission_of (limit_of (providers_of directory.now) provider) sender.now path.now message.now) }
 {
+    let limit = limit_of(directory, provider);
     admit_message(alloc, limit, sender, path, message)
+}
+
+/// The limit of a provider, in bytes.
+#[tactic(auto, unfolding(crate::specs::Limits::limit_of))]
+fn limit_of(directory: &Directory, provider: u32) -> u64
+    ensures { result ≡ limit_of (providers_of directory.now) provider }
+{
+    match directory.provider(provider) {
+        Some(found) => found.limit(),
+        None => 0,
+    }
 }
 
 #[tactic(auto, unfolding(crate::specs::Admission::admission_in, crate::specs::Admission::admission_of, crate::specs::Admission::cause_of))]

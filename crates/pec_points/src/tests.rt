@@ -1,26 +1,68 @@
 //! Tables whose answers were worked out by hand from the admission table of RFC 6109 and from this project's profile.
+
 use crate::{Admission, admit};
+use pec_directory::{Directory, DirectoryFault};
 use pec_types::{Address, Cause, Class, Facts};
 use std::alloc::Global;
 use std::test::Fail;
 
-/// What is answered on a message of the account a@a, for a path whose addresses are parted by spaces.
-fn answer(alloc: Global, limit: u64, path: &[u8], message: &[u8]) -> Result<Admission, Fail> {
+/// A directory of two providers, of which the first has this limit and the second gives none.
+fn directory_of(alloc: Global, limit: u64) -> Result<Directory, Fail> {
+    let text = format!(in alloc;
+        "[[provider]]\nname = \"alfa\"\nmailReceipt = \"r@a\"\nmanagedDomains = [\"a\"]\n\
+        key = \"000102030405060708090a0b0c0d0e0f\"\nzone = \"CET-1CEST,M3.5.0,M10.5.0/3\"\nlimit = {limit}\n\
+        [[provider]]\nname = \"beta\"\nmailReceipt = \"r@b\"\nmanagedDomains = [\"b\"]\n\
+        key = \"101112131415161718191a1b1c1d1e1f\"\nzone = \"UTC0\"\n"
+    )?;
+    let directory = Directory::read(alloc, text.as_str())?;
+    Ok(directory)
+}
+
+/// What the provider answers on a message of the account a@a, for a path whose addresses are parted by spaces.
+fn answer_of(
+    alloc: Global,
+    limit: u64,
+    provider: u32,
+    path: &[u8],
+    message: &[u8],
+) -> Result<Admission, Fail> {
+    let directory = directory_of(alloc, limit)?;
+    if provider >= directory.count() {
+        return Err(Fail::from(DirectoryFault::NoProvider));
+    }
     let sender = Address::read(alloc, b"A@a".as_slice())?;
     let mut addresses = Vec::new(alloc);
     for address in path.split(|b| *b == b' ') {
         addresses.push(Address::read(alloc, address)?)?;
     }
-    let admission = admit(alloc, limit, &sender, addresses.as_slice(), message)?;
+    let admission = admit(
+        alloc,
+        &directory,
+        provider,
+        &sender,
+        addresses.as_slice(),
+        message,
+    )?;
     Ok(admission)
 }
 
+/// What the first provider answers.
+fn answer(alloc: Global, limit: u64, path: &[u8], message: &[u8]) -> Result<Admission, Fail> {
+    answer_of(alloc, limit, 0, path, message)
+}
+
 /// The cause, or None where the message is accepted.
-fn cause(alloc: Global, limit: u64, path: &[u8], message: &[u8]) -> Result<Option<Cause>, Fail> {
-    match answer(alloc, limit, path, message)? {
-        Admission::Accepted(_) => Ok(None),
-        Admission::Not(cause) => Ok(Some(cause)),
+fn cause_in(admission: Admission) -> Option<Cause> {
+    match admission {
+        Admission::Accepted(_) => None,
+        Admission::Not(cause) => Some(cause),
     }
+}
+
+/// What the first provider answers: the cause, or None where the message is accepted.
+fn cause(alloc: Global, limit: u64, path: &[u8], message: &[u8]) -> Result<Option<Cause>, Fail> {
+    let admission = answer(alloc, limit, path, message)?;
+    Ok(cause_in(admission))
 }
 
 #[test]
@@ -286,6 +328,18 @@ fn sizes(rt: HostRuntime) -> Result<(), Fail> {
             want,
             "{limit} {message:?}"
         );
+    }
+    Ok(())
+}
+
+/// The limit is that of the provider where the message is handed in.
+#[test]
+fn limits(rt: HostRuntime) -> Result<(), Fail> {
+    let message = b"From: a@a\nTo: b@b\n\nX".as_slice();
+    let table = [(0, Some(Cause::Size)), (1, None)];
+    for (provider, want) in table {
+        let admission = answer_of(rt.alloc(), 19, provider, b"b@b".as_slice(), message)?;
+        assert_eq!(rt; cause_in(admission), want, "{provider}");
     }
     Ok(())
 }

@@ -1,4 +1,4 @@
-mod DirectoryLaws
+mod AccountLaws
 mod InputLaws
 mod LedgerLaws
 mod LineLaws
@@ -8,3 +8,5 @@ mod PathLaws
 mod PlayLaws
 mod RunLaws
 mod ScriptLaws
+mod TextLaws
+mod WholeLaws

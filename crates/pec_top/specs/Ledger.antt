@@ -1,12 +1,13 @@
--- A provider's ledger: its entries in order, and what they come to. A half is a record of lists that only grow at their
--- ends, and holds no bytes of messages. RFC 6109 section 3.1 for acceptance and non-acceptance; the rest is this
--- project's profile.
-use Rattle.std.specs.Prelude.{ℕ, ◌+◌, max, List, [], ◌∷◌, ◌++◌, map, filter, fold, Option, Some, None, is_none, if◌then◌else◌}
+-- The ledger: of each provider its entries in order, and what they come to, the provider's half. A half is a record of lists that
+-- only grow at their ends, and holds no bytes of messages. The whole is the halves side by side. RFC 6109 section 3.1 for
+-- acceptance and non-acceptance; the rest is this project's profile.
+use Rattle.std.specs.Prelude.{ℕ, ◌+◌, max, List, [], ◌∷◌, ◌++◌, length, map, filter, fold, replicate, slice_get, slice_set, Option, Some, None, is_none, if◌then◌else◌}
 use Rattle.std.specs.Str.{bytes_eq}
 use Rattle.pec_types.specs.declared.messages.BookLine.{BookLine}
 use Rattle.pec_types.specs.declared.messages.Cause.{Cause}
 use Rattle.pec_types.specs.declared.messages.Recipient.{Recipient}
-use Rattle.pec_top.specs.House.{House, is_certified}
+use Rattle.pec_directory.specs.Directory.{Provider}
+use Rattle.pec_top.specs.Accounts.{is_certified}
 use Rattle.pec_top.specs.declared.entries.Entry.{Entry}
 use Rattle.pec_top.specs.declared.entries.Entry.TheVariants.{Accepted, NotAccepted}
 
@@ -55,16 +56,40 @@ step half entry = joined half (adds half entry)
 unfoldable pub half_of : List Entry → Half
 half_of entries = fold step empty entries
 
+-- ---- all providers
+
+abbrev pub entries_in : Option (List Entry) → List Entry
+entries_in None = []
+entries_in (Some entries) = entries
+
+-- the entries of the provider of a number
+unfoldable pub entries_of : List (List Entry) → ℕ → List Entry
+entries_of ledgers provider = entries_in (slice_get ledgers provider)
+
+-- the half of the provider of a number, by its own entries alone
+unfoldable pub ledger_of : List (List Entry) → ℕ → Half
+ledger_of ledgers provider = half_of (entries_of ledgers provider)
+
+-- the provider of a number has one more entry, and the others have what they had
+unfoldable pub with_entry : List (List Entry) → ℕ → Entry → List (List Entry)
+with_entry ledgers provider entry = slice_set ledgers provider (entries_of ledgers provider ++ entry ∷ [])
+
+-- no provider has an entry
+unfoldable pub no_entries : List Provider → List (List Entry)
+no_entries providers = replicate (length providers) []
+
+-- ---- books
+
 -- a row: a message and one of its certified recipients, and whose message it is
 pub record Row : Type 0 where
   pub owner : List ℕ
   pub line : BookLine
 
-abbrev pub row_of : ℕ → Message → Recipient → Row
-row_of number message recipient = record {
+abbrev pub row_of : ℕ → ℕ → Message → Recipient → Row
+row_of provider number message recipient = record {
   owner = message.sender;
   line = record {
-    id = record { provider = 0; number = number };
+    id = record { provider = provider; number = number };
     recipient = recipient.address;
     class = recipient.class;
     accepted = message.moment;
@@ -75,18 +100,18 @@ row_of number message recipient = record {
   };
 }
 
-abbrev pub rows_of : House → ℕ → Message → List Row
-rows_of house number message =
-    if is_none message.cause then map (λ recipient. row_of number message recipient) (filter (λ (recipient : Recipient). is_certified house recipient.address) message.recipients) else []
+abbrev pub rows_of : List Provider → ℕ → ℕ → Message → List Row
+rows_of providers provider number message =
+    if is_none message.cause then map (λ recipient. row_of provider number message recipient) (filter (λ (recipient : Recipient). is_certified providers recipient.address) message.recipients) else []
 
--- the rows of messages that are numbered from here on
-abbrev pub rows_from : House → ℕ → List Message → List Row
-rows_from house number [] = []
-rows_from house number (message ∷ messages) = rows_of house number message ++ rows_from house (number + 1) messages
+-- the rows of a provider's messages that are numbered from here on
+abbrev pub rows_from : List Provider → ℕ → ℕ → List Message → List Row
+rows_from providers provider number [] = []
+rows_from providers provider number (message ∷ messages) = rows_of providers provider number message ++ rows_from providers provider (number + 1) messages
 
 abbrev pub lines_owned : List ℕ → List Row → List BookLine
 lines_owned account rows = map (λ (row : Row). row.line) (filter (λ (row : Row). bytes_eq row.owner account) rows)
 
--- the book of an account: the rows of its messages, in order of number and recipients
-unfoldable pub book_of : House → Half → List ℕ → List BookLine
-book_of house half account = lines_owned account (rows_from house 0 half.messages)
+-- the book of a provider's account: the rows of its messages, in order of number and recipients
+unfoldable pub book_of : List Provider → ℕ → Half → List ℕ → List BookLine
+book_of providers provider half account = lines_owned account (rows_from providers provider 0 half.messages)

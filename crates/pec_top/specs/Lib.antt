@@ -1,8 +1,9 @@
+pub mod Accounts
 pub mod Booking
 pub mod Commands
 pub mod Directory
 pub mod Ending
-pub mod House
+pub mod Faults
 pub mod Input
 pub mod Ledger
 pub mod Lines

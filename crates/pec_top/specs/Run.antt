@@ -1,7 +1,7 @@
 -- What is left of the input, and what a run does with it: the words of the contracts of its parts.
 use Rattle.std.specs.Prelude.{◌≡◌, ℕ, ◌<◌, ◌≤◌, List, [], length, Option, Some, None, option_map, IfSome}
 use Rattle.pec_outside.specs.Flow.{followed_by, Wrote, WrotePart}
-use Rattle.pec_top.specs.House.{House}
+use Rattle.pec_directory.specs.Directory.{Provider}
 use Rattle.pec_top.specs.Lines.{raw_lines}
 use Rattle.pec_top.specs.Transcript.{Outcome, Turn, Parts, ended, directory_bytes, line_turn, long_turn, parts_of, script_from}
 use Rattle.pec_top.specs.declared.ending.End.{End}
@@ -24,14 +24,14 @@ Opens NoScript before after = IfSome (parts_left before) (λ parts. (length part
 Opens TooLong before after = IfSome (parts_left before) (λ parts. directory_bytes < length parts.directory)
 
 -- what the script that is left comes to, from these entries and this number on
-abbrev pub script_left : House → List Entry → ℕ → Option (List ℕ) → Option Outcome
-script_left house entries number unread = option_map (λ text. script_from house entries number (raw_lines text)) unread
+abbrev pub script_left : List Provider → List (List Entry) → ℕ → Option (List ℕ) → Option Outcome
+script_left providers ledgers number unread = option_map (λ text. script_from providers ledgers number (raw_lines text)) unread
 
 -- what is found leads where its line does; the end of the input ends the run
-abbrev pub found_turn : House → List Entry → ℕ → Found → List ℕ → Turn
-found_turn house entries number found.End line = ended [] Done
-found_turn house entries number found.Line line = line_turn house entries number line
-found_turn house entries number found.Long line = long_turn number
+abbrev pub found_turn : List Provider → List (List Entry) → ℕ → Found → List ℕ → Turn
+found_turn providers ledgers number found.End line = ended [] Done
+found_turn providers ledgers number found.Line line = line_turn providers ledgers number line
+found_turn providers ledgers number found.Long line = long_turn number
 
 -- a run that ended so has written the text of its outcome, where the outcome is told
 abbrev pub Finishes : Option Outcome → Option (List ℕ) → Option (List ℕ) → End → Type 0

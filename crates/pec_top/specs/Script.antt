@@ -1,7 +1,7 @@
 -- How a script plays, line by line: each line from where the one before it led. This project's profile.
 use Rattle.std.specs.Prelude.{◌≡◌, ℕ, ◌+◌, ◌<◌, ◌≤◌, true, false, List, [], ◌∷◌, ◌++◌, length, Some, None}
 use Rattle.pec_top.specs.Commands.{Command, command_of}
-use Rattle.pec_top.specs.House.{House}
+use Rattle.pec_directory.specs.Directory.{Provider}
 use Rattle.pec_top.specs.Lines.{content_of}
 use Rattle.pec_top.specs.Play.{Plays}
 use Rattle.pec_top.specs.Transcript.{is_passed_over, line_bytes, refused_line_text, script_lines, too_long_line_text, too_long_script_text}
@@ -14,17 +14,17 @@ abbrev pub Speaks : ℕ → List ℕ → Type 0
 Speaks number line = (number ≤ script_lines) × (length (content_of line) ≤ line_bytes) × (is_passed_over (content_of line) ≡ false)
 
 -- From these entries and this number on, the lines write this text and end so.
-pub data PlaysScript (house : House) : List Entry → ℕ → List (List ℕ) → List ℕ → End → Type 0 where
-  over : (entries : List Entry) (number : ℕ) → PlaysScript house entries number [] [] Done
-  too_many : (entries : List Entry) (number : ℕ) (line : List ℕ) (lines : List (List ℕ)) → script_lines < number
-      → PlaysScript house entries number (line ∷ lines) too_long_script_text TooLong
-  too_long : (entries : List Entry) (number : ℕ) (line : List ℕ) (lines : List (List ℕ)) → number ≤ script_lines → line_bytes < length (content_of line)
-      → PlaysScript house entries number (line ∷ lines) (too_long_line_text number) TooLong
-  passed_over : (entries : List Entry) (number : ℕ) (line : List ℕ) (lines : List (List ℕ)) (text : List ℕ) (end : End)
+pub data PlaysScript (providers : List Provider) : List (List Entry) → ℕ → List (List ℕ) → List ℕ → End → Type 0 where
+  over : (ledgers : List (List Entry)) (number : ℕ) → PlaysScript providers ledgers number [] [] Done
+  too_many : (ledgers : List (List Entry)) (number : ℕ) (line : List ℕ) (lines : List (List ℕ)) → script_lines < number
+      → PlaysScript providers ledgers number (line ∷ lines) too_long_script_text TooLong
+  too_long : (ledgers : List (List Entry)) (number : ℕ) (line : List ℕ) (lines : List (List ℕ)) → number ≤ script_lines → line_bytes < length (content_of line)
+      → PlaysScript providers ledgers number (line ∷ lines) (too_long_line_text number) TooLong
+  passed_over : (ledgers : List (List Entry)) (number : ℕ) (line : List ℕ) (lines : List (List ℕ)) (text : List ℕ) (end : End)
       → number ≤ script_lines → length (content_of line) ≤ line_bytes → is_passed_over (content_of line) ≡ true
-      → PlaysScript house entries (number + 1) lines text end → PlaysScript house entries number (line ∷ lines) text end
-  refused : (entries : List Entry) (number : ℕ) (line : List ℕ) (lines : List (List ℕ)) → Speaks number line → command_of house (content_of line) ≡ None
-      → PlaysScript house entries number (line ∷ lines) (refused_line_text number) Refused
-  plays : (entries after : List Entry) (number : ℕ) (line : List ℕ) (lines : List (List ℕ)) (command : Command) (said text : List ℕ) (end : End)
-      → Speaks number line → command_of house (content_of line) ≡ Some command → Plays house entries command said after
-      → PlaysScript house after (number + 1) lines text end → PlaysScript house entries number (line ∷ lines) (said ++ text) end
+      → PlaysScript providers ledgers (number + 1) lines text end → PlaysScript providers ledgers number (line ∷ lines) text end
+  refused : (ledgers : List (List Entry)) (number : ℕ) (line : List ℕ) (lines : List (List ℕ)) → Speaks number line → command_of providers (content_of line) ≡ None
+      → PlaysScript providers ledgers number (line ∷ lines) (refused_line_text number) Refused
+  plays : (ledgers after : List (List Entry)) (number : ℕ) (line : List ℕ) (lines : List (List ℕ)) (command : Command) (said text : List ℕ) (end : End)
+      → Speaks number line → command_of providers (content_of line) ≡ Some command → Plays providers ledgers command said after
+      → PlaysScript providers after (number + 1) lines text end → PlaysScript providers ledgers number (line ∷ lines) (said ++ text) end

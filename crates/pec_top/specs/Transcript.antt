@@ -1,11 +1,14 @@
 -- A run from the bytes that come in to the bytes that go out: the directory, a line `%%`, and the script's lines, each played
 -- from where the one before it led. This project's profile.
-use Rattle.std.specs.Prelude.{ℕ, ◌+◌, ◌==◌, Bool, true, false, ◌||◌, nat_lt, List, [], ◌∷◌, ◌++◌, length, codes, Option, Some, None, if◌then◌else◌}
+use Rattle.std.specs.Prelude.{ℕ, ◌+◌, ◌==◌, Bool, true, false, ◌||◌, nat_lt, List, [], ◌∷◌, ◌++◌, length, codes, Option, Some, None, Result, Ok, Err, if◌then◌else◌}
 use Rattle.std.specs.Fmt.{decimal}
 use Rattle.std.specs.Str.{bytes_eq}
 use Rattle.pec_top.specs.Commands.{Command, command_of}
-use Rattle.pec_top.specs.Directory.{Opened, not_toml, not_built, opens, opened_of}
-use Rattle.pec_top.specs.House.{House}
+use Rattle.pec_top.specs.Directory.{opened_of}
+use Rattle.pec_top.specs.Faults.{refused_directory_text}
+use Rattle.pec_top.specs.Ledger.{no_entries}
+use Rattle.pec_directory.specs.Directory.{Provider}
+use Rattle.pec_directory.specs.declared.faults.DirectoryFault.{DirectoryFault}
 use Rattle.pec_top.specs.Lines.{raw_lines, content_of}
 use Rattle.pec_top.specs.Play.{played}
 use Rattle.pec_top.specs.declared.entries.Entry.{Entry}
@@ -27,9 +30,9 @@ pub record Outcome : Type 0 where
   pub text : List ℕ
   pub end : End
 
--- where a line leads: to these entries, or to an end
+-- where a line leads: to these entries of each provider, or to an end
 pub data Next : Type 0 where
-  goes_on : List Entry → Next
+  goes_on : List (List Entry) → Next
   ends : End → Next
 
 -- what a line writes, and where it leads
@@ -54,34 +57,34 @@ too_long_line_text number = codes "too-long line " ++ decimal number ++ codes "\
 abbrev pub too_long_script_text : List ℕ
 too_long_script_text = codes "too-long script\n"
 
-abbrev pub command_turn : House → List Entry → ℕ → Option Command → Turn
-command_turn house entries number None = ended (refused_line_text number) Refused
-command_turn house entries number (Some command) = record { text = (played house entries command).text; next = goes_on (played house entries command).after }
+abbrev pub command_turn : List Provider → List (List Entry) → ℕ → Option Command → Turn
+command_turn providers ledgers number None = ended (refused_line_text number) Refused
+command_turn providers ledgers number (Some command) = record { text = (played providers ledgers command).text; next = goes_on (played providers ledgers command).after }
 
 -- what a line says, at its number
-unfoldable pub content_turn : House → List Entry → ℕ → List ℕ → Turn
-content_turn house entries number content = if is_passed_over content then record { text = []; next = goes_on entries } else command_turn house entries number (command_of house content)
+unfoldable pub content_turn : List Provider → List (List Entry) → ℕ → List ℕ → Turn
+content_turn providers ledgers number content = if is_passed_over content then record { text = []; next = goes_on ledgers } else command_turn providers ledgers number (command_of providers content)
 
 -- a line past a limit
 unfoldable pub long_turn : ℕ → Turn
 long_turn number = if nat_lt script_lines number then ended too_long_script_text TooLong else ended (too_long_line_text number) TooLong
 
-unfoldable pub line_turn : House → List Entry → ℕ → List ℕ → Turn
-line_turn house entries number line =
-    if nat_lt script_lines number || nat_lt line_bytes (length (content_of line)) then long_turn number else content_turn house entries number (content_of line)
+unfoldable pub line_turn : List Provider → List (List Entry) → ℕ → List ℕ → Turn
+line_turn providers ledgers number line =
+    if nat_lt script_lines number || nat_lt line_bytes (length (content_of line)) then long_turn number else content_turn providers ledgers number (content_of line)
 
 abbrev pub onto_text : List ℕ → Outcome → Outcome
 onto_text text outcome = record { text = text ++ outcome.text; end = outcome.end }
 
-abbrev pub from_turn : List ℕ → Next → (List Entry → Outcome) → Outcome
-from_turn text (goes_on entries) rest = onto_text text (rest entries)
+abbrev pub from_turn : List ℕ → Next → (List (List Entry) → Outcome) → Outcome
+from_turn text (goes_on ledgers) rest = onto_text text (rest ledgers)
 from_turn text (ends end) rest = record { text = text; end = end }
 
 -- the lines of a script from this number on
-abbrev pub script_from : House → List Entry → ℕ → List (List ℕ) → Outcome
-script_from house entries number [] = record { text = []; end = Done }
-script_from house entries number (line ∷ lines) =
-    from_turn (line_turn house entries number line).text (line_turn house entries number line).next (λ after. script_from house after (number + 1) lines)
+abbrev pub script_from : List Provider → List (List Entry) → ℕ → List (List ℕ) → Outcome
+script_from providers ledgers number [] = record { text = []; end = Done }
+script_from providers ledgers number (line ∷ lines) =
+    from_turn (line_turn providers ledgers number line).text (line_turn providers ledgers number line).next (λ after. script_from providers after (number + 1) lines)
 
 -- The directory is what stands before the first line `%%`, and the script what stands behind it.
 pub record Parts : Type 0 where
@@ -98,10 +101,9 @@ abbrev pub parts_of : List (List ℕ) → Parts
 parts_of [] = record { directory = []; script = None }
 parts_of (line ∷ lines) = if is_mark line then record { directory = []; script = Some lines } else onto_directory line (parts_of lines)
 
-abbrev pub opened_outcome : List (List ℕ) → Opened → Outcome
-opened_outcome lines not_toml = record { text = codes "refused directory not-toml\n"; end = Refused }
-opened_outcome lines not_built = record { text = codes "refused directory not-built\n"; end = Refused }
-opened_outcome lines (opens house) = script_from house [] 1 lines
+abbrev pub opened_outcome : List (List ℕ) → Result (List Provider) DirectoryFault → Outcome
+opened_outcome lines (Err fault) = record { text = refused_directory_text fault; end = Refused }
+opened_outcome lines (Ok providers) = script_from providers (no_entries providers) 1 lines
 
 abbrev pub script_outcome : List ℕ → Option (List (List ℕ)) → Outcome
 script_outcome directory None = record { text = codes "refused no-script\n"; end = Refused }

@@ -1,27 +1,37 @@
 ghost use Rattle.std.specs.Prelude.{◌≡◌, ℕ, ◌<◌, ◌≤◌, List, ◌++◌, length, IfOk, OnOk};
+ghost use Rattle.pec_directory.specs.Directory.{providers_of};
 ghost use Rattle.pec_types.specs.declared.messages.TheConstants.{MESSAGES};
 ghost use Rattle.pec_top.specs.Booking.{entry_lines, line_of, lines_of};
 ghost use Rattle.pec_top.specs.Ledger.{book_of, half_of};
-ghost use Rattle.pec_top.specs.Views.{house_shown};
 
+use crate::accounts::is_certified;
 use crate::entries::Entry;
-use crate::house::{House, is_certified};
+use pec_directory::Directory;
 use pec_types::{Address, BookLine, Moment, MsgId, NoMemory, Recipient};
 use std::alloc::Global;
 
-/// The book of an account: a line for each certified recipient of each of its accepted messages, in order.
+/// The book of an account of the provider: a line for each certified recipient of each of its accepted messages, in order.
 pub(crate) fn book_lines(
     alloc: Global,
-    house: &House,
+    directory: &Directory,
+    provider: u32,
     account: &Address,
     entries: &[Entry],
 ) -> Result<Vec<BookLine>, NoMemory>
     requires { length entries.now ≤ MESSAGES }
-    ensures { IfOk result (λ lines. lines.items ≡ book_of (house_shown house.now) (half_of entries.now) account.now) }
+    ensures { IfOk result (λ lines. lines.items ≡ book_of (providers_of directory.now) provider (half_of entries.now) account.now) }
 {
     let mut lines = Vec::new(alloc);
     for (number, entry) in entries.iter().enumerate() {
-        push_entry(alloc, &mut lines, house, account, number as u64, entry)?;
+        push_entry(
+            alloc,
+            &mut lines,
+            directory,
+            provider,
+            account,
+            number as u64,
+            entry,
+        )?;
     }
     Ok(lines)
 }
@@ -29,13 +39,14 @@ pub(crate) fn book_lines(
 fn push_entry(
     alloc: Global,
     lines: &mut Vec<BookLine>,
-    house: &House,
+    directory: &Directory,
+    provider: u32,
     account: &Address,
     number: u64,
     entry: &Entry,
 ) -> Result<(), NoMemory>
     requires { number < MESSAGES }
-    ensures { OnOk result (lines.new.items ≡ lines.old.items ++ entry_lines (house_shown house.now) account.now number entry.now) }
+    ensures { OnOk result (lines.new.items ≡ lines.old.items ++ entry_lines (providers_of directory.now) provider account.now number entry.now) }
 {
     let Entry::Accepted {
         moment,
@@ -49,26 +60,23 @@ fn push_entry(
     if sender.bytes() != account.bytes() {
         return Ok(());
     }
-    let id = MsgId {
-        provider: 0,
-        number,
-    };
-    push_recipients(alloc, lines, house, id, *moment, recipients.as_slice())?;
+    let id = MsgId { provider, number };
+    push_recipients(alloc, lines, directory, id, *moment, recipients.as_slice())?;
     Ok(())
 }
 
 fn push_recipients(
     alloc: Global,
     lines: &mut Vec<BookLine>,
-    house: &House,
+    directory: &Directory,
     id: MsgId,
     accepted: Moment,
     recipients: &[Recipient],
 ) -> Result<(), NoMemory>
-    ensures { OnOk result (lines.new.items ≡ lines.old.items ++ lines_of (house_shown house.now) id accepted recipients.now) }
+    ensures { OnOk result (lines.new.items ≡ lines.old.items ++ lines_of (providers_of directory.now) id accepted recipients.now) }
 {
     for recipient in recipients {
-        push_recipient(alloc, lines, house, id, accepted, recipient)?;
+        push_recipient(alloc, lines, directory, id, accepted, recipient)?;
     }
     Ok(())
 }
@@ -76,14 +84,14 @@ fn push_recipients(
 fn push_recipient(
     alloc: Global,
     lines: &mut Vec<BookLine>,
-    house: &House,
+    directory: &Directory,
     id: MsgId,
     accepted: Moment,
     recipient: &Recipient,
 ) -> Result<(), NoMemory>
-    ensures { OnOk result (lines.new.items ≡ lines.old.items ++ line_of (house_shown house.now) id accepted recipient.now) }
+    ensures { OnOk result (lines.new.items ≡ lines.old.items ++ line_of (providers_of directory.now) id accepted recipient.now) }
 {
-    if !is_certified(house, &recipient.address) {
+    if !is_certified(directory, &recipient.address) {
         return Ok(());
     }
     lines.push(BookLine {

@@ -1,20 +1,22 @@
 ghost use Rattle.std.specs.Prelude.{◌≡◌, ℕ, List, option_map, Option, IfOk};
+ghost use Rattle.pec_directory.specs.Directory.{providers_of};
 ghost use Rattle.pec_top.specs.Commands.{book_at, command_of, message_of, moment_of, submission_of, submit_at};
-ghost use Rattle.pec_top.specs.Views.{command_shown, house_shown, submission_shown};
+ghost use Rattle.pec_top.specs.Views.{command_shown, submission_shown};
 
 use crate::addresses::read_address;
-use crate::house::House;
 use crate::numbers::read_number;
 use crate::paths::read_path;
 use crate::reading::{last_word, next_word};
 use base64::DecodeAllocError;
 use base64::engine::general_purpose::STANDARD;
+use pec_directory::Directory;
 use pec_types::{Address, Moment, NoMemory, Text8};
 use std::alloc::Global;
 
-/// A message that an account of the provider hands in.
+/// A message that is handed in at the provider of this number.
 #[derive(Drop)]
 pub(crate) struct Submission {
+    pub(crate) provider: u32,
     pub(crate) moment: Moment,
     pub(crate) sender: Address,
     pub(crate) path: Vec<Address>,
@@ -32,16 +34,16 @@ pub(crate) enum Command {
 #[tactic(auto, unfolding(crate::specs::Commands::command_of))]
 pub(crate) fn read_command(
     alloc: Global,
-    house: &House,
+    directory: &Directory,
     line: &[u8],
 ) -> Result<Option<Command>, NoMemory>
-    ensures { IfOk result (λ found. option_map command_shown found ≡ command_of (house_shown house.now) line.now) }
+    ensures { IfOk result (λ found. option_map command_shown found ≡ command_of (providers_of directory.now) line.now) }
 {
     let Some((verb, rest)) = next_word(line) else {
         return Ok(None);
     };
     if verb == b"submit".as_slice() {
-        let command = read_submit(alloc, house, rest)?;
+        let command = read_submit(alloc, directory, rest)?;
         return Ok(command);
     }
     if verb == b"book".as_slice() {
@@ -52,10 +54,17 @@ pub(crate) fn read_command(
 }
 
 #[tactic(auto, unfolding(crate::specs::Commands::submit_at))]
-fn read_submit(alloc: Global, house: &House, text: &[u8]) -> Result<Option<Command>, NoMemory>
-    ensures { IfOk result (λ found. option_map command_shown found ≡ submit_at (house_shown house.now) text.now) }
+fn read_submit(
+    alloc: Global,
+    directory: &Directory,
+    text: &[u8],
+) -> Result<Option<Command>, NoMemory>
+    ensures { IfOk result (λ found. option_map command_shown found ≡ submit_at (providers_of directory.now) text.now) }
 {
-    let Some((provider, rest)) = next_word(text) else {
+    let Some((name, rest)) = next_word(text) else {
+        return Ok(None);
+    };
+    let Some(provider) = directory.named(name) else {
         return Ok(None);
     };
     let Some((moment, rest)) = next_word(rest) else {
@@ -70,24 +79,22 @@ fn read_submit(alloc: Global, house: &House, text: &[u8]) -> Result<Option<Comma
     let Some(message) = last_word(rest) else {
         return Ok(None);
     };
-    let Some(submission) = read_submission(alloc, moment, sender, path, message)? else {
+    let Some(submission) = read_submission(alloc, provider, moment, sender, path, message)? else {
         return Ok(None);
     };
-    if provider != house.name.as_slice() {
-        return Ok(None);
-    }
     Ok(Some(Command::Submit(submission)))
 }
 
 #[tactic(auto, unfolding(crate::specs::Commands::submission_of))]
 fn read_submission(
     alloc: Global,
+    provider: u32,
     moment: &[u8],
     sender: &[u8],
     path: &[u8],
     message: &[u8],
 ) -> Result<Option<Submission>, NoMemory>
-    ensures { IfOk result (λ found. option_map submission_shown found ≡ submission_of moment.now sender.now path.now message.now) }
+    ensures { IfOk result (λ found. option_map submission_shown found ≡ submission_of provider moment.now sender.now path.now message.now) }
 {
     let Some(moment) = read_moment(moment) else {
         return Ok(None);
@@ -102,6 +109,7 @@ fn read_submission(
         return Ok(None);
     };
     Ok(Some(Submission {
+        provider,
         moment,
         sender,
         path,

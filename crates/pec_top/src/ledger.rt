@@ -1,11 +1,11 @@
 use crate::booking::book_lines;
 use crate::entries::{Entry, moment_of};
-use crate::house::House;
+use pec_directory::Directory;
 use pec_types::{Address, BookLine, NoMemory};
 use std::alloc::Global;
 use std::marker::Model;
 
-/// The provider's entries, in order: contracts see their list.
+/// A provider's entries, in order: contracts see their list.
 #[derive(Drop)]
 pub(crate) struct Ledger {
     entries: Vec<Entry>,
@@ -27,9 +27,9 @@ impl Model for Ledger {
 
 impl Ledger {
     ghost use Rattle.std.specs.Prelude.{◌≡◌, ◌<◌, ◌≤◌, [], ◌∷◌, ◌++◌, length, IfOk, OnOk, OnErr};
+    ghost use Rattle.pec_directory.specs.Directory.{providers_of};
     ghost use Rattle.pec_types.specs.declared.messages.TheConstants.{MESSAGES};
     ghost use Rattle.pec_top.specs.Ledger.{half_of, book_of};
-    ghost use Rattle.pec_top.specs.Views.{house_shown};
 
     pub(crate) fn new(alloc: Global) -> Ledger
         ensures { result ≡ [] }
@@ -68,16 +68,17 @@ impl Ledger {
         Ok(())
     }
 
-    /// The book of an account.
+    /// The book of an account of the provider, which has this number.
     pub(crate) fn book(
         &self,
         alloc: Global,
-        house: &House,
+        directory: &Directory,
+        provider: u32,
         account: &Address,
     ) -> Result<Vec<BookLine>, NoMemory>
-        ensures { IfOk result (λ lines. lines.items ≡ book_of (house_shown house.now) (half_of self.now) account.now) }
+        ensures { IfOk result (λ lines. lines.items ≡ book_of (providers_of directory.now) provider (half_of self.now) account.now) }
     {
-        let lines = book_lines(alloc, house, account, &self.entries)?;
+        let lines = book_lines(alloc, directory, provider, account, &self.entries)?;
         Ok(lines)
     }
 }

@@ -1,15 +1,17 @@
-//! The top call.
+//! The top call: a run from the bytes that come in to the bytes that go out.
 #![tactic(auto)]
 
+mod accounts;
 mod addresses;
 mod booking;
 mod commands;
 mod directory;
 mod ending;
 mod entries;
-mod house;
+mod faults;
 mod input;
 mod ledger;
+mod ledgers;
 mod lines;
 mod numbers;
 mod opening;
@@ -23,6 +25,7 @@ mod status;
 mod top;
 mod turns;
 
+pub use ledgers::an_entry_is_its_providers_own;
 pub use lines::lines_are_the_text;
 pub use numbers::numbers_are_read_as_they_are_printed;
 pub use play::a_command_plays_in_one_way;
@@ -30,5 +33,7 @@ pub use script::a_script_plays_in_one_way;
 pub use status::Status;
 pub use top::run_pec;
 
+#[cfg(test)]
+mod network_tests;
 #[cfg(test)]
 mod tests;

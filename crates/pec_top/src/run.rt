@@ -9,6 +9,7 @@ ghost use Rattle.pec_top.specs.declared.ending.End.TheVariants.{Done, Usage};
 
 use crate::directory::{Opened, open_directory};
 use crate::ending::{End, Stop};
+use crate::faults::refused_directory_text;
 use crate::input::Buffer;
 use crate::opening::{Opening, read_directory};
 use crate::script::play_script;
@@ -94,16 +95,13 @@ fn run_opened<S: Source, W: Sink>(
     ensures sink_later { W.faults out.old ≤ W.faults out.new }
 {
     match open_directory(alloc, directory)? {
-        Opened::NotToml => {
-            let end = write_last(out, b"refused directory not-toml\n", End::Refused)?;
+        Opened::Refused(fault) => {
+            let text = refused_directory_text(alloc, fault)?;
+            let end = write_last(out, &text, End::Refused)?;
             Ok(end)
         }
-        Opened::NotBuilt => {
-            let end = write_last(out, b"refused directory not-built\n", End::Refused)?;
-            Ok(end)
-        }
-        Opened::Opens(house) => {
-            let end = play_script(alloc, &house, source, buffer, out)?;
+        Opened::Opens(directory) => {
+            let end = play_script(alloc, &directory, source, buffer, out)?;
             Ok(end)
         }
     }

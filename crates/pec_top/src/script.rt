@@ -1,19 +1,20 @@
-ghost use Rattle.std.specs.Prelude.{◌≡◌, ◌≢◌, ◌≤◌, ℕ, List, [], Some, None, IfOk, OnErr, IsErrOf};
+ghost use Rattle.std.specs.Prelude.{◌≡◌, ◌≢◌, ◌≤◌, ℕ, List, Some, None, IfOk, OnErr, IsErrOf};
+ghost use Rattle.pec_directory.specs.Directory.{Provider, providers_of};
 ghost use Rattle.pec_outside.specs.Flow.{behind, HasRisen};
-ghost use Rattle.pec_top.specs.House as houses;
 ghost use Rattle.pec_top.specs.Input.{IsAtEnd};
+ghost use Rattle.pec_top.specs.Ledger.{no_entries};
 ghost use Rattle.pec_top.specs.Run.{Finishes, Stops, found_turn, script_left};
 ghost use Rattle.pec_top.specs.Script.{PlaysScript};
 ghost use Rattle.pec_top.specs.Transcript.{script_from, script_lines};
-ghost use Rattle.pec_top.specs.Views.{house_shown, turn_shown};
+ghost use Rattle.pec_top.specs.Views.{turn_shown};
 ghost use Rattle.pec_top.specs.declared.ending.End.TheVariants.{Done, Usage};
 ghost use Rattle.pec_top.specs.declared.entries.Entry as entry;
 
 use crate::ending::{End, Stop};
-use crate::house::House;
 use crate::input::{Buffer, Found, next_line};
-use crate::ledger::Ledger;
+use crate::ledgers::Ledgers;
 use crate::turns::{LINE_BYTES, Turn, take_line, take_long_line};
+use pec_directory::Directory;
 use pec_outside::{Sink, Source, write_all};
 use pec_types::NoMemory;
 use std::alloc::Global;
@@ -21,13 +22,13 @@ use std::alloc::Global;
 /// Plays the lines that are left, each written before the next is read.
 pub(crate) fn play_script<S: Source, W: Sink>(
     alloc: Global,
-    house: &House,
+    directory: &Directory,
     source: &mut S,
     buffer: &mut Buffer,
     out: &mut W,
 ) -> Result<End, Stop>
-    ensures ok { IfOk result (λ end. Finishes (script_left (house_shown house.now) [] 1 (behind buffer.old (S.left source.old))) (W.held out.old) (W.held out.new) end) }
-    ensures err { OnErr result (Stops (script_left (house_shown house.now) [] 1 (behind buffer.old (S.left source.old))) (W.held out.old) (W.held out.new)) }
+    ensures ok { IfOk result (λ end. Finishes (script_left (providers_of directory.now) (no_entries (providers_of directory.now)) 1 (behind buffer.old (S.left source.old))) (W.held out.old) (W.held out.new) end) }
+    ensures err { OnErr result (Stops (script_left (providers_of directory.now) (no_entries (providers_of directory.now)) 1 (behind buffer.old (S.left source.old))) (W.held out.old) (W.held out.new)) }
     ensures not_usage { IfOk result (λ end. end ≢ Usage) }
     ensures all_read { IfOk result (λ end. end ≡ Done → IsAtEnd (behind buffer.new (S.left source.new))) }
     ensures read_fault { IsErrOf result Stop.ReadFault → HasRisen (S.faults source.old) (S.faults source.new) }
@@ -35,13 +36,13 @@ pub(crate) fn play_script<S: Source, W: Sink>(
     ensures source_later { S.faults source.old ≤ S.faults source.new }
     ensures sink_later { W.faults out.old ≤ W.faults out.new }
 {
-    let mut ledger = Ledger::new(alloc);
+    let mut ledgers = Ledgers::new(alloc, directory)?;
     let mut line = Vec::new(alloc);
     let mut number = 1u64;
     'lines: loop {
         line.clear();
         let found = next_line(source, buffer, &mut line, LINE_BYTES + 2)?;
-        let turn = take_found(alloc, house, &mut ledger, number, found, &line)?;
+        let turn = take_found(alloc, directory, &mut ledgers, number, found, &line)?;
         write_all(out, &turn.text)?;
         if let Some(end) = turn.end {
             return Ok(end);
@@ -53,13 +54,13 @@ pub(crate) fn play_script<S: Source, W: Sink>(
 /// Plays what was found at this number.
 fn take_found(
     alloc: Global,
-    house: &House,
-    ledger: &mut Ledger,
+    directory: &Directory,
+    ledgers: &mut Ledgers,
     number: u64,
     found: Found,
     line: &[u8],
 ) -> Result<Turn, NoMemory>
-    ensures turn { IfOk result (λ turn. turn_shown turn ledger.new ≡ found_turn (house_shown house.now) ledger.old number found line.now) }
+    ensures turn { IfOk result (λ turn. turn_shown turn ledgers.new ≡ found_turn (providers_of directory.now) ledgers.old number found line.now) }
     ensures bound { IfOk result (λ turn. turn.end ≡ None → number ≤ script_lines) }
     ensures done { IfOk result (λ turn. turn.end ≡ Some Done → found ≡ Found.End) }
     ensures not_usage { IfOk result (λ turn. turn.end ≢ Some Usage) }
@@ -70,11 +71,11 @@ fn take_found(
             end: Some(End::Done),
         }),
         Found::Line => {
-            let turn = take_line(alloc, house, ledger, number, line)?;
+            let turn = take_line(alloc, directory, ledgers, number, line)?;
             Ok(turn)
         }
         Found::Long => {
-            let turn = take_long_line(alloc, ledger, number)?;
+            let turn = take_long_line(alloc, ledgers, number)?;
             Ok(turn)
         }
     }
@@ -83,9 +84,9 @@ fn take_found(
 /// A script plays in one way and in no other: each line from where the one before it led, to an end of one kind. What the
 /// transcript of a run holds behind its directory is this. This project's profile.
 pub fn a_script_plays_in_one_way()
-    ensures some { (house : houses.House) (entries : List entry.Entry) (number : ℕ) (lines : List (List ℕ))
-        → PlaysScript house entries number lines (script_from house entries number lines).text (script_from house entries number lines).end }
-    ensures one { (house : houses.House) (entries : List entry.Entry) (number : ℕ) (lines : List (List ℕ)) (text : List ℕ) (end : End)
-        → PlaysScript house entries number lines text end
-        → (text ≡ (script_from house entries number lines).text) × (end ≡ (script_from house entries number lines).end) }
+    ensures some { (providers : List Provider) (ledgers : List (List entry.Entry)) (number : ℕ) (lines : List (List ℕ))
+        → PlaysScript providers ledgers number lines (script_from providers ledgers number lines).text (script_from providers ledgers number lines).end }
+    ensures one { (providers : List Provider) (ledgers : List (List entry.Entry)) (number : ℕ) (lines : List (List ℕ)) (text : List ℕ) (end : End)
+        → PlaysScript providers ledgers number lines text end
+        → (text ≡ (script_from providers ledgers number lines).text) × (end ≡ (script_from providers ledgers number lines).end) }
 {}

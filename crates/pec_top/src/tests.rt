@@ -1,4 +1,4 @@
-//! The program over memory: what is written for a script, at faults and at the limits.
+//! The program over memory, with one provider: what is written for a script, at faults and at the limits.
 
 ghost use Rattle.std.specs.Prelude.{◌<◌};
 
@@ -10,18 +10,20 @@ use std::alloc::{AllocError, Global};
 use std::test::Fail;
 
 /// A directory with the provider `alfa` and the accounts alice and anna.
-const DIRECTORY: &[u8] = b"[[provider]]\nname = \"alfa\"\nmanagedDomains = [\"alfa.example\"]\n\
-[[provider.account]]\naddress = \"alice@alfa.example\"\n[[provider.account]]\naddress = \"Anna@alfa.example\"\n";
+const DIRECTORY: &[u8] = b"[[provider]]\nname = \"alfa\"\nmailReceipt = \"ricevute@alfa.example\"\n\
+managedDomains = [\"alfa.example\"]\nkey = \"000102030405060708090a0b0c0d0e0f\"\nzone = \"CET-1CEST,M3.5.0,M10.5.0/3\"\n\
+[[provider.account]]\naddress = \"alice@alfa.example\"\nquota = 100\nkey = \"chiave-alice\"\n\
+[[provider.account]]\naddress = \"Anna@alfa.example\"\nquota = 100\nkey = \"chiave-anna\"\n";
 
 /// What a run wrote, and its status.
 #[derive(Drop)]
-struct Ran {
-    text: Vec<u8>,
-    status: Status,
+pub(crate) struct Ran {
+    pub(crate) text: Vec<u8>,
+    pub(crate) status: Status,
 }
 
 /// Runs the program on these words and this input, given in pieces, where the named reads and writes fail.
-fn run(
+pub(crate) fn run(
     alloc: Global,
     words: &[&str],
     input: &[u8],
@@ -52,7 +54,7 @@ fn input_of(alloc: Global, script: &[u8]) -> Result<Vec<u8>, AllocError> {
 }
 
 /// A script where `{}` holds a message: its base64 is written, with CRLF for each `|`.
-fn script_of(alloc: Global, text: &str) -> Result<Vec<u8>, AllocError> {
+pub(crate) fn script_of(alloc: Global, text: &str) -> Result<Vec<u8>, AllocError> {
     let mut script = Vec::new(alloc);
     let mut message = Vec::new(alloc);
     let mut inside = false;
@@ -257,7 +259,7 @@ fn refuses_words_and_directories(rt: HostRuntime) -> Result<(), Fail> {
         (
             &["run"],
             b"provider = 1\n%%\r\n",
-            b"refused directory not-built\n",
+            b"refused directory no-provider\n",
             Status::Refused,
         ),
     ];
@@ -341,7 +343,7 @@ fn keeps_the_limits(rt: HostRuntime) -> Result<(), Fail> {
             b'x',
             1_048_574,
             b"\n%%\n",
-            b"refused directory not-built\n",
+            b"refused directory no-provider\n",
             Status::Refused,
         ),
         (

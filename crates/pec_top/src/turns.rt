@@ -1,15 +1,16 @@
 ghost use Rattle.std.specs.Prelude.{◌≡◌, ◌≢◌, ◌≤◌, Some, None, IfOk};
+ghost use Rattle.pec_directory.specs.Directory.{providers_of};
 ghost use Rattle.pec_top.specs.Transcript.{content_turn, is_passed_over, line_turn, long_turn, refused_line_text, script_lines, too_long_line_text};
-ghost use Rattle.pec_top.specs.Views.{house_shown, turn_shown};
+ghost use Rattle.pec_top.specs.Views.{turn_shown};
 ghost use Rattle.pec_top.specs.declared.ending.End.TheVariants.{Done, TooLong, Usage};
 
 use crate::commands::read_command;
 use crate::ending::End;
-use crate::house::House;
-use crate::ledger::Ledger;
+use crate::ledgers::Ledgers;
 use crate::lines::content;
 use crate::play::play;
 use crate::printing::Page;
+use pec_directory::Directory;
 use pec_types::NoMemory;
 use std::alloc::Global;
 
@@ -30,29 +31,33 @@ pub(crate) struct Turn {
 #[tactic(auto, unfolding(crate::specs::Transcript::line_turn))]
 pub(crate) fn take_line(
     alloc: Global,
-    house: &House,
-    ledger: &mut Ledger,
+    directory: &Directory,
+    ledgers: &mut Ledgers,
     number: u64,
     line: &[u8],
 ) -> Result<Turn, NoMemory>
-    ensures turn { IfOk result (λ turn. turn_shown turn ledger.new ≡ line_turn (house_shown house.now) ledger.old number line.now) }
+    ensures turn { IfOk result (λ turn. turn_shown turn ledgers.new ≡ line_turn (providers_of directory.now) ledgers.old number line.now) }
     ensures bound { IfOk result (λ turn. turn.end ≡ None → number ≤ script_lines) }
     ensures not_done { IfOk result (λ turn. turn.end ≢ Some Done) }
     ensures not_usage { IfOk result (λ turn. turn.end ≢ Some Usage) }
 {
     let said = content(line);
     if number > SCRIPT_LINES || said.len() > LINE_BYTES {
-        let turn = take_long_line(alloc, ledger, number)?;
+        let turn = take_long_line(alloc, ledgers, number)?;
         return Ok(turn);
     }
-    let turn = take_content(alloc, house, ledger, number, said)?;
+    let turn = take_content(alloc, directory, ledgers, number, said)?;
     Ok(turn)
 }
 
 /// Refuses a line past a limit.
 #[tactic(auto, unfolding(crate::specs::Transcript::long_turn))]
-pub(crate) fn take_long_line(alloc: Global, ledger: &Ledger, number: u64) -> Result<Turn, NoMemory>
-    ensures turn { IfOk result (λ turn. turn_shown turn ledger.now ≡ long_turn number) }
+pub(crate) fn take_long_line(
+    alloc: Global,
+    ledgers: &Ledgers,
+    number: u64,
+) -> Result<Turn, NoMemory>
+    ensures turn { IfOk result (λ turn. turn_shown turn ledgers.now ≡ long_turn number) }
     ensures ends { IfOk result (λ turn. turn.end ≡ Some TooLong) }
 {
     if number > SCRIPT_LINES {
@@ -72,12 +77,12 @@ pub(crate) fn take_long_line(alloc: Global, ledger: &Ledger, number: u64) -> Res
 #[tactic(auto, unfolding(crate::specs::Transcript::content_turn))]
 fn take_content(
     alloc: Global,
-    house: &House,
-    ledger: &mut Ledger,
+    directory: &Directory,
+    ledgers: &mut Ledgers,
     number: u64,
     said: &[u8],
 ) -> Result<Turn, NoMemory>
-    ensures turn { IfOk result (λ turn. turn_shown turn ledger.new ≡ content_turn (house_shown house.now) ledger.old number said.now) }
+    ensures turn { IfOk result (λ turn. turn_shown turn ledgers.new ≡ content_turn (providers_of directory.now) ledgers.old number said.now) }
     ensures not_done { IfOk result (λ turn. turn.end ≢ Some Done) }
     ensures not_usage { IfOk result (λ turn. turn.end ≢ Some Usage) }
 {
@@ -87,14 +92,14 @@ fn take_content(
             end: None,
         });
     }
-    let Some(command) = read_command(alloc, house, said)? else {
+    let Some(command) = read_command(alloc, directory, said)? else {
         let text = refused_line_text(alloc, number)?;
         return Ok(Turn {
             text,
             end: Some(End::Refused),
         });
     };
-    let text = play(alloc, house, ledger, command)?;
+    let text = play(alloc, directory, ledgers, command)?;
     Ok(Turn { text, end: None })
 }
 

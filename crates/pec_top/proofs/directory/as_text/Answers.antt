@@ -1,4 +1,4 @@
-use Rattle.pec_top.proofs.DirectoryLaws.{text_there, no_text}
+use Rattle.pec_top.proofs.TextLaws.{text_there, no_text}
 use Rattle.pec_top.proofs.directory.as_text.Goals as goal
 
 pub returns-in-Ok : goal.returns-in-Ok

@@ -1,8 +1,9 @@
-use Rattle.std.proofs.Common.{◌+◌, ◌-◌, ◌≤◌, []}
+use Rattle.std.proofs.Common.{◌+◌, ◌-◌, ◌≤◌}
+use Rattle.pec_directory.specs.Directory.{providers_of}
 use Rattle.pec_outside.specs.Flow.{behind}
+use Rattle.pec_top.specs.Ledger.{no_entries}
 use Rattle.pec_top.specs.Run.{Goes, script_left}
 use Rattle.pec_top.specs.Transcript.{script_lines}
-use Rattle.pec_top.specs.Views.{house_shown}
 use Rattle.pec_top.proofs.script.play_script.Given as goal
 
 abbrev pub invariant-lines : goal.invariant-lines
@@ -10,7 +11,7 @@ invariant-lines g l =
     let port = g.S.Source in
     let sink = g.W.Sink in
     record {
-      goes : Goes (script_left (house_shown l.house) [] 1 (behind l.fn.buffer (port.left l.fn.source))) (script_left (house_shown l.house) l.ledger l.number (behind l.buffer (port.left l.source)))
+      goes : Goes (script_left (providers_of l.directory) (no_entries (providers_of l.directory)) 1 (behind l.fn.buffer (port.left l.fn.source))) (script_left (providers_of l.directory) l.ledgers l.number (behind l.buffer (port.left l.source)))
           (sink.held l.fn.out) (sink.held l.out);
       number : l.number ≤ script_lines + 1;
       source_later : port.faults l.fn.source ≤ port.faults l.source;
