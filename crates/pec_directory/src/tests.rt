@@ -96,6 +96,7 @@ address = \"alice@alfa.example\"~quota = 100~key = \"chiave-alice\" => address =
 
 // Whole texts, and their faults.
 const WHOLE: &str = " => NoProvider
+[[provider]]~name = \"alfa\"~mailReceipt = \"ricevute@alfa.example\"~managedDomains = [\"alfa.example\"]~key = \"000102030405060708090a0b0c0d0e0f\"~zone = \"CET-1CEST,M3.5.0,M10.5.0/3\"~[[provider.account]]~address = \"alice@alfa.example\"~quota = 100~key = \"chiave-alice\"~[[provider.account]]~address = \"anna@alfa.example\"~quota = 100~key = \"chiave-anna\"~ => 
 provider = 3 => NoProvider
 provider = [] => NoProvider
 provider = [1] => NoProvider
@@ -248,7 +249,10 @@ fn shows_providers(rt: HostRuntime) -> Result<(), Fail> {
         beta.receipts().bytes(),
         b"ricevute@beta.example".as_slice()
     );
-    assert_eq!(rt; beta.domains().len(), 1);
+    let domains = beta.domains();
+    assert_eq!(rt; domains.len(), 1);
+    let domain = domains.first().ok_or("a domain")?;
+    assert_eq!(rt; domain.bytes(), b"beta.example".as_slice());
     assert_eq!(rt;
         beta.key(),
         [
@@ -262,7 +266,10 @@ fn shows_providers(rt: HostRuntime) -> Result<(), Fail> {
     assert_eq!(rt; beta.rule().bytes(), rule.bytes());
     assert!(rt; Zone::read(&rule) == Ok(*beta.zone()));
     assert_eq!(rt; beta.limit(), 31_457_280);
-    assert_eq!(rt; beta.accounts().len(), 2);
+    let accounts = beta.accounts();
+    assert_eq!(rt; accounts.len(), 2);
+    let carl = accounts.get(1).ok_or("a second account")?;
+    assert_eq!(rt; carl.address().bytes(), b"carl@beta.example".as_slice());
     Ok(())
 }
 

@@ -2,4 +2,3 @@ pub mod Heads
 pub mod Sets
 pub mod Rows
 pub mod Laws
-pub mod Values

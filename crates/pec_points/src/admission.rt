@@ -4,7 +4,6 @@ ghost use Rattle.std.specs.Option.{option_map};
 ghost use Rattle.pec_directory.specs.Directory.{providers_of};
 ghost use Rattle.pec_heads.specs.FactsOfHeads.{has_address};
 ghost use Rattle.pec_heads.specs.FactsReading.{listed, sender_of};
-ghost use Rattle.pec_heads.specs.Lists.{is_all_blank};
 ghost use Rattle.pec_types.specs.declared.messages.Cause.{Cause as CauseShown};
 ghost use Rattle.pec_types.specs.declared.messages.Facts.{Facts as FactsShown};
 ghost use Rattle.pec_points.specs.Table.{IsAccepted, IsCause};
@@ -204,20 +203,7 @@ fn is_among(recipients: &[Recipient], address: &[u8]) -> bool
 fn has_blind_copies(head: &Head) -> bool
     ensures { result ≡ has_blind_copies head.now }
 {
-    for i in 0..head.count(b"Bcc".as_slice()) {
-        if let Some(value) = head.value(b"Bcc".as_slice(), i) {
-            if !is_all_blank(value) {
-                return true;
-            }
-        }
-    }
-    false
-}
-
-fn is_all_blank(value: &[u8]) -> bool
-    ensures { result ≡ is_all_blank value.now }
-{
-    value.iter().all(|b| *b == b' ' || *b == b'\t')
+    head.is_filled(b"Bcc".as_slice())
 }
 
 /// So many bytes for each recipient are over the limit. The product may have no place in 64 bits.
