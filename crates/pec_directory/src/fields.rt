@@ -1,14 +1,11 @@
 ghost use Rattle.std.specs.Prelude.{◌≡◌, ◌++◌, Some, codes, is_some, option_map, IfOk};
 ghost use Rattle.std.specs.List.{list_all};
-ghost use Rattle.std.specs.Result.{result_ok};
 ghost use Rattle.toml.specs.Data.{as_table};
 ghost use Rattle.toml.specs.View.{items_view, view};
-ghost use Rattle.pec_types.specs.AddressReading.{address_of};
-ghost use Rattle.pec_types.specs.Text.{AllPrintable};
 ghost use Rattle.pec_directory.specs.Fields.{accounts_at, are_tables, domain_in, domain_of_item, domains_at, domains_of, has_length, is_hex, is_hex_byte, is_name, is_name_byte, is_some_list, is_visible, is_visible_byte, key_at, key_of, limit_at, name_at, number_in, number_of, quota_at, rule_at, tables_of, text_at, where_true};
 
 use hex::FromHexError;
-use pec_types::{Address, AddressFault, NoMemory, Text, TextFault};
+use pec_types::{Address, NoMemory, Text};
 use std::alloc::{AllocError, Global};
 use toml::Value;
 
@@ -24,28 +21,6 @@ pub(crate) fn text_at<'a>(key: &str, whole: &'a Value) -> Option<&'a str>
 {
     let value = whole.get(key)?;
     value.as_str()
-}
-
-/// The address that a text is, `None` where it is none.
-pub(crate) fn read_address(alloc: Global, text: &[u8]) -> Result<Option<Address>, NoMemory>
-    ensures { IfOk result (λ found. found ≡ result_ok (address_of text.now)) }
-{
-    match Address::read(alloc, text) {
-        Ok(address) => Ok(Some(address)),
-        Err(AddressFault::NoMemory) => Err(NoMemory),
-        Err(_) => Ok(None),
-    }
-}
-
-fn printable_text(alloc: Global, bytes: &[u8]) -> Result<Text, NoMemory>
-    requires { AllPrintable bytes.now }
-    ensures { IfOk result (λ text. text ≡ bytes.now) }
-{
-    match Text::new(alloc, bytes) {
-        Ok(text) => Ok(text),
-        Err(TextFault::NoMemory) => Err(NoMemory),
-        Err(TextFault::NotPrintable(_)) => unreachable!(),
-    }
 }
 
 fn has_length(least: usize, most: usize, text: &[u8]) -> bool
@@ -65,7 +40,7 @@ pub(crate) fn name_at(alloc: Global, provider: &Value) -> Result<Option<Text>, N
     if !is_name(text.as_bytes()) {
         return Ok(None);
     }
-    let name = printable_text(alloc, text.as_bytes())?;
+    let name = Text::of_printable(alloc, text.as_bytes())?;
     Ok(Some(name))
 }
 
@@ -142,10 +117,10 @@ fn domain_in(alloc: Global, text: &[u8]) -> Result<Option<Text>, NoMemory>
     ensures { IfOk result (λ found. found ≡ domain_in text.now) }
 {
     let service = service_address(alloc, text)?;
-    let Some(address) = read_address(alloc, service.as_slice())? else {
+    let Some(address) = Address::find(alloc, service.as_slice())? else {
         return Ok(None);
     };
-    let domain = printable_text(alloc, address.domain())?;
+    let domain = Text::of_printable(alloc, address.domain())?;
     Ok(Some(domain))
 }
 
@@ -219,7 +194,7 @@ fn visible_text(alloc: Global, most: usize, text: &[u8]) -> Result<Option<Text>,
     if !is_visible(most, text) {
         return Ok(None);
     }
-    let text = printable_text(alloc, text)?;
+    let text = Text::of_printable(alloc, text)?;
     Ok(Some(text))
 }
 

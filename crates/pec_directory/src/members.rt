@@ -9,7 +9,7 @@ ghost use Rattle.pec_directory.specs.Walk.{account_in, accounts_from, is_outside
 use crate::accounts::Account;
 use crate::drafts::{Draft, is_here, is_reserved};
 use crate::faults::{DirectoryFault, Field};
-use crate::fields::{key_at, quota_at, read_address, text_at};
+use crate::fields::{key_at, quota_at, text_at};
 use crate::own_fields::Fields;
 use crate::places::Place;
 use pec_index::Index;
@@ -72,7 +72,7 @@ fn read_account(
     let Some(key) = key_at(alloc, value)? else {
         return Err(DirectoryFault::BadField(provider, Field::Key));
     };
-    let Some(address) = read_address(alloc, text.as_bytes())? else {
+    let Some(address) = Address::find(alloc, text.as_bytes())? else {
         return Err(DirectoryFault::BadAddress(provider, account));
     };
     if is_outside(draft, fields, &address) {

@@ -6,7 +6,7 @@ ghost use Rattle.pec_directory.specs.Views.{Gives, fields_shown};
 ghost use Rattle.pec_directory.specs.Walk.{fields_of, key_in, receipts_in, rule_in};
 
 use crate::faults::{DirectoryFault, Field};
-use crate::fields::{domains_at, key_of, limit_at, name_at, read_address, rule_at, text_at};
+use crate::fields::{domains_at, key_of, limit_at, name_at, rule_at, text_at};
 use pec_cert::Zone;
 use pec_types::{Address, Text};
 use std::alloc::Global;
@@ -64,7 +64,7 @@ fn read_receipts(alloc: Global, number: u32, provider: &Value) -> Result<Address
     let Some(text) = text_at("mailReceipt", provider) else {
         return Err(DirectoryFault::BadField(number, Field::MailReceipt));
     };
-    let Some(address) = read_address(alloc, text.as_bytes())? else {
+    let Some(address) = Address::find(alloc, text.as_bytes())? else {
         return Err(DirectoryFault::BadAddress(number, 0));
     };
     Ok(address)

@@ -1,6 +1,5 @@
 ghost use Rattle.std.specs.Prelude.{◌≡◌, ℕ, List, length, IfOk};
 ghost use Rattle.std.specs.Option.{option_map};
-ghost use Rattle.pec_types.specs.Text.{AllPrintable};
 ghost use Rattle.pec_heads.specs.Heads.{joined_values};
 ghost use Rattle.pec_heads.specs.FactsOfHeads.{front_of, printed, printed_byte, reply_of, short_text, text_of, wish_of};
 ghost use Rattle.pec_heads.specs.FactsReading.{copies_of, facts_of, listed, sender_of};
@@ -14,7 +13,7 @@ use crate::lists::addresses_of;
 use crate::lookups::{count, value};
 use crate::parts::at_most;
 use crate::recipients::recipients;
-use pec_types::{Address, Facts, Items, NoMemory, Text, TextFault, Wish};
+use pec_types::{Address, Facts, Items, NoMemory, Text, Wish};
 use std::alloc::{AllocError, Global};
 
 /// The facts of a head with these fields.
@@ -119,7 +118,7 @@ fn short_text(alloc: Global, value: &[u8]) -> Result<Option<Text>, NoMemory>
     if bytes.is_empty() {
         return Ok(None);
     }
-    let text = printable_text(alloc, bytes)?;
+    let text = Text::of_printable(alloc, bytes)?;
     Ok(Some(text))
 }
 
@@ -137,11 +136,11 @@ fn reply(alloc: Global, fields: &Fields, sender: &Address) -> Result<Text, NoMem
     if let Some(value) = value(fields, b"Reply-To".as_slice(), 0) {
         if !is_all_blank(value) && value.len() <= TEXT_LIMIT {
             let bytes = print(alloc, value)?;
-            let text = printable_text(alloc, bytes.as_slice())?;
+            let text = Text::of_printable(alloc, bytes.as_slice())?;
             return Ok(text);
         }
     }
-    let text = printable_text(alloc, sender.bytes())?;
+    let text = Text::of_printable(alloc, sender.bytes())?;
     Ok(text)
 }
 
@@ -161,16 +160,5 @@ fn print_byte(b: u8) -> u8
         b'?'
     } else {
         b
-    }
-}
-
-fn printable_text(alloc: Global, bytes: &[u8]) -> Result<Text, NoMemory>
-    requires { AllPrintable bytes.now }
-    ensures { IfOk result (λ text. text ≡ bytes.now) }
-{
-    match Text::new(alloc, bytes) {
-        Ok(text) => Ok(text),
-        Err(TextFault::NoMemory) => Err(NoMemory),
-        Err(TextFault::NotPrintable(_)) => unreachable!(),
     }
 }

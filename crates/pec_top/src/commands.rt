@@ -3,7 +3,6 @@ ghost use Rattle.pec_directory.specs.Directory.{providers_of};
 ghost use Rattle.pec_top.specs.Commands.{book_at, command_of, message_of, moment_of, submission_of, submit_at};
 ghost use Rattle.pec_top.specs.Views.{command_shown, submission_shown};
 
-use crate::addresses::read_address;
 use crate::numbers::read_number;
 use crate::paths::read_path;
 use crate::reading::{last_word, next_word};
@@ -99,7 +98,7 @@ fn read_submission(
     let Some(moment) = read_moment(moment) else {
         return Ok(None);
     };
-    let Some(sender) = read_address(alloc, sender)? else {
+    let Some(sender) = Address::find(alloc, sender)? else {
         return Ok(None);
     };
     let Some(path) = read_path(alloc, path)? else {
@@ -124,7 +123,7 @@ fn read_book(alloc: Global, text: &[u8]) -> Result<Option<Command>, NoMemory>
     let Some(word) = last_word(text) else {
         return Ok(None);
     };
-    let Some(address) = read_address(alloc, word)? else {
+    let Some(address) = Address::find(alloc, word)? else {
         return Ok(None);
     };
     Ok(Some(Command::Book(address)))

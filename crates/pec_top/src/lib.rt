@@ -2,7 +2,6 @@
 #![tactic(auto)]
 
 mod accounts;
-mod addresses;
 mod booking;
 mod commands;
 mod directory;

@@ -2,7 +2,6 @@ ghost use Rattle.std.specs.Prelude.{◌≡◌, ◌<◌, [], ◌∷◌, length, p
 ghost use Rattle.std.specs.List.{slice_split};
 ghost use Rattle.pec_top.specs.Paths.{addresses_of, is_comma, path_of};
 
-use crate::addresses::read_address;
 use pec_types::{Address, NoMemory};
 use std::alloc::Global;
 
@@ -30,13 +29,13 @@ fn read_addresses(alloc: Global, text: &[u8]) -> Result<Option<Vec<Address>>, No
     let mut path = Vec::new(alloc);
     let mut rest = text;
     'parts: while let Some((part, behind)) = cut_part(rest) {
-        let Some(address) = read_address(alloc, part)? else {
+        let Some(address) = Address::find(alloc, part)? else {
             return Ok(None);
         };
         path.push(address)?;
         rest = behind;
     }
-    let Some(address) = read_address(alloc, rest)? else {
+    let Some(address) = Address::find(alloc, rest)? else {
         return Ok(None);
     };
     path.push(address)?;

@@ -1,4 +1,5 @@
 ghost use Rattle.std.specs.Prelude.{◌≡◌, ℕ, List, Ok, Err, IfOk, IfSome, position, length, ◌<◌};
+ghost use Rattle.std.specs.Result.{result_ok};
 ghost use Rattle.pec_types.specs.Address.{AnswersAddress, IsAddress, HasDomain, IsAddressFault, IsLowerAddress, lowered};
 ghost use Rattle.pec_types.specs.AddressReading.{address_of, domain_of, is_at_sign, Gives};
 ghost use Rattle.pec_types.specs.declared.addresses.AddressFault.{AddressFault};
@@ -59,6 +60,17 @@ impl Address {
         ensures exact { Gives result (address_of text.now) }
     {
         read_address(alloc, text)
+    }
+
+    /// The address that a text is, `None` where it is none, for those who don't ask why.
+    pub fn find(alloc: Global, text: &[u8]) -> Result<Option<Address>, NoMemory>
+        ensures { IfOk result (λ found. found ≡ result_ok (address_of text.now)) }
+    {
+        match Address::read(alloc, text) {
+            Ok(address) => Ok(Some(address)),
+            Err(AddressFault::NoMemory) => Err(NoMemory),
+            Err(_) => Ok(None),
+        }
     }
 
     /// The bytes of the address. It takes no memory.

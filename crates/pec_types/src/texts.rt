@@ -48,6 +48,15 @@ impl Text {
         Ok(Text { bytes })
     }
 
+    /// The text of bytes that are known to be from 0x20 to 0x7e.
+    pub fn of_printable(alloc: Global, bytes: &[u8]) -> Result<Text, NoMemory>
+        requires { AllPrintable bytes.now }
+        ensures { IfOk result (λ text. text ≡ bytes.now) }
+    {
+        let bytes = Vec::from_slice(alloc, bytes)?;
+        Ok(Text { bytes })
+    }
+
     /// The bytes of the text. It takes no memory.
     pub fn bytes(&self) -> &[u8]
         ensures value { result.now ≡ self.now }

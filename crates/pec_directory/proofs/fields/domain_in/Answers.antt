@@ -1,5 +1,5 @@
 use Rattle.pec_directory.proofs.Forms.{domain_printable}
 use Rattle.pec_directory.proofs.fields.domain_in.Goals as goal
 
-pub printable_text-requires : goal.printable_text-requires
-printable_text-requires c = domain_printable c.in-Some.address c.domain.result.now (rw c.address.view_is at c.address.invariant) c.domain.ensures.domain
+pub of_printable-requires : goal.of_printable-requires
+of_printable-requires c = domain_printable c.in-Some.address c.domain.result.now (rw c.address.view_is at c.address.invariant) c.domain.ensures.domain

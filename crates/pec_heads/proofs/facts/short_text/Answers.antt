@@ -5,8 +5,8 @@ use Rattle.pec_heads.specs.FactsOfHeads.{printed}
 use Rattle.pec_heads.proofs.FactSteps.{short_is, short_none, short_some}
 use Rattle.pec_heads.proofs.facts.short_text.Goals as goal
 
-pub printable_text-requires : goal.printable_text-requires
-printable_text-requires c =
+pub of_printable-requires : goal.of_printable-requires
+of_printable-requires c =
     short_is c.args.value.now c.in_ok-bytes.bytes.items c.trim-bytes.result.now (c.in_ok-bytes.ensures ∙ ap printed c.front.ensures) (c.trim-bytes.ensures ∙ ap trimmed c.as_slice.ensures.value)
 
 pub returns-then-is_empty : goal.returns-then-is_empty
