@@ -18,7 +18,7 @@ managedDomains = [\"beta.example\"]\nkey = \"101112131415161718191a1b1c1d1e1f\"\
 
 /// A directory with one provider of three domains, which has an account in each.
 const DOMAINS: &str = "[[provider]]\nname = \"gamma\"\nmailReceipt = \"ricevute@gamma.example\"\n\
-managedDomains = [\"uno.example\", \"gamma.example\", \"Due.example\"]\nkey = \"202122232425262728292a2b2c2d2e2f\"\nzone = \"UTC0\"\n\
+managedDomains = [\"Uno.example\", \"gamma.example\", \"Due.example\"]\nkey = \"202122232425262728292a2b2c2d2e2f\"\nzone = \"UTC0\"\n\
 [[provider.account]]\naddress = \"a@uno.example\"\nquota = 1\nkey = \"a\"\n\
 [[provider.account]]\naddress = \"b@gamma.example\"\nquota = 1\nkey = \"b\"\n\
 [[provider.account]]\naddress = \"c@due.example\"\nquota = 1\nkey = \"c\"\n";
