@@ -4,7 +4,7 @@ use Rattle.std.proofs.lemmas.List.{get_or-set_same, get_or-set_other, length-rep
 use Rattle.std.proofs.lemmas.Option.{unwrap_or-slice_get}
 use Rattle.std.specs.Option.{unwrap_or}
 use Rattle.pec_directory.specs.Directory.{Provider}
-use Rattle.pec_top.specs.Ledger.{Half, empty, entries_of, half_of, ledger_of, entries_in, no_entries, step, with_entry}
+use Rattle.pec_top.specs.Ledger.{empty, entries_of, half_of, ledger_of, entries_in, no_entries, step, with_entry}
 use Rattle.pec_top.specs.declared.entries.Entry.{Entry}
 use Rattle.pec_top.proofs.LedgerLaws.{half_push}
 

@@ -1,4 +1,3 @@
-use Rattle.std.proofs.Common.{◌≡◌}
 use Rattle.pec_top.proofs.LedgerLaws.{no_last}
 use Rattle.pec_top.proofs.ledgers.Ledgers.last.Goals as goal
 
