@@ -9,94 +9,101 @@ use std::test::Fail;
 const DIRECTORY: &str =
     "[[provider]]~name = \"alfa\"~mailReceipt = \"ricevute@alfa.example\"~managedDomains = [\"alfa.example\"]~key = \"000102030405060708090a0b0c0d0e0f\"~zone = \"CET-1CEST,M3.5.0,M10.5.0/3\"~[[provider.account]]~address = \"alice@alfa.example\"~quota = 100~key = \"chiave-alice\"~[[provider.account]]~address = \"anna@alfa.example\"~quota = 100~key = \"chiave-anna\"~[[provider]]~name = \"beta\"~mailReceipt = \"ricevute@beta.example\"~managedDomains = [\"beta.example\"]~key = \"101112131415161718191a1b1c1d1e1f\"~zone = \"CET-1CEST,M3.5.0,M10.5.0/3\"~[[provider.account]]~address = \"bob@beta.example\"~quota = 100~key = \"chiave-bob\"~[[provider.account]]~address = \"carl@beta.example\"~quota = 1~key = \"chiave-carl\"~";
 
-// What stands in the directory, what is put in its place where it stands first, and the fault; none where the row ends.
-const OWN_FIELDS: &str = "[[provider]] => [[provider => NotToml
-name = \"alfa\" =>  => BadField(0, Name)
-name = \"alfa\" => name = 7 => BadField(0, Name)
-name = \"alfa\" => name = \"\" => BadField(0, Name)
-name = \"alfa\" => name = \"Alfa\" => BadField(0, Name)
-name = \"alfa\" => name = \"a-9bbbbbbbbbbbbbbbbbbbbbbbbbbbbb\" => 
-name = \"alfa\" => name = \"bbbbbbbbbbbbbbbbbbbbbbbbbbbbbbbbb\" => BadField(0, Name)
-name = \"alfa\" => name = \"alfa\"~other = [1, { x = 2 }] => 
-mailReceipt = \"ricevute@alfa.example\" => mailReceipt = 1 => BadField(0, MailReceipt)
-mailReceipt = \"ricevute@alfa.example\" => mailReceipt = \"ricevute\" => BadAddress(0, 0)
-mailReceipt = \"ricevute@alfa.example\" => mailReceipt = \"Ricevute@ALFA.example\" => 
-mailReceipt = \"ricevute@alfa.example\" => mailReceipt = \"ricevute@beta.example\" => AccountOutside(0, 0)
-managedDomains = [\"alfa.example\"] => managedDomains = \"alfa.example\" => BadField(0, ManagedDomains)
-managedDomains = [\"alfa.example\"] => managedDomains = [] => BadField(0, ManagedDomains)
-managedDomains = [\"alfa.example\"] => managedDomains = [\"alfa.example\", 1] => BadField(0, ManagedDomains)
-managedDomains = [\"alfa.example\"] => managedDomains = [\"-alfa.example\"] => BadField(0, ManagedDomains)
-managedDomains = [\"alfa.example\"] => managedDomains = [\"a@alfa.example\"] => BadField(0, ManagedDomains)
-managedDomains = [\"alfa.example\"] => managedDomains = [\"ALFA.example\"] => 
-managedDomains = [\"alfa.example\"] => managedDomains = [\"alfa.example\", \"a.alfa.example\", \"ALFA.EXAMPLE\"] => DomainTwice(0)
-managedDomains = [\"alfa.example\"] => managedDomains = [\"alfa.example\", \"aaaaaaaaaaaaaaaaaaaaaaaaaaaaaaaaaaaaaaaaaaaaaaaaaaaaaaaaaaaaaaa.bbbbbbbbbbbbbbbbbbbbbbbbbbbbbbbbbbbbbbbbbbbbbbbbbbbbbbbbbbbbbbb.ccccccccccccccccccccccccccccccccccccccccccccccccccccccccccccccc.dddddddddddddddddddddddddddddddddddddddddddd\"] => 
-managedDomains = [\"alfa.example\"] => managedDomains = [\"alfa.example\", \"aaaaaaaaaaaaaaaaaaaaaaaaaaaaaaaaaaaaaaaaaaaaaaaaaaaaaaaaaaaaaaa.bbbbbbbbbbbbbbbbbbbbbbbbbbbbbbbbbbbbbbbbbbbbbbbbbbbbbbbbbbbbbbb.ccccccccccccccccccccccccccccccccccccccccccccccccccccccccccccccc.ddddddddddddddddddddddddddddddddddddddddddddd\"] => BadField(0, ManagedDomains)
-key = \"000102030405060708090a0b0c0d0e0f\" => key = 1 => BadField(0, Key)
-key = \"000102030405060708090a0b0c0d0e0f\" => key = \"0000000000000000000000000000000\" => BadKey(0)
-key = \"000102030405060708090a0b0c0d0e0f\" => key = \"000000000000000000000000000000000\" => BadKey(0)
-key = \"000102030405060708090a0b0c0d0e0f\" => key = \"ffffffffffffffffffffffffffffffffff\" => 
-key = \"000102030405060708090a0b0c0d0e0f\" => key = \"99999999999999999999999999999999999999999999999999999999999999999999999999999999999999999999999999999999999999999999999999999999\" => 
-key = \"000102030405060708090a0b0c0d0e0f\" => key = \"9999999999999999999999999999999999999999999999999999999999999999999999999999999999999999999999999999999999999999999999999999999999\" => BadKey(0)
-key = \"000102030405060708090a0b0c0d0e0f\" => key = \"000102030405060708090A0b0c0d0e0f\" => BadKey(0)
-key = \"000102030405060708090a0b0c0d0e0f\" => key = \"000102030405060708090g0b0c0d0e0f\" => BadKey(0)
-zone = \"CET-1CEST,M3.5.0,M10.5.0/3\" => zone = \"\" => BadField(0, Zone)
-zone = \"CET-1CEST,M3.5.0,M10.5.0/3\" => zone = \"CET -1\" => BadField(0, Zone)
-zone = \"CET-1CEST,M3.5.0,M10.5.0/3\" => zone = 1 => BadField(0, Zone)
-zone = \"CET-1CEST,M3.5.0,M10.5.0/3\" => zone = \"nonsense!\" => BadZone(0)
-zone = \"CET-1CEST,M3.5.0,M10.5.0/3\" => zone = \"!!!!!!!!!!!!!!!!!!!!!!!!!!!!!!!!!!!!!!!!!!!!!!!!!!!!!!!!!!!!!!!!!!!!!!!!!!!!!!!!!!!!!!!!!!!!!!!!!!!!!!!!!!!!!!!!!!!!!!!!!!!!!!!!\" => BadZone(0)
-zone = \"CET-1CEST,M3.5.0,M10.5.0/3\" => zone = \"!!!!!!!!!!!!!!!!!!!!!!!!!!!!!!!!!!!!!!!!!!!!!!!!!!!!!!!!!!!!!!!!!!!!!!!!!!!!!!!!!!!!!!!!!!!!!!!!!!!!!!!!!!!!!!!!!!!!!!!!!!!!!!!!!\" => BadField(0, Zone)
-1f\"~zone = \"CET-1CEST,M3.5.0,M10.5.0/3\" => 1f\"~zone = \"nonsense!\" => BadZone(1)
-name = \"alfa\" => name = \"alfa\"~limit = 0 => BadField(0, Limit)
-name = \"alfa\" => name = \"alfa\"~limit = 1 => 
-name = \"alfa\" => name = \"alfa\"~limit = 31457280 => 
-name = \"alfa\" => name = \"alfa\"~limit = 31457281 => BadField(0, Limit)
-name = \"alfa\" => name = \"alfa\"~limit = -1 => BadField(0, Limit)
-name = \"alfa\" => name = \"alfa\"~limit = \"1\" => BadField(0, Limit)
-[[provider.account]]~address = \"alice@alfa.example\"~quota = 100~key = \"chiave-alice\"~[[provider.account]]~address = \"anna@alfa.example\"~quota = 100~key = \"chiave-anna\"~ => account = 7~ => BadField(0, Account)
-[[provider.account]]~address = \"alice@alfa.example\"~quota = 100~key = \"chiave-alice\"~[[provider.account]]~address = \"anna@alfa.example\"~quota = 100~key = \"chiave-anna\"~ => account = [1]~ => BadField(0, Account)
-[[provider.account]]~address = \"alice@alfa.example\"~quota = 100~key = \"chiave-alice\"~[[provider.account]]~address = \"anna@alfa.example\"~quota = 100~key = \"chiave-anna\"~ => account = []~ => 
-[[provider.account]]~address = \"alice@alfa.example\"~quota = 100~key = \"chiave-alice\"~[[provider.account]]~address = \"anna@alfa.example\"~quota = 100~key = \"chiave-anna\"~ =>  => ";
+// A directory of short texts.
+const SHORT: &str =
+    "[[provider]]~name = \"alfa\"~mailReceipt = \"r@a.x\"~managedDomains = [\"a.x\"]~key = \"00000000000000000000000000000000\"~zone = \"UTC0\"~[[provider.account]]~address = \"u@a.x\"~quota = 1~key = \"k\"~[[provider.account]]~address = \"v@a.x\"~quota = 1~key = \"k\"~[[provider]]~name = \"beta\"~mailReceipt = \"r@b.x\"~managedDomains = [\"b.x\"]~key = \"00000000000000000000000000000000\"~zone = \"UTC0\"~[[provider.account]]~address = \"u@b.x\"~quota = 1~key = \"k\"~[[provider.account]]~address = \"v@b.x\"~quota = 1~key = \"k\"~";
 
-// The same for accounts, for what stands twice, and for pairs of tests of which both fail.
-const ACCOUNTS: &str = "address = \"alice@alfa.example\" => address = 1 => BadField(0, Address)
-address = \"alice@alfa.example\" => address = \"alice\" => BadAddress(0, 1)
-address = \"alice@alfa.example\" => address = \"alice@beta.example\" => AccountOutside(0, 1)
-address = \"anna@alfa.example\" => address = \"ALICE@Alfa.example\" => AccountTwice(0, 2)
-address = \"anna@alfa.example\" => address = \"ricevute@alfa.example\" => AccountTwice(0, 2)
-address = \"anna@alfa.example\" => address = \"posta-certificata@alfa.example\" => AccountTwice(0, 2)
-address = \"anna@alfa.example\" => address = \"posta-certificata.x@alfa.example\" => 
-address = \"bob@beta.example\" => address = \"ricevute@beta.example\" => AccountTwice(1, 1)
-address = \"bob@beta.example\" => address = \"alice@alfa.example\" => AccountOutside(1, 1)
-quota = 100 => quota = -1 => BadField(0, Quota)
-quota = 100 => quota = 0 => 
-quota = 100 => quota = 1000000 => 
-quota = 100 => quota = 1000001 => BadField(0, Quota)
-quota = 100 => quota = 1.0 => BadField(0, Quota)
-key = \"chiave-alice\" => key = \"\" => BadField(0, Key)
-key = \"chiave-alice\" => key = \"xxxxxxxxxxxxxxxxxxxxxxxxxxxxxxxxxxxxxxxxxxxxxxxxxxxxxxxxxxxxxxxx\" => 
-key = \"chiave-alice\" => key = \"xxxxxxxxxxxxxxxxxxxxxxxxxxxxxxxxxxxxxxxxxxxxxxxxxxxxxxxxxxxxxxxxx\" => BadField(0, Key)
-key = \"chiave-alice\" => key = \"due parole\" => BadField(0, Key)
-name = \"beta\" => name = \"alfa\" => NameTwice(1)
-[\"beta.example\"] => [\"alfa.example\"] => DomainTwice(1)
-name = \"beta\"~mailReceipt = \"ricevute@beta.example\"~managedDomains = [\"beta.example\"] => name = 7~mailReceipt = \"ricevutebeta.example\"~managedDomains = [\"beta.example\"] => BadField(1, Name)
-name = \"beta\"~mailReceipt = \"ricevute@beta.example\"~managedDomains = [\"beta.example\"] => name = \"beta\"~mailReceipt = \"ricevutebeta.example\"~managedDomains = [] => BadAddress(1, 0)
-managedDomains = [\"beta.example\"]~key = \"101112131415161718191a1b1c1d1e1f\"~zone = \"CET-1CEST,M3.5.0,M10.5.0/3\" => managedDomains = []~key = \"1\"~zone = \"CET-1CEST,M3.5.0,M10.5.0/3\" => BadField(1, ManagedDomains)
-managedDomains = [\"beta.example\"]~key = \"101112131415161718191a1b1c1d1e1f\"~zone = \"CET-1CEST,M3.5.0,M10.5.0/3\" => managedDomains = [\"beta.example\"]~key = \"1\"~zone = \"nonsense!\" => BadKey(1)
-managedDomains = [\"beta.example\"]~key = \"101112131415161718191a1b1c1d1e1f\"~zone = \"CET-1CEST,M3.5.0,M10.5.0/3\" => managedDomains = [\"beta.example\"]~key = \"101112131415161718191a1b1c1d1e1f\"~zone = \"nonsense!\"~limit = 0 => BadZone(1)
-managedDomains = [\"beta.example\"]~key = \"101112131415161718191a1b1c1d1e1f\"~zone = \"CET-1CEST,M3.5.0,M10.5.0/3\" => managedDomains = [\"alfa.example\"]~key = \"101112131415161718191a1b1c1d1e1f\"~zone = \"nonsense!\" => BadZone(1)
-managedDomains = [\"beta.example\"]~key = \"101112131415161718191a1b1c1d1e1f\"~zone = \"CET-1CEST,M3.5.0,M10.5.0/3\" => managedDomains = [\"alfa.example\"]~key = \"101112131415161718191a1b1c1d1e1f\"~zone = \"CET-1CEST,M3.5.0,M10.5.0/3\"~limit = 0 => BadField(1, Limit)
-name = \"beta\"~mailReceipt = \"ricevute@beta.example\"~managedDomains = [\"beta.example\"] => name = \"alfa\"~mailReceipt = \"ricevute@beta.example\"~managedDomains = [\"alfa.example\"] => NameTwice(1)
-name = \"beta\"~mailReceipt = \"ricevute@beta.example\"~managedDomains = [\"beta.example\"] => name = \"alfa\"~mailReceipt = \"ricevute@alfa.example\"~managedDomains = [\"beta.example\"] => NameTwice(1)
-name = \"beta\"~mailReceipt = \"ricevute@beta.example\"~managedDomains = [\"beta.example\"] => name = \"beta\"~mailReceipt = \"ricevute@alfa.example\"~managedDomains = [\"beta.example\", \"beta.example\"] => DomainTwice(1)
-mailReceipt = \"ricevute@alfa.example\"~managedDomains = [\"alfa.example\"] => mailReceipt = \"ricevute@beta.example\"~managedDomains = [\"gamma.example\"] => AccountOutside(0, 0)
-address = \"alice@alfa.example\"~quota = 100~key = \"chiave-alice\" => address = 1~quota = -1~key = \"\" => BadField(0, Address)
-address = \"alice@alfa.example\"~quota = 100~key = \"chiave-alice\" => address = \"alice\"~quota = -1~key = \"\" => BadField(0, Quota)
-address = \"alice@alfa.example\"~quota = 100~key = \"chiave-alice\" => address = \"alice\"~quota = 1~key = \"\" => BadField(0, Key)
-address = \"alice@alfa.example\"~quota = 100~key = \"chiave-alice\" => address = \"posta-certificata@beta.example\"~quota = 1~key = \"k\" => AccountOutside(0, 1)";
+// What stands first in the directory of short texts, what is put in its place and in that of the rest of its line, and the fault; none where
+// the row ends.
+const NAMES_AND_RECEIPTS: &str = "[[provider]] => [[provider => NotToml
+name =>  => BadField(0, Name)
+name => name = 7 => BadField(0, Name)
+name => name = \"\" => BadField(0, Name)
+name => name = \"Alfa\" => BadField(0, Name)
+name => name = \"a-9bbbbbbbbbbbbbbbbbbbbbbbbbbbbb\" => 
+name => name = \"bbbbbbbbbbbbbbbbbbbbbbbbbbbbbbbbb\" => BadField(0, Name)
+name => name = \"alfa\"~other = [1, { x = 2 }] => 
+mail => mailReceipt = 1 => BadField(0, MailReceipt)
+mail => mailReceipt = \"r\" => BadAddress(0, 0)
+mail => mailReceipt = \"R@A.x\" => 
+mail => mailReceipt = \"r@b.x\" => AccountOutside(0, 0)";
+
+const DOMAINS: &str = "managed => managedDomains = \"a.x\" => BadField(0, ManagedDomains)
+managed => managedDomains = [] => BadField(0, ManagedDomains)
+managed => managedDomains = [\"a.x\", 1] => BadField(0, ManagedDomains)
+managed => managedDomains = [\"-a.x\"] => BadField(0, ManagedDomains)
+managed => managedDomains = [\"a@a.x\"] => BadField(0, ManagedDomains)
+managed => managedDomains = [\"A.X\"] => 
+managed => managedDomains = [\"a.x\", \"a.a.x\", \"A.X\"] => DomainTwice(0)
+managed => managedDomains = [\"a.x\", \"aaaaaaaaaaaaaaaaaaaaaaaaaaaaaaaaaaaaaaaaaaaaaaaaaaaaaaaaaaaaaaa.bbbbbbbbbbbbbbbbbbbbbbbbbbbbbbbbbbbbbbbbbbbbbbbbbbbbbbbbbbbbbbb.ccccccccccccccccccccccccccccccccccccccccccccccccccccccccccccccc.dddddddddddddddddddddddddddddddddddddddddddd\"] => 
+managed => managedDomains = [\"a.x\", \"aaaaaaaaaaaaaaaaaaaaaaaaaaaaaaaaaaaaaaaaaaaaaaaaaaaaaaaaaaaaaaa.bbbbbbbbbbbbbbbbbbbbbbbbbbbbbbbbbbbbbbbbbbbbbbbbbbbbbbbbbbbbbbb.ccccccccccccccccccccccccccccccccccccccccccccccccccccccccccccccc.ddddddddddddddddddddddddddddddddddddddddddddd\"] => BadField(0, ManagedDomains)";
+
+const KEYS_AND_ZONES: &str = "key => key = 1 => BadField(0, Key)
+key => key = \"0000000000000000000000000000000\" => BadKey(0)
+key => key = \"000000000000000000000000000000000\" => BadKey(0)
+key => key = \"ffffffffffffffffffffffffffffffffff\" => 
+key => key = \"99999999999999999999999999999999999999999999999999999999999999999999999999999999999999999999999999999999999999999999999999999999\" => 
+key => key = \"9999999999999999999999999999999999999999999999999999999999999999999999999999999999999999999999999999999999999999999999999999999999\" => BadKey(0)
+key => key = \"0000000000000000000000000000000A\" => BadKey(0)
+key => key = \"0000000000000000000000000000000g\" => BadKey(0)
+zone => zone = \"\" => BadField(0, Zone)
+zone => zone = \"CET -1\" => BadField(0, Zone)
+zone => zone = 1 => BadField(0, Zone)
+zone => zone = \"nonsense!\" => BadZone(0)
+zone => zone = \"!!!!!!!!!!!!!!!!!!!!!!!!!!!!!!!!!!!!!!!!!!!!!!!!!!!!!!!!!!!!!!!!!!!!!!!!!!!!!!!!!!!!!!!!!!!!!!!!!!!!!!!!!!!!!!!!!!!!!!!!!!!!!!!!\" => BadZone(0)
+zone => zone = \"!!!!!!!!!!!!!!!!!!!!!!!!!!!!!!!!!!!!!!!!!!!!!!!!!!!!!!!!!!!!!!!!!!!!!!!!!!!!!!!!!!!!!!!!!!!!!!!!!!!!!!!!!!!!!!!!!!!!!!!!!!!!!!!!!\" => BadField(0, Zone)";
+
+const LIMITS_AND_ACCOUNTS: &str = "name => limit = 0~name = \"alfa\" => BadField(0, Limit)
+name => limit = 1~name = \"alfa\" => 
+name => limit = 31457280~name = \"alfa\" => 
+name => limit = 31457281~name = \"alfa\" => BadField(0, Limit)
+name => limit = -1~name = \"alfa\" => BadField(0, Limit)
+name => limit = \"1\"~name = \"alfa\" => BadField(0, Limit)
+[[provider.account]]~address = \"u@a.x\"~quota = 1~key = \"k\"~[[provider.account]]~address = \"v@a.x\"~quota = 1~key = \"k\" => account = 7 => BadField(0, Account)
+[[provider.account]]~address = \"u@a.x\"~quota = 1~key = \"k\"~[[provider.account]]~address = \"v@a.x\"~quota = 1~key = \"k\" => account = [1] => BadField(0, Account)
+[[provider.account]]~address = \"u@a.x\"~quota = 1~key = \"k\"~[[provider.account]]~address = \"v@a.x\"~quota = 1~key = \"k\" => account = [] => 
+[[provider.account]]~address = \"u@a.x\"~quota = 1~key = \"k\"~[[provider.account]]~address = \"v@a.x\"~quota = 1~key = \"k\" =>  => 
+quota => quota = -1 => BadField(0, Quota)
+quota => quota = 0 => 
+quota => quota = 1000000 => 
+quota => quota = 1000001 => BadField(0, Quota)
+quota => quota = 1.0 => BadField(0, Quota)
+key = \"k => key = \"\" => BadField(0, Key)
+key = \"k => key = \"xxxxxxxxxxxxxxxxxxxxxxxxxxxxxxxxxxxxxxxxxxxxxxxxxxxxxxxxxxxxxxxx\" => 
+key = \"k => key = \"xxxxxxxxxxxxxxxxxxxxxxxxxxxxxxxxxxxxxxxxxxxxxxxxxxxxxxxxxxxxxxxxx\" => BadField(0, Key)
+key = \"k => key = \"due parole\" => BadField(0, Key)";
+
+const ADDRESSES: &str = "address => address = 1 => BadField(0, Address)
+address => address = \"u\" => BadAddress(0, 1)
+address => address = \"u@b.x\" => AccountOutside(0, 1)
+address = \"v => address = \"U@A.x\" => AccountTwice(0, 2)
+address = \"v => address = \"r@a.x\" => AccountTwice(0, 2)
+address = \"v => address = \"posta-certificata@a.x\" => AccountTwice(0, 2)
+address = \"v => address = \"posta-certificata.x@a.x\" => 
+address = \"u@b => address = \"r@b.x\" => AccountTwice(1, 1)
+address = \"u@b => address = \"u@a.x\" => AccountOutside(1, 1)";
+
+// What stands twice, and pairs of tests of which both fail.
+const PAIRS: &str = "name = \"b => name = \"alfa\" => NameTwice(1)
+[\"b.x => [\"a.x\"] => DomainTwice(1)
+name = \"beta\"~mail => name = 7~mailReceipt = \"r\" => BadField(1, Name)
+mailReceipt = \"r@b.x\"~managed => mailReceipt = \"r\"~managedDomains = [] => BadAddress(1, 0)
+[\"b.x\"]~key => []~key = \"1\" => BadField(1, ManagedDomains)
+[\"b.x\"]~key = \"00000000000000000000000000000000\"~zone => [\"b.x\"]~key = \"1\"~zone = \"nonsense!\" => BadKey(1)
+[\"b.x\"]~key = \"00000000000000000000000000000000\"~zone => [\"a.x\"]~key = \"00000000000000000000000000000000\"~zone = \"nonsense!\" => BadZone(1)
+[\"b.x\"]~key = \"00000000000000000000000000000000\"~zone => [\"b.x\"]~limit = 0~key = \"00000000000000000000000000000000\"~zone = \"nonsense!\" => BadZone(1)
+[\"b.x => [\"a.x\"]~limit = 0 => BadField(1, Limit)
+name = \"beta\"~mailReceipt = \"r@b.x\"~managed => name = \"alfa\"~mailReceipt = \"r@b.x\"~managedDomains = [\"a.x\"] => NameTwice(1)
+name = \"beta\"~mail => name = \"alfa\"~mailReceipt = \"r@a.x\" => NameTwice(1)
+mailReceipt = \"r@b.x\"~managed => mailReceipt = \"r@a.x\"~managedDomains = [\"b.x\", \"b.x\"] => DomainTwice(1)
+mailReceipt = \"r@a.x\"~managed => mailReceipt = \"r@b.x\"~managedDomains = [\"c.x\"] => AccountOutside(0, 0)
+address = \"u@a.x\"~quota = 1~key => address = 1~quota = -1~key = \"\" => BadField(0, Address)
+address = \"u@a.x\"~quota = 1~key => address = \"u\"~quota = -1~key = \"\" => BadField(0, Quota)
+address = \"u@a.x\"~quota = 1~key => address = \"u\"~quota = 1~key = \"\" => BadField(0, Key)
+address => address = \"posta-certificata@b.x\" => AccountOutside(0, 1)";
 
 // Whole texts, and their faults.
 const WHOLE: &str = " => NoProvider
-[[provider]]~name = \"alfa\"~mailReceipt = \"ricevute@alfa.example\"~managedDomains = [\"alfa.example\"]~key = \"000102030405060708090a0b0c0d0e0f\"~zone = \"CET-1CEST,M3.5.0,M10.5.0/3\"~[[provider.account]]~address = \"alice@alfa.example\"~quota = 100~key = \"chiave-alice\"~[[provider.account]]~address = \"anna@alfa.example\"~quota = 100~key = \"chiave-anna\"~ => 
 provider = 3 => NoProvider
 provider = [] => NoProvider
 provider = [1] => NoProvider
@@ -123,12 +130,15 @@ fn fault_of(alloc: Global, text: &str) -> Result<String, AllocError> {
     }
 }
 
-/// The fault of the directory with this in the place of that.
+/// The fault of the directory of short texts with this in the place of that and of the rest of its line.
 fn changed(alloc: Global, from: &str, to: &str) -> Result<String, AllocError> {
-    let Some((front, back)) = DIRECTORY.split_once(from) else {
+    let Some((front, rest)) = SHORT.split_once(from) else {
         return String::from_str(alloc, "not there");
     };
-    let text = format!(in alloc; "{front}{to}{back}")?;
+    let Some((_, back)) = rest.split_once('~') else {
+        return String::from_str(alloc, "no line behind");
+    };
+    let text = format!(in alloc; "{front}{to}~{back}")?;
     fault_of(alloc, text.as_str())
 }
 
@@ -145,13 +155,33 @@ fn check_changes<R: Abort + Alloc<A = Global>>(rt: &R, rows: &str) -> Result<(),
 }
 
 #[test]
-fn fields_of_providers(rt: HostRuntime) -> Result<(), Fail> {
-    check_changes(&rt, OWN_FIELDS)
+fn names_and_receipts(rt: HostRuntime) -> Result<(), Fail> {
+    check_changes(&rt, NAMES_AND_RECEIPTS)
 }
 
 #[test]
-fn accounts_and_pairs(rt: HostRuntime) -> Result<(), Fail> {
-    check_changes(&rt, ACCOUNTS)
+fn domains(rt: HostRuntime) -> Result<(), Fail> {
+    check_changes(&rt, DOMAINS)
+}
+
+#[test]
+fn keys_and_zones(rt: HostRuntime) -> Result<(), Fail> {
+    check_changes(&rt, KEYS_AND_ZONES)
+}
+
+#[test]
+fn limits_and_accounts(rt: HostRuntime) -> Result<(), Fail> {
+    check_changes(&rt, LIMITS_AND_ACCOUNTS)
+}
+
+#[test]
+fn addresses(rt: HostRuntime) -> Result<(), Fail> {
+    check_changes(&rt, ADDRESSES)
+}
+
+#[test]
+fn pairs(rt: HostRuntime) -> Result<(), Fail> {
+    check_changes(&rt, PAIRS)
 }
 
 #[test]
@@ -212,6 +242,28 @@ fn ten_thousand_accounts(rt: HostRuntime) -> Result<(), Fail> {
 fn address(alloc: Global, text: &[u8]) -> Result<Address, Fail> {
     let address = Address::read(alloc, text).ok().ok_or("an address")?;
     Ok(address)
+}
+
+/// The directory without its second provider.
+#[test]
+fn reads_one_provider(rt: HostRuntime) -> Result<(), Fail> {
+    let (alfa, _) = DIRECTORY
+        .split_once("[[provider]]~name = \"beta\"")
+        .ok_or("a second provider")?;
+    let text = with_lines(rt.alloc(), alfa)?;
+    let directory = Directory::read(rt.alloc(), text.as_str())
+        .ok()
+        .ok_or("a directory")?;
+    assert_eq!(rt; directory.count(), 1);
+    let anna = address(rt.alloc(), b"anna@alfa.example")?;
+    assert_eq!(rt; directory.home_of(&anna), Some(0));
+    assert!(rt; directory.account(&anna).is_some());
+    let bob = address(rt.alloc(), b"bob@beta.example")?;
+    assert_eq!(rt; directory.home_of(&bob), None);
+    assert!(rt; directory.account(&bob).is_none());
+    assert_eq!(rt; directory.named(b"beta"), None);
+    assert!(rt; directory.provider(1).is_none());
+    Ok(())
 }
 
 #[test]
