@@ -10,12 +10,12 @@ use Rattle.std.specs.Fmt.{decimal}
 use Rattle.std.specs.List.{flat_map, list_all, list_any}
 use Rattle.std.specs.Str.Parse.{AllDigits}
 use Rattle.pec_heads.proofs.LineLemmas.{content_again, lines_are, next_line}
-use Rattle.pec_heads.specs.Lines.{AllHaveNoFeed, HasNoFeed, content_of, ended, is_feed, size, whole_lines}
+use Rattle.pec_heads.specs.Lines.{AllHaveNoFeed, HasNoFeed, content_of, ended, is_feed, size, whole_lines, last_piece}
 use Rattle.pec_bodies.proofs.LineLemmas.{ended_length, size_append}
 use Rattle.pec_bodies.proofs.MarkLaws.{closing_again, delimiter_again, text_again}
 use Rattle.pec_bodies.specs.Composing.{AllHaveHeads, IsComposed, IsReadAgain, all_lines, begins, boundary_number, delimited, ended_line, is_taken, joined, wholes_of}
 use Rattle.pec_bodies.specs.Marks.{dashed, mark_of}
-use Rattle.pec_bodies.specs.Multiparts.{AllSections, AllText, AreParts, IsMarked, IsMultipart, ReadPart, Place, Section, bytes_at, inner_size, last_piece, lines_of, part_place, places_of}
+use Rattle.pec_bodies.specs.Multiparts.{AllSections, AllText, AreParts, IsMarked, IsMultipart, ReadPart, Place, Section, bytes_at, inner_size, lines_of, part_place, places_of}
 use Rattle.pec_bodies.specs.declared.marks.Mark.TheVariants.{Closing, Text}
 
 -- ---- lines

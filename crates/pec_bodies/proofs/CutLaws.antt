@@ -2,9 +2,9 @@
 use Rattle.std.proofs.Common.{◌≡◌, ◌≢◌, ℕ, ◌+◌, List, [], ◌∷◌, ◌++◌, map, length, Option, Some, None, Result, Ok, Err, refl, ap, sym, ◌∙◌, arith, append_assoc, zero-add}
 use Rattle.std.proofs.lemmas.List.{append-nil}
 use Rattle.std.specs.List.{flat_map}
-use Rattle.pec_heads.specs.Lines.{whole_lines, content_of, size}
+use Rattle.pec_heads.specs.Lines.{whole_lines, content_of, size, last_piece}
 use Rattle.pec_bodies.specs.Marks.{mark_of}
-use Rattle.pec_bodies.specs.Multiparts.{AllSections, AllText, Closes, HasNoClosing, HasNoDelimiter, IsMarked, IsMultipart, Place, Section, bytes_at, inner_size, last_piece, lines_of, places_of}
+use Rattle.pec_bodies.specs.Multiparts.{AllSections, AllText, Closes, HasNoClosing, HasNoDelimiter, IsMarked, IsMultipart, Place, Section, bytes_at, inner_size, lines_of, places_of}
 use Rattle.pec_bodies.specs.PartsReading.{behind_opening, between, by_mark, cut_of, opening_from, wholes_from}
 use Rattle.pec_bodies.specs.declared.faults.BodyFault.{BodyFault}
 use Rattle.pec_bodies.specs.declared.faults.BodyFault.TheVariants.{NoBoundary, NoOpening, NoClosing, PartHead, NoMemory}

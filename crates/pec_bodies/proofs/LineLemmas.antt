@@ -1,21 +1,11 @@
--- What stands behind the last line feed, and texts cut behind their first line.
-use Rattle.std.proofs.Common.{◌≡◌, ℕ, ◌+◌, ◌<◌, ◌≤◌, List, [], ◌∷◌, ◌++◌, length, drop, Some, None, refl, ap, sym, ◌∙◌, arith}
+-- How long the lines of a text are, and texts cut behind their first line.
+use Rattle.std.proofs.Common.{◌≡◌, ℕ, ◌+◌, ◌≤◌, List, [], ◌∷◌, ◌++◌, length, drop, refl, ap, ◌∙◌, arith}
 use Rattle.std.proofs.Math.Seq.{drop-drop}
-use Rattle.std.proofs.lemmas.List.{length-append, length-take-le}
-use Rattle.std.specs.List.{flat_map, position}
+use Rattle.std.proofs.lemmas.List.{length-append}
+use Rattle.std.specs.List.{flat_map}
 use Rattle.pec_heads.specs.Heads.{NamedValue, IsHead}
-use Rattle.pec_heads.specs.Lines.{ended, is_feed, whole_lines, size}
-use Rattle.pec_heads.proofs.LineLemmas.{lines_are, lines_at, lines_none}
-use Rattle.pec_bodies.specs.Multiparts.{last_piece}
-
-pub piece_none : (text : List ℕ) → position is_feed text ≡ None → last_piece text ≡ text
-unfolding last_piece
-piece_none text e = rw (lines_none text e) refl
-
-pub piece_at : (text : List ℕ) (k : ℕ) → position is_feed text ≡ Some k → k < length text → last_piece text ≡ last_piece (drop (k + 1) text)
-unfolding last_piece
-piece_at text k e below =
-    rw (lines_at text k e, length-take-le k text (omega (arith, below))) (sym (drop-drop (size (whole_lines (drop (k + 1) text))) (k + 1) text))
+use Rattle.pec_heads.specs.Lines.{ended, whole_lines, size}
+use Rattle.pec_heads.proofs.LineLemmas.{lines_are}
 
 pub drop_step : (text rest : List ℕ) (at n : ℕ) → rest ≡ drop at text → drop n rest ≡ drop (at + n) text
 drop_step text rest at n e = ap (drop n) e ∙ drop-drop n at text

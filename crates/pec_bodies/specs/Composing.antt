@@ -5,9 +5,9 @@ use Rattle.std.specs.Fmt.{decimal}
 use Rattle.std.specs.List.{flat_map, list_any}
 use Rattle.std.specs.Str.{bytes_eq}
 use Rattle.pec_heads.specs.Heads.{NamedValue}
-use Rattle.pec_heads.specs.Lines.{whole_lines}
+use Rattle.pec_heads.specs.Lines.{whole_lines, last_piece}
 use Rattle.pec_bodies.specs.Marks.{dashed}
-use Rattle.pec_bodies.specs.Multiparts.{IsPart, IsParts, ReadPart, last_piece}
+use Rattle.pec_bodies.specs.Multiparts.{IsPart, IsParts, ReadPart}
 use Rattle.pec_bodies.specs.Parameters.{boundary_of}
 
 -- the boundary with this number

@@ -3,7 +3,7 @@
 use Rattle.std.specs.Prelude.{◌≡◌, ◌≢◌, ℕ, ◌+◌, ◌-◌, List, [], ◌∷◌, ◌++◌, length, take, drop, Some, None, Result, Ok, Err, ◌⊎◌}
 use Rattle.std.specs.List.{flat_map}
 use Rattle.pec_heads.specs.Heads.{NamedValue, IsHead, IsFaulty}
-use Rattle.pec_heads.specs.Lines.{whole_lines, content_of, size}
+use Rattle.pec_heads.specs.Lines.{whole_lines, last_piece, content_of, size}
 use Rattle.pec_heads.specs.declared.faults.HeadFault.{HeadFault}
 use Rattle.pec_bodies.specs.Marks.{mark_of}
 use Rattle.pec_bodies.specs.Parameters.{boundary_of}
@@ -13,10 +13,6 @@ use Rattle.pec_bodies.specs.declared.marks.Mark.{Mark}
 use Rattle.pec_bodies.specs.declared.marks.Mark.TheVariants.{Delimiter, Closing, Text}
 
 -- ---- lines
-
--- what stands behind the last line feed
-unfoldable pub last_piece : List ℕ → List ℕ
-last_piece text = drop (size (whole_lines text)) text
 
 -- the line is this to the boundary, its line end not counted
 abbrev pub IsMarked : List ℕ → Mark → List ℕ → Type 0

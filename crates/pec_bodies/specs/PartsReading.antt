@@ -3,10 +3,10 @@
 use Rattle.std.specs.Prelude.{ℕ, ◌+◌, ◌-◌, List, [], ◌∷◌, ◌++◌, length, take, drop, Option, Some, None, Result, Ok, Err}
 use Rattle.pec_heads.specs.Heads.{NamedValue}
 use Rattle.pec_heads.specs.HeadReading.{read_of}
-use Rattle.pec_heads.specs.Lines.{whole_lines, content_of}
+use Rattle.pec_heads.specs.Lines.{whole_lines, content_of, last_piece}
 use Rattle.pec_heads.specs.declared.faults.HeadFault.{HeadFault}
 use Rattle.pec_bodies.specs.Marks.{mark_of}
-use Rattle.pec_bodies.specs.Multiparts.{last_piece, ReadPart}
+use Rattle.pec_bodies.specs.Multiparts.{ReadPart}
 use Rattle.pec_bodies.specs.Parameters.{boundary_of}
 use Rattle.pec_bodies.specs.declared.faults.BodyFault.{BodyFault}
 use Rattle.pec_bodies.specs.declared.faults.BodyFault.TheVariants.{NoBoundary, NoOpening, NoClosing, PartHead}

@@ -4,7 +4,7 @@ ghost use Rattle.pec_bodies.specs.Composing.{AllHaveHeads, IsComposed, IsReadAga
 ghost use Rattle.pec_bodies.specs.Multiparts.{ReadPart};
 ghost use Rattle.pec_bodies.specs.Marks.{dashed};
 
-use crate::lines::first_line;
+use pec_heads::first_line;
 use pec_types::{NoMemory, Text8};
 use std::alloc::{AllocError, Global};
 

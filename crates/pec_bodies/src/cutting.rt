@@ -1,13 +1,12 @@
 ghost use Rattle.std.specs.Prelude.{◌≡◌, ℕ, ◌≤◌, [], drop, length, map, IfSome};
 ghost use Rattle.std.specs.Option.{option_map};
-ghost use Rattle.pec_heads.specs.Lines.{whole_lines};
-ghost use Rattle.pec_bodies.specs.Multiparts.{last_piece};
+ghost use Rattle.pec_heads.specs.Lines.{whole_lines, last_piece};
 ghost use Rattle.pec_bodies.specs.PartsReading.{cut_of, opening_from, wholes_from};
 ghost use Rattle.pec_bodies.specs.Giving.{GivesParts};
 
 use crate::faults::BodyFault;
-use crate::lines::{content, first_line};
 use crate::marks::{Mark, mark_of};
+use pec_heads::{content, first_line};
 use std::alloc::Global;
 
 /// The parts of a body, as slices of it.

@@ -2,12 +2,10 @@
 //! section 5.1, and RFC 2046, section 5.1, within this project's profile).
 #![tactic(auto)]
 
-mod blanks;
 mod composing;
 mod cutting;
 mod entries;
 mod faults;
-mod lines;
 mod marks;
 mod parameters;
 mod parts;

@@ -3,7 +3,7 @@ ghost use Rattle.std.specs.Option.{option_map};
 ghost use Rattle.pec_bodies.specs.Marks.{IsClosing, IsDelimiter, after_front, behind_dashed, mark_of, mark_behind};
 ghost use Rattle.pec_bodies.specs.declared.marks.Mark.TheVariants as marks;
 
-use crate::blanks::are_blanks;
+use pec_heads::is_all_blank;
 
 /// The law of delimiters: a line, without its line end, is one where it is two dashes, the boundary and blanks, and a closing
 /// one where two dashes stand before the blanks.
@@ -48,13 +48,13 @@ fn behind_dashed<'a>(line: &'a [u8], boundary: &[u8]) -> Option<&'a [u8]>
 fn mark_behind(rest: &[u8]) -> Mark
     ensures { result ≡ mark_behind rest.now }
 {
-    if are_blanks(rest) {
+    if is_all_blank(rest) {
         return Mark::Delimiter;
     }
     let Some(last) = after_front(rest, b"--".as_slice()) else {
         return Mark::Text;
     };
-    if are_blanks(last) {
+    if is_all_blank(last) {
         Mark::Closing
     } else {
         Mark::Text

@@ -5,8 +5,7 @@ ghost use Rattle.pec_bodies.specs.Parameters.{AllQuoted, before, boundary_of, is
 ghost use Rattle.std.specs.Str.{str_eq_ignore_ascii_case};
 
 use crate::BOUNDARY_LIMIT;
-use crate::blanks::trim;
-use pec_heads::Head;
+use pec_heads::{Head, trim};
 
 /// The law of pieces: a value is cut at the first `;` that stands outside double quotes, and what is behind it likewise; a
 /// value without one is one piece.

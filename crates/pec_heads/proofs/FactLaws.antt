@@ -28,10 +28,10 @@ ok_of (Err fault) addresses e = absurd cc
 is_list : (text : List ℕ) (addresses : List (List ℕ)) → list_of text ≡ Ok addresses → IsList text addresses
 is_list text addresses e = rw e at (list_says text)
 
-listed_is : (name : List ℕ) (fields : List NamedValue) (addresses : List (List ℕ)) → listed name fields ≡ Some addresses → IsList (joined_values name fields) addresses
+pub listed_is : (name : List ℕ) (fields : List NamedValue) (addresses : List (List ℕ)) → listed name fields ≡ Some addresses → IsList (joined_values name fields) addresses
 listed_is name fields addresses e = is_list (joined_values name fields) addresses (ok_of (list_of (joined_values name fields)) addresses e)
 
-listed_again : (name : List ℕ) (fields : List NamedValue) (addresses : List (List ℕ)) → IsList (joined_values name fields) addresses → listed name fields ≡ Some addresses
+pub listed_again : (name : List ℕ) (fields : List NamedValue) (addresses : List (List ℕ)) → IsList (joined_values name fields) addresses → listed name fields ≡ Some addresses
 listed_again name fields addresses h = ap result_ok (list_again (joined_values name fields) addresses h)
 
 -- ---- the sender
@@ -41,7 +41,7 @@ one_item [] e = absurd cc
 one_item (x ∷ []) e = (x, refl)
 one_item (x ∷ y ∷ xs) e = absurd (both_ways (length (x ∷ y ∷ xs) == 1) (eqb-suc-suc (length (y ∷ xs)) 0 ∙ eqb-suc-zero (length xs)) e)
 
-only_is : (xs : List (List ℕ)) (x : List ℕ) → only_one xs ≡ Some x → xs ≡ x ∷ []
+pub only_is : (xs : List (List ℕ)) (x : List ℕ) → only_one xs ≡ Some x → xs ≡ x ∷ []
 only_is [] x e = absurd cc
 only_is (y ∷ []) x e = ap (λ z. z ∷ []) (some_is y x e)
 only_is (y ∷ z ∷ xs) x e = absurd cc
@@ -88,7 +88,7 @@ copies_case fields copies true e f = inl (none_item (values_of (codes "Cc") fiel
 copies_case fields copies false e f =
     inr ((λ n. let z : (length (values_of (codes "Cc") fields) == 0) ≡ true = rw n refl in both_ways (length (values_of (codes "Cc") fields) == 0) e z), listed_is (codes "Cc") fields copies f)
 
-copies_again : (fields : List NamedValue) (copies : List (List ℕ)) → AreCopies fields copies → copies_of fields ≡ Some copies
+pub copies_again : (fields : List NamedValue) (copies : List (List ℕ)) → AreCopies fields copies → copies_of fields ≡ Some copies
 copies_again fields copies (inl h) = rw (h.0, h.1) refl
 copies_again fields copies (inr h) = rw (some_item (values_of (codes "Cc") fields) h.0) (listed_again (codes "Cc") fields copies h.1)
 

@@ -1,11 +1,11 @@
 -- The lines of a text, where its first line feed is known and where none is there.
-use Rattle.std.proofs.Common.{◌≡◌, ℕ, ◌+◌, ◌-◌, List, [], ◌∷◌, ◌++◌, Bool, true, false, not, cond, length, take, drop, Some, None, refl, ap, arith, eqb-true}
+use Rattle.std.proofs.Common.{◌≡◌, ℕ, ◌+◌, ◌-◌, ◌<◌, List, [], ◌∷◌, ◌++◌, Bool, true, false, not, cond, length, take, drop, Some, None, refl, ap, sym, arith, eqb-true}
 use Rattle.std.proofs.lemmas.Bool.{and_parts, and_from, not-true}
 use Rattle.std.specs.List.{list_all, position}
-use Rattle.std.proofs.Math.Seq.{take-append_seam, drop-append-add, get_or-append_seam}
-use Rattle.std.proofs.lemmas.List.{length-append}
+use Rattle.std.proofs.Math.Seq.{take-append_seam, drop-append-add, drop-drop, get_or-append_seam}
+use Rattle.std.proofs.lemmas.List.{length-append, length-take-le}
 use Rattle.pec_heads.specs.Bytes.{FirstOf}
-use Rattle.pec_heads.specs.Lines.{is_feed, HasNoFeed, IsLines, whole_lines, onto_line, content_of}
+use Rattle.pec_heads.specs.Lines.{is_feed, HasNoFeed, IsLines, whole_lines, last_piece, onto_line, content_of, size}
 use Rattle.pec_heads.proofs.Places.{first_of, none_of}
 
 pub next_line : (line more : List ℕ) → HasNoFeed line → whole_lines (line ++ 10 ∷ more) ≡ line ∷ whole_lines more
@@ -66,6 +66,16 @@ lines_at text k e = let f = first_of is_feed text k e in lines_cut text f.0 k f.
 
 pub lines_none : (text : List ℕ) → position is_feed text ≡ None → whole_lines text ≡ []
 lines_none text e = no_line text (none_of is_feed text e)
+
+-- the last piece, where there is no line feed, and behind the first one
+pub piece_none : (text : List ℕ) → position is_feed text ≡ None → last_piece text ≡ text
+unfolding last_piece
+piece_none text e = rw (lines_none text e) refl
+
+pub piece_at : (text : List ℕ) (k : ℕ) → position is_feed text ≡ Some k → k < length text → last_piece text ≡ last_piece (drop (k + 1) text)
+unfolding last_piece
+piece_at text k e below =
+    rw (lines_at text k e, length-take-le k text (omega (arith, below))) (sym (drop-drop (size (whole_lines (drop (k + 1) text))) (k + 1) text))
 
 last_place : (n : ℕ) → n + 1 - 1 ≡ n
 last_place n = omega arith

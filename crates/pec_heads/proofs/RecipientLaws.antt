@@ -36,7 +36,7 @@ added_all class all (x ∷ xs) = added_case class all x xs (has_address (address
 
 -- ---- what stands before counts as a set
 
-abbrev SameSet : List (List ℕ) → List (List ℕ) → Type 0
+abbrev pub SameSet : List (List ℕ) → List (List ℕ) → Type 0
 SameSet a b = (x : List ℕ) → has_address a x ≡ has_address b x
 
 same_more : (a b : List (List ℕ)) (y : List ℕ) → SameSet a b → SameSet (a ++ y ∷ []) (b ++ y ∷ [])
@@ -62,7 +62,7 @@ fresh_case a xs y true e ih x = ih a x ∙ skip a xs y e x
 fresh_case a xs y false e ih x =
     ap (λ zs. has_address zs x) (sym (append_assoc a (y ∷ []) (fresh (a ++ y ∷ []) xs))) ∙ ih (a ++ y ∷ []) x ∙ ap (λ zs. has_address zs x) (append_assoc a (y ∷ []) xs)
 
-fresh_set : (a xs : List (List ℕ)) → SameSet (a ++ fresh a xs) (a ++ xs)
+pub fresh_set : (a xs : List (List ℕ)) → SameSet (a ++ fresh a xs) (a ++ xs)
 fresh_set a [] = λ x. refl
 fresh_set a (y ∷ xs) = fresh_case a xs y (has_address a y) refl (λ b. fresh_set b xs)
 

@@ -1,5 +1,5 @@
 -- The lines of a text, as mail has them (RFC 5322, section 2.1; that LF alone ends a line too is this project's profile).
-use Rattle.std.specs.Prelude.{◌≡◌, ℕ, ◌+◌, ◌-◌, ◌==◌, List, [], ◌∷◌, ◌++◌, Bool, if◌then◌else◌, length, take, slice_index}
+use Rattle.std.specs.Prelude.{◌≡◌, ℕ, ◌+◌, ◌-◌, ◌==◌, List, [], ◌∷◌, ◌++◌, Bool, if◌then◌else◌, length, take, drop, slice_index}
 use Rattle.std.specs.List.{flat_map}
 use Rattle.pec_heads.specs.Bytes.{NonePass}
 
@@ -41,3 +41,7 @@ content_of line = if slice_index line (length line - 1) == 13 then take (length 
 abbrev pub size : List (List ℕ) → ℕ
 size [] = 0
 size (line ∷ lines) = length line + 1 + size lines
+
+-- what stands behind the last line feed
+unfoldable pub last_piece : List ℕ → List ℕ
+last_piece text = drop (size (whole_lines text)) text

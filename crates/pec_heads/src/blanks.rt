@@ -8,15 +8,15 @@ pub fn blanks_are_cut_at_both_ends()
     ensures only { (bytes value : List ℕ) → IsTrimmed bytes value → trimmed bytes ≡ value }
 {}
 
-/// The bytes without the spaces and tabs at both ends.
+/// The bytes without the spaces and tabs at both ends. It takes no memory.
 #[tactic(auto, unfolding(crate::specs::Bytes::trimmed))]
-pub(crate) fn trim(bytes: &[u8]) -> &[u8]
+pub fn trim(bytes: &[u8]) -> &[u8]
     ensures { result.now ≡ trimmed bytes.now }
 {
     trim_end(trim_start(bytes))
 }
 
-pub(crate) fn trim_start(bytes: &[u8]) -> &[u8]
+fn trim_start(bytes: &[u8]) -> &[u8]
     ensures { result.now ≡ skip_blanks bytes.now }
 {
     let mut rest = bytes;
@@ -40,8 +40,8 @@ pub(crate) fn trim_end(bytes: &[u8]) -> &[u8]
     rest
 }
 
-/// Whether there are only spaces and tabs.
-pub(crate) fn is_all_blank(value: &[u8]) -> bool
+/// Whether there are only spaces and tabs. It takes no memory.
+pub fn is_all_blank(value: &[u8]) -> bool
     ensures { result ≡ is_all_blank value.now }
 {
     value.iter().all(|b| *b == b' ' || *b == b'\t')

@@ -17,10 +17,10 @@ mod recipients;
 #[cfg(test)]
 mod tests;
 
-pub use blanks::blanks_are_cut_at_both_ends;
+pub use blanks::{blanks_are_cut_at_both_ends, is_all_blank, trim};
 pub use faults::{HeadFault, ListFault};
 pub use heads::{Head, a_head_has_one_account, a_list_has_one_reading, a_text_has_one_reading};
-pub use lines::lines_are_the_text;
+pub use lines::{content, first_line, lines_are_the_text};
 
 /// The most bytes that a line of a head has, its line end not counted (RFC 5322, section 2.1.1).
 pub const LINE_LIMIT: usize = 998;

@@ -19,7 +19,8 @@ use Rattle.pec_heads.specs.FactsReading.{listed, only_one, sender_of, copies_of,
 use Rattle.pec_heads.specs.declared.faults.ListFault.{ListFault}
 use Rattle.pec_heads.proofs.Tools.{some_is}
 use Rattle.pec_heads.proofs.HeadLaws.{head_again, faulty_again, either}
-use Rattle.pec_heads.proofs.ListLaws.{list_says, list_again}
+use Rattle.pec_heads.proofs.FactLaws.{listed_is, listed_again, only_is, copies_again}
+use Rattle.pec_heads.proofs.RecipientLaws.{fresh_set}
 use Rattle.pec_points.specs.Admission.{head_in, has_recipient}
 use Rattle.pec_points.specs.Table.{IsFrom, AreSameSet}
 
@@ -53,28 +54,10 @@ head_lost message e =
 
 -- ---- lists
 
-ok_of : (r : Result (List (List ℕ)) ListFault) (addresses : List (List ℕ)) → result_ok r ≡ Some addresses → r ≡ Ok addresses
-ok_of (Ok x) addresses e = ap Ok (some_is x addresses e)
-ok_of (Err fault) addresses e = absurd cc
-
-is_list : (text : List ℕ) (addresses : List (List ℕ)) → list_of text ≡ Ok addresses → IsList text addresses
-is_list text addresses e = rw e at (list_says text)
-
-pub listed_is : (name : List ℕ) (head : List NamedValue) (addresses : List (List ℕ)) → listed name head ≡ Some addresses → IsList (joined_values name head) addresses
-listed_is name head addresses e = is_list (joined_values name head) addresses (ok_of (list_of (joined_values name head)) addresses e)
-
-pub listed_again : (name : List ℕ) (head : List NamedValue) (addresses : List (List ℕ)) → IsList (joined_values name head) addresses → listed name head ≡ Some addresses
-listed_again name head addresses h = ap result_ok (list_again (joined_values name head) addresses h)
-
 pub never_listed : (name : List ℕ) (head : List NamedValue) → listed name head ≡ None → HasList (joined_values name head) → ⊥
 never_listed name head e h = no_some (listed name head) h.0 e (listed_again name head h.0 h.1)
 
 -- ---- the sender
-
-only_is : (xs : List (List ℕ)) (x : List ℕ) → only_one xs ≡ Some x → xs ≡ x ∷ []
-only_is [] x e = absurd cc
-only_is (y ∷ []) x e = ap (λ z. z ∷ []) (some_is y x e)
-only_is (y ∷ z ∷ xs) x e = absurd cc
 
 only_in : (o : Option (List (List ℕ))) (x : List ℕ) → option_and_then only_one o ≡ Some x → o ≡ Some (x ∷ [])
 only_in None x e = absurd cc
@@ -99,38 +82,12 @@ never_from head e address h = no_some (sender_of head) address e (from_again hea
 
 -- ---- facts
 
-some_item : (xs : List (List ℕ)) → (xs ≡ [] → ⊥) → (length xs == 0) ≡ false
-some_item [] n = absurd (n refl)
-some_item (x ∷ xs) n = eqb-suc-zero (length xs)
-
-copies_again : (head : List NamedValue) (copies : List (List ℕ)) → AreCopies head copies → copies_of head ≡ Some copies
-copies_again head copies (inl h) = rw (h.0, h.1) refl
-copies_again head copies (inr h) = rw (some_item (values_of (codes "Cc") head) h.0) (listed_again (codes "Cc") head copies h.1)
-
 pub facts_here : (head : List NamedValue) (sender : List ℕ) (to copies : List (List ℕ)) → sender_of head ≡ Some sender
     → IsList (joined_values (codes "To") head) to → AreCopies head copies → facts_of head ≡ Some (facts_from head sender to copies)
 unfolding facts_of
 facts_here head sender to copies s t k = rw (s, listed_again (codes "To") head to t, copies_again head copies k) refl
 
 -- ---- recipients, as a set
-
-skip_one : (a xs : List (List ℕ)) (y x : List ℕ) → has_address a y ≡ true → (t : Bool) → bytes_eq y x ≡ t → has_address a x || has_address xs x ≡ (has_address a x || (t || has_address xs x))
-skip_one a xs y x e true f = let g : has_address a x ≡ true = rw ((bytes_eq-Decides y x).0 f) at e in rw g refl
-skip_one a xs y x e false f = refl
-
-skip : (a xs : List (List ℕ)) (y : List ℕ) → has_address a y ≡ true → AreSameSet (a ++ xs) (a ++ y ∷ xs)
-skip a xs y e x =
-    list_any-append (λ o. bytes_eq o x) a xs ∙ skip_one a xs y x e (bytes_eq y x) refl ∙ sym (list_any-append (λ o. bytes_eq o x) a (y ∷ xs))
-
-fresh_case : (a xs : List (List ℕ)) (y : List ℕ) (t : Bool) → has_address a y ≡ t → ((b : List (List ℕ)) → AreSameSet (b ++ fresh b xs) (b ++ xs))
-    → AreSameSet (a ++ cond t (fresh a xs) (y ∷ fresh (a ++ y ∷ []) xs)) (a ++ y ∷ xs)
-fresh_case a xs y true e ih x = ih a x ∙ skip a xs y e x
-fresh_case a xs y false e ih x =
-    ap (λ zs. has_address zs x) (sym (append_assoc a (y ∷ []) (fresh (a ++ y ∷ []) xs))) ∙ ih (a ++ y ∷ []) x ∙ ap (λ zs. has_address zs x) (append_assoc a (y ∷ []) xs)
-
-fresh_set : (a xs : List (List ℕ)) → AreSameSet (a ++ fresh a xs) (a ++ xs)
-fresh_set a [] = λ x. refl
-fresh_set a (y ∷ xs) = fresh_case a xs y (has_address a y) refl (λ b. fresh_set b xs)
 
 of_class : (class : Class) (xs : List (List ℕ)) (x : List ℕ) → has_recipient (map (recipient class) xs) x ≡ has_address xs x
 of_class class [] x = refl

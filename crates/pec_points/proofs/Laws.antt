@@ -12,12 +12,12 @@ use Rattle.pec_heads.specs.FactsOfHeads.{has_address, recipients_of}
 use Rattle.pec_heads.specs.FactsReading.{facts_from, facts_of, listed, sender_of}
 use Rattle.pec_heads.proofs.Tools.{some_is}
 use Rattle.pec_heads.proofs.HeadLaws.{one_head, not_both}
-use Rattle.pec_heads.proofs.FactLaws.{facts_found, facts_again, one_facts}
+use Rattle.pec_heads.proofs.FactLaws.{listed_is, facts_found, facts_again, one_facts}
 use Rattle.pec_points.specs.Admission.{differs, strays, outgrows, has_blind_copies, has_recipient, is_path_of, head_in, cause_with, cause_of, admitted, admission_of}
 use Rattle.pec_points.specs.Table.{IsForwardPath, IsFrom, AppliesTo, AppliesIn, NoneBefore, IsCause, IsAccepted}
 use Rattle.pec_points.specs.declared.admission.Admission.{Admission}
 use Rattle.pec_points.specs.declared.admission.Admission.TheVariants.{Accepted, Not}
-use Rattle.pec_points.proofs.Heads.{no_some, head_lost, head_found, listed_is, never_listed, from_is, from_again, never_from, facts_here, recipients_set}
+use Rattle.pec_points.proofs.Heads.{no_some, head_lost, head_found, never_listed, from_is, from_again, never_from, facts_here, recipients_set}
 use Rattle.pec_points.proofs.Sets.{path_is_set, set_is_path}
 use Rattle.pec_points.proofs.Rows.{last_row, none_first, none_next, one_cause}
 

@@ -1,7 +1,6 @@
 -- The first delimiter of all is the first one among the lines that are left.
 use Rattle.std.proofs.Common.{◌≡◌, ◌+◌, drop, length}
-use Rattle.pec_heads.specs.Lines.{whole_lines}
-use Rattle.pec_bodies.specs.Multiparts.{last_piece}
+use Rattle.pec_heads.specs.Lines.{whole_lines, last_piece}
 use Rattle.pec_bodies.specs.PartsReading.{opening_from}
 use Rattle.pec_bodies.proofs.cutting.opening.Given as goal
 

@@ -1,7 +1,6 @@
 -- The parts so far and those among the lines that are left are all.
 use Rattle.std.proofs.Common.{◌≡◌, ◌+◌, ◌≤◌, [], drop, length, map}
-use Rattle.pec_heads.specs.Lines.{whole_lines}
-use Rattle.pec_bodies.specs.Multiparts.{last_piece}
+use Rattle.pec_heads.specs.Lines.{whole_lines, last_piece}
 use Rattle.pec_bodies.specs.PartsReading.{wholes_from}
 use Rattle.pec_bodies.proofs.cutting.wholes_behind.Given as goal
 
