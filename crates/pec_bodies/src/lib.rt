@@ -9,6 +9,7 @@ mod entries;
 mod faults;
 mod lines;
 mod marks;
+mod numbers;
 mod parameters;
 mod parts;
 #[cfg(test)]
