@@ -4,3 +4,4 @@ pub mod MarkLaws
 pub mod CutLaws
 pub mod PartLaws
 pub mod ComposeLaws
+pub mod NumberLaws

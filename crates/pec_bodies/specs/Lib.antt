@@ -5,3 +5,4 @@ pub mod PartsReading
 pub mod Giving
 pub mod Views
 pub mod Composing
+pub mod Numbers

@@ -1,10 +1,9 @@
-ghost use Rattle.std.specs.Prelude.{◌≡◌, ℕ, ◌<◌, ◌^◌, List, ◌++◌, ◌∷◌, [], true, false, length, IfOk, OnOk};
-ghost use Rattle.std.specs.List.{list_any};
-ghost use Rattle.pec_bodies.specs.Composing.{AllHaveHeads, IsComposed, IsReadAgain, all_lines, begins, boundary_number, delimited, ended_line, is_taken, joined, wholes_of};
+ghost use Rattle.std.specs.Prelude.{◌≡◌, ℕ, ◌<◌, ◌^◌, List, ◌++◌, ◌∷◌, [], length, IfOk, OnOk};
+ghost use Rattle.pec_bodies.specs.Composing.{AllHaveHeads, IsComposed, IsReadAgain, boundary_number, delimited, ended_line, joined, wholes_of};
 ghost use Rattle.pec_bodies.specs.Multiparts.{ReadPart};
 ghost use Rattle.pec_bodies.specs.Marks.{dashed};
 
-use pec_heads::first_line;
+use crate::numbers::free_number;
 use pec_types::{NoMemory, Text8};
 use std::alloc::{AllocError, Global};
 
@@ -26,20 +25,6 @@ pub fn compose(alloc: Global, parts: &[Text8]) -> Result<(u64, Vec<u8>), NoMemor
     Ok((number, body))
 }
 
-/// The least number whose boundary is free.
-fn free_number(alloc: Global, parts: &[Text8]) -> Result<u64, NoMemory>
-    ensures free { IfOk result (λ n. is_taken (boundary_number n) parts.now ≡ false) }
-    ensures least { IfOk result (λ n. (k : ℕ) → k < n → is_taken (boundary_number k) parts.now ≡ true) }
-{
-    for number in 0..u64::MAX {
-        let boundary = boundary(alloc, number)?;
-        if !is_taken(boundary.as_slice(), parts) {
-            return Ok(number);
-        }
-    }
-    Err(NoMemory)
-}
-
 #[tactic(auto, unfolding(crate::specs::Composing::boundary_number))]
 fn boundary(alloc: Global, number: u64) -> Result<Vec<u8>, AllocError>
     ensures { IfOk result (λ bytes. bytes.items ≡ boundary_number number) }
@@ -48,41 +33,6 @@ fn boundary(alloc: Global, number: u64) -> Result<Vec<u8>, AllocError>
     let digits = number.to_string(alloc)?;
     bytes.extend_from_slice(digits.as_bytes())?;
     Ok(bytes)
-}
-
-/// Whether a line of some part begins with two dashes and the boundary.
-fn is_taken(boundary: &[u8], parts: &[Text8]) -> bool
-    ensures { result ≡ is_taken boundary.now parts.now }
-{
-    for part in parts {
-        if has_line(part.bytes(), boundary) {
-            return true;
-        }
-    }
-    false
-}
-
-fn has_line(part: &[u8], boundary: &[u8]) -> bool
-    ensures { result ≡ list_any (begins (dashed boundary.now)) (all_lines part.now) }
-{
-    let mut rest = part;
-    while let Some((line, behind)) = first_line(rest) {
-        if begins(line, boundary) {
-            return true;
-        }
-        rest = behind;
-    }
-    begins(rest, boundary)
-}
-
-/// Whether a line begins with two dashes and the boundary.
-fn begins(line: &[u8], boundary: &[u8]) -> bool
-    ensures { result ≡ begins (dashed boundary.now) line.now }
-{
-    match line {
-        [b'-', b'-', rest @ ..] => rest.starts_with(boundary),
-        _ => false,
-    }
 }
 
 /// Each part behind a delimiter, and a closing delimiter.

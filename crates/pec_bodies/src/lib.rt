@@ -7,6 +7,7 @@ mod cutting;
 mod entries;
 mod faults;
 mod marks;
+mod numbers;
 mod parameters;
 mod parts;
 #[cfg(test)]

@@ -212,10 +212,47 @@ fn composes(rt: HostRuntime) -> Result<(), Fail> {
         (b"\n--=_pec_0".as_slice(), 1),
         (b"\n--=_pec_00 x\n--=_pec_12\n--=_pec_3".as_slice(), 2),
         (b"\nx--=_pec_0\n--=_PEC_0".as_slice(), 0),
+        (b"\n--=_pec_0\n--=_pec_1\n--=_pec_2\n".as_slice(), 3),
+        (b"\n--=_pec_12\n".as_slice(), 0),
+        (b"\n--=_pec_0\n--=_pec_12\n".as_slice(), 2),
+        (b"\n--=_pec_00\n".as_slice(), 1),
+        (b"\n--=_pec_01\r\n".as_slice(), 1),
+        (b"\n--=_pec_0\n--=_pec_1".as_slice(), 2),
+        (b"\n --=_pec_0\n".as_slice(), 0),
+        (b"\n--=_pec_\n".as_slice(), 0),
+        (b"\n--=_pec_x0\n--=_pec_+0\n".as_slice(), 0),
+        (
+            b"\n--=_pec_0\n--=_pec_4294967296\n--=_pec_18446744073709551616".as_slice(),
+            2,
+        ),
     ];
     for (part, want) in table {
         let (number, _) = composed(rt.alloc(), [part].as_slice())?;
         assert_eq!(rt; number, want, "{part:?}");
     }
+    let (number, _) = composed(
+        rt.alloc(),
+        [
+            b"\n--=_pec_0\n".as_slice(),
+            b"\n--=_pec_2\n".as_slice(),
+            b"--=_pec_1x".as_slice(),
+        ]
+        .as_slice(),
+    )?;
+    assert_eq!(rt; number, 3);
+    Ok(())
+}
+
+/// Lines that take the numbers below 20,000, one each.
+#[test]
+fn many_numbers_are_taken(rt: HostRuntime) -> Result<(), Fail> {
+    let mut part = Vec::from_slice(rt.alloc(), b"\n".as_slice())?;
+    for number in 0..20_000u32 {
+        part.extend_from_slice(b"--=_pec_".as_slice())?;
+        part.extend_from_slice(number.to_string(rt.alloc())?.as_bytes())?;
+        part.push(b'\n')?;
+    }
+    let (number, _) = composed(rt.alloc(), [part.as_slice()].as_slice())?;
+    assert_eq!(rt; number, 20_000);
     Ok(())
 }
