@@ -1,12 +1,15 @@
 mod AccountLaws
 mod InputLaws
 mod LedgerLaws
+mod LineGrammarLaws
 mod LineLaws
 mod NumberLaws
 mod OpeningLaws
+mod PathGrammarLaws
 mod PathLaws
 mod PlayLaws
 mod RunLaws
 mod ScriptLaws
 mod TextLaws
 mod WholeLaws
+mod WordLaws

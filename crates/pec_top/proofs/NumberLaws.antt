@@ -65,7 +65,7 @@ numeral_of (c ∷ cs) is = rw is.digits (last (eqb c 48) refl)
     last true zero = let one : length (c ∷ cs) ≡ 1 = is.alone (eqb-true c 48 zero) in let none : length cs ≡ 0 = omega arith in rw none refl
     last false other = refl
 
-decimal_spelled : (n : ℕ) → n < 2 ^ 64 → IsSpelled (decimal n)
+pub decimal_spelled : (n : ℕ) → n < 2 ^ 64 → IsSpelled (decimal n)
 decimal_spelled n small = record { digits = digits_decimal own n small; some = decimal_nonempty n small; alone = by_size (ltb 0 n) refl }
   where
     by_size : (x : Bool) → ltb 0 n ≡ x → get_or (decimal n) 0 0 ≡ 48 → length (decimal n) ≡ 1

@@ -6,6 +6,7 @@ pub mod Ending
 pub mod Faults
 pub mod Input
 pub mod Ledger
+pub mod LineGrammar
 pub mod Lines
 pub mod Numbers
 pub mod Paths

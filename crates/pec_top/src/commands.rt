@@ -1,6 +1,8 @@
-ghost use Rattle.std.specs.Prelude.{◌≡◌, ℕ, List, option_map, Option, IfOk};
-ghost use Rattle.pec_directory.specs.Directory.{providers_of};
+ghost use Rattle.std.specs.Prelude.{◌≡◌, ◌↔◌, ℕ, List, option_map, Option, Some, None, IfOk};
+ghost use Rattle.pec_directory.specs.Directory.{Provider, providers_of};
+ghost use Rattle.pec_top.specs.Commands as commands;
 ghost use Rattle.pec_top.specs.Commands.{book_at, command_of, message_of, moment_of, submission_of, submit_at};
+ghost use Rattle.pec_top.specs.LineGrammar.{IsCommand};
 ghost use Rattle.pec_top.specs.Views.{command_shown, submission_shown};
 
 use crate::numbers::read_number;
@@ -51,6 +53,13 @@ pub(crate) fn read_command(
     }
     Ok(None)
 }
+
+/// A line is read as a command exactly where it says that command, and as none exactly where it says none. It says one command at most.
+pub fn a_line_says_one_command()
+    ensures read { (providers : List Provider) (line : List ℕ) (command : commands.Command) → (command_of providers line ≡ Some command) ↔ IsCommand providers line command }
+    ensures none { (providers : List Provider) (line : List ℕ) → (command_of providers line ≡ None) ↔ ((command : commands.Command) → IsCommand providers line command → ⊥) }
+    ensures one { (providers : List Provider) (line : List ℕ) (first other : commands.Command) → IsCommand providers line first → IsCommand providers line other → first ≡ other }
+{}
 
 #[tactic(auto, unfolding(crate::specs::Commands::submit_at))]
 fn read_submit(

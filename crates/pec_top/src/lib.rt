@@ -24,6 +24,7 @@ mod status;
 mod top;
 mod turns;
 
+pub use commands::a_line_says_one_command;
 pub use ledgers::an_entry_is_its_providers_own;
 pub use lines::lines_are_the_text;
 pub use numbers::numbers_are_read_as_they_are_printed;
