@@ -10,29 +10,30 @@ use Rattle.base64.specs.Engines.{standard}
 use Rattle.base64.specs.GeneralPurpose.{decode_of}
 use Rattle.pec_directory.specs.Directory.{Provider, named}
 use Rattle.pec_types.specs.Address.{IsAddress, lowered}
+use Rattle.pec_types.specs.declared.moments.TheConstants.{END_OF_TIME}
 use Rattle.pec_top.proofs.NumberLaws.{decimal_spelled, number_printed, number_read}
 use Rattle.pec_top.proofs.PathGrammarLaws.{address_again, address_read, no_space_in, no_space_path, path_again, path_read}
 use Rattle.pec_top.proofs.WordLaws.{IsCut, Lacks, Led, led, lacks_by, last_again, last_read, word_again, word_read}
 use Rattle.pec_top.specs.Commands.{Command, submit, book, Submission, address_in, book_at, command_of, message_of, moment_of, submission_of, submit_at}
-use Rattle.pec_top.specs.LineGrammar.{end_of_time, IsCommand, IsPath, IsSubmission}
+use Rattle.pec_top.specs.LineGrammar.{IsCommand, IsPath, IsSubmission}
 use Rattle.pec_top.specs.Numbers.{number_of}
 use Rattle.pec_top.specs.Paths.{path_of}
 use Rattle.pec_top.specs.Reading.{◌>>=◌, last_word, where_true, word_at}
 
 -- Moments and messages.
 
-moment_read : (text : List ℕ) (moment : ℕ) → moment_of text ≡ Some moment → (text ≡ decimal moment) × (moment < end_of_time)
+moment_read : (text : List ℕ) (moment : ℕ) → moment_of text ≡ Some moment → (text ≡ decimal moment) × (moment < END_OF_TIME)
 unfolding moment_of
 moment_read text moment e =
-    let one : Led (number_of text) (λ seconds. where_true (nat_lt seconds 4102444800) (Some seconds)) moment = led _ _ _ e in
-    let below : (nat_lt one.found 4102444800 ≡ true) × (one.found ≡ moment) = cond_some _ _ _ one.leads in
-    (number_printed text one.found one.is ∙ ap decimal below.1, subst (λ n. n < 4102444800) below.1 (ltb-true _ _ below.0))
+    let one : Led (number_of text) (λ seconds. where_true (nat_lt seconds END_OF_TIME) (Some seconds)) moment = led _ _ _ e in
+    let below : (nat_lt one.found END_OF_TIME ≡ true) × (one.found ≡ moment) = cond_some _ _ _ one.leads in
+    (number_printed text one.found one.is ∙ ap decimal below.1, subst (λ n. n < END_OF_TIME) below.1 (ltb-true _ _ below.0))
 
-moment_again : (moment : ℕ) → moment < end_of_time → moment_of (decimal moment) ≡ Some moment
+moment_again : (moment : ℕ) → moment < END_OF_TIME → moment_of (decimal moment) ≡ Some moment
 unfolding moment_of
-moment_again moment below = rw (number_read (decimal moment) moment (omega arith) refl, lt-ltb moment 4102444800 below) refl
+moment_again moment below = rw (number_read (decimal moment) moment (omega arith) refl, lt-ltb moment END_OF_TIME below) refl
 
-no_space_decimal : (n : ℕ) → n < end_of_time → Lacks 32 (decimal n)
+no_space_decimal : (n : ℕ) → n < END_OF_TIME → Lacks 32 (decimal n)
 no_space_decimal n below = lacks_by is_ascii_digit 32 refl (decimal n) (decimal_spelled n (omega arith)).digits
 
 told_ok : {T E : Type 0} (r : Result T E) (x : T) → result_ok r ≡ Some x → r ≡ Ok x
@@ -53,7 +54,7 @@ message_again text message e = ap result_ok e
 pub record Means (provider : ℕ) (moment sender path message : List ℕ) (s : Submission) : Type 0 where
   pub provider_is : provider ≡ s.provider
   pub moment_text : moment ≡ decimal s.moment
-  pub moment_is : s.moment < end_of_time
+  pub moment_is : s.moment < END_OF_TIME
   pub sender_is : IsAddress sender
   pub sender_kept : s.sender ≡ lowered sender
   pub path_is : IsPath path s.path

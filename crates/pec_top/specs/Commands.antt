@@ -7,6 +7,7 @@ use Rattle.base64.specs.Engines.{standard}
 use Rattle.base64.specs.GeneralPurpose.{decode_of}
 use Rattle.pec_directory.specs.Directory.{Provider, named}
 use Rattle.pec_types.specs.AddressReading.{address_of}
+use Rattle.pec_types.specs.declared.moments.TheConstants.{END_OF_TIME}
 use Rattle.pec_top.specs.Numbers.{number_of}
 use Rattle.pec_top.specs.Paths.{path_of}
 use Rattle.pec_top.specs.Reading.{◌>>=◌, where_true, word_at, last_word}
@@ -26,7 +27,7 @@ pub data Command : Type 0 where
 unfoldable pub moment_of : List ℕ → Option ℕ
 moment_of text = do
   seconds ← number_of text
-  where_true (nat_lt seconds 4102444800) (Some seconds)
+  where_true (nat_lt seconds END_OF_TIME) (Some seconds)
 
 abbrev pub address_in : List ℕ → Option (List ℕ)
 address_in text = result_ok (address_of text)

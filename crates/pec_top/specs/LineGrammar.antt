@@ -7,6 +7,7 @@ use Rattle.base64.specs.Engines.{standard}
 use Rattle.base64.specs.GeneralPurpose.{decode_of}
 use Rattle.pec_directory.specs.Directory.{Provider, named}
 use Rattle.pec_types.specs.Address.{IsAddress, lowered}
+use Rattle.pec_types.specs.declared.moments.TheConstants.{END_OF_TIME}
 use Rattle.pec_top.specs.Commands.{Command, submit, book, Submission}
 
 -- words with one space between each two
@@ -16,10 +17,6 @@ spaced words = join_with_byte 32 words
 -- no byte is a space
 abbrev pub HasNoSpace : List ℕ → Type 0
 HasNoSpace bytes = AllByRecursion (λ b. b ≢ 32) bytes
-
--- the first second that is no moment, `END_OF_TIME` of pec_types: 2100-01-01T00:00:00Z
-abbrev pub end_of_time : ℕ
-end_of_time = 4102444800
 
 -- a text of 1 to 1,000 addresses, joined by single commas; the path has them in lower case, in the same order
 pub record IsPath (text : List ℕ) (path : List (List ℕ)) : Type 0 where
@@ -40,7 +37,7 @@ pub record IsSubmission (providers : List Provider) (line : List ℕ) (s : Submi
   pub name_is_word : HasNoSpace name
   pub base64_is_word : HasNoSpace base64
   pub provider_is : named providers name ≡ Some s.provider
-  pub moment_is : s.moment < end_of_time
+  pub moment_is : s.moment < END_OF_TIME
   pub sender_is : IsAddress sender
   pub sender_kept : s.sender ≡ lowered sender
   pub path_is : IsPath path s.path

@@ -16,5 +16,5 @@ pub use lists::Items;
 pub use messages::{
     BookLine, Cause, Class, Decision, Facts, MESSAGES, MsgId, Recipient, Refusal, Wish,
 };
-pub use moments::Moment;
+pub use moments::{END_OF_TIME, Moment};
 pub use texts::{Text, Text8, TextFault};
