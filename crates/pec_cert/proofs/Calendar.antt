@@ -1,9 +1,8 @@
 -- What a text shows of a moment, by the calendar of `jiff`.
-use Rattle.std.proofs.Common.{◌≡◌, ℕ, ◌+◌, ◌*◌, ◌<◌, ◌≤◌, ◌^◌, Bool, true, false, cond, refl, sym, ap, ◌∙◌, arith, inl, inr, ℤ, pos, negsuc, neg_ℤ, ◌+ℤ◌, ◌-ℤ◌, ◌*ℤ◌, ◌≤ℤ◌, ◌<ℤ◌, to_z, of_z, w32}
-use Rattle.jiff_core.specs.Calendar.{days_from_civil, day_count, IsCivilDate}
+use Rattle.std.proofs.Common.{◌≡◌, ℕ, ◌+◌, ◌*◌, ◌<◌, Bool, true, false, cond, refl, sym, ap, ◌∙◌, arith, inl, ℤ, pos, negsuc, neg_ℤ, ◌+ℤ◌, ◌-ℤ◌, ◌*ℤ◌, ◌≤ℤ◌, ◌<ℤ◌, to_z, of_z, w32}
+use Rattle.jiff_core.specs.Calendar.{days_from_civil, day_count}
 use Rattle.jiff_core.specs.Date.{epoch_day}
 use Rattle.jiff_core.specs.DateTime.{civil_nanos, civil_seconds}
-use Rattle.jiff_core.specs.Time.{time_seconds, time_nanos}
 use Rattle.jiff_core.specs.Timestamp.{nanos_of_seconds}
 use Rattle.jiff_core.specs.declared.civil.date.Date.{Date}
 use Rattle.jiff_core.specs.declared.civil.datetime.DateTime.{DateTime}
@@ -11,7 +10,7 @@ use Rattle.jiff_core.proofs.DateLemmas.{civil, epoch_day_injective, epoch_day-lt
 use Rattle.jiff_core.proofs.DateTimeLemmas.{civil_nanos-parts, time_nanos_bound}
 use Rattle.jiff_core.proofs.SignedLemmas.{signed_arith}
 use Rattle.pec_cert.specs.Stamp.{Instant, IsMinutes}
-use Rattle.pec_cert.specs.Shown.{IsZone, IsDay, IsTime, minutes_ahead, seconds_shown, IsMomentOf, IsShown}
+use Rattle.pec_cert.specs.Shown.{IsZone, IsDay, IsTime, minutes_ahead, seconds_shown, IsShown}
 use Rattle.pec_cert.specs.declared.lines.ShownZone.{ShownZone}
 use Rattle.pec_cert.specs.declared.lines.ShownDay.{ShownDay}
 use Rattle.pec_cert.specs.declared.lines.ShownTime.{ShownTime}

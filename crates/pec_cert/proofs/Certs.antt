@@ -1,5 +1,5 @@
 -- What is read is the one certificate of the text.
-use Rattle.std.proofs.Common.{◌≡◌, ◌≢◌, ℕ, ◌+◌, ◌-◌, ◌<◌, ◌≤◌, List, [], ◌∷◌, ◌++◌, length, map, Option, Some, None, Result, Ok, Err, refl, sym, ap, subst, ◌∙◌, inl, inr, arith, ℤ, pos}
+use Rattle.std.proofs.Common.{◌≡◌, ◌≢◌, ℕ, ◌-◌, ◌≤◌, List, [], ◌∷◌, ◌++◌, length, map, Option, Some, None, Result, Ok, Err, refl, sym, ap, subst, ◌∙◌, inl, inr, arith, ℤ, pos}
 use Rattle.std.specs.Prelude.{IfSome, codes}
 use Rattle.std.specs.List.{AllByRecursion}
 use Rattle.std.proofs.lemmas.Bool.Decides.{nat_tests}
@@ -12,7 +12,7 @@ use Rattle.pec_grammar.specs.Grammar.{AllOfSome, ending}
 use Rattle.pec_grammar.proofs.Whole.{one_value, whole_told, Tells}
 use Rattle.pec_cert.specs.Certificate.{Value, address, clock, addressee, lines_of, CanBeWritten, IsCert, values, values_from, delivered_from, before_recipients, before_delivered, before_received, IsGood, IsFaultOf, IsFirstFault, AnswersCert}
 use Rattle.pec_cert.specs.Checking.{AllGood, Checked, Says}
-use Rattle.pec_cert.specs.Lines.{addressee_opening, addressee_text, text_of, Fits, IsShape}
+use Rattle.pec_cert.specs.Lines.{addressee_opening, addressee_text, text_of, IsShape}
 use Rattle.pec_cert.specs.Markup.{opening, element}
 use Rattle.pec_cert.specs.Reading.{lines_at}
 use Rattle.pec_cert.specs.Shown.{HasDigits, IsMomentOf, seconds_shown, IsShown, AnswersShown}

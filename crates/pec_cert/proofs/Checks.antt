@@ -1,12 +1,12 @@
 -- The values of a text, one after another, up to the first that is wrong.
-use Rattle.std.proofs.Common.{◌≡◌, ℕ, suc, ◌+◌, ◌<◌, List, [], ◌∷◌, ◌++◌, length, get_or, take, drop, map, Option, Some, None, Result, Ok, Err, refl, sym, ap, subst, ◌∙◌, inl, inr, arith, append_assoc}
+use Rattle.std.proofs.Common.{◌≡◌, ℕ, ◌+◌, ◌<◌, List, [], ◌∷◌, ◌++◌, length, get_or, take, drop, map, Option, Some, None, Err, refl, sym, ap, subst, ◌∙◌, inl, inr, append_assoc}
 use Rattle.std.specs.Prelude.{MatchOption, IfSome, codes}
 use Rattle.std.specs.List.{flat_map, AllByRecursion}
 use Rattle.std.proofs.lemmas.List.{append-nil, take-append-drop, drop_more}
 use Rattle.pec_types.specs.Address.{IsLowerAddress}
 use Rattle.pec_types.specs.Text.{AllPrintable}
 use Rattle.pec_grammar.specs.Grammar.{AllOfSome}
-use Rattle.pec_cert.specs.Certificate.{Value, address, clock, values_from, addressee, addressees_from, delivered_from, received_from, before_recipients, before_shown, before_delivered, before_received, values, lines_of, CanBeWritten, IsGood, IsFirstFault}
+use Rattle.pec_cert.specs.Certificate.{Value, address, clock, values_from, addressee, addressees_from, delivered_from, received_from, before_recipients, before_shown, before_delivered, before_received, values, lines_of, CanBeWritten, IsFirstFault}
 use Rattle.pec_cert.specs.Checking.{AllGood, Checked, Says}
 use Rattle.pec_cert.specs.Lines.{front_text, addressee_opening, addressee_text, Fits}
 use Rattle.pec_cert.specs.Markup.{opening, element}
@@ -17,7 +17,6 @@ use Rattle.pec_cert.specs.declared.certificates.CertRecipient.{CertRecipient}
 use Rattle.pec_cert.specs.declared.lines.Addressee.{Addressee}
 use Rattle.pec_cert.specs.declared.faults.CertFault.{CertFault}
 use Rattle.pec_cert.specs.declared.faults.CertFault.TheVariants.{Syntax, BadDate, BadAddress, NoMemory}
-use Rattle.pec_cert.proofs.Puts.{all_push}
 
 pub first_passes : (us vs : List (List ℕ × Value)) (fault : CertFault) → AllGood us → IsFirstFault vs fault → IsFirstFault (us ++ vs) fault
 first_passes [] vs fault good first = first

@@ -1,9 +1,9 @@
 -- Numbers of two and four digits, and what is shown of a moment, are read exactly.
-use Rattle.std.proofs.Common.{◌≡◌, ℕ, zero, suc, ◌+◌, ◌-◌, ◌*◌, ◌/◌, ◌%◌, ◌<◌, ◌≤◌, Bool, true, false, cond, eqb, leb, List, [], ◌∷◌, ◌++◌, length, Result, Ok, Err, refl, sym, ap, subst, ◌∙◌, inl, inr, arith, append_assoc, IsTrue}
-use Rattle.std.specs.Prelude.{codes, nat_le, ◌&&◌}
+use Rattle.std.proofs.Common.{◌≡◌, ℕ, ◌+◌, ◌-◌, ◌*◌, ◌/◌, ◌%◌, ◌<◌, ◌≤◌, Bool, true, false, List, [], ◌∷◌, ◌++◌, refl, ap, ◌∙◌, inl, inr, arith}
+use Rattle.std.specs.Prelude.{codes}
 use Rattle.std.specs.Char.{is_ascii_digit}
 use Rattle.std.proofs.lemmas.Bool.Decides.{nat_tests}
-use Rattle.pec_grammar.specs.Grammar.{Cursor, Grammar, byte, both, choice, HasValue, led, ended}
+use Rattle.pec_grammar.specs.Grammar.{Grammar, byte, both, choice, HasValue, led, ended}
 use Rattle.pec_grammar.proofs.Parts.{Lawful, byte_lawful}
 use Rattle.pec_grammar.proofs.Sequences.{Views, seen_lawful, both_lawful, led_lawful, ended_lawful}
 use Rattle.pec_grammar.proofs.Openings.{choice_lawful}

@@ -1,11 +1,11 @@
 -- The lines that have words of their own are read exactly: the first three, a recipient's, and the wish's.
-use Rattle.std.proofs.Common.{◌≡◌, ℕ, ◌+◌, ◌<◌, Bool, true, false, List, [], ◌∷◌, ◌++◌, length, Result, Ok, Err, refl, sym, ap, ◌∙◌, inl, inr, arith, append_assoc}
+use Rattle.std.proofs.Common.{◌≡◌, ℕ, Bool, true, false, List, [], ◌∷◌, ◌++◌, length, refl, sym, ap, ◌∙◌, inl, inr, arith, append_assoc}
 use Rattle.std.specs.Prelude.{codes}
 use Rattle.std.specs.List.{flat_map}
 use Rattle.pec_types.specs.Text.{AllPrintable}
 use Rattle.pec_types.specs.declared.messages.Wish.{Wish}
 use Rattle.pec_types.specs.declared.messages.Wish.TheVariants.{Full, Brief, Concise}
-use Rattle.pec_grammar.specs.Grammar.{Cursor, Grammar, both, choice, HasValue, led, ended}
+use Rattle.pec_grammar.specs.Grammar.{Grammar, both, choice, HasValue, led, ended}
 use Rattle.pec_grammar.proofs.Parts.{Lawful}
 use Rattle.pec_grammar.proofs.Sequences.{Views, seen_lawful, same_lawful, both_lawful, led_lawful, ended_lawful}
 use Rattle.pec_grammar.proofs.Alternatives.{HasByte}

@@ -1,5 +1,5 @@
 -- Escaped texts are read exactly.
-use Rattle.std.proofs.Common.{◌≡◌, ℕ, zero, suc, ◌+◌, ◌<◌, Bool, true, false, not, ◌||◌, cond, eqb, List, [], ◌∷◌, ◌++◌, length, Option, Some, None, position, Result, Ok, Err, refl, sym, ap, subst, ◌∙◌, inl, inr, arith, eqb-true, length-append}
+use Rattle.std.proofs.Common.{◌≡◌, ℕ, ◌+◌, Bool, true, false, not, ◌||◌, cond, eqb, List, [], ◌∷◌, ◌++◌, length, Some, None, Ok, Err, refl, sym, ap, subst, ◌∙◌, inl, inr, arith, eqb-true}
 use Rattle.std.specs.Prelude.{◌⊎◌, codes, IsTrue}
 use Rattle.std.specs.List.{flat_map, AllByRecursion, position_from}
 use Rattle.std.proofs.lemmas.Bool.{false≢true}
@@ -7,9 +7,9 @@ use Rattle.std.proofs.lemmas.Iterator.Adapters.{position_from-zero}
 use Rattle.pec_types.specs.Text.{is_unprintable, AllPrintable}
 use Rattle.pec_grammar.specs.Grammar.{Cursor, Read, Grammar, byte, choice, HasValue, union, word, many, many_at, ended_at, led, word_at, ◌>>=◌, seen_at, both_at}
 use Rattle.pec_grammar.proofs.Parts.{Answers, Lawful, byte_lawful}
-use Rattle.pec_grammar.proofs.Sequences.{Views, seen_lawful, same_lawful, word_lawful, led_lawful}
+use Rattle.pec_grammar.proofs.Sequences.{seen_lawful, same_lawful, word_lawful, led_lawful}
 use Rattle.pec_grammar.proofs.Alternatives.{Apart, HasByte, union_lawful, many_lawful}
-use Rattle.pec_grammar.proofs.Openings.{choice_lawful, Opens, led_opens}
+use Rattle.pec_grammar.proofs.Openings.{choice_lawful, Opens}
 use Rattle.pec_cert.specs.Markup.{escape}
 use Rattle.pec_cert.specs.Reading.{is_plain, escapes, char_at, content_at, element_at}
 

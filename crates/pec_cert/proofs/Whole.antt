@@ -1,11 +1,11 @@
 -- The lines of a certification text are read exactly.
-use Rattle.std.proofs.Common.{◌≡◌, ℕ, Bool, true, List, [], ◌∷◌, ◌++◌, Option, Some, None, Result, Ok, Err, refl, sym, ap, ◌∙◌}
+use Rattle.std.proofs.Common.{◌≡◌, ℕ, List, [], ◌∷◌, Option, Some, None, Ok, Err, refl, ◌∙◌}
 use Rattle.std.specs.Prelude.{codes, IfSome}
 use Rattle.pec_types.specs.declared.messages.Wish.{Wish}
-use Rattle.pec_grammar.specs.Grammar.{Cursor, Read, Grammar, ◌>>=◌, both_at, both, seen_at, word_at, word, led_at, led, optional_at, maybe, many_at, many, several_at, several}
+use Rattle.pec_grammar.specs.Grammar.{Cursor, Read, Grammar, ◌>>=◌, both_at, both, seen_at, word_at, word, led, optional_at, maybe, many_at, many, several_at, several}
 use Rattle.pec_grammar.proofs.Parts.{Lawful}
 use Rattle.pec_grammar.proofs.Sequences.{Views, seen_lawful, both_lawful, led_lawful, word_lawful}
-use Rattle.pec_grammar.proofs.Alternatives.{Apart, maybe_lawful, many_lawful}
+use Rattle.pec_grammar.proofs.Alternatives.{maybe_lawful, many_lawful}
 use Rattle.pec_grammar.proofs.Openings.{Opens, apart_by, led_opens, word_opens, maybe_opens, many_opens, both_opens}
 use Rattle.pec_grammar.proofs.Repeats.{several_lawful}
 use Rattle.pec_cert.specs.Lines.{text_of, Fits}

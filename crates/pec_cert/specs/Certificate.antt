@@ -6,7 +6,7 @@ use Rattle.pec_types.specs.Address.{IsLowerAddress}
 use Rattle.pec_types.specs.Text.{AllPrintable}
 use Rattle.pec_grammar.specs.FirstFault.{FirstFault}
 use Rattle.pec_grammar.specs.Grammar.{optional_text, AllOfSome}
-use Rattle.pec_cert.specs.Markup.{escape, opening, element}
+use Rattle.pec_cert.specs.Markup.{opening, element}
 use Rattle.pec_cert.specs.Stamp.{Instant}
 use Rattle.pec_cert.specs.Shown.{zone_text, day_text, IsShown, AnswersShown}
 use Rattle.pec_cert.specs.Lines.{front_text, addressee_opening, addressee_text, shown_text, wish_text, text_of, IsShape}

@@ -1,7 +1,7 @@
 -- What is answered on the values of a text, or on some of them in a row.
 use Rattle.std.specs.Prelude.{◌≡◌, ℕ, List, Result, Ok, Err}
 use Rattle.std.specs.List.{AllByRecursion}
-use Rattle.pec_cert.specs.Certificate.{Value, IsGood, IsFirstFault, CanBeWritten, lines_of, values}
+use Rattle.pec_cert.specs.Certificate.{Value, IsGood, IsFirstFault, CanBeWritten, lines_of}
 use Rattle.pec_cert.specs.Shown.{IsShown}
 use Rattle.pec_cert.specs.declared.certificates.CertData.{CertData}
 use Rattle.pec_cert.specs.declared.lines.Lines.{Lines}

@@ -1,12 +1,12 @@
 -- The lines of a certification text: RFC 6109 section 4.4 for what the elements are for, this project's profile for their order and
 -- spelling. Here an address is any text, and a date any digits.
-use Rattle.std.specs.Prelude.{◌≡◌, ℕ, Bool, true, false, List, [], ◌∷◌, ◌++◌, Option, IfSome, codes}
+use Rattle.std.specs.Prelude.{◌≡◌, ℕ, Bool, true, false, List, ◌++◌, IfSome, codes}
 use Rattle.std.specs.List.{flat_map, AllByRecursion}
 use Rattle.pec_types.specs.Text.{AllPrintable}
 use Rattle.pec_types.specs.declared.messages.Wish.{Wish}
 use Rattle.pec_types.specs.declared.messages.Wish.TheVariants.{Full, Brief, Concise}
 use Rattle.pec_grammar.specs.Grammar.{optional_text, AllOfSome}
-use Rattle.pec_cert.specs.Markup.{escape, opening, closing, element}
+use Rattle.pec_cert.specs.Markup.{escape, closing, element}
 use Rattle.pec_cert.specs.Shown.{zone_text, day_text, time_text, HasDigits}
 use Rattle.pec_cert.specs.declared.certificates.CertKind.{CertKind}
 use Rattle.pec_cert.specs.declared.certificates.CertKind.TheVariants as kinds

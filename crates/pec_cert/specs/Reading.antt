@@ -1,13 +1,11 @@
 -- How the shape of a certification text is read: its parts as grammars. That they spell the text of `Lines`, and are read exactly, are laws
 -- of the crate.
-use Rattle.std.specs.Prelude.{◌≡◌, ℕ, ◌+◌, ◌-◌, ◌*◌, ◌<◌, Bool, true, false, not, ◌&&◌, ◌||◌, ◌==◌, List, [], ◌∷◌, ◌++◌, Option, Some, None, Result, Ok, Err, codes}
+use Rattle.std.specs.Prelude.{ℕ, ◌+◌, ◌-◌, ◌*◌, Bool, true, false, not, ◌||◌, ◌==◌, List, [], ◌∷◌, Ok, codes}
 use Rattle.std.specs.Char.{is_ascii_digit}
-use Rattle.std.specs.List.{flat_map}
-use Rattle.pec_types.specs.Text.{is_unprintable, AllPrintable}
+use Rattle.pec_types.specs.Text.{is_unprintable}
 use Rattle.pec_types.specs.declared.messages.Wish.{Wish}
 use Rattle.pec_types.specs.declared.messages.Wish.TheVariants.{Full, Brief, Concise}
-use Rattle.pec_grammar.specs.Grammar.{Cursor, Read, Grammar, ◌>>=◌, byte_at, both_at, seen_at, word_at, led_at, ended_at, otherwise, choice_at, optional_at, many_at, several_at}
-use Rattle.pec_cert.specs.Markup.{escape, opening, closing}
+use Rattle.pec_grammar.specs.Grammar.{Cursor, Read, ◌>>=◌, byte_at, both_at, seen_at, word_at, led_at, ended_at, otherwise, choice_at, optional_at, many_at, several_at}
 use Rattle.pec_cert.specs.declared.certificates.CertKind.{CertKind}
 use Rattle.pec_cert.specs.declared.certificates.CertKind.TheVariants as kinds
 use Rattle.pec_cert.specs.declared.certificates.CertError.{CertError}

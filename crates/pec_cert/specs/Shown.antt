@@ -1,6 +1,6 @@
 -- How a text shows a moment: a zone, and the day and time on a clock of that zone (this project's profile). Days are those of the calendar
 -- of `jiff`; the civil time is the moment and the zone's whole minutes.
-use Rattle.std.specs.Prelude.{◌≡◌, ℕ, ◌+◌, ◌*◌, ◌<◌, ◌≤◌, ◌⊎◌, ℤ, pos, neg_ℤ, ◌+ℤ◌, ◌*ℤ◌, Bool, true, false, List, [], ◌∷◌, ◌++◌, codes, if◌then◌else◌, Result, Ok, Err}
+use Rattle.std.specs.Prelude.{◌≡◌, ℕ, ◌+◌, ◌*◌, ◌<◌, ◌≤◌, ◌⊎◌, ℤ, pos, neg_ℤ, ◌+ℤ◌, ◌*ℤ◌, Bool, true, false, List, ◌++◌, codes, if◌then◌else◌, Result, Ok, Err}
 use Rattle.jiff_core.specs.Calendar.{days_from_civil, IsCivilDate}
 use Rattle.pec_cert.specs.Markup.{two_digits, four_digits}
 use Rattle.pec_cert.specs.Stamp.{Instant}

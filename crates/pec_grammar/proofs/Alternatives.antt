@@ -1,12 +1,12 @@
 -- Parts that may be absent, repeated, or one of several. What tells them apart is that no spelling of one begins as one of another does.
-use Rattle.std.proofs.Common.{◌≡◌, ℕ, zero, suc, ◌+◌, ◌<◌, ◌≤◌, Bool, true, false, cond, eqb, ltb, List, [], ◌∷◌, ◌++◌, length, Option, Some, None, Result, Ok, Err, refl, sym, ap, subst, ◌∙◌, inl, inr, arith, append_assoc, length-append, eqb-true, ltb-true, ltb-false}
-use Rattle.std.specs.Prelude.{IsTrue, IfSome, ◌⊎◌}
+use Rattle.std.proofs.Common.{◌≡◌, ℕ, zero, suc, ◌+◌, ◌<◌, ◌≤◌, Bool, true, false, cond, ltb, List, [], ◌∷◌, ◌++◌, length, Option, Some, None, Ok, Err, refl, sym, ap, subst, ◌∙◌, inl, inr, arith, append_assoc, length-append, ltb-true, ltb-false}
+use Rattle.std.specs.Prelude.{IfSome, ◌⊎◌}
 use Rattle.std.specs.List.{flat_map, AllByRecursion}
-use Rattle.std.proofs.lemmas.List.{append_cancel_left, append-nil}
-use Rattle.std.proofs.lemmas.Bool.{false≢true, cases_lt}
-use Rattle.pec_grammar.specs.Grammar.{Cursor, Read, Grammar, farther, ◌>>=◌, both_at, both, word_at, word, led, otherwise, union, named_at, choice_at, HasValue, choice, found, optional_at, optional_text, maybe, once_more, many_from, many_at, many}
+use Rattle.std.proofs.lemmas.List.{append-nil}
+use Rattle.std.proofs.lemmas.Bool.{cases_lt}
+use Rattle.pec_grammar.specs.Grammar.{Cursor, Read, Grammar, farther, ◌>>=◌, both_at, otherwise, union, found, optional_text, maybe, once_more, many_from, many}
 use Rattle.pec_grammar.proofs.Parts.{Takes, Stops, Answers, Lawful}
-use Rattle.pec_grammar.proofs.Sequences.{within, pair_is, joined, word_lawful}
+use Rattle.pec_grammar.proofs.Sequences.{within, pair_is, joined}
 
 -- no spelling of the one and of the other are fronts of one text
 abbrev pub Apart : {A B : Type 0} → Grammar A → Grammar B → Type 0

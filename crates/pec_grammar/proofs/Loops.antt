@@ -1,5 +1,5 @@
 -- The loops of the readers of words, a turn at a time, and what stops a reader.
-use Rattle.std.proofs.Common.{◌≡◌, ℕ, ◌+◌, ◌<◌, ◌≤◌, eqb, List, [], ◌∷◌, length, get_or, drop, map, Result, Ok, Err, sym, ap, ◌∙◌}
+use Rattle.std.proofs.Common.{◌≡◌, ℕ, ◌+◌, ◌<◌, ◌≤◌, eqb, List, length, get_or, drop, map, Result, Ok, Err, sym, ap, ◌∙◌}
 use Rattle.std.proofs.lemmas.List.{at_drop_more, at_drop_all}
 use Rattle.std.specs.Borrow.{Bor}
 use Rattle.pec_grammar.specs.Grammar.{Cursor, Read, ◌>>=◌, byte_at, word_at, otherwise, named_at, choice_at}

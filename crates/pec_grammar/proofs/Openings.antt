@@ -1,11 +1,11 @@
 -- Words that are apart: in a table, and at the front of spellings.
-use Rattle.std.proofs.Common.{◌≡◌, ℕ, ◌+◌, ◌<◌, ◌≤◌, Bool, true, false, ◌&&◌, cond, eqb, List, [], ◌∷◌, ◌++◌, length, Option, Some, None, Result, Ok, Err, refl, sym, ap, subst, ◌∙◌, inl, inr, append_assoc, eq-eqb}
-use Rattle.std.specs.Prelude.{IsTrue, IfSome, ◌⊎◌}
+use Rattle.std.proofs.Common.{◌≡◌, ℕ, Bool, true, false, ◌&&◌, cond, eqb, List, [], ◌∷◌, ◌++◌, Option, Some, None, Ok, Err, refl, sym, ap, ◌∙◌, inl, inr, append_assoc, eq-eqb}
+use Rattle.std.specs.Prelude.{IfSome, ◌⊎◌}
 use Rattle.std.specs.List.{flat_map, AllByRecursion}
 use Rattle.std.proofs.lemmas.Bool.{false≢true}
 use Rattle.std.proofs.lemmas.List.{append-nil}
-use Rattle.pec_grammar.specs.Grammar.{Cursor, Read, Grammar, ◌>>=◌, byte, both, seen_at, word_at, word, led, otherwise, named_at, choice_at, HasValue, choice, maybe, many, AllOfSome, several}
-use Rattle.pec_grammar.proofs.Parts.{Answers, Lawful}
+use Rattle.pec_grammar.specs.Grammar.{Cursor, Read, Grammar, both, seen_at, word, led, otherwise, named_at, choice_at, HasValue, choice, maybe, many, AllOfSome, several}
+use Rattle.pec_grammar.proofs.Parts.{Lawful}
 use Rattle.pec_grammar.proofs.Sequences.{Views, seen_lawful, word_lawful}
 use Rattle.pec_grammar.proofs.Alternatives.{Apart, union_lawful}
 

@@ -1,10 +1,8 @@
 -- What makes a grammar lawful: reading it is exact.
-use Rattle.std.proofs.Common.{◌≡◌, ℕ, zero, suc, ◌+◌, ◌<◌, ◌≤◌, Bool, true, false, cond, eqb, ltb, List, [], ◌∷◌, ◌++◌, length, Option, Some, None, Result, Ok, Err, refl, sym, ap, subst, ◌∙◌, inl, inr, arith, append_assoc, length-append, eqb-true, ltb-true, ltb-false}
-use Rattle.std.specs.Prelude.{IsTrue, IfSome, ◌⊎◌}
-use Rattle.std.specs.List.{flat_map, AllByRecursion}
-use Rattle.std.proofs.lemmas.List.{append_cancel_left}
-use Rattle.std.proofs.lemmas.Bool.{false≢true, cases_lt}
-use Rattle.pec_grammar.specs.Grammar.{Cursor, Read, Grammar, farther, ◌>>=◌, byte_from, byte_at, byte, both_at, both}
+use Rattle.std.proofs.Common.{◌≡◌, ℕ, ◌≤◌, Bool, true, false, cond, List, [], ◌∷◌, ◌++◌, length, Ok, Err, refl, sym, subst, ◌∙◌}
+use Rattle.std.specs.Prelude.{IsTrue}
+use Rattle.std.proofs.lemmas.Bool.{false≢true}
+use Rattle.pec_grammar.specs.Grammar.{Cursor, Read, Grammar, farther, byte_from, byte_at, byte}
 
 -- a value taken from the front; what was tried before goes on counting where it reached farther than this
 pub record Takes {A : Type 0} (g : Grammar A) (at : Cursor) (x : A) (after : Cursor) : Type 0 where

@@ -1,12 +1,11 @@
 -- Parts that are repeated: at least once, and in the loop of a reader.
-use Rattle.std.proofs.Common.{◌≡◌, ℕ, zero, suc, ◌+◌, ◌<◌, ◌≤◌, List, [], ◌∷◌, ◌++◌, length, Result, Ok, Err, refl, sym, ap, subst, ◌∙◌, arith, append_assoc, length-append}
+use Rattle.std.proofs.Common.{◌≡◌, ℕ, zero, suc, ◌+◌, ◌<◌, List, [], ◌∷◌, ◌++◌, length, Ok, Err, refl, sym, ap, subst, ◌∙◌, arith, append_assoc, length-append}
 use Rattle.std.proofs.lemmas.List.{append-nil}
-use Rattle.std.specs.List.{flat_map, AllByRecursion}
-use Rattle.pec_grammar.specs.Grammar.{Cursor, Read, Grammar, ◌>>=◌, both_at, both, seen_at, once_more, many_from, many_at, many, several_at, AllOfSome, several}
+use Rattle.std.specs.List.{flat_map}
+use Rattle.pec_grammar.specs.Grammar.{Cursor, Read, Grammar, ◌>>=◌, both_at, both, seen_at, once_more, many_from, many_at, many, AllOfSome, several}
 use Rattle.pec_grammar.proofs.Parts.{Takes, Answers, Lawful}
 use Rattle.pec_grammar.proofs.Sequences.{Views, seen_lawful, both_lawful}
 use Rattle.pec_grammar.proofs.Alternatives.{Apart, HasByte, many_lawful}
-use Rattle.pec_grammar.proofs.Openings.{BeginsWith, Opens}
 
 -- At least once.
 

@@ -1,10 +1,6 @@
 -- One part and then another, a word, the same bytes for another value.
-use Rattle.std.proofs.Common.{◌≡◌, ℕ, zero, suc, ◌+◌, ◌<◌, ◌≤◌, Bool, true, false, cond, eqb, ltb, List, [], ◌∷◌, ◌++◌, length, Option, Some, None, Result, Ok, Err, refl, sym, ap, subst, ◌∙◌, inl, inr, arith, append_assoc, length-append, eqb-true, eq-eqb, ltb-true, ltb-false}
-use Rattle.std.specs.Prelude.{IsTrue, IfSome, ◌⊎◌}
-use Rattle.std.specs.List.{flat_map, AllByRecursion}
-use Rattle.std.proofs.lemmas.List.{append_cancel_left, append-nil}
-use Rattle.std.proofs.lemmas.Bool.{false≢true, cases_lt}
-use Rattle.pec_grammar.specs.Grammar.{Cursor, Read, Grammar, farther, ◌>>=◌, byte_at, byte, both_at, both, seen_at, word_at, word, led_at, led, ended_at, ended}
+use Rattle.std.proofs.Common.{◌≡◌, ℕ, ◌≤◌, eqb, List, [], ◌∷◌, ◌++◌, length, Ok, Err, refl, sym, ap, subst, ◌∙◌, arith, append_assoc, length-append, eqb-true, eq-eqb}
+use Rattle.pec_grammar.specs.Grammar.{Cursor, Read, Grammar, ◌>>=◌, byte_at, byte, both_at, both, seen_at, word_at, word, led, ended_at, ended}
 use Rattle.pec_grammar.proofs.Parts.{Takes, Stops, Answers, Lawful, byte_lawful}
 
 pub within : (bytes front stop : List ℕ) → bytes ≡ front ++ stop → length stop ≤ length bytes

@@ -1,11 +1,11 @@
 -- A whole text: reading it gives its value, or the place of its first fault.
-use Rattle.std.proofs.Common.{◌≡◌, ℕ, zero, suc, ◌+◌, ◌-◌, ◌<◌, ◌≤◌, Bool, true, false, cond, eqb, ltb, List, [], ◌∷◌, ◌++◌, length, take, Option, Some, None, Result, Ok, Err, refl, sym, ap, subst, ◌∙◌, inl, inr, arith, append_assoc, length-append, eqb-true, ltb-true, ltb-false}
+use Rattle.std.proofs.Common.{◌≡◌, ℕ, zero, suc, ◌-◌, ◌<◌, ◌≤◌, Bool, true, false, cond, eqb, List, [], ◌∷◌, ◌++◌, length, take, Result, Ok, Err, refl, sym, ap, subst, ◌∙◌, arith, append_assoc, length-append, eqb-true}
 use Rattle.std.proofs.Math.Seq.{take-append_seam}
 use Rattle.std.proofs.lemmas.List.{append-nil, nil_from_length}
-use Rattle.std.proofs.lemmas.Bool.{false≢true, eqb-false}
-use Rattle.pec_grammar.specs.Grammar.{Cursor, Read, Grammar, farther, ending, whole}
-use Rattle.pec_grammar.specs.FirstFault.{IsFront, FirstFault, IsSpelled}
-use Rattle.pec_grammar.proofs.Parts.{Takes, Stops, Answers, Lawful}
+use Rattle.std.proofs.lemmas.Bool.{eqb-false}
+use Rattle.pec_grammar.specs.Grammar.{Read, Grammar, ending, whole}
+use Rattle.pec_grammar.specs.FirstFault.{FirstFault, IsSpelled}
+use Rattle.pec_grammar.proofs.Parts.{Stops, Answers, Lawful}
 use Rattle.pec_grammar.proofs.Alternatives.{farther_second}
 use Rattle.pec_grammar.proofs.Sequences.{within}
 

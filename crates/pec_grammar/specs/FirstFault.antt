@@ -1,5 +1,5 @@
 -- The place of a text's first fault: the first byte with which no right text goes on, or the text's end where there is no such byte.
-use Rattle.std.specs.Prelude.{◌≡◌, ℕ, ◌-◌, ◌<◌, ◌≤◌, List, ◌++◌, length, take}
+use Rattle.std.specs.Prelude.{◌≡◌, ℕ, ◌<◌, ◌≤◌, List, ◌++◌, length, take}
 use Rattle.pec_grammar.specs.Grammar.{Grammar}
 
 -- the text of a value

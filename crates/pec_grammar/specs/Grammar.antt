@@ -1,6 +1,6 @@
 -- Grammars with one spelling, made of parts: what each part spells, and how it is read from left to right with no step back over what was
 -- taken. That reading is exact, fault places included, is the law `Lawful` of each part.
-use Rattle.std.specs.Prelude.{◌≡◌, ℕ, zero, suc, ◌+◌, ◌-◌, ◌*◌, ◌<◌, Bool, ◌==◌, nat_lt, nat_le, ◌&&◌, List, [], ◌∷◌, ◌++◌, length, Option, Some, None, Result, Ok, Err, IsTrue, IfSome, ⊤, ◌⊎◌, if◌then◌else◌}
+use Rattle.std.specs.Prelude.{◌≡◌, ℕ, zero, suc, Bool, ◌==◌, nat_lt, List, [], ◌∷◌, ◌++◌, length, Option, Some, None, Result, Ok, Err, IsTrue, IfSome, ⊤, ◌⊎◌, if◌then◌else◌}
 use Rattle.std.specs.List.{flat_map, AllByRecursion}
 
 -- where a reader stands: the bytes that are left to read, and those behind the farthest place that anything tried so far has reached

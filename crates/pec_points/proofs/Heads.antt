@@ -1,11 +1,8 @@
 -- `head_in`, and the functions of the facts, say what stands in a message's head.
-use Rattle.std.proofs.Common.{◌≡◌, ℕ, ◌==◌, List, [], ◌∷◌, ◌++◌, Bool, true, false, ◌||◌, cond, map, inl, inr, length, codes, Option, Some, None, Result, Ok, Err, refl, ap, sym, ◌∙◌, append_assoc}
-use Rattle.std.proofs.Math.Dec.{eqb-suc-zero}
+use Rattle.std.proofs.Common.{◌≡◌, ℕ, ◌==◌, List, [], ◌∷◌, ◌++◌, Bool, true, false, ◌||◌, cond, map, inl, inr, length, codes, Option, Some, None, refl, ap, sym, ◌∙◌}
 use Rattle.std.proofs.lemmas.Bool.{eqb-true}
 use Rattle.std.proofs.lemmas.List.Folds.{list_any-append}
-use Rattle.std.proofs.lemmas.Slice.Eq.{bytes_eq-Decides}
 use Rattle.std.specs.Option.{option_and_then}
-use Rattle.std.specs.Result.{result_ok}
 use Rattle.std.specs.Str.{bytes_eq}
 use Rattle.pec_types.specs.declared.messages.Class.{Class}
 use Rattle.pec_types.specs.declared.messages.Class.TheVariants.{Primary, Copy}
@@ -13,16 +10,14 @@ use Rattle.pec_types.specs.declared.messages.Recipient.{Recipient}
 use Rattle.pec_heads.specs.Heads.{NamedValue, IsHead, HasHeadFault, values_of, joined_values}
 use Rattle.pec_heads.specs.HeadReading.{read_of}
 use Rattle.pec_heads.specs.Lists.{IsList, HasList}
-use Rattle.pec_heads.specs.ListReading.{list_of}
 use Rattle.pec_heads.specs.FactsOfHeads.{AreCopies, has_address, fresh, recipient, recipients_of}
-use Rattle.pec_heads.specs.FactsReading.{listed, only_one, sender_of, copies_of, facts_from, facts_of}
-use Rattle.pec_heads.specs.declared.faults.ListFault.{ListFault}
+use Rattle.pec_heads.specs.FactsReading.{listed, only_one, sender_of, facts_from, facts_of}
 use Rattle.pec_heads.proofs.Tools.{some_is}
 use Rattle.pec_heads.proofs.HeadLaws.{head_again, faulty_again, either}
 use Rattle.pec_heads.proofs.FactLaws.{listed_is, listed_again, only_is, copies_again}
 use Rattle.pec_heads.proofs.RecipientLaws.{fresh_set}
 use Rattle.pec_points.specs.Admission.{head_in, has_recipient}
-use Rattle.pec_points.specs.Table.{IsFrom, AreSameSet}
+use Rattle.pec_points.specs.Table.{IsFrom}
 
 -- ---- heads
 

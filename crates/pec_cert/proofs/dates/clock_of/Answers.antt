@@ -1,4 +1,4 @@
-use Rattle.std.proofs.Common.{arith, ◌≡◌, ◌∙◌, pos, ◌*ℤ◌, ◌+ℤ◌}
+use Rattle.std.proofs.Common.{arith, ◌≡◌, pos, ◌*ℤ◌, ◌+ℤ◌}
 use Rattle.jiff_core.specs.DateTime.{civil_nanos}
 use Rattle.jiff_core.specs.Timestamp.{nanos_of_seconds}
 use Rattle.jiff_core.proofs.SignedLemmas.{signed_casts}

@@ -1,4 +1,4 @@
-use Rattle.std.proofs.Common.{◌≡◌, length, Option, None, position}
+use Rattle.std.proofs.Common.{length}
 use Rattle.pec_types.specs.Text.{AllPrintable}
 use Rattle.pec_grammar.specs.Grammar.{many_at}
 use Rattle.pec_grammar.specs.Reading.{standing}

@@ -1,7 +1,6 @@
 use Rattle.std.proofs.Common.{◌≡◌, ◌++◌, take}
 use Rattle.std.specs.Prelude.{codes}
 use Rattle.std.specs.List.{flat_map}
-use Rattle.pec_cert.specs.Lines.{addressee_text}
 use Rattle.pec_cert.specs.Markup.{element}
 use Rattle.pec_cert.proofs.places.put_texts.Given as goal
 

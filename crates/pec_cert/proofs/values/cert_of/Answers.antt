@@ -3,7 +3,6 @@ use Rattle.std.proofs.lemmas.Result.{err_from_is_err_and}
 use Rattle.pec_cert.specs.Certificate.{addressee}
 use Rattle.pec_cert.specs.Shown.{IsShown}
 use Rattle.pec_cert.specs.Stamp.{Instant}
-use Rattle.pec_cert.specs.declared.certificates.CertData.{CertData}
 use Rattle.pec_cert.specs.declared.certificates.CertRecipient.{CertRecipient}
 use Rattle.pec_cert.proofs.Checks.{after_sender, after_recipients, after_stamp, after_delivered, all_checked, lines_are, says}
 use Rattle.pec_cert.proofs.values.cert_of.Goals as goal

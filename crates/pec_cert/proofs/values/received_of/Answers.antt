@@ -1,4 +1,4 @@
-use Rattle.std.proofs.Common.{◌≡◌, ◌∙◌, ◌++◌, ◌∷◌, [], subst, sym, ap, take, List, ℕ}
+use Rattle.std.proofs.Common.{◌∙◌, subst, sym, take, List, ℕ}
 use Rattle.std.specs.Prelude.{codes}
 use Rattle.pec_cert.specs.Certificate.{before_received}
 use Rattle.pec_cert.specs.Markup.{opening, element}

@@ -1,4 +1,4 @@
-use Rattle.std.proofs.Common.{◌≡◌, take, map}
+use Rattle.std.proofs.Common.{◌≡◌, take}
 use Rattle.pec_cert.specs.Certificate.{received_from, before_received}
 use Rattle.pec_cert.specs.Checking.{AllGood}
 use Rattle.pec_cert.proofs.values.received_of.Given as goal

@@ -1,6 +1,4 @@
-use Rattle.std.proofs.Common.{◌≡◌, ◌∙◌, ◌++◌, ◌∷◌, [], subst, sym, ap, take, map}
-use Rattle.std.specs.Prelude.{MatchOption}
-use Rattle.pec_types.specs.Address.{IsLowerAddress}
+use Rattle.std.proofs.Common.{◌∙◌, subst, sym, ap, take, map}
 use Rattle.pec_cert.specs.Certificate.{addressee, before_recipients}
 use Rattle.pec_cert.specs.Lines.{addressee_opening, addressee_text}
 use Rattle.pec_cert.specs.declared.lines.Addressee.{Addressee}

@@ -1,6 +1,4 @@
-use Rattle.std.proofs.Common.{◌≡◌, ◌++◌, subst, take, map, ap, ◌∙◌, sym}
 use Rattle.std.specs.Prelude.{codes}
-use Rattle.std.specs.List.{flat_map}
 use Rattle.pec_types.specs.Address.{IsLowerAddress}
 use Rattle.pec_cert.specs.Markup.{element}
 use Rattle.pec_cert.proofs.Puts.{line_taken, all_taken}
