@@ -10,8 +10,6 @@ mod marks;
 mod numbers;
 mod parameters;
 mod parts;
-#[cfg(test)]
-mod tests;
 
 pub use composing::{compose, what_is_composed_is_read_again};
 pub use faults::BodyFault;

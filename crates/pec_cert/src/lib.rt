@@ -21,6 +21,3 @@ pub use reading::{one_text, read};
 pub use stamps::Stamp;
 pub use writing::write;
 pub use zones::{Zone, ZoneFault};
-
-#[cfg(test)]
-mod tests;

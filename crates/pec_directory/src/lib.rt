@@ -18,6 +18,3 @@ pub use accounts::Account;
 pub use directories::{Directory, a_canonical_text_is_one_directory, a_directory_is_lawful};
 pub use faults::{DirectoryFault, Field};
 pub use providers::Provider;
-
-#[cfg(test)]
-mod tests;

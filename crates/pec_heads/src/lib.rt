@@ -14,8 +14,6 @@ mod parts;
 mod quoting;
 mod reading;
 mod recipients;
-#[cfg(test)]
-mod tests;
 
 pub use blanks::{blanks_are_cut_at_both_ends, is_all_blank, trim};
 pub use faults::{HeadFault, ListFault};

@@ -3,7 +3,5 @@
 #![tactic(auto)]
 
 mod admission;
-#[cfg(test)]
-mod tests;
 
 pub use admission::{Admission, a_message_has_one_answer, admit};

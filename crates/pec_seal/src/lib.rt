@@ -11,6 +11,3 @@ pub use hmac::HmacSealer;
 pub use pec_types::Text8;
 pub use sealers::Sealer;
 pub use seals::{SealFault, opened, seal, sealing_and_opening};
-
-#[cfg(test)]
-mod tests;

@@ -32,8 +32,3 @@ pub use play::a_command_plays_in_one_way;
 pub use script::a_script_plays_in_one_way;
 pub use status::Status;
 pub use top::run_pec;
-
-#[cfg(test)]
-mod network_tests;
-#[cfg(test)]
-mod tests;

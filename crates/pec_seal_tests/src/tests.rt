@@ -2,7 +2,7 @@ ghost use Rattle.std.specs.Prelude.{◌≡◌, IsSome, IfOk, [], ◌∷◌};
 ghost use Rattle.pec_types.specs.Text.{AllPrintable};
 ghost use Rattle.pec_seal.specs.Hmac.{hmac_seals, IsKey};
 
-use crate::{HmacSealer, SealFault, Sealer, Text8, opened, seal};
+use pec_seal::{HmacSealer, SealFault, Sealer, Text8, opened, seal};
 use pec_types::Text;
 use std::alloc::Global;
 use std::process::Abort;

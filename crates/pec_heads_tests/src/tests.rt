@@ -1,5 +1,5 @@
 //! Vectors and tables whose answers were worked out by hand from the rules of RFC 5322 and of this project's profile.
-use crate::{Head, HeadFault, ListFault};
+use pec_heads::{Head, HeadFault, ListFault};
 use pec_types::{AddressFault, Class, Facts, Recipient, Text, Wish};
 use std::alloc::Global;
 use std::process::Abort;

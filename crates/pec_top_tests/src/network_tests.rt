@@ -1,8 +1,8 @@
 //! The program over memory, with several providers: refused directories, clocks, numbers, books and limits by provider. All values were
 //! worked out by hand.
 
-use crate::status::Status;
 use crate::tests::{Ran, run, script_of};
+use pec_top::Status;
 use std::alloc::{AllocError, Global};
 use std::test::Fail;
 

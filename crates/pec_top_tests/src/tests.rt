@@ -2,10 +2,9 @@
 
 ghost use Rattle.std.specs.Prelude.{◌<◌};
 
-use crate::status::Status;
-use crate::top::run_pec;
 use base64::engine::general_purpose::STANDARD;
 use pec_outside::{MemSink, MemSource};
+use pec_top::{Status, run_pec};
 use std::alloc::{AllocError, Global};
 use std::test::Fail;
 

@@ -1,4 +1,4 @@
-use super::*;
+use pec_cert::*;
 use pec_types::{Moment, Text};
 use std::alloc::{AllocError, Global};
 use std::test::Fail;

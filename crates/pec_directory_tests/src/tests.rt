@@ -1,6 +1,6 @@
-use super::*;
 use pec_cert::Zone;
-use pec_types::{Address, Text};
+use pec_directory::*;
+use pec_types::Address;
 use std::alloc::{AllocError, Global};
 use std::process::Abort;
 use std::test::Fail;
@@ -239,103 +239,117 @@ fn ten_thousand_accounts(rt: HostRuntime) -> Result<(), Fail> {
     Ok(())
 }
 
-fn address(alloc: Global, text: &[u8]) -> Result<Address, Fail> {
-    let address = Address::read(alloc, text).ok().ok_or("an address")?;
-    Ok(address)
-}
-
-/// The directory without its second provider.
-#[test]
-fn reads_one_provider(rt: HostRuntime) -> Result<(), Fail> {
+/// The directory without its second provider, or all of it.
+fn directory(alloc: Global, providers: usize) -> Result<Directory, Fail> {
     let (alfa, _) = DIRECTORY
         .split_once("[[provider]]~name = \"beta\"")
         .ok_or("a second provider")?;
-    let text = with_lines(rt.alloc(), alfa)?;
-    let directory = Directory::read(rt.alloc(), text.as_str())
+    let text = if providers == 1 { alfa } else { DIRECTORY };
+    let text = with_lines(alloc, text)?;
+    let directory = Directory::read(alloc, text.as_str())
         .ok()
         .ok_or("a directory")?;
-    assert_eq!(rt; directory.count(), 1);
-    let anna = address(rt.alloc(), b"anna@alfa.example")?;
-    assert_eq!(rt; directory.home_of(&anna), Some(0));
-    assert!(rt; directory.account(&anna).is_some());
-    let bob = address(rt.alloc(), b"bob@beta.example")?;
-    assert_eq!(rt; directory.home_of(&bob), None);
-    assert!(rt; directory.account(&bob).is_none());
-    assert_eq!(rt; directory.named(b"beta"), None);
-    assert!(rt; directory.provider(1).is_none());
+    Ok(directory)
+}
+
+/// Each row has an address, its home, and the quota of its account.
+#[test]
+fn finds_who_is_who(rt: HostRuntime) -> Result<(), Fail> {
+    let rows: [(usize, &[u8], Option<u32>, Option<u64>); 6] = [
+        (2, b"Alice@alfa.example", Some(0), Some(100)),
+        (2, b"Carl@Beta.example", Some(1), Some(1)),
+        (2, b"nobody@beta.example", Some(1), None),
+        (2, b"x@posta.example", None, None),
+        (1, b"anna@alfa.example", Some(0), Some(100)),
+        (1, b"bob@beta.example", None, None),
+    ];
+    for (providers, text, home, quota) in rows {
+        let directory = directory(rt.alloc(), providers)?;
+        let address = Address::find(rt.alloc(), text)
+            .ok()
+            .flatten()
+            .ok_or("an address")?;
+        assert_eq!(rt; directory.home_of(&address), home, "{text:?}");
+        let found = directory.account(&address).map(|account| account.quota());
+        assert_eq!(rt; found, quota, "{text:?}");
+    }
     Ok(())
 }
 
+/// Each row has a name and the number of its provider.
 #[test]
-fn finds_who_is_who(rt: HostRuntime) -> Result<(), Fail> {
-    let text = with_lines(rt.alloc(), DIRECTORY)?;
-    let directory = Directory::read(rt.alloc(), text.as_str())
-        .ok()
-        .ok_or("a directory")?;
-    assert_eq!(rt; directory.count(), 2);
-    assert_eq!(rt; directory.named(b"beta"), Some(1));
-    assert_eq!(rt; directory.named(b"Beta"), None);
-    let carl = address(rt.alloc(), b"Carl@Beta.example")?;
-    assert_eq!(rt; directory.home_of(&carl), Some(1));
-    let account = directory.account(&carl).ok_or("an account")?;
-    assert_eq!(rt; account.quota(), 1);
-    assert_eq!(rt; account.key().bytes(), b"chiave-carl".as_slice());
-    let nobody = address(rt.alloc(), b"nobody@beta.example")?;
-    assert_eq!(rt; directory.home_of(&nobody), Some(1));
-    assert!(rt; directory.account(&nobody).is_none());
-    let far = address(rt.alloc(), b"x@posta.example")?;
-    assert_eq!(rt; directory.home_of(&far), None);
-    assert!(rt; directory.provider(2).is_none());
+fn finds_names(rt: HostRuntime) -> Result<(), Fail> {
+    let rows: [(usize, &[u8], Option<u32>); 4] = [
+        (2, b"alfa", Some(0)),
+        (2, b"beta", Some(1)),
+        (2, b"Beta", None),
+        (1, b"beta", None),
+    ];
+    for (providers, name, number) in rows {
+        let directory = directory(rt.alloc(), providers)?;
+        assert_eq!(rt; directory.count() as usize, providers);
+        assert_eq!(rt; directory.named(name), number, "{name:?}");
+        assert!(rt; directory.provider(providers as u32).is_none());
+    }
     Ok(())
+}
+
+/// An account by its getters.
+fn add_account(page: &mut Vec<u8>, account: &Account) -> Result<(), AllocError> {
+    page.extend_from_slice(account.address().bytes())?;
+    page.push(if account.quota() == 1 { b'=' } else { b'>' })?;
+    page.extend_from_slice(account.key().bytes())?;
+    page.push(b' ')?;
+    Ok(())
+}
+
+/// A provider by its getters, but for key and zone.
+fn shown(alloc: Global, provider: &Provider) -> Result<Vec<u8>, AllocError> {
+    let mut page = Vec::from_slice(alloc, provider.name().bytes())?;
+    page.push(b' ')?;
+    page.extend_from_slice(provider.receipts().bytes())?;
+    page.push(b' ')?;
+    for domain in provider.domains() {
+        page.extend_from_slice(domain.bytes())?;
+        page.push(b' ')?;
+    }
+    page.extend_from_slice(provider.rule().bytes())?;
+    page.push(b' ')?;
+    for account in provider.accounts() {
+        add_account(&mut page, account)?;
+    }
+    Ok(page)
 }
 
 #[test]
 fn shows_providers(rt: HostRuntime) -> Result<(), Fail> {
-    let text = with_lines(rt.alloc(), DIRECTORY)?;
-    let directory = Directory::read(rt.alloc(), text.as_str())
-        .ok()
-        .ok_or("a directory")?;
+    let directory = directory(rt.alloc(), 2)?;
     let beta = directory.provider(1).ok_or("a provider")?;
-    assert_eq!(rt; beta.name().bytes(), b"beta".as_slice());
+    let page = shown(rt.alloc(), beta)?;
     assert_eq!(rt;
-        beta.receipts().bytes(),
-        b"ricevute@beta.example".as_slice()
+        page.as_slice(),
+        b"beta ricevute@beta.example beta.example CET-1CEST,M3.5.0,M10.5.0/3 bob@beta.example>chiave-bob carl@beta.example=chiave-carl ".as_slice()
     );
-    let domains = beta.domains();
-    assert_eq!(rt; domains.len(), 1);
-    let domain = domains.first().ok_or("a domain")?;
-    assert_eq!(rt; domain.bytes(), b"beta.example".as_slice());
-    assert_eq!(rt;
-        beta.key(),
-        [
-            16, 17, 18, 19, 20, 21, 22, 23, 24, 25, 26, 27, 28, 29, 30, 31
-        ]
-        .as_slice()
-    );
-    let rule = Text::new(rt.alloc(), b"CET-1CEST,M3.5.0,M10.5.0/3")
-        .ok()
-        .ok_or("a text")?;
-    assert_eq!(rt; beta.rule().bytes(), rule.bytes());
-    assert!(rt; Zone::read(&rule) == Ok(*beta.zone()));
     assert_eq!(rt; beta.limit(), 31_457_280);
-    let accounts = beta.accounts();
-    assert_eq!(rt; accounts.len(), 2);
-    let carl = accounts.get(1).ok_or("a second account")?;
-    assert_eq!(rt; carl.address().bytes(), b"carl@beta.example".as_slice());
+    Ok(())
+}
+
+#[test]
+fn keeps_keys_and_zones(rt: HostRuntime) -> Result<(), Fail> {
+    let directory = directory(rt.alloc(), 2)?;
+    let beta = directory.provider(1).ok_or("a provider")?;
+    let key = hex::encode(rt.alloc(), beta.key())?;
+    assert_eq!(rt; key.as_str(), "101112131415161718191a1b1c1d1e1f");
+    assert!(rt; Zone::read(beta.rule()) == Ok(*beta.zone()));
     Ok(())
 }
 
 // As `sha256sum` (GNU coreutils) gives it for the canonical text, written out by hand.
 #[test]
 fn digests(rt: HostRuntime) -> Result<(), Fail> {
-    let text = with_lines(rt.alloc(), DIRECTORY)?;
-    let directory = Directory::read(rt.alloc(), text.as_str())
-        .ok()
-        .ok_or("a directory")?;
-    let digest = hex::encode(
-        rt.alloc(),
-        directory.digest(rt.alloc()).ok().ok_or("memory")?,
-    )?;
+    let directory = directory(rt.alloc(), 2)?;
+    let digest = directory.digest(rt.alloc()).ok().ok_or("memory")?;
+    let digest = hex::encode(rt.alloc(), digest)?;
     assert_eq!(rt;
         digest.as_str(),
         "2c8d487ec50f3b07a707edf3c051be1594e441bad4f07fe43eaf4e4c9cd84a1b"

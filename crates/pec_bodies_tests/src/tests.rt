@@ -1,5 +1,5 @@
 //! Tables whose answers were worked out by hand from the rules of RFC 2045, RFC 2046 and this project's profile.
-use crate::{BodyFault, Parts, compose, parameter};
+use pec_bodies::{BodyFault, Parts, compose, parameter};
 use pec_heads::{Head, HeadFault};
 use pec_types::Text8;
 use std::alloc::Global;

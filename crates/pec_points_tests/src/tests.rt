@@ -1,7 +1,7 @@
 //! Tables whose answers were worked out by hand from the admission table of RFC 6109 and from this project's profile.
 
-use crate::{Admission, admit};
 use pec_directory::{Directory, DirectoryFault};
+use pec_points::{Admission, admit};
 use pec_types::{Address, Cause, Class, Facts};
 use std::alloc::Global;
 use std::test::Fail;
