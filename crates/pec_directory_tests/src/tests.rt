@@ -239,7 +239,7 @@ fn ten_thousand_accounts(rt: HostRuntime) -> Result<(), Fail> {
     Ok(())
 }
 
-/// The directory without its second provider, or all of it.
+/// The directory of the first provider alone, or of both.
 fn directory(alloc: Global, providers: usize) -> Result<Directory, Fail> {
     let (alfa, _) = DIRECTORY
         .split_once("[[provider]]~name = \"beta\"")
@@ -252,31 +252,55 @@ fn directory(alloc: Global, providers: usize) -> Result<Directory, Fail> {
     Ok(directory)
 }
 
-/// Each row has an address, its home, and the quota of its account.
+/// What is found of an account: its address, quota and key, or nothing.
+fn found(alloc: Global, account: Option<&Account>) -> Result<Vec<u8>, AllocError> {
+    let mut page = Vec::new(alloc);
+    if let Some(account) = account {
+        add_account(alloc, &mut page, account)?;
+    }
+    Ok(page)
+}
+
+/// Each row has the number of providers, an address, its home, and its account.
 #[test]
 fn finds_who_is_who(rt: HostRuntime) -> Result<(), Fail> {
-    let rows: [(usize, &[u8], Option<u32>, Option<u64>); 6] = [
-        (2, b"Alice@alfa.example", Some(0), Some(100)),
-        (2, b"Carl@Beta.example", Some(1), Some(1)),
-        (2, b"nobody@beta.example", Some(1), None),
-        (2, b"x@posta.example", None, None),
-        (1, b"anna@alfa.example", Some(0), Some(100)),
-        (1, b"bob@beta.example", None, None),
+    let rows: [(usize, &[u8], Option<u32>, &[u8]); 6] = [
+        (
+            2,
+            b"Alice@alfa.example",
+            Some(0),
+            b"alice@alfa.example 100 chiave-alice ",
+        ),
+        (
+            2,
+            b"Carl@Beta.example",
+            Some(1),
+            b"carl@beta.example 1 chiave-carl ",
+        ),
+        (2, b"nobody@beta.example", Some(1), b""),
+        (2, b"x@posta.example", None, b""),
+        (
+            1,
+            b"anna@alfa.example",
+            Some(0),
+            b"anna@alfa.example 100 chiave-anna ",
+        ),
+        (1, b"bob@beta.example", None, b""),
     ];
-    for (providers, text, home, quota) in rows {
+    for (providers, text, home, account) in rows {
         let directory = directory(rt.alloc(), providers)?;
         let address = Address::find(rt.alloc(), text)
             .ok()
             .flatten()
             .ok_or("an address")?;
         assert_eq!(rt; directory.home_of(&address), home, "{text:?}");
-        let found = directory.account(&address).map(|account| account.quota());
-        assert_eq!(rt; found, quota, "{text:?}");
+        let page = found(rt.alloc(), directory.account(&address))?;
+        assert_eq!(rt; page.as_slice(), account, "{text:?}");
     }
     Ok(())
 }
 
-/// Each row has a name and the number of its provider.
+/// Each row has the number of providers, a name, and the number of its provider.
 #[test]
 fn finds_names(rt: HostRuntime) -> Result<(), Fail> {
     let rows: [(usize, &[u8], Option<u32>); 4] = [
@@ -295,9 +319,11 @@ fn finds_names(rt: HostRuntime) -> Result<(), Fail> {
 }
 
 /// An account by its getters.
-fn add_account(page: &mut Vec<u8>, account: &Account) -> Result<(), AllocError> {
+fn add_account(alloc: Global, page: &mut Vec<u8>, account: &Account) -> Result<(), AllocError> {
     page.extend_from_slice(account.address().bytes())?;
-    page.push(if account.quota() == 1 { b'=' } else { b'>' })?;
+    page.push(b' ')?;
+    page.extend_from_slice(account.quota().to_string(alloc)?.as_bytes())?;
+    page.push(b' ')?;
     page.extend_from_slice(account.key().bytes())?;
     page.push(b' ')?;
     Ok(())
@@ -316,7 +342,7 @@ fn shown(alloc: Global, provider: &Provider) -> Result<Vec<u8>, AllocError> {
     page.extend_from_slice(provider.rule().bytes())?;
     page.push(b' ')?;
     for account in provider.accounts() {
-        add_account(&mut page, account)?;
+        add_account(alloc, &mut page, account)?;
     }
     Ok(page)
 }
@@ -328,7 +354,7 @@ fn shows_providers(rt: HostRuntime) -> Result<(), Fail> {
     let page = shown(rt.alloc(), beta)?;
     assert_eq!(rt;
         page.as_slice(),
-        b"beta ricevute@beta.example beta.example CET-1CEST,M3.5.0,M10.5.0/3 bob@beta.example>chiave-bob carl@beta.example=chiave-carl ".as_slice()
+        b"beta ricevute@beta.example beta.example CET-1CEST,M3.5.0,M10.5.0/3 bob@beta.example 100 chiave-bob carl@beta.example 1 chiave-carl ".as_slice()
     );
     assert_eq!(rt; beta.limit(), 31_457_280);
     Ok(())

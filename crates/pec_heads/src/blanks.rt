@@ -8,7 +8,7 @@ pub fn blanks_are_cut_at_both_ends()
     ensures only { (bytes value : List ℕ) → IsTrimmed bytes value → trimmed bytes ≡ value }
 {}
 
-/// The bytes without the spaces and tabs at both ends. It takes no memory.
+/// The bytes without the spaces and tabs (RFC 5322, section 2.2.2) at both ends. It takes no memory.
 #[tactic(auto, unfolding(crate::specs::Bytes::trimmed))]
 pub fn trim(bytes: &[u8]) -> &[u8]
     ensures { result.now ≡ trimmed bytes.now }
@@ -40,7 +40,7 @@ pub(crate) fn trim_end(bytes: &[u8]) -> &[u8]
     rest
 }
 
-/// Whether there are only spaces and tabs. It takes no memory.
+/// Whether there are only spaces and tabs (RFC 5322, section 2.2.2). It takes no memory.
 pub fn is_all_blank(value: &[u8]) -> bool
     ensures { result ≡ is_all_blank value.now }
 {

@@ -30,7 +30,8 @@ fn line_feed(text: &[u8]) -> Option<usize>
     text.iter().position(|b| *b == b'\n')
 }
 
-/// A line without a carriage return at its end. It takes no memory.
+/// A line without a carriage return at its end (RFC 5322, section 2.1; that LF alone ends a line too is this project's profile). It takes
+/// no memory.
 #[tactic(auto, unfolding(crate::specs::Lines::content_of))]
 pub fn content(line: &[u8]) -> &[u8]
     ensures value { result.now ≡ content_of line.now }

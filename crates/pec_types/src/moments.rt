@@ -3,7 +3,7 @@ ghost use Rattle.pec_types.specs.declared.moments.TheConstants.{END_OF_TIME};
 
 use std::marker::Model;
 
-/// The first second that is no moment: 2100-01-01T00:00:00Z.
+/// The first second that is no moment: 2100-01-01T00:00:00Z. This project's profile.
 pub const END_OF_TIME: u64 = 4_102_444_800;
 
 /// Whole seconds since 1970-01-01T00:00:00Z, below 4,102,444,800. This project's profile.
