@@ -10,7 +10,6 @@ pub mod QuotingLaws
 pub mod EntryLaws
 pub mod AddressFacts
 pub mod EntryReading
-pub mod AddressBytes
 pub mod EntryForms
 pub mod ListLaws
 pub mod FactSteps

@@ -7,7 +7,7 @@ use Rattle.std.proofs.lemmas.Option.{cond_some}
 use Rattle.std.specs.Char.{is_ascii_alphanumeric}
 use Rattle.std.specs.List.{AllByRecursion, join_with_byte, slice_split}
 use Rattle.std.specs.Result.{result_ok}
-use Rattle.pec_heads.proofs.AddressBytes.{Avoids, none_in}
+use Rattle.pec_types.proofs.AddressBytes.{Avoids, none_in}
 use Rattle.pec_types.proofs.AddressLaws.{answered, only_address}
 use Rattle.pec_types.specs.Address.{is_atom_byte, AnswersAddress, IsAddress, lowered}
 use Rattle.pec_types.specs.AddressReading.{address_of}

@@ -1,3 +1,4 @@
+pub mod AddressBytes
 pub mod AddressLaws
 pub mod LowerCase
 mod PartLaws

@@ -3,9 +3,12 @@ use Rattle.std.proofs.Common.{◌≡◌, ℕ, ◌==◌, List, [], ◌∷◌, ◌
 use Rattle.std.proofs.lemmas.Bool.{and_from, eqb-true, not_from_false}
 use Rattle.std.proofs.lemmas.List.Folds.{list_all-append}
 use Rattle.std.specs.Char.{is_ascii_alphanumeric}
-use Rattle.std.specs.List.{flat_map, AllByRecursion}
+use Rattle.std.specs.List.{flat_map, list_all, AllByRecursion}
 use Rattle.pec_types.specs.Address.{is_atom_byte, AllAtomBytes, IsAtom, ends_well, IsLabel, dotted, IsDotted, IsAddress}
-use Rattle.pec_heads.specs.Bytes.{NonePass}
+
+-- no byte passes the test
+abbrev NonePass : (ℕ → Bool) → List ℕ → Type 0
+NonePass p bytes = list_all (λ b. not (p b)) bytes ≡ true
 
 pub record Avoids (p : ℕ → Bool) : Type 0 where
   pub atom : (b : ℕ) → is_atom_byte b ≡ true → p b ≡ false
@@ -52,7 +55,7 @@ in_dotted : (p : ℕ → Bool) → Avoids p → (IsPart : List ℕ → Type 0) �
     → IsDotted IsPart IsPart bytes → NonePass p bytes
 in_dotted p a IsPart f bytes h = rw h.parts (none_append p h.first (flat_map dotted h.others) (f h.first h.first_is) (in_others p a IsPart f h.others h.others_are))
 
-pub none_in : (p : ℕ → Bool) → Avoids p → (bytes : List ℕ) → IsAddress bytes → NonePass p bytes
+pub none_in : (p : ℕ → Bool) → Avoids p → (bytes : List ℕ) → IsAddress bytes → list_all (λ b. not (p b)) bytes ≡ true
 none_in p a bytes h =
     rw h.parts (none_append p h.local (64 ∷ h.domain) (in_dotted p a IsAtom (in_atom p a) h.local h.local_is)
     (none_more p 64 h.domain a.at (in_dotted p a IsLabel (in_label p a) h.domain h.domain_is)))
