@@ -5,8 +5,9 @@ use Rattle.std.proofs.lemmas.Bool.{false≢true, eqb-false}
 use Rattle.std.proofs.lemmas.Iterator.Adapters.{position_from-zero}
 use Rattle.std.proofs.lemmas.List.{take-append-drop}
 use Rattle.std.specs.List.{flat_map, AllByRecursion, position_from}
-use Rattle.pec_types.specs.Address.{is_atom_byte, AllAtomBytes, IsAtom, IsLocal, IsDomain, dotted, IsAddress, HasDomain, lowered, CanGoOn, IsBadAt, HasNoAt, IsParted, IsAddressFault, AnswersAddress}
-use Rattle.pec_types.specs.AddressReading.{stop_at, is_at_sign, behind_sign, domain_of, domain_read, local_read, parted_read, address_of, Gives}
+use Rattle.pec_types.specs.Address.{is_atom_byte, AllAtomBytes, IsAtom, IsLocal, IsDomain, dotted, IsAddress, HasDomain, lowered, CanGoOn, IsBadAt, HasNoAt, IsParted, IsAddressFault, IsReadAs}
+use Rattle.pec_types.specs.Answers.{TellsExactly}
+use Rattle.pec_types.specs.AddressReading.{stop_at, is_at_sign, behind_sign, domain_of, domain_read, local_read, parted_read, address_of}
 use Rattle.pec_types.specs.declared.addresses.AddressFault.{AddressFault}
 use Rattle.pec_types.specs.declared.addresses.AddressFault.TheVariants.{Empty, TooLong, NoAt, BadLocal, BadDomain, NoMemory}
 use Rattle.pec_types.specs.declared.scanning.Stand.TheVariants.{AtomBegins, LabelBegins}
@@ -148,20 +149,25 @@ parted_by text sign short found =
       subst (λ n. length (take n text) ≡ n) same found.size,
     )
 
+-- the answer is the text's
+abbrev Answers : List ℕ → Result (List ℕ) AddressFault → Type 0
+Answers text (Ok address) = IsReadAs text address
+Answers text (Err fault) = IsAddressFault text fault
+
 domain_answer : (text : List ℕ) (sign : ℕ) (answer : Option ℕ) → IsParted text (take sign text) (drop (sign + 1) text) → length (take sign text) ≡ sign → IsLocal (take sign text)
-    → PartTells IsDomain (drop (sign + 1) text) answer → AnswersAddress text (domain_read text (sign + 1) answer)
+    → PartTells IsDomain (drop (sign + 1) text) answer → Answers text (domain_read text (sign + 1) answer)
 domain_answer text sign None parted size local told =
     (record { local = take sign text; domain = drop (sign + 1) text; local_is = local; domain_is = told; parts = parted.parts; short = parted.short }, refl)
 domain_answer text sign (Some at) parted size local told =
     (take sign text, drop (sign + 1) text, parted, local, (at, told, ap (λ n. n + 1 + at) (sym size)))
 
 local_answer : (text : List ℕ) (sign : ℕ) (answer : Option ℕ) → IsParted text (take sign text) (drop (sign + 1) text) → length (take sign text) ≡ sign
-    → PartTells IsLocal (take sign text) answer → AnswersAddress text (local_read text sign answer)
+    → PartTells IsLocal (take sign text) answer → Answers text (local_read text sign answer)
 local_answer text sign None parted size told =
     domain_answer text sign (stop_at LabelBegins 0 (drop (sign + 1) text)) parted size told (domain_told (drop (sign + 1) text))
 local_answer text sign (Some at) parted size told = (take sign text, drop (sign + 1) text, parted, told)
 
-parted_answer : (text : List ℕ) (answer : Option ℕ) → text ≢ [] → length text ≤ 254 → SignTells text 0 answer → AnswersAddress text (parted_read text answer)
+parted_answer : (text : List ℕ) (answer : Option ℕ) → text ≢ [] → length text ≤ 254 → SignTells text 0 answer → Answers text (parted_read text answer)
 parted_answer text None some short told = (some, short, told)
 parted_answer text (Some sign) some short told =
     let p = parted_by text sign short told in
@@ -182,23 +188,14 @@ not_empty : (text : List ℕ) → eqb (length text) 0 ≡ false → text ≢ []
 not_empty text some e = let t : true ≡ false = subst (λ x. eqb (length x) 0 ≡ false) e some in false≢true (sym t)
 
 answered_by : (text : List ℕ) (x y : Bool) → eqb (length text) 0 ≡ x → ltb 254 (length text) ≡ y
-    → AnswersAddress text (cond x (Err Empty) (cond y (Err TooLong) (parted_read text (position is_at_sign text))))
+    → Answers text (cond x (Err Empty) (cond y (Err TooLong) (parted_read text (position is_at_sign text))))
 answered_by text true y none long = is_empty text none
 answered_by text false true some long = ltb-true 254 (length text) long
 answered_by text false false some short = parted_answer text (position is_at_sign text) (not_empty text some) (ltb-false 254 (length text) short) (sign_told text)
 
-pub answered : (text : List ℕ) → AnswersAddress text (address_of text)
+pub answered : (text : List ℕ) → Answers text (address_of text)
 unfolding address_of
 answered text = answered_by text (eqb (length text) 0) (ltb 254 (length text)) refl refl
-
-pub answered_so : (text : List ℕ) (result : Result (List ℕ) AddressFault) → Gives result (address_of text) → AnswersAddress text result
-answered_so text (Ok address) same = subst (λ r. AnswersAddress text r) same (answered text)
-answered_so text (Err NoMemory) same = tt
-answered_so text (Err Empty) same = subst (λ r. AnswersAddress text r) same (answered text)
-answered_so text (Err TooLong) same = subst (λ r. AnswersAddress text r) same (answered text)
-answered_so text (Err NoAt) same = subst (λ r. AnswersAddress text r) same (answered text)
-answered_so text (Err (BadLocal at)) same = subst (λ r. AnswersAddress text r) same (answered text)
-answered_so text (Err (BadDomain at)) same = subst (λ r. AnswersAddress text r) same (answered text)
 
 -- Each text has one answer: what the grammar says of it is what is given.
 
@@ -262,11 +259,17 @@ only_address text is =
     read_local text is.local is.domain parted is.local_is
     ∙ ap (λ o. domain_read text (length is.local + 1) o) (again_right IsDomain is.domain (stop_at LabelBegins 0 is.domain) (domain_told is.domain) is.domain_is)
 
+pub told_exactly : (text : List ℕ) → TellsExactly (IsReadAs text) (IsAddressFault text) (address_of text)
+told_exactly text = record {
+  value = λ address. ((λ e. subst (λ r. Answers text r) e (answered text)), (λ is. only_address text is.0 ∙ ap Ok (sym is.1)));
+  fault = λ fault. ((λ e. subst (λ r. Answers text r) e (answered text)), each_fault text fault);
+}
+
 -- a text that was gone through to its end is an address
 pub read_through : (text : List ℕ) (sign : ℕ) → false ≡ eqb (length text) 0 → length text ≤ 254 → Some sign ≡ position is_at_sign text
     → None ≡ stop_at AtomBegins 0 (take sign text) → None ≡ stop_at LabelBegins 0 (drop (sign + 1) text) → IsAddress text
 unfolding address_of
-read_through text sign some short found local domain = (subst (λ r. AnswersAddress text r) whole (answered text)).0
+read_through text sign some short found local domain = (subst (λ r. Answers text r) whole (answered text)).0
   where
     whole : address_of text ≡ Ok (lowered text)
     whole = rw (sym some, le-ltb 254 (length text) short, sym found, sym local, sym domain) refl

@@ -1,4 +1,8 @@
 pub mod AddressBytes
 pub mod AddressLaws
+mod AddressStepLemmas
+mod DigitLaws
+pub mod LimitLemmas
 pub mod LowerCase
 mod PartLaws
+pub mod TextLaws

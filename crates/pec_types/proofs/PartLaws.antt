@@ -92,7 +92,7 @@ nowhere : (G P : List ℕ → Type 0) (b : ℕ) → (b ≡ 46 → G [] → ⊥) 
 nowhere G P b no_dot out bs d = elim (cut G P b bs d) [ inl r ↦ out r.first r.first_is | inr r ↦ no_dot r.0 r.1.0 ]
 
 -- what a step from here means
-abbrev StepTells : (R : List ℕ → Type 0) → ℕ → Option Stand → Type 0
+abbrev pub StepTells : (R : List ℕ → Type 0) → ℕ → Option Stand → Type 0
 StepTells R b None = (bs : List ℕ) → R (b ∷ bs) → ⊥
 StepTells R b (Some next) = Leads R (IsRight next) b × HasRoom next
 
@@ -182,7 +182,7 @@ label_step good room b dot true y tells letter hyphen = in_label_letter good roo
 label_step good room b dot false true tells letter hyphen = in_label_hyphen good room b (ltb 1 room) letter hyphen refl
 label_step good room b dot false false tells letter hyphen = in_label_dot good room b dot (eqb b 46) tells letter hyphen refl
 
-step_tells : (stand : Stand) (b : ℕ) → StepTells (IsRight stand) b (step_of stand b)
+pub step_tells : (stand : Stand) (b : ℕ) → StepTells (IsRight stand) b (step_of stand b)
 unfolding step_of in_label
 step_tells AtomBegins b = atom_begins b (is_atom_byte b) refl
 step_tells InAtom b = in_atom b (is_atom_byte b) (eqb b 46) refl refl
@@ -191,14 +191,14 @@ step_tells (BehindLetter room) b = label_step true room b (Some LabelBegins) (is
 step_tells (BehindHyphen room) b = label_step false room b None (is_ascii_alphanumeric b) (eqb b 45) (no_dot_here room b) refl refl
 
 -- an end
-ends : (stand : Stand) → may_end stand ≡ true → IsRight stand []
+pub ends : (stand : Stand) → may_end stand ≡ true → IsRight stand []
 ends AtomBegins e = absurd (false≢true e)
 ends InAtom e = record { first = []; others = []; first_is = tt; others_are = tt; parts = refl }
 ends LabelBegins e = absurd (false≢true e)
 ends (BehindLetter room) e = record { first = []; others = []; first_is = (refl, omega arith); others_are = tt; parts = refl }
 ends (BehindHyphen room) e = absurd (false≢true e)
 
-no_end : (stand : Stand) → may_end stand ≡ false → IsRight stand [] → ⊥
+pub no_end : (stand : Stand) → may_end stand ≡ false → IsRight stand [] → ⊥
 no_end AtomBegins e d = empty_front IsAtom IsAtom d
 no_end InAtom e d = false≢true (sym e)
 no_end LabelBegins e d = empty_front IsLabel IsLabel d

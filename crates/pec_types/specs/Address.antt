@@ -1,10 +1,11 @@
 -- Addresses `local@domain` by RFC 5322 section 3.4.1, within this project's profile: a local part of atoms joined by dots,
 -- a domain of labels joined by dots (RFC 1035 section 2.3.1, digits allowed in front), no quoted local part, no domain
 -- literal, no comment, at most 254 bytes. Letters may be capitals and are kept in lower case.
-use Rattle.std.specs.Prelude.{◌≡◌, ◌≢◌, ℕ, ◌+◌, ◌<◌, ◌≤◌, Bool, true, false, ◌||◌, ◌==◌, List, [], ◌∷◌, ◌++◌, length, take, codes, if◌then◌else◌, Result, Ok, Err, IsTrue}
+use Rattle.std.specs.Prelude.{◌≡◌, ◌≢◌, ℕ, ◌+◌, ◌<◌, ◌≤◌, Bool, true, false, ◌||◌, ◌==◌, List, [], ◌∷◌, ◌++◌, length, take, codes, if◌then◌else◌, IsTrue}
 use Rattle.std.specs.List.{list_any, flat_map, AllByRecursion}
 use Rattle.std.specs.Char.{is_ascii_alphanumeric}
 use Rattle.std.specs.Str.{str_to_ascii_lowercase}
+use Rattle.pec_types.specs.Bytes.{Bytes}
 use Rattle.pec_types.specs.declared.addresses.AddressFault.{AddressFault}
 use Rattle.pec_types.specs.declared.addresses.AddressFault.TheVariants.{Empty, TooLong, NoAt, BadLocal, BadDomain, NoMemory}
 
@@ -104,8 +105,6 @@ IsAddressFault text (BadDomain at) = (local : List ℕ) × (domain : List ℕ) �
     × ((place : ℕ) × IsBadAt IsDomain domain place × (at ≡ (length local + 1) + place))
 IsAddressFault text NoMemory = ⊥
 
--- What a reader of addresses answers on a text: its address where it is one, otherwise its fault. Want of memory is free.
-abbrev pub AnswersAddress : List ℕ → Result (List ℕ) AddressFault → Type 0
-AnswersAddress text (Ok address) = IsAddress text × (address ≡ lowered text)
-AnswersAddress text (Err NoMemory) = Unit {0}
-AnswersAddress text (Err fault) = IsAddressFault text fault
+-- the text is an address, and this is it in lower case
+abbrev pub IsReadAs : Bytes → Bytes → Type 0
+IsReadAs text address = IsAddress text × (address ≡ lowered text)

@@ -1,10 +1,10 @@
 -- How a reader goes through an address, byte by byte. That this finds the addresses and the faults of the grammar in
 -- `Address`, and no others, is a law of the crate.
-use Rattle.std.specs.Prelude.{◌≡◌, ℕ, ◌+◌, ◌-◌, Bool, true, false, ◌==◌, nat_lt, List, [], ◌∷◌, length, take, drop, position, Option, Some, None, if◌then◌else◌, Result, Ok, Err}
+use Rattle.std.specs.Prelude.{ℕ, ◌+◌, ◌-◌, Bool, true, false, ◌==◌, nat_lt, List, [], ◌∷◌, length, take, drop, position, Option, Some, None, if◌then◌else◌, Result, Ok, Err}
 use Rattle.std.specs.Char.{is_ascii_alphanumeric}
 use Rattle.pec_types.specs.Address.{is_atom_byte, lowered}
 use Rattle.pec_types.specs.declared.addresses.AddressFault.{AddressFault}
-use Rattle.pec_types.specs.declared.addresses.AddressFault.TheVariants.{Empty, TooLong, NoAt, BadLocal, BadDomain, NoMemory}
+use Rattle.pec_types.specs.declared.addresses.AddressFault.TheVariants.{Empty, TooLong, NoAt, BadLocal, BadDomain}
 use Rattle.pec_types.specs.declared.scanning.Stand.{Stand}
 use Rattle.pec_types.specs.declared.scanning.Stand.TheVariants.{AtomBegins, InAtom, LabelBegins, BehindLetter, BehindHyphen}
 
@@ -65,9 +65,3 @@ parted_read text (Some sign) = local_read text sign (stop_at AtomBegins 0 (take 
 -- the answer on a text
 unfoldable pub address_of : List ℕ → Result (List ℕ) AddressFault
 address_of text = if length text == 0 then Err Empty else (if nat_lt 254 (length text) then Err TooLong else parted_read text (position is_at_sign text))
-
--- An answer is the one that is given here, unless memory ran out.
-abbrev pub Gives : Result (List ℕ) AddressFault → Result (List ℕ) AddressFault → Type 0
-Gives (Ok address) given = given ≡ Ok address
-Gives (Err NoMemory) given = Unit {0}
-Gives (Err fault) given = given ≡ Err fault

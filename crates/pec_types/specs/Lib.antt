@@ -1,4 +1,13 @@
 pub mod Address
 pub mod AddressReading
+pub mod AddressSteps
+pub mod Answers
+pub mod Bytes
+pub mod Limits
+pub mod LimitsReading
 pub mod Message
+pub mod Options
+pub mod Results
+pub mod Tables
 pub mod Text
+pub mod Words

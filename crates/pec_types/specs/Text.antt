@@ -1,5 +1,6 @@
 -- Printable texts: bytes from 0x20 to 0x7e. This project's profile.
-use Rattle.std.specs.Prelude.{◌≡◌, ℕ, List, Bool, ◌||◌, nat_lt, position, None, Some, Ok, Err, Result}
+use Rattle.std.specs.Prelude.{◌≡◌, ℕ, List, Bool, ◌||◌, nat_lt, position, None, Some}
+use Rattle.pec_types.specs.Bytes.{Bytes}
 use Rattle.pec_types.specs.declared.texts.TextFault.{TextFault}
 use Rattle.pec_types.specs.declared.texts.TextFault.TheVariants.{NotPrintable, NoMemory}
 
@@ -10,8 +11,11 @@ is_unprintable b = nat_lt b 32 || nat_lt 126 b
 abbrev pub AllPrintable : List ℕ → Type 0
 AllPrintable bytes = position is_unprintable bytes ≡ None
 
--- What a maker of texts answers on these bytes. Want of memory is free.
-abbrev pub AnswersText : List ℕ → Result (List ℕ) TextFault → Type 0
-AnswersText bytes (Ok text) = AllPrintable bytes × (text ≡ bytes)
-AnswersText bytes (Err (NotPrintable place)) = position is_unprintable bytes ≡ Some place
-AnswersText bytes (Err NoMemory) = Unit {0}
+-- these bytes make this text
+abbrev pub IsTextOf : Bytes → Bytes → Type 0
+IsTextOf bytes text = AllPrintable bytes × (text ≡ bytes)
+
+-- why bytes make none
+abbrev pub IsTextFault : Bytes → TextFault → Type 0
+IsTextFault bytes (NotPrintable place) = position is_unprintable bytes ≡ Some place
+IsTextFault bytes NoMemory = ⊥

@@ -1,13 +1,19 @@
-ghost use Rattle.std.specs.Prelude.{◌≡◌, ℕ, List, Ok, Err, IfOk, IfSome, position, length, ◌<◌};
+ghost use Rattle.std.specs.Prelude.{◌≡◌, ℕ, List, IfOk, IfSome, Some, position, length, refl, ◌<◌};
+ghost use Rattle.std.specs.Cmp.{partial_equiv_from_equiv};
+ghost use Rattle.std.specs.Cmp.Lexicographic.{slice_cmp, nat_list_eq_equiv, nat_list_cmp_total, texts_ties, texts_po};
+ghost use Rattle.std.specs.Ordering.{nat_cmp};
 ghost use Rattle.std.specs.Result.{result_ok};
-ghost use Rattle.pec_types.specs.Address.{AnswersAddress, IsAddress, HasDomain, IsAddressFault, IsLowerAddress, lowered};
-ghost use Rattle.pec_types.specs.AddressReading.{address_of, domain_of, is_at_sign, Gives};
-ghost use Rattle.pec_types.specs.declared.addresses.AddressFault.{AddressFault};
+ghost use Rattle.std.specs.Str.{bytes_eq};
+ghost use Rattle.pec_types.specs.Address.{IsReadAs, HasDomain, IsAddressFault, IsLowerAddress, lowered};
+ghost use Rattle.pec_types.specs.AddressReading.{address_of, domain_of, is_at_sign};
+ghost use Rattle.pec_types.specs.Answers.{OrNoMemory, ReadsExactly, TellsExactly};
+ghost use Rattle.pec_types.specs.Bytes.{Bytes};
 ghost use Rattle.pec_types.specs.declared.addresses.AddressFault.TheVariants as faults;
 
 use crate::faults::NoMemory;
 use crate::scanning::{Stand, stop};
 use std::alloc::{AllocError, Global};
+use std::cmp::Ordering;
 use std::marker::Model;
 
 /// Why a text is no address, in the order in which the faults are looked for.
@@ -39,6 +45,11 @@ pub struct Address {
     bytes: Vec<u8>,
 }
 
+/// The function that tells an address, or a text's fault, is one with the grammar: definitions above may take either.
+pub fn an_address_is_told_exactly()
+    ensures { (text : Bytes) → TellsExactly (IsReadAs text) (IsAddressFault text) (address_of text) }
+{}
+
 impl Model for Address {
     ghost Value = { List ℕ };
 
@@ -51,13 +62,10 @@ impl Address {
     /// The address that a text is, in lower case (RFC 5322, section 3.4.1, within this project's profile).
     /// Places count bytes of the text from 0.
     pub fn read(alloc: Global, text: &[u8]) -> Result<Address, AddressFault>
-        // An address is answered in lower case, and a fault is the one that the grammar puts there.
-        ensures answer { AnswersAddress text.now result }
-        // What is an address is never refused, and what has a fault has no other.
-        ensures only { IsAddress text.now → Gives result (Ok (lowered text.now)) }
-        ensures each { (fault : AddressFault) → IsAddressFault text.now fault → Gives result (Err fault) }
+        // An address is answered in lower case, exactly where the text is one, and otherwise the one fault that it has.
+        ensures reads { ReadsExactly (IsReadAs text.now) (IsAddressFault text.now) faults.NoMemory result }
         // The same answer as a function of the bytes, for definitions that build on it.
-        ensures exact { Gives result (address_of text.now) }
+        ensures exact { OrNoMemory faults.NoMemory result (address_of text.now) }
     {
         read_address(alloc, text)
     }
@@ -71,6 +79,14 @@ impl Address {
             Err(AddressFault::NoMemory) => Err(NoMemory),
             Err(_) => Ok(None),
         }
+    }
+
+    /// The address of bytes that are known to be one in lower case. It takes no memory.
+    pub fn of_lower(bytes: Vec<u8>) -> Address
+        requires { IsLowerAddress bytes.items }
+        ensures { result ≡ bytes.items }
+    {
+        Address { bytes }
     }
 
     /// The bytes of the address. It takes no memory.
@@ -98,9 +114,48 @@ impl Address {
     }
 }
 
+/// Two addresses are equal where their bytes are, and in the order of their bytes.
+impl PartialEq for Address {
+    ghost eq = { λ a b. bytes_eq a b };
+
+    ghost laws = { partial_equiv_from_equiv nat_list_eq_equiv };
+
+    fn eq(&self, other: &Address) -> bool {
+        self.bytes.as_slice() == other.bytes.as_slice()
+    }
+}
+
+impl Eq for Address {
+    ghost laws = { nat_list_eq_equiv };
+}
+
+impl PartialOrd for Address {
+    ghost partial_cmp = { λ a b. Some (slice_cmp nat_cmp a b) };
+
+    ghost laws = { texts_po };
+
+    fn partial_cmp(&self, other: &Address) -> Option<Ordering> {
+        Some(self.cmp(other))
+    }
+}
+
+impl Ord for Address {
+    ghost cmp = { λ a b. slice_cmp nat_cmp a b };
+
+    ghost total = { nat_list_cmp_total };
+
+    ghost matches_partial_cmp = { λ a b. refl };
+
+    ghost matches_eq = { λ a b. texts_ties a b };
+
+    fn cmp(&self, other: &Address) -> Ordering {
+        self.bytes.as_slice().cmp(other.bytes.as_slice())
+    }
+}
+
 #[tactic(auto, unfolding(crate::specs::AddressReading::address_of))]
 fn read_address(alloc: Global, text: &[u8]) -> Result<Address, AddressFault>
-    ensures { Gives result (address_of text.now) }
+    ensures { OrNoMemory faults.NoMemory result (address_of text.now) }
 {
     if text.is_empty() {
         return Err(AddressFault::Empty);

@@ -1,20 +1,33 @@
 //! The words of the trade: addresses, moments, texts and what messages, receipts and books are made of.
-//! Every other crate stands on this one. It knows no device and no format but that of an address.
+//! It knows no device, and no format but that of an address.
 #![tactic(auto)]
 
 mod addresses;
+mod disputes;
 mod faults;
+mod frames;
+mod letters;
+mod limits;
 mod lists;
 mod messages;
 mod moments;
+mod places;
 mod scanning;
 mod texts;
+mod words;
 
-pub use addresses::{Address, AddressFault};
+pub use addresses::{Address, AddressFault, an_address_is_told_exactly};
+pub use disputes::{Disputed, LetterFault};
 pub use faults::NoMemory;
+pub use frames::Frame;
+pub use letters::Letter;
+pub use limits::{Due, LATE_AFTER, NOTICE_AFTER, WARNING_AFTER, a_pair_has_one_due, timed};
 pub use lists::Items;
 pub use messages::{
     BookLine, Cause, Class, Decision, Facts, MESSAGES, MsgId, Recipient, Refusal, Wish,
 };
 pub use moments::{END_OF_TIME, Moment};
-pub use texts::{Text, Text8, TextFault};
+pub use places::Place;
+pub use scanning::{Stand, lower_addresses_pass};
+pub use texts::{Text, Text8, TextFault, first_unprintable, printable_is_said_of_each_byte};
+pub use words::{id_text, seven_digits_are_read_back};

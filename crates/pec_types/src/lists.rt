@@ -28,4 +28,11 @@ impl<T> Items<T> {
     {
         self.list.as_slice()
     }
+
+    /// The list itself. It takes no memory.
+    pub fn into_vec(self) -> Vec<T>
+        ensures { result.items ≡ self }
+    {
+        self.list
+    }
 }

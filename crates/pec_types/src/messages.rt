@@ -1,11 +1,13 @@
-ghost use Rattle.std.specs.Prelude.{◌≡◌, ℕ, ◌<◌};
+ghost use Rattle.std.specs.Prelude.{◌≡◌, ℕ, ◌<◌, IfOk};
 ghost use Rattle.pec_types.specs.Message.{Id};
 ghost use Rattle.pec_types.specs.declared.messages.TheConstants.{MESSAGES};
 
 use crate::addresses::Address;
+use crate::faults::NoMemory;
 use crate::lists::Items;
 use crate::moments::Moment;
 use crate::texts::Text;
+use std::alloc::Global;
 use std::marker::Model;
 
 /// How many messages a provider may have, and the first number that no message has.
@@ -13,7 +15,7 @@ pub const MESSAGES: u64 = 1_000_000;
 
 /// A message: the number of the provider that it was submitted to, and its number there, below 1,000,000.
 /// Contracts see both numbers.
-#[derive(Clone, Copy, Debug, PartialEq, Eq)]
+#[derive(Clone, Copy, Debug, PartialEq, Eq, PartialOrd, Ord)]
 pub struct MsgId {
     pub provider: u32,
     pub number: u64,
@@ -97,6 +99,56 @@ pub struct Facts {
     pub subject: Option<Text>,
     pub reference: Option<Text>,
     pub reply: Text,
+}
+
+impl Recipient {
+    /// An equal recipient.
+    pub fn copy(&self, alloc: Global) -> Result<Recipient, NoMemory>
+        ensures { IfOk result (λ recipient. recipient ≡ self.now) }
+    {
+        let address = self.address.copy(alloc)?;
+        Ok(Recipient {
+            address,
+            class: self.class,
+        })
+    }
+}
+
+impl Facts {
+    /// Equal facts.
+    pub fn copy(&self, alloc: Global) -> Result<Facts, NoMemory>
+        ensures { IfOk result (λ facts. facts ≡ self.now) }
+    {
+        let recipients = copied(alloc, self.recipients.as_slice())?;
+        Ok(Facts {
+            sender: self.sender.copy(alloc)?,
+            recipients: Items::of(recipients),
+            wish: self.wish,
+            subject: copied_text(alloc, &self.subject)?,
+            reference: copied_text(alloc, &self.reference)?,
+            reply: self.reply.copy(alloc)?,
+        })
+    }
+}
+
+fn copied(alloc: Global, recipients: &[Recipient]) -> Result<Vec<Recipient>, NoMemory>
+    ensures { IfOk result (λ copies. copies.items ≡ recipients.now) }
+{
+    let mut copies = Vec::new(alloc);
+    for recipient in recipients {
+        copies.push(recipient.copy(alloc)?)?;
+    }
+    Ok(copies)
+}
+
+fn copied_text(alloc: Global, text: &Option<Text>) -> Result<Option<Text>, NoMemory>
+    ensures { IfOk result (λ copy. copy ≡ text.now) }
+{
+    let Some(text) = text else {
+        return Ok(None);
+    };
+    let copy = text.copy(alloc)?;
+    Ok(Some(copy))
 }
 
 /// One line of a sender's book: a message, one of its certified recipients, and what is known of the two.

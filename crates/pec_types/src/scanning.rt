@@ -2,10 +2,11 @@ ghost use Rattle.std.specs.Prelude.{◌≡◌, ℕ, ◌≤◌, length, Some, Non
 ghost use Rattle.std.specs.List.{list_any};
 ghost use Rattle.pec_types.specs.Address.{is_atom_byte};
 ghost use Rattle.pec_types.specs.AddressReading.{step_of, in_label, may_end, stop_at};
+ghost use Rattle.pec_types.specs.AddressSteps.{further, LowerAddressesPass};
 
 /// Where in an address a reader stands, before the next byte.
 #[derive(Clone, Copy)]
-pub(crate) enum Stand {
+pub enum Stand {
     AtomBegins,
     InAtom,
     LabelBegins,
@@ -14,6 +15,31 @@ pub(crate) enum Stand {
     /// Behind a hyphen of a label that has room for so many bytes more.
     BehindHyphen(u8),
 }
+
+impl Stand {
+    /// The stand behind this byte of an address in lower case, and `None` where no such address goes on with it.
+    #[tactic(auto, unfolding(crate::specs::AddressSteps::further))]
+    pub fn further(self, b: u8) -> Option<Stand>
+        ensures { result ≡ further self b }
+    {
+        if b.is_ascii_uppercase() {
+            return None;
+        }
+        if b == b'@' {
+            return match self {
+                Stand::InAtom => Some(Stand::LabelBegins),
+                _ => None,
+            };
+        }
+        step(self, b)
+    }
+}
+
+/// The addresses in lower case are what can be gone through byte by byte from where an atom begins, in at most 254
+/// bytes.
+pub fn lower_addresses_pass()
+    ensures { LowerAddressesPass }
+{}
 
 /// The place in the part at which it stops being right, `None` where it is right to its end.
 pub(crate) fn stop(begin: Stand, part: &[u8]) -> Option<usize>

@@ -1,5 +1,9 @@
-ghost use Rattle.std.specs.Prelude.{◌≡◌, ℕ, List, IfOk, position};
-ghost use Rattle.pec_types.specs.Text.{is_unprintable, AllPrintable, AnswersText};
+ghost use Rattle.std.specs.Prelude.{◌≡◌, ◌↔◌, ℕ, List, ◌<◌, false, length, IfOk, IfSome, position};
+ghost use Rattle.std.specs.List.{AllByRecursion};
+ghost use Rattle.pec_types.specs.Address.{IsLowerAddress};
+ghost use Rattle.pec_types.specs.Answers.{ReadsExactly};
+ghost use Rattle.pec_types.specs.Bytes.{Bytes};
+ghost use Rattle.pec_types.specs.Text.{is_unprintable, AllPrintable, IsTextFault, IsTextOf};
 ghost use Rattle.pec_types.specs.declared.texts.TextFault.TheVariants as faults;
 
 use crate::faults::NoMemory;
@@ -39,7 +43,7 @@ impl Model for Text {
 impl Text {
     /// The text of these bytes. `NotPrintable` gives the first byte outside 0x20 to 0x7e.
     pub fn new(alloc: Global, bytes: &[u8]) -> Result<Text, TextFault>
-        ensures { AnswersText bytes.now result }
+        ensures { ReadsExactly (IsTextOf bytes.now) (IsTextFault bytes.now) faults.NoMemory result }
     {
         if let Some(place) = first_unprintable(bytes) {
             return Err(TextFault::NotPrintable(place));
@@ -74,11 +78,19 @@ impl Text {
     }
 }
 
-fn first_unprintable(bytes: &[u8]) -> Option<usize>
-    ensures { result ≡ position is_unprintable bytes.now }
+/// The place of the first byte outside 0x20 to 0x7e. It takes no memory.
+pub fn first_unprintable(bytes: &[u8]) -> Option<usize>
+    ensures first { result ≡ position is_unprintable bytes.now }
+    ensures within { IfSome result (λ place. place < length bytes.now) }
 {
     bytes.iter().position(|b| *b < 0x20 || 0x7e < *b)
 }
+
+/// A text is printable exactly where each of its bytes is, and an address is a printable text.
+pub fn printable_is_said_of_each_byte()
+    ensures each { (bytes : Bytes) → AllPrintable bytes ↔ AllByRecursion (λ b. is_unprintable b ≡ false) bytes }
+    ensures address { (address : Bytes) → IsLowerAddress address → AllPrintable address }
+{}
 
 /// A list of any bytes.
 #[derive(Drop)]
@@ -105,6 +117,13 @@ impl Text8 {
         ensures { result.now ≡ self.now }
     {
         self.bytes.as_slice()
+    }
+
+    /// The list itself. It takes no memory.
+    pub fn into_vec(self) -> Vec<u8>
+        ensures { result.items ≡ self }
+    {
+        self.bytes
     }
 
     /// An equal list of bytes.
