@@ -1,1 +1,4 @@
 pub mod FlowLemmas
+pub mod LogLemmas
+pub mod StepLemmas
+pub mod DepotLemmas

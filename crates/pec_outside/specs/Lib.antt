@@ -1,2 +1,9 @@
+pub mod DepotSlots
+pub mod Depots
+pub mod DiskLog
+pub mod DiskModel
 pub mod Flow
 pub mod Memory
+pub mod Moments
+pub mod MemoryDisk
+pub mod MemoryDiskLaws

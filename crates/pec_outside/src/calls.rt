@@ -44,6 +44,13 @@ impl Calls {
         Ok(())
     }
 
+    /// How many calls failed.
+    pub fn faults(&self) -> u64
+        ensures { result ≡ self.now.faults }
+    {
+        self.faults
+    }
+
     /// Counts a fault in the call that was begun last.
     pub fn fault(&mut self) -> Failed
         ensures { self.new ≡ record self.old { faults = risen self.old.faults } }

@@ -3,6 +3,13 @@
 #![tactic(auto)]
 
 mod calls;
+mod counts;
+mod depot;
+mod disk;
+mod disk_log;
+mod durable;
+mod mem_depot;
+mod mem_disk;
 mod mem_sink;
 mod mem_source;
 mod streams;
@@ -10,6 +17,12 @@ mod streams;
 mod tests;
 mod writing;
 
+pub use counts::Counted;
+pub use depot::Depot;
+pub use disk::Disk;
+pub use durable::write_through;
+pub use mem_depot::MemDepot;
+pub use mem_disk::MemDisk;
 pub use mem_sink::MemSink;
 pub use mem_source::MemSource;
 pub use streams::{Failed, Sink, Source};

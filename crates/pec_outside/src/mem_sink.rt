@@ -1,8 +1,9 @@
 ghost use Rattle.std.specs.Prelude.{◌≡◌, ◌<◌, ◌≤◌, [], ◌++◌, length, take, Some, IsErr, IfOk, OnOk, OnErr};
-ghost use Rattle.pec_outside.specs.Flow.{HasRisen};
+ghost use Rattle.pec_outside.specs.Flow.{HasRisen, as_u64, u64_of};
 ghost use Rattle.pec_outside.specs.Memory.{SinkState, NextFails, no_calls, answered, faulted};
 
 use crate::calls::Calls;
+use crate::counts::Counted;
 use crate::streams::{Failed, Sink};
 use std::alloc::Global;
 use std::marker::Model;
@@ -40,10 +41,14 @@ impl MemSink {
     }
 }
 
+impl Counted for MemSink {
+    ghost faults = { λ sink. as_u64 sink.calls.faults };
+
+    ghost counted = { λ sink. u64_of sink.calls.faults };
+}
+
 impl Sink for MemSink {
     ghost held = { λ sink. Some sink.bytes };
-
-    ghost faults = { λ sink. sink.calls.faults };
 
     /// As in the trait. It takes the whole piece. It fails where `failing` names the write; want of memory is a fault
     /// too.
@@ -52,8 +57,8 @@ impl Sink for MemSink {
         ensures some { 0 < length piece.now → IfOk result (λ n. 0 < n) }
         ensures taken { IfOk result (λ n. self.new.bytes ≡ self.old.bytes ++ take n piece.now) }
         ensures err { OnErr result (self.new.bytes ≡ self.old.bytes) }
-        ensures later { self.old.calls.faults ≤ self.new.calls.faults }
-        ensures cause { OnErr result (HasRisen self.old.calls.faults self.new.calls.faults) }
+        ensures later { as_u64 self.old.calls.faults ≤ as_u64 self.new.calls.faults }
+        ensures cause { OnErr result (HasRisen (as_u64 self.old.calls.faults) (as_u64 self.new.calls.faults)) }
 
         // Beyond the trait.
         ensures fails { NextFails self.old.calls → IsErr result }

@@ -1,8 +1,9 @@
 ghost use Rattle.std.specs.Prelude.{◌≡◌, ◌<◌, ◌≤◌, min, [], ◌++◌, length, take, drop, Some, IsErr, IfOk, OnErr, ◌↔◌, vec_len};
-ghost use Rattle.pec_outside.specs.Flow.{HasRisen};
+ghost use Rattle.pec_outside.specs.Flow.{HasRisen, as_u64, u64_of};
 ghost use Rattle.pec_outside.specs.Memory.{SourceState, NextFails, no_calls, answered, faulted};
 
 use crate::calls::Calls;
+use crate::counts::Counted;
 use crate::streams::{Failed, Source};
 use std::alloc::Global;
 use std::marker::Model;
@@ -40,10 +41,14 @@ impl MemSource {
     }
 }
 
+impl Counted for MemSource {
+    ghost faults = { λ source. as_u64 source.calls.faults };
+
+    ghost counted = { λ source. u64_of source.calls.faults };
+}
+
 impl Source for MemSource {
     ghost left = { λ source. Some source.rest };
-
-    ghost faults = { λ source. source.calls.faults };
 
     /// As in the trait. It fails exactly where `failing` names the read, and gives as many bytes as the piece, the room
     /// and the rest allow.
@@ -52,8 +57,8 @@ impl Source for MemSource {
         ensures taken { IfOk result (λ n. self.old.rest ≡ take n room.new ++ self.new.rest) }
         ensures end { 0 < length room.old → IfOk result (λ n. (n ≡ 0) ↔ (self.old.rest ≡ [])) }
         ensures err { OnErr result (self.new.rest ≡ self.old.rest) }
-        ensures later { self.old.calls.faults ≤ self.new.calls.faults }
-        ensures cause { OnErr result (HasRisen self.old.calls.faults self.new.calls.faults) }
+        ensures later { as_u64 self.old.calls.faults ≤ as_u64 self.new.calls.faults }
+        ensures cause { OnErr result (HasRisen (as_u64 self.old.calls.faults) (as_u64 self.new.calls.faults)) }
 
         // Beyond the trait.
         ensures fails { IsErr result ↔ NextFails self.old.calls }

@@ -1,17 +1,16 @@
 ghost use Rattle.std.specs.Prelude.{◌≡◌, ℕ, ◌<◌, ◌≤◌, List, [], length, take, Option, IfOk, IfSome, OnErr, ◌↔◌};
 ghost use Rattle.pec_outside.specs.Flow.{behind, followed_by, HasRisen};
 
+use crate::counts::Counted;
+
 /// A call of the outside failed, and the count of faults of the object that was called has risen.
 #[derive(Clone, Copy, Debug, PartialEq, Eq)]
 pub struct Failed;
 
 /// Where bytes come from. This project's profile.
-pub trait Source {
+pub trait Source: Counted {
     // The bytes still to come. None: the source doesn't tell.
     ghost left: { Self → Option (List ℕ) };
-
-    // The count of faults. It never falls, and one that stands at the greatest u64 counts as risen.
-    ghost faults: { Self → ℕ };
 
     /// Puts the next bytes at the front of `room` and answers how many, which is at most its length.
     /// Where `room` isn't empty that is 0 exactly at the end. What stands behind these bytes in `room`, and all of it
@@ -22,17 +21,14 @@ pub trait Source {
         ensures end { 0 < length room.old → IfOk result (λ n.
             IfSome (left self.old) (λ bytes. (n ≡ 0) ↔ (bytes ≡ []))) }
         ensures err { OnErr result (left self.new ≡ left self.old) }
-        ensures later { faults self.old ≤ faults self.new }
-        ensures cause { OnErr result (HasRisen (faults self.old) (faults self.new)) };
+        ensures later { Self.faults self.old ≤ Self.faults self.new }
+        ensures cause { OnErr result (HasRisen (Self.faults self.old) (Self.faults self.new)) };
 }
 
 /// Where bytes go. This project's profile.
-pub trait Sink {
+pub trait Sink: Counted {
     // The bytes that were taken so far. None: the sink doesn't tell.
     ghost held: { Self → Option (List ℕ) };
-
-    // The count of faults. It never falls, and one that stands at the greatest u64 counts as risen.
-    ghost faults: { Self → ℕ };
 
     /// Takes a front of `piece` and answers its length, which isn't 0 where `piece` isn't empty.
     /// A write that fails takes nothing.
@@ -41,6 +37,6 @@ pub trait Sink {
         ensures some { 0 < length piece.now → IfOk result (λ n. 0 < n) }
         ensures taken { IfOk result (λ n. held self.new ≡ followed_by (held self.old) (take n piece.now)) }
         ensures err { OnErr result (held self.new ≡ held self.old) }
-        ensures later { faults self.old ≤ faults self.new }
-        ensures cause { OnErr result (HasRisen (faults self.old) (faults self.new)) };
+        ensures later { Self.faults self.old ≤ Self.faults self.new }
+        ensures cause { OnErr result (HasRisen (Self.faults self.old) (Self.faults self.new)) };
 }
