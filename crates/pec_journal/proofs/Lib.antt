@@ -1,0 +1,4 @@
+pub mod AppendLemmas
+pub mod FileLemmas
+pub mod OneListLemmas
+pub mod ReopeningLemmas

@@ -1,0 +1,4 @@
+pub mod JournalFile
+pub mod JournalState
+pub mod Reopening
+pub mod Room
