@@ -1,4 +1,5 @@
--- Parts that may be absent, repeated, or one of several. What tells them apart is that no spelling of one begins as one of another does.
+-- Parts that may be absent, repeated, or one of several. What tells them apart is that no spelling of one begins as one
+-- of another does.
 use Rattle.std.proofs.Common.{◌≡◌, ℕ, zero, suc, ◌+◌, ◌<◌, ◌≤◌, Bool, true, false, cond, ltb, List, [], ◌∷◌, ◌++◌, length, Option, Some, None, Ok, Err, refl, sym, ap, subst, ◌∙◌, inl, inr, arith, append_assoc, length-append, ltb-true, ltb-false}
 use Rattle.std.specs.Prelude.{IfSome, ◌⊎◌}
 use Rattle.std.specs.List.{flat_map, AllByRecursion}

@@ -1,9 +1,11 @@
--- Grammars with one spelling, made of parts: what each part spells, and how it is read from left to right with no step back over what was
--- taken. That reading is exact, fault places included, is the law `Lawful` of each part.
+-- Grammars with one spelling (`Grammar`), made of parts: what each part spells, and how it is read from left to right
+-- with no step back over what was taken. That reading is exact, fault places included, is the law `Lawful` of each
+-- part. `whole`, at the end, reads all of a text.
 use Rattle.std.specs.Prelude.{◌≡◌, ℕ, zero, suc, Bool, ◌==◌, nat_lt, List, [], ◌∷◌, ◌++◌, length, Option, Some, None, Result, Ok, Err, IsTrue, IfSome, ⊤, ◌⊎◌, if◌then◌else◌}
 use Rattle.std.specs.List.{flat_map, AllByRecursion}
 
--- where a reader stands: the bytes that are left to read, and those behind the farthest place that anything tried so far has reached
+-- where a reader stands: the bytes that are left to read, and those behind the farthest place that anything tried so
+-- far has reached
 pub record Cursor : Type 0 where
   pub rest : List ℕ
   pub farthest : List ℕ
@@ -22,6 +24,7 @@ pub record Grammar (A : Type 0) : Type 1 where
 abbrev pub farther : List ℕ → List ℕ → List ℕ
 farther a b = if nat_lt (length a) (length b) then a else b
 
+-- reading goes on from where it stands, or stays stopped
 infixl 10 ◌>>=◌
 abbrev pub ◌>>=◌ : {A B : Type 0} → Read A → (A × Cursor → Read B) → Read B
 (Ok taken) >>= next = next taken
@@ -76,6 +79,7 @@ abbrev pub otherwise : {A : Type 0} → Read A → Cursor → (Cursor → Read A
 otherwise (Ok taken) at next = Ok taken
 otherwise (Err stop) at next = next (record { rest = at.rest; farthest = stop })
 
+-- one grammar or another, of one spelling
 abbrev pub union : {A : Type 0} → (A → List ℕ) → Grammar A → Grammar A → Grammar A
 union spell g h = record { Fits = λ x. g.Fits x ⊎ h.Fits x; spell = spell; read = λ at. otherwise (g.read at) at h.read }
 
@@ -83,14 +87,17 @@ union spell g h = record { Fits = λ x. g.Fits x ⊎ h.Fits x; spell = spell; re
 abbrev pub named_at : {A : Type 0} → List ℕ → A → Cursor → Read A
 named_at bytes x at = word_at bytes at >>= λ w. Ok (x, w.1)
 
+-- the value of the first word of the table that stands there
 unfoldable pub choice_at : {A : Type 0} → List (List ℕ × A) → Cursor → Read A
 choice_at [] at = Err at.farthest
 choice_at (e ∷ es) at = otherwise (named_at e.0 e.1 at) at (choice_at es)
 
+-- a value that the table has a word for
 abbrev pub HasValue : {A : Type 0} → List (List ℕ × A) → A → Type 0
 HasValue [] x = ⊥
 HasValue (e ∷ es) x = (x ≡ e.1) ⊎ HasValue es x
 
+-- the values of a table, each spelled by its word
 abbrev pub choice : {A : Type 0} → (A → List ℕ) → List (List ℕ × A) → Grammar A
 choice spell table = record { Fits = HasValue table; spell = spell; read = choice_at table }
 
@@ -99,9 +106,11 @@ abbrev pub found : {A : Type 0} → Read A → Cursor → Read (Option A)
 found (Ok taken) at = Ok (Some taken.0, taken.1)
 found (Err stop) at = Ok (None, record { rest = at.rest; farthest = stop })
 
+-- a part, if it stands there
 abbrev pub optional_at : {A : Type 0} → (Cursor → Read A) → Cursor → Read (Option A)
 optional_at reader at = found (reader at) at
 
+-- the spelling of a part that may be absent
 abbrev pub optional_text : {A : Type 0} → (A → List ℕ) → Option A → List ℕ
 optional_text spell None = []
 optional_text spell (Some x) = spell x
@@ -119,6 +128,7 @@ abbrev pub once_more : {A : Type 0} → Read A → Cursor → (Cursor → Read (
 once_more (Ok taken) at more = more taken.1 >>= λ xs. Ok (taken.0 ∷ xs.0, xs.1)
 once_more (Err stop) at more = Ok ([], record { rest = at.rest; farthest = stop })
 
+-- at most so many of them
 unfoldable pub many_from : {A : Type 0} → (Cursor → Read A) → ℕ → Cursor → Read (List A)
 many_from reader zero at = Err at.farthest
 many_from reader (suc n) at = once_more (reader at) at (many_from reader n)
@@ -138,6 +148,7 @@ many g h = record {
 abbrev pub several_at : {A : Type 0} → (Cursor → Read A) → Cursor → Read (List A)
 several_at reader at = reader at >>= λ x. many_at reader x.1 >>= λ xs. Ok (x.0 ∷ xs.0, xs.1)
 
+-- one or more values, and this holds of each
 abbrev pub AllOfSome : {A : Type 0} → (A → Type 0) → List A → Type 0
 AllOfSome Fits [] = ⊥
 AllOfSome Fits (x ∷ xs) = Fits x × AllByRecursion Fits xs
@@ -154,5 +165,6 @@ abbrev pub ending : {A : Type 0} → Read A → Result A (List ℕ)
 ending (Ok taken) = if length taken.1.rest == 0 then Ok taken.0 else Err taken.1.rest
 ending (Err stop) = Err stop
 
+-- all of a text, by this grammar
 abbrev pub whole : {A : Type 0} → Grammar A → List ℕ → Result A (List ℕ)
 whole g text = ending (g.read (record { rest = text; farthest = text }))

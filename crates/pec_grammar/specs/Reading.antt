@@ -1,4 +1,4 @@
--- What the code's readers answer, against the reading of a grammar.
+-- What the code's readers answer, against the reading of a grammar: `Gives`, and `MayGive` where memory may run out.
 use Rattle.std.specs.Prelude.{◌≡◌, ℕ, List, Result, Ok, Err}
 use Rattle.std.specs.Borrow.{Bor}
 use Rattle.pec_grammar.specs.Grammar.{Cursor}
@@ -16,6 +16,7 @@ abbrev pub Gives : {X Y : Type 0} → (X → Y) → Result X Stop → Result Y (
 Gives view (Ok x) read = read ≡ Ok (view x)
 Gives view (Err stop) read = read ≡ Err stop.rest.now
 
+-- a stop is that of the reading; want of memory is free
 abbrev pub Fails : {Y : Type 0} → ReadError → Result Y (List ℕ) → Type 0
 Fails errors.NoMemory read = Unit {0}
 Fails (errors.Stop stop) read = read ≡ Err stop.rest.now
