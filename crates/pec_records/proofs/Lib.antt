@@ -1,0 +1,7 @@
+mod AddressLoopLemmas
+mod AddressRestLemmas
+mod EntryLaws
+mod EntryLemmas
+mod FieldLaws
+mod LengthLemmas
+mod PutLemmas

@@ -1,0 +1,70 @@
+use pec_types::{Address, Cause, Decision, Items, Moment, MsgId, Text8};
+
+/// What a provider writes into its journal, one entry for each thing that it did (this project's own format). Messages
+/// are those that were submitted, and the sealed envelopes and receipts that came from other providers.
+#[derive(Drop)]
+pub enum Entry {
+    /// Which provider's journal this is, and the digest of the directory that it was made with.
+    Start {
+        provider: u32,
+        digest: [u8; 32],
+    },
+    /// A message was accepted from an account.
+    Accepted {
+        moment: Moment,
+        sender: Address,
+        message: Text8,
+    },
+    /// A message was not accepted.
+    NotAccepted {
+        moment: Moment,
+        sender: Address,
+        cause: Cause,
+        path: Items<Address>,
+        message: Text8,
+    },
+    /// An envelope was taken in charge.
+    Took {
+        moment: Moment,
+        id: MsgId,
+        message: Text8,
+    },
+    /// It was decided what becomes of a taken message at one of its recipients.
+    Decided {
+        moment: Moment,
+        id: MsgId,
+        recipient: Address,
+        decision: Decision,
+    },
+    /// A provider said that it took a message in charge.
+    Charged {
+        moment: Moment,
+        id: MsgId,
+        by: u32,
+    },
+    /// A receipt said what was decided, and when.
+    Learned {
+        moment: Moment,
+        id: MsgId,
+        recipient: Address,
+        decision: Decision,
+        decided: Moment,
+        message: Text8,
+    },
+    /// The sender's provider said that it knows what was decided.
+    Acked {
+        moment: Moment,
+        id: MsgId,
+        recipient: Address,
+    },
+    /// The clock was looked at.
+    Ticked {
+        moment: Moment,
+    },
+    /// Something that no provider could have sent was put into these accounts.
+    Anomaly {
+        moment: Moment,
+        accounts: Items<Address>,
+        message: Text8,
+    },
+}
