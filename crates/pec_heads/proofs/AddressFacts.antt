@@ -1,34 +1,27 @@
--- The law of addresses, as the laws of lists need it: each text is an address or has a fault, and never both; and no answer
--- that the definition gives is want of memory.
-use Rattle.std.proofs.Common.{◌≡◌, ℕ, List, Bool, true, false, cond, Option, Some, None, Result, Err}
-use Rattle.pec_types.specs.AddressReading.{address_of, parted_read, local_read, domain_read}
+-- What the law of addresses says, as the laws of lists need it: what a text is told to be is its address or its fault.
+use Rattle.std.proofs.Common.{◌≡◌, ℕ, List, Result, Ok, Err, refl}
+use Rattle.pec_types.specs.Address.{IsAddress, IsAddressFault, IsReadAs, lowered}
+use Rattle.pec_types.specs.AddressReading.{address_of}
+use Rattle.pec_types.specs.Answers.{TellsExactly}
 use Rattle.pec_types.specs.declared.addresses.AddressFault.{AddressFault}
-use Rattle.pec_types.specs.declared.addresses.AddressFault.TheVariants.{Empty, TooLong, NoMemory}
-pub use Rattle.pec_types.proofs.AddressLaws.{answered, each_fault, only_address}
 
-abbrev NotMemory : Result (List ℕ) AddressFault → Type 0
-NotMemory r = r ≡ Err NoMemory → ⊥
+abbrev pub AddressesTold : Type 0
+AddressesTold = (text : List ℕ) → TellsExactly (IsReadAs text) (IsAddressFault text) (address_of text)
 
-domain_not : (text : List ℕ) (place : ℕ) (o : Option ℕ) → NotMemory (domain_read text place o)
-domain_not text place None e = absurd cc
-domain_not text place (Some at) e = absurd cc
+abbrev pub AddressSays : List ℕ → Result (List ℕ) AddressFault → Type 0
+AddressSays text (Ok address) = IsReadAs text address
+AddressSays text (Err fault) = IsAddressFault text fault
 
-local_not : (text : List ℕ) (sign : ℕ) (o : Option ℕ) → NotMemory (local_read text sign o)
-local_not text sign None e = domain_not text _ _ e
-local_not text sign (Some at) e = absurd cc
+module _ (told : AddressesTold) where
+  says : (text : List ℕ) (r : Result (List ℕ) AddressFault) → address_of text ≡ r → AddressSays text r
+  says text (Ok address) e = ((told text).value address).0 e
+  says text (Err fault) e = ((told text).fault fault).0 e
 
-parted_not : (text : List ℕ) (o : Option ℕ) → NotMemory (parted_read text o)
-parted_not text None e = absurd cc
-parted_not text (Some sign) e = local_not text sign _ e
+  pub answered : (text : List ℕ) → AddressSays text (address_of text)
+  answered text = says text (address_of text) refl
 
-cond_not : (t : Bool) (a b : Result (List ℕ) AddressFault) → NotMemory a → NotMemory b → NotMemory (cond t a b)
-cond_not true a b f g e = f e
-cond_not false a b f g e = g e
+  pub only_address : (text : List ℕ) → IsAddress text → address_of text ≡ Ok (lowered text)
+  only_address text is = ((told text).value (lowered text)).1 (is, refl)
 
-fault_not : (fault : AddressFault) → (fault ≡ NoMemory → ⊥) → NotMemory (Err fault)
-fault_not fault f e = f cc
-
-pub never_memory : (text : List ℕ) → address_of text ≡ Err NoMemory → ⊥
-unfolding address_of
-never_memory text =
-    cond_not _ _ _ (fault_not Empty (λ e. absurd cc)) (cond_not _ _ _ (fault_not TooLong (λ e. absurd cc)) (parted_not text _))
+  pub each_fault : (text : List ℕ) (fault : AddressFault) → IsAddressFault text fault → address_of text ≡ Err fault
+  each_fault text fault is = ((told text).fault fault).1 is

@@ -2,6 +2,7 @@
 use Rattle.std.proofs.Common.{◌≡◌, ℕ, List, [], ◌∷◌, ◌++◌, Bool, true, false, refl, ap, sym, ◌∙◌, append_assoc}
 use Rattle.std.specs.List.{list_all}
 use Rattle.std.proofs.lemmas.Bool.{and_parts, and_from, cond_both}
+use Rattle.std.proofs.lemmas.List.{append-nil}
 use Rattle.pec_heads.specs.Bytes.{is_blank, AreBlanks, begins_blank, ends_blank, before_cut, cut_blanks, skip_blanks, trimmed, IsTrimmed}
 
 -- the last byte, a blank or not
@@ -119,3 +120,7 @@ unfolding trimmed
 trimmed_only bytes value h =
     rw (h.parts, append_assoc, skip_left h.left (value ++ h.right) h.left_blank)
     (skip_blank_value value h.right h.begins h.right_blank ∙ cut_right value h.right h.right_blank h.ends)
+
+pub trimmed_kept : (value : List ℕ) → begins_blank value ≡ false → ends_blank value ≡ false → trimmed value ≡ value
+trimmed_kept value b e =
+    trimmed_only value value record { left = []; right = []; parts = sym (append-nil value); left_blank = refl; right_blank = refl; begins = b; ends = e }

@@ -6,7 +6,8 @@ use Rattle.std.specs.Char.{is_ascii_alphanumeric}
 use Rattle.std.specs.List.{list_all}
 use Rattle.pec_types.specs.Address.{is_atom_byte, IsAddress}
 use Rattle.pec_heads.specs.Bytes.{is_blank, AreBlanks, NonePass, trimmed}
-use Rattle.pec_heads.specs.Lists.{is_mark, is_quote, has_mark, IsAngled, IsBare, IsEntry}
+use Rattle.pec_types.specs.Bytes.{is_quote}
+use Rattle.pec_heads.specs.Lists.{is_mark, has_mark, IsAngled, IsBare, IsEntry}
 use Rattle.pec_types.proofs.AddressBytes.{Avoids, none_in}
 use Rattle.pec_heads.proofs.BlankLemmas.{trimmed_is}
 

@@ -4,7 +4,8 @@ use Rattle.std.proofs.lemmas.Bool.{true≢false, false≢true, true_from_ne_fals
 use Rattle.std.proofs.lemmas.List.{append-nil}
 use Rattle.std.specs.List.{flat_map, join_with_byte, onto_first}
 use Rattle.std.specs.Option.{option_map}
-use Rattle.pec_heads.specs.Lists.{is_quote, is_comma, is_phrase_byte, inner_text, piece_text, IsPhrase, IsClosed, IsUnclosed, AreEntries, IsEntries}
+use Rattle.pec_types.specs.Bytes.{is_quote}
+use Rattle.pec_heads.specs.Lists.{is_comma, is_phrase_byte, inner_text, piece_text, IsPhrase, IsClosed, IsUnclosed, AreEntries, IsEntries}
 use Rattle.pec_heads.specs.ListReading.{is_outside, after, angle_from, entries_from}
 use Rattle.pec_heads.specs.declared.quoting.Quoting.{Quoting}
 use Rattle.pec_heads.specs.declared.quoting.Quoting.TheVariants.{Outside, Inside, Escaped}

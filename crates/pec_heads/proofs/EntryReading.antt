@@ -5,10 +5,9 @@ use Rattle.std.proofs.lemmas.Bool.{cond_both, both_ways, eqb-true, and_parts, an
 use Rattle.std.proofs.lemmas.List.{take_more}
 use Rattle.std.specs.List.{list_all, position, slice_index}
 use Rattle.std.specs.Option.{option_and_then}
-use Rattle.pec_types.specs.Address.{IsAddressFault, AnswersAddress, lowered}
+use Rattle.pec_types.specs.Address.{lowered}
 use Rattle.pec_types.specs.AddressReading.{address_of}
 use Rattle.pec_types.specs.declared.addresses.AddressFault.{AddressFault}
-use Rattle.pec_types.specs.declared.addresses.AddressFault.TheVariants as misread
 use Rattle.pec_heads.specs.Bytes.{is_blank, AreBlanks, FirstOf, NonePass, ends_blank, cut_blanks, trimmed}
 use Rattle.pec_heads.specs.Lists.{is_ink, is_all_blank, has_mark, IsPhrase, IsAngled, IsBare, IsEntry, EntryFault}
 use Rattle.pec_heads.specs.ListReading.{angle_from, before_close, inside_of, bare_of, or_syntax, angled_of, entry_of}
@@ -18,7 +17,7 @@ use Rattle.pec_heads.specs.declared.quoting.Quoting.TheVariants.{Outside}
 use Rattle.pec_heads.proofs.Places.{first_of, none_of, place_again}
 use Rattle.pec_heads.proofs.BlankLemmas.{cut_is, cut_right}
 use Rattle.pec_heads.proofs.EntryLaws.{AngleSays, angle_says, angle_again}
-use Rattle.pec_heads.proofs.AddressFacts.{answered, each_fault, only_address, never_memory}
+use Rattle.pec_heads.proofs.AddressFacts.{AddressSays, AddressesTold, answered, each_fault, only_address}
 
 -- ---- `>` at the end
 
@@ -98,21 +97,12 @@ abbrev pub EntrySays : ℕ → List ℕ → Result (List ℕ) ListFault → Type
 EntrySays place entry (Ok address) = IsEntry entry address
 EntrySays place entry (Err fault) = EntryFault place entry fault
 
-fault_told : (text : List ℕ) (fault : AddressFault) → (fault ≡ misread.NoMemory → ⊥) → AnswersAddress text (Err fault) → IsAddressFault text fault
-fault_told text misread.Empty f h = h
-fault_told text misread.TooLong f h = h
-fault_told text misread.NoAt f h = h
-fault_told text (misread.BadLocal at) f h = h
-fault_told text (misread.BadDomain at) f h = h
-fault_told text misread.NoMemory f h = absurd (f refl)
-
 bare_says : (place at : ℕ) (entry front : List ℕ) → has_mark entry ≡ false → FirstOf is_ink entry front → at ≡ length front
-    → (r : Result (List ℕ) AddressFault) → AnswersAddress (trimmed entry) r → (r ≡ Err misread.NoMemory → ⊥) → EntrySays place entry (bare_of (place + at) r)
-bare_says place at entry front e first f (Ok address) h n = rw e (record { address_is = h.0; lower = h.1 })
-bare_says place at entry front e first f (Err fault) h n =
-    (e, fault_told (trimmed entry) fault (λ g. n (ap Err g)) h, (front, (first, ap (λ k. place + k) f)))
+    → (r : Result (List ℕ) AddressFault) → AddressSays (trimmed entry) r → EntrySays place entry (bare_of (place + at) r)
+bare_says place at entry front e first f (Ok address) h = rw e (record { address_is = h.0; lower = h.1 })
+bare_says place at entry front e first f (Err fault) h = (e, h, (front, (first, ap (λ k. place + k) f)))
 
-angled_ok : (entry inside address : List ℕ) → IsInside entry inside → AnswersAddress (trimmed inside) (Ok address) → IsAngled entry address
+angled_ok : (entry inside address : List ℕ) → IsInside entry inside → AddressSays (trimmed inside) (Ok address) → IsAngled entry address
 angled_ok entry inside address i h = record {
   phrase = i.phrase;
   inside = inside;
@@ -133,62 +123,64 @@ none_no_some entry inside e f = absurd cc
 same_inside : (entry inside other : List ℕ) → inside_of entry ≡ Some inside → inside_of entry ≡ Some other → other ≡ inside
 same_inside entry inside other e f = cc
 
-angled_read : (place : ℕ) (entry inside : List ℕ) → has_mark entry ≡ true → inside_of entry ≡ Some inside → (r : Result (List ℕ) AddressFault) → address_of (trimmed inside) ≡ r
-    → AnswersAddress (trimmed inside) r → EntrySays place entry (or_syntax place r)
-angled_read place entry inside e f (Ok address) g h = rw e (angled_ok entry inside address (inside_says entry inside f) h)
-angled_read place entry inside e f (Err fault) g h = (
-  e,
-  λ address a.
-      let s : a.inside ≡ inside = same_inside entry inside a.inside f (inside_of_angled entry address a)
-      in ok_no_err (trimmed inside) (lowered (trimmed inside)) fault (only_address (trimmed inside) (rw s at a.address_is)) g,
-  refl,
-)
+-- what the law of addresses says
+module _ (told : AddressesTold) where
+  angled_read : (place : ℕ) (entry inside : List ℕ) → has_mark entry ≡ true → inside_of entry ≡ Some inside → (r : Result (List ℕ) AddressFault) → address_of (trimmed inside) ≡ r
+      → AddressSays (trimmed inside) r → EntrySays place entry (or_syntax place r)
+  angled_read place entry inside e f (Ok address) g h = rw e (angled_ok entry inside address (inside_says entry inside f) h)
+  angled_read place entry inside e f (Err fault) g h = (
+    e,
+    λ address a.
+        let s : a.inside ≡ inside = same_inside entry inside a.inside f (inside_of_angled entry address a)
+        in ok_no_err (trimmed inside) (lowered (trimmed inside)) fault (only_address told (trimmed inside) (rw s at a.address_is)) g,
+    refl,
+  )
 
-angled_says : (place : ℕ) (entry : List ℕ) → has_mark entry ≡ true → (o : Option (List ℕ)) → inside_of entry ≡ o → EntrySays place entry (angled_of place o)
-angled_says place entry e None f = (e, (λ address a. none_no_some entry a.inside f (inside_of_angled entry address a)), refl)
-angled_says place entry e (Some inside) f = angled_read place entry inside e f (address_of (trimmed inside)) refl (answered (trimmed inside))
+  angled_says : (place : ℕ) (entry : List ℕ) → has_mark entry ≡ true → (o : Option (List ℕ)) → inside_of entry ≡ o → EntrySays place entry (angled_of place o)
+  angled_says place entry e None f = (e, (λ address a. none_no_some entry a.inside f (inside_of_angled entry address a)), refl)
+  angled_says place entry e (Some inside) f = angled_read place entry inside e f (address_of (trimmed inside)) refl (answered told (trimmed inside))
 
-pub entry_says : (place at : ℕ) (entry : List ℕ) → position is_ink entry ≡ Some at → EntrySays place entry (entry_of place at entry)
-unfolding entry_of
-entry_says place at entry e =
-    let f = first_of is_ink entry at e
-    in cond_both (has_mark entry) (angled_of place (inside_of entry)) (bare_of (place + at) (address_of (trimmed entry))) (EntrySays place entry)
-    (λ t. angled_says place entry t (inside_of entry) refl)
-    (λ t. bare_says place at entry f.0 t f.1.0 f.1.1 (address_of (trimmed entry)) (answered (trimmed entry)) (never_memory (trimmed entry)))
+  pub entry_says : (place at : ℕ) (entry : List ℕ) → position is_ink entry ≡ Some at → EntrySays place entry (entry_of place at entry)
+  unfolding entry_of
+  entry_says place at entry e =
+      let f = first_of is_ink entry at e
+      in cond_both (has_mark entry) (angled_of place (inside_of entry)) (bare_of (place + at) (address_of (trimmed entry))) (EntrySays place entry)
+      (λ t. angled_says place entry t (inside_of entry) refl)
+      (λ t. bare_says place at entry f.0 t f.1.0 f.1.1 (address_of (trimmed entry)) (answered told (trimmed entry)))
 
--- ---- and back
+  -- ---- and back
 
-entry_case : (place at : ℕ) (entry address : List ℕ) (t : Bool) → has_mark entry ≡ t → MatchBool t (IsAngled entry address) (IsBare entry address)
-    → cond t (angled_of place (inside_of entry)) (bare_of (place + at) (address_of (trimmed entry))) ≡ Ok address
-entry_case place at entry address true e a = rw (inside_of_angled entry address a, only_address (trimmed a.inside) a.address_is, a.lower) refl
-entry_case place at entry address false e b = rw (only_address (trimmed entry) b.address_is, b.lower) refl
+  entry_case : (place at : ℕ) (entry address : List ℕ) (t : Bool) → has_mark entry ≡ t → MatchBool t (IsAngled entry address) (IsBare entry address)
+      → cond t (angled_of place (inside_of entry)) (bare_of (place + at) (address_of (trimmed entry))) ≡ Ok address
+  entry_case place at entry address true e a = rw (inside_of_angled entry address a, only_address told (trimmed a.inside) a.address_is, a.lower) refl
+  entry_case place at entry address false e b = rw (only_address told (trimmed entry) b.address_is, b.lower) refl
 
-pub entry_again : (place at : ℕ) (entry address : List ℕ) → IsEntry entry address → entry_of place at entry ≡ Ok address
-unfolding entry_of
-entry_again place at entry address h = entry_case place at entry address (has_mark entry) refl h
+  pub entry_again : (place at : ℕ) (entry address : List ℕ) → IsEntry entry address → entry_of place at entry ≡ Ok address
+  unfolding entry_of
+  entry_again place at entry address h = entry_case place at entry address (has_mark entry) refl h
 
-syntax_only : (place : ℕ) (entry : List ℕ) (r : Result (List ℕ) ListFault) → EntrySays place entry r → has_mark entry ≡ true → ((address : List ℕ) → IsAngled entry address → ⊥) → r ≡ Err (Syntax place)
-syntax_only place entry (Ok address) h e n = absurd (n address (rw e at h))
-syntax_only place entry (Err (Syntax p)) h e n = ap (λ k. Err (Syntax k)) h.2
-syntax_only place entry (Err (BadAddress p f)) h e n = absurd (both_ways (has_mark entry) h.0 e)
-syntax_only place entry (Err Empty) h e n = absurd h
-syntax_only place entry (Err NoMemory) h e n = absurd h
+  syntax_only : (place : ℕ) (entry : List ℕ) (r : Result (List ℕ) ListFault) → EntrySays place entry r → has_mark entry ≡ true → ((address : List ℕ) → IsAngled entry address → ⊥) → r ≡ Err (Syntax place)
+  syntax_only place entry (Ok address) h e n = absurd (n address (rw e at h))
+  syntax_only place entry (Err (Syntax p)) h e n = ap (λ k. Err (Syntax k)) h.2
+  syntax_only place entry (Err (BadAddress p f)) h e n = absurd (both_ways (has_mark entry) h.0 e)
+  syntax_only place entry (Err Empty) h e n = absurd h
+  syntax_only place entry (Err NoMemory) h e n = absurd h
 
-same_place : (at k : ℕ) (entry : List ℕ) → position is_ink entry ≡ Some at → position is_ink entry ≡ Some k → at ≡ k
-same_place at k entry e f = cc
+  same_place : (at k : ℕ) (entry : List ℕ) → position is_ink entry ≡ Some at → position is_ink entry ≡ Some k → at ≡ k
+  same_place at k entry e f = cc
 
-bad_again : (place at p : ℕ) (entry : List ℕ) (fault : AddressFault) → position is_ink entry ≡ Some at → EntryFault place entry (BadAddress p fault) → entry_of place at entry ≡ Err (BadAddress p fault)
-unfolding entry_of
-bad_again place at p entry fault e h =
-    let s : at ≡ length h.2.0 = same_place at (length h.2.0) entry e (place_again is_ink entry h.2.0 h.2.1.0)
-    in rw (h.0, each_fault (trimmed entry) fault h.1, h.2.1.1, s) refl
+  bad_again : (place at p : ℕ) (entry : List ℕ) (fault : AddressFault) → position is_ink entry ≡ Some at → EntryFault place entry (BadAddress p fault) → entry_of place at entry ≡ Err (BadAddress p fault)
+  unfolding entry_of
+  bad_again place at p entry fault e h =
+      let s : at ≡ length h.2.0 = same_place at (length h.2.0) entry e (place_again is_ink entry h.2.0 h.2.1.0)
+      in rw (h.0, each_fault told (trimmed entry) fault h.1, h.2.1.1, s) refl
 
-pub entry_fault_again : (place at : ℕ) (entry : List ℕ) (fault : ListFault) → position is_ink entry ≡ Some at → EntryFault place entry fault → entry_of place at entry ≡ Err fault
-entry_fault_again place at entry (Syntax p) e h =
-    syntax_only place entry (entry_of place at entry) (entry_says place at entry e) h.0 h.1 ∙ ap (λ k. Err (Syntax k)) (sym h.2)
-entry_fault_again place at entry (BadAddress p fault) e h = bad_again place at p entry fault e h
-entry_fault_again place at entry Empty e h = absurd h
-entry_fault_again place at entry NoMemory e h = absurd h
+  pub entry_fault_again : (place at : ℕ) (entry : List ℕ) (fault : ListFault) → position is_ink entry ≡ Some at → EntryFault place entry fault → entry_of place at entry ≡ Err fault
+  entry_fault_again place at entry (Syntax p) e h =
+      syntax_only place entry (entry_of place at entry) (entry_says place at entry e) h.0 h.1 ∙ ap (λ k. Err (Syntax k)) (sym h.2)
+  entry_fault_again place at entry (BadAddress p fault) e h = bad_again place at p entry fault e h
+  entry_fault_again place at entry Empty e h = absurd h
+  entry_fault_again place at entry NoMemory e h = absurd h
 
 -- ---- blank entries
 
@@ -198,7 +190,7 @@ all_blank (b ∷ bs) h =
     let p = and_parts (not (is_ink b)) (list_all (λ x. not (is_ink x)) bs) h
     in rw (not-false (is_blank b) (not-true (is_ink b) p.0), all_blank bs p.1) refl
 
-some_ink : (front back : List ℕ) (b : ℕ) → is_ink b ≡ true → is_all_blank (front ++ b ∷ back) ≡ false
+pub some_ink : (front back : List ℕ) (b : ℕ) → is_ink b ≡ true → is_all_blank (front ++ b ∷ back) ≡ false
 some_ink [] back b e = rw (not-true (is_blank b) e) refl
 some_ink (c ∷ front) back b e = and_right (is_blank c) (is_all_blank (front ++ b ∷ back)) (some_ink front back b e)
 

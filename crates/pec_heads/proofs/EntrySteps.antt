@@ -1,5 +1,5 @@
 -- The entries of a text, one after another, and the values of a name joined by commas.
-use Rattle.std.proofs.Common.{◌≡◌, ℕ, ◌+◌, ◌-◌, ◌<◌, ◌≤◌, List, [], ◌∷◌, ◌++◌, false, ◌&&◌, length, map, take, drop, Option, Some, None, Result, Ok, Err, refl, ap, sym, ◌∙◌, arith, add-one, append_assoc, length-append, length-drop}
+use Rattle.std.proofs.Common.{◌≡◌, ◌≢◌, ℕ, ◌+◌, ◌-◌, ◌<◌, ◌≤◌, List, [], ◌∷◌, ◌++◌, false, ◌&&◌, length, map, take, drop, Option, Some, None, Result, Ok, Err, refl, ap, sym, ◌∙◌, arith, add-one, append_assoc, length-append, length-drop}
 use Rattle.std.proofs.lemmas.Bool.{cond_both, le-leb, lt-leb}
 use Rattle.std.proofs.Math.Seq.{take-append_seam, drop-drop}
 use Rattle.std.proofs.lemmas.List.{append-nil, length-take-le}
@@ -8,11 +8,11 @@ use Rattle.std.specs.Option.{option_map}
 use Rattle.pec_heads.specs.Lists.{is_comma, is_ink}
 use Rattle.pec_heads.specs.ListReading.{is_outside, after, comma_from, before_comma, entries_from, entries_at, list_from, with_entry, with_comma}
 use Rattle.pec_heads.specs.declared.faults.ListFault.{ListFault}
-use Rattle.pec_heads.specs.declared.faults.ListFault.TheVariants.{Syntax, BadAddress, Empty, NoMemory}
+use Rattle.pec_heads.specs.declared.faults.ListFault.TheVariants.{NoMemory}
 use Rattle.pec_heads.specs.declared.quoting.Quoting.{Quoting}
 use Rattle.pec_heads.specs.declared.quoting.Quoting.TheVariants.{Outside}
 use Rattle.pec_heads.specs.Heads.{cut, values_of}
-use Rattle.pec_heads.specs.Views.{IsWrong, fields_at}
+use Rattle.pec_heads.specs.Views.{fields_at}
 use Rattle.pec_heads.specs.declared.fields.Start.{Start}
 
 -- ---- the first entry
@@ -72,11 +72,8 @@ turn_fault : (addresses : List (List ℕ)) (place : ℕ) (text entry : List ℕ)
 turn_fault addresses place text entry fault within e t = rw (entries_first place text within, ← e, t) refl
 
 pub turn_err : (addresses : List (List ℕ)) (place : ℕ) (text entry : List ℕ) (fault : ListFault) → place ≤ length text → entry ≡ first_of_text (drop place text)
-    → IsWrong fault (turn addresses place entry) → IsWrong fault (list_from addresses place (entries_at place text))
-turn_err addresses place text entry (Syntax p) within e t = turn_fault addresses place text entry (Syntax p) within e t
-turn_err addresses place text entry (BadAddress p f) within e t = turn_fault addresses place text entry (BadAddress p f) within e t
-turn_err addresses place text entry Empty within e t = turn_fault addresses place text entry Empty within e t
-turn_err addresses place text entry NoMemory within e t = tt
+    → (fault ≢ NoMemory → turn addresses place entry ≡ Err fault) → fault ≢ NoMemory → list_from addresses place (entries_at place text) ≡ Err fault
+turn_err addresses place text entry fault within e t stays = turn_fault addresses place text entry fault within e (t stays)
 
 -- ---- joined values
 

@@ -45,6 +45,9 @@ pub front_printed : (value : List ℕ) → printed (front_of value) ≡ front_of
 unfolding front_of
 front_printed value = sym (take-map printed_byte TEXT_LIMIT value)
 
+pub front_printable : (value : List ℕ) → AllPrintable (front_of (printed value))
+front_printable value = rw (← front_printed value) (printed_printable (front_of value))
+
 -- what `print` and `trim` made of a value
 pub short_is : (value bytes text : List ℕ) → bytes ≡ printed (front_of value) → text ≡ trimmed bytes → AllPrintable text
 short_is value bytes text e f = rw (f, e) (trimmed_printable (printed (front_of value)) (printed_printable (front_of value)))

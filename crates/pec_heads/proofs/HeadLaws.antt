@@ -4,11 +4,10 @@ use Rattle.std.proofs.Math.Dec.{eqb-suc-zero}
 use Rattle.std.proofs.lemmas.Bool.{both_ways, and_right, false_from_ne_true}
 use Rattle.std.specs.List.{flat_map, concat}
 use Rattle.pec_heads.specs.Lines.{whole_lines, content_of, size}
-use Rattle.pec_heads.specs.Heads.{NamedValue, GoesOn, AllGoOn, FieldLines, IsField, AllFields, lines_of, first_line_of, raw_of, cut, unfolded, IsHead, IsFaulty, Stops, AnswersHead, OrNoMemory, HasHead, HasHeadFault}
-use Rattle.pec_heads.specs.Views.{IsFault}
-use Rattle.pec_heads.specs.HeadReading.{Role, ends, more, opens, ◌>>=◌, onto_last, after_line, head_from, head_of, line_of}
+use Rattle.pec_heads.specs.Heads.{NamedValue, GoesOn, AllGoOn, FieldLines, IsField, AllFields, lines_of, first_line_of, raw_of, cut, unfolded, IsHead, IsFaulty, Stops, HasHead, HasHeadFault}
+use Rattle.pec_types.specs.Results.{◌>>=◌}
+use Rattle.pec_heads.specs.HeadReading.{Role, ends, more, opens, onto_last, after_line, head_from, head_of, line_of}
 use Rattle.pec_heads.specs.declared.faults.HeadFault.{HeadFault}
-use Rattle.pec_heads.specs.declared.faults.HeadFault.TheVariants.{NoColon, BadName, BareControl, NoEnd, LineTooLong, NoMemory}
 use Rattle.pec_heads.proofs.Tools.{ok_is, err_is}
 use Rattle.pec_heads.proofs.FieldLemmas.{onto_last-append}
 use Rattle.pec_heads.proofs.LineRoles.{Says, line_says, line_ends, line_more, line_opens, fault_again}
@@ -359,41 +358,6 @@ either_says text (Err fault) h = inr (fault, h)
 
 pub either : (text : List ℕ) → HasHead text ⊎ HasHeadFault text
 either text = either_says text (head_of text) (head_says text)
-
--- ---- answers
-
-pub ok_answers : (text : List ℕ) (read : List NamedValue × ℕ) → head_of text ≡ Ok read → IsHead text (map cut read.0) read.1
-ok_answers text read e = rw e at (head_says text)
-
-faulty : (text : List ℕ) (fault : HeadFault) → head_of text ≡ Err fault → IsFaulty text fault
-faulty text fault e = rw e at (head_says text)
-
-pub err_answers : (text : List ℕ) (fault : HeadFault) → IsFault fault (head_of text) → AnswersHead text (Err fault)
-err_answers text (NoColon p) h = faulty text (NoColon p) h
-err_answers text (BadName p) h = faulty text (BadName p) h
-err_answers text (BareControl p) h = faulty text (BareControl p) h
-err_answers text NoEnd h = faulty text NoEnd h
-err_answers text (LineTooLong p) h = faulty text (LineTooLong p) h
-err_answers text NoMemory h = tt
-
-fault_or : (text : List ℕ) (fault : HeadFault) → AnswersHead text (Err fault) → (fault ≡ NoMemory) ⊎ IsFaulty text fault
-fault_or text (NoColon p) h = inr h
-fault_or text (BadName p) h = inr h
-fault_or text (BareControl p) h = inr h
-fault_or text NoEnd h = inr h
-fault_or text (LineTooLong p) h = inr h
-fault_or text NoMemory h = inl refl
-
-pub only_one : (text : List ℕ) (r : Result (List NamedValue × ℕ) HeadFault) → AnswersHead text r → (fields : List NamedValue) (place : ℕ) → IsHead text fields place
-    → OrNoMemory r (Ok (fields, place))
-only_one text (Ok read) h fields place k = let e = one_head text read.0 fields read.1 place h k in inl (ap Ok (rw (e.0, e.1) refl))
-only_one text (Err fault) h fields place k =
-    elim (fault_or text fault h) [ inl e ↦ inr (ap Err e) | inr f ↦ absurd (not_both text fields place fault k f) ]
-
-pub each_one : (text : List ℕ) (r : Result (List NamedValue × ℕ) HeadFault) → AnswersHead text r → (fault : HeadFault) → IsFaulty text fault → OrNoMemory r (Err fault)
-each_one text (Ok read) h fault k = absurd (not_both text read.0 read.1 fault h k)
-each_one text (Err other) h fault k =
-    elim (fault_or text other h) [ inl e ↦ inr (ap Err e) | inr f ↦ inl (ap Err (one_fault text other fault f k)) ]
 
 pub never_both : (text : List ℕ) → HasHead text → HasHeadFault text → ⊥
 never_both text h f = not_both text h.0 h.1 f.0 h.2 f.1

@@ -16,3 +16,7 @@ pub mod FactSteps
 pub mod KnownAddresses
 pub mod RecipientLaws
 pub mod FactLaws
+pub mod ReadingLaws
+pub mod WrittenLaws
+pub mod AddressListLaws
+pub mod BoundLaws

@@ -1,8 +1,10 @@
 -- `position` and what stands before the place that it gives.
-use Rattle.std.proofs.Common.{◌≡◌, ℕ, ◌+◌, List, [], ◌∷◌, ◌++◌, Bool, true, false, not, cond, length, Some, None, refl, ap, sym, ◌∙◌, arith}
-use Rattle.std.proofs.lemmas.Bool.{and_parts, and_from, not-true}
+use Rattle.std.proofs.Common.{◌≡◌, ℕ, ◌+◌, ◌<◌, IfSome, Option, get_or, List, [], ◌∷◌, ◌++◌, Bool, true, false, not, cond, length, Some, None, refl, ap, sym, ◌∙◌, arith}
+use Rattle.std.proofs.lemmas.Bool.{and_parts, and_from, le-ltb, lt-ltb, not-true}
+use Rattle.std.proofs.lemmas.List.Sums.{position_or_len_is}
 use Rattle.std.specs.List.{position_from, position, list_all}
 use Rattle.std.proofs.lemmas.Iterator.Adapters.{position_from-zero}
+use Rattle.memchr.specs.Find.{IsFirstByte}
 use Rattle.pec_heads.specs.Bytes.{NonePass, FirstOf}
 use Rattle.pec_heads.proofs.Tools.{some_is}
 
@@ -67,3 +69,21 @@ place_again p xs front f =
 
 pub no_place : (p : ℕ → Bool) (xs : List ℕ) → NonePass p xs → position p xs ≡ None
 no_place p xs none = position_from-zero p xs ∙ again_none p 0 xs none
+
+-- ---- a search by the library
+
+fails : (t : Bool) → (t ≡ true → ⊥) → t ≡ false
+fails true n = absurd (n refl)
+fails false n = refl
+
+pub by_search : (p : ℕ → Bool) (xs : List ℕ) (r : Option ℕ) → IsFirstByte p xs r → r ≡ position p xs
+by_search p xs None h =
+    let e = position_or_len_is p xs (length xs) 0 (omega arith) (λ k below. fails (p (get_or xs k 0)) (h k (omega arith) below)) (λ below. absurd (omega (arith, below)))
+    in sym (rw (e, le-ltb (length xs) (length xs) (omega arith)) refl)
+by_search p xs (Some k) h =
+    let e = position_or_len_is p xs k 0 (omega (arith, h.0.high)) (λ j below. fails (p (get_or xs j 0)) (h.0.before j (omega arith) below)) (λ below. h.1)
+    in sym (rw (e, lt-ltb k (length xs) h.0.high) refl)
+
+pub below_search : (p : ℕ → Bool) (xs : List ℕ) (r : Option ℕ) → IsFirstByte p xs r → IfSome r (λ at. at < length xs)
+below_search p xs None h = tt
+below_search p xs (Some k) h = h.0.high

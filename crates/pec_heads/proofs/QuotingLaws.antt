@@ -2,7 +2,8 @@
 use Rattle.std.proofs.Common.{◌≡◌, ℕ, List, [], ◌∷◌, ◌++◌, Bool, true, false, not, ◌||◌, cond, ◌⊎◌, inl, inr, refl, ap, sym, ◌∙◌, append_assoc}
 use Rattle.std.proofs.lemmas.Bool.{eqb-true, or_right}
 use Rattle.std.specs.List.{flat_map}
-use Rattle.pec_heads.specs.Lists.{is_quote, is_backslash, is_comma, Inner, plain, taken, inner_text, AllInner, Piece, bare, quoted, piece_text, AllPieces, IsPieces, IsUnclosed}
+use Rattle.pec_types.specs.Bytes.{is_quote}
+use Rattle.pec_heads.specs.Lists.{is_backslash, is_comma, Inner, plain, taken, inner_text, AllInner, Piece, bare, quoted, piece_text, AllPieces, IsPieces, IsUnclosed}
 use Rattle.pec_heads.specs.ListReading.{is_outside, after}
 use Rattle.pec_heads.specs.declared.quoting.Quoting.{Quoting}
 use Rattle.pec_heads.specs.declared.quoting.Quoting.TheVariants.{Outside, Inside, Escaped}

@@ -66,7 +66,7 @@ pub fresh_set : (a xs : List (List ℕ)) → SameSet (a ++ fresh a xs) (a ++ xs)
 fresh_set a [] = λ x. refl
 fresh_set a (y ∷ xs) = fresh_case a xs y (has_address a y) refl (λ b. fresh_set b xs)
 
-same_addresses : (class : Class) (xs : List (List ℕ)) → addresses (map (recipient class) xs) ≡ xs
+pub same_addresses : (class : Class) (xs : List (List ℕ)) → addresses (map (recipient class) xs) ≡ xs
 same_addresses class [] = refl
 same_addresses class (x ∷ xs) = ap (λ ys. x ∷ ys) (same_addresses class xs)
 

@@ -4,6 +4,8 @@ pub mod Heads
 pub mod HeadReading
 pub mod Lists
 pub mod ListReading
+pub mod WrittenHeads
 pub mod FactsOfHeads
 pub mod FactsReading
+pub mod BoundedFacts
 pub mod Views

@@ -1,11 +1,13 @@
-ghost use Rattle.std.specs.Prelude.{◌≡◌, ℕ, List};
-ghost use Rattle.pec_heads.specs.Bytes.{IsTrimmed, cut_blanks, skip_blanks, trimmed};
+ghost use Rattle.std.specs.Prelude.{◌≡◌, false};
+ghost use Rattle.pec_types.specs.Bytes.{Bytes};
+ghost use Rattle.pec_heads.specs.Bytes.{IsTrimmed, begins_blank, cut_blanks, ends_blank, skip_blanks, trimmed};
 ghost use Rattle.pec_heads.specs.Lists.{is_all_blank};
 
 /// The law of cutting: what is left stands between blanks and has none at its ends, and nothing else does.
 pub fn blanks_are_cut_at_both_ends()
-    ensures cut { (bytes : List ℕ) → IsTrimmed bytes (trimmed bytes) }
-    ensures only { (bytes value : List ℕ) → IsTrimmed bytes value → trimmed bytes ≡ value }
+    ensures cut { (bytes : Bytes) → IsTrimmed bytes (trimmed bytes) }
+    ensures only { (bytes value : Bytes) → IsTrimmed bytes value → trimmed bytes ≡ value }
+    ensures kept { (value : Bytes) → begins_blank value ≡ false → ends_blank value ≡ false → trimmed value ≡ value }
 {}
 
 /// The bytes without the spaces and tabs (RFC 5322, section 2.2.2) at both ends. It takes no memory.

@@ -1,6 +1,5 @@
-ghost use Rattle.std.specs.Prelude.{◌≡◌, ℕ, List, length, IfOk};
+ghost use Rattle.std.specs.Prelude.{◌≡◌, IfOk};
 ghost use Rattle.std.specs.Option.{option_map};
-ghost use Rattle.pec_heads.specs.Heads.{joined_values};
 ghost use Rattle.pec_heads.specs.FactsOfHeads.{front_of, printed, printed_byte, reply_of, short_text, text_of, wish_of};
 ghost use Rattle.pec_heads.specs.FactsReading.{copies_of, facts_of, listed, sender_of};
 ghost use Rattle.pec_heads.specs.Views.{fields_shown};
@@ -9,7 +8,7 @@ use crate::TEXT_LIMIT;
 use crate::blanks::{is_all_blank, trim};
 use crate::faults::ListFault;
 use crate::fields::Fields;
-use crate::lists::addresses_of;
+use crate::lists::list_named;
 use crate::lookups::{count, value};
 use crate::parts::at_most;
 use crate::recipients::recipients;
@@ -65,7 +64,7 @@ fn sender(alloc: Global, fields: &Fields) -> Result<Option<Address>, NoMemory>
 fn list(alloc: Global, fields: &Fields, name: &[u8]) -> Result<Option<Vec<Address>>, NoMemory>
     ensures { IfOk result (λ found. option_map (λ v. v.items) found ≡ listed name.now (fields_shown fields.now)) }
 {
-    match addresses_of(alloc, fields, name) {
+    match list_named(alloc, fields, name) {
         Ok(addresses) => Ok(Some(addresses)),
         Err(ListFault::NoMemory) => Err(NoMemory),
         Err(_) => Ok(None),
@@ -129,7 +128,8 @@ fn front(value: &[u8]) -> &[u8]
     at_most(value, TEXT_LIMIT)
 }
 
-/// The first `Reply-To`, made printable, where it isn't blank and has at most 900 bytes; otherwise the sender's address.
+/// The first `Reply-To`, made printable, where it isn't blank and has at most 900 bytes; otherwise the sender's
+/// address.
 fn reply(alloc: Global, fields: &Fields, sender: &Address) -> Result<Text, NoMemory>
     ensures { IfOk result (λ text. text ≡ reply_of sender.now (fields_shown fields.now)) }
 {

@@ -35,8 +35,8 @@ impl From<AllocError> for HeadFault {
 pub enum ListFault {
     /// The start of an entry with a `<` or a `"` that isn't a phrase and an address in `<` and `>`.
     Syntax(usize),
-    /// The first byte of an entry that isn't blank, where the entry is no address, and why; places in it count from that
-    /// byte.
+    /// The first byte of an entry that isn't blank, where the entry is no address, and why; places in it count from
+    /// that byte.
     BadAddress(usize, AddressFault),
     /// There is no entry.
     Empty,

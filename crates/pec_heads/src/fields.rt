@@ -1,18 +1,18 @@
-ghost use Rattle.std.specs.Prelude.{◌≡◌, ℕ, List, [], ◌∷◌, ◌++◌, ◌==◌, length, OnOk};
-ghost use Rattle.pec_heads.specs.Heads.{NamedValue};
+ghost use Rattle.std.specs.Prelude.{◌≡◌, [], ◌∷◌, ◌++◌, ◌==◌, length, OnOk};
 ghost use Rattle.pec_heads.specs.HeadReading.{onto_last};
 
 use std::alloc::{AllocError, Global};
 
-/// Where the name and the value of a field start. The name ends where its value starts, and that where the next field does.
+/// Where the name and the value of a field start. The name ends where its value starts, and that where the next field
+/// does.
 #[derive(Clone, Copy)]
 pub(crate) struct Start {
     pub(crate) name: usize,
     pub(crate) value: usize,
 }
 
-/// Fields in their order. The bytes of all names and unfolded values stand one behind the other in one store, so that a field
-/// takes no memory of its own but for its start.
+/// Fields in their order. The bytes of all names and unfolded values stand one behind the other in one store, so that a
+/// field takes no memory of its own but for its start.
 #[derive(Drop)]
 pub(crate) struct Fields {
     pub(crate) bytes: Vec<u8>,
@@ -41,7 +41,8 @@ impl Fields {
     /// Adds a field.
     pub(crate) fn open(&mut self, name: &[u8], rest: &[u8]) -> Result<(), AllocError>
         requires { AreStored self.old }
-        ensures opened { OnOk result (raw_fields self.new ≡ raw_fields self.old ++ record { name = name.now; value = rest.now } ∷ []) }
+        ensures opened { OnOk result (raw_fields self.new
+            ≡ raw_fields self.old ++ record { name = name.now; value = rest.now } ∷ []) }
         ensures stored { OnOk result (AreStored self.new) }
     {
         let at = self.bytes.len();

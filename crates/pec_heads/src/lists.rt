@@ -1,12 +1,14 @@
-ghost use Rattle.std.specs.Prelude.{◌≡◌, ℕ, ◌+◌, ◌≤◌, ◌<◌, ◌^◌, List, [], ◌∷◌, ◌++◌, length, position, IfOk, IfSome, OnOk};
+ghost use Rattle.std.specs.Prelude.{◌≡◌, ◌+◌, ◌<◌, ◌^◌, [], ◌∷◌, ◌++◌, length, position, IfOk, IfSome, OnOk};
 ghost use Rattle.std.specs.List.{flat_map};
 ghost use Rattle.std.specs.Option.{option_map};
 ghost use Rattle.pec_types.specs.AddressReading.{address_of};
 ghost use Rattle.pec_heads.specs.Bytes.{trimmed};
 ghost use Rattle.pec_heads.specs.Heads.{cut, joined_values, values_of};
 ghost use Rattle.pec_heads.specs.Lists.{has_mark, is_ink};
-ghost use Rattle.pec_heads.specs.ListReading.{angled_of, bare_of, before_close, before_comma, comma_from, entries_at, entry_of, inside_of, list_from, list_of, or_syntax, with_entry, with_comma};
-ghost use Rattle.pec_heads.specs.Views.{GivesList, field_at, fields_shown};
+ghost use Rattle.pec_heads.specs.ListReading.{bare_of, before_close, before_comma, comma_from, entries_at, entry_of, inside_of, list_from, list_of, or_syntax, with_entry, with_comma};
+ghost use Rattle.pec_types.specs.Answers.{Gives};
+ghost use Rattle.pec_heads.specs.Views.{field_at, fields_shown};
+ghost use Rattle.pec_heads.specs.declared.faults.ListFault.TheVariants as wrong;
 ghost use Rattle.pec_heads.specs.declared.quoting.Quoting.TheVariants as quotings;
 
 use crate::blanks::{trim, trim_end};
@@ -18,12 +20,12 @@ use pec_types::{Address, AddressFault};
 use std::alloc::{AllocError, Global};
 
 /// The addresses of the list that the values of a name are, joined by commas.
-pub(crate) fn addresses_of(
+pub(crate) fn list_named(
     alloc: Global,
     fields: &Fields,
     name: &[u8],
 ) -> Result<Vec<Address>, ListFault>
-    ensures { GivesList (λ v. v.items) result (list_of (joined_values name.now (fields_shown fields.now))) }
+    ensures { Gives wrong.NoMemory (λ v. v.items) result (list_of (joined_values name.now (fields_shown fields.now))) }
 {
     let text = joined(alloc, fields, name)?;
     let addresses = read_list(alloc, text.as_slice())?;
@@ -33,7 +35,7 @@ pub(crate) fn addresses_of(
 /// The addresses of a list.
 #[tactic(auto, unfolding(crate::specs::ListReading::list_of))]
 pub(crate) fn read_list(alloc: Global, text: &[u8]) -> Result<Vec<Address>, ListFault>
-    ensures { GivesList (λ v. v.items) result (list_of text.now) }
+    ensures { Gives wrong.NoMemory (λ v. v.items) result (list_of text.now) }
 {
     let addresses = read_entries(alloc, text)?;
     if addresses.is_empty() {
@@ -43,7 +45,7 @@ pub(crate) fn read_list(alloc: Global, text: &[u8]) -> Result<Vec<Address>, List
 }
 
 fn read_entries(alloc: Global, text: &[u8]) -> Result<Vec<Address>, ListFault>
-    ensures { GivesList (λ v. v.items) result (list_from [] 0 (entries_at 0 text.now)) }
+    ensures { Gives wrong.NoMemory (λ v. v.items) result (list_from [] 0 (entries_at 0 text.now)) }
 {
     let mut addresses = Vec::new(alloc);
     let mut place = 0;
@@ -73,7 +75,8 @@ fn add_entry(
     place: usize,
 ) -> Result<(), ListFault>
     requires { place + length entry.now < 2 ^ 64 }
-    ensures { GivesList (λ _. addresses.new.items) result (with_entry addresses.old.items place entry.now (position is_ink entry.now)) }
+    ensures { Gives wrong.NoMemory (λ _. addresses.new.items) result
+        (with_entry addresses.old.items place entry.now (position is_ink entry.now)) }
 {
     let Some(at) = ink(entry) else {
         return Ok(());
@@ -94,7 +97,7 @@ fn ink(entry: &[u8]) -> Option<usize>
 #[tactic(auto, unfolding(crate::specs::ListReading::entry_of))]
 fn read_entry(alloc: Global, entry: &[u8], place: usize, at: usize) -> Result<Address, ListFault>
     requires { place + at < 2 ^ 64 }
-    ensures { GivesList (λ address. address) result (entry_of place at entry.now) }
+    ensures { Gives wrong.NoMemory (λ address. address) result (entry_of place at entry.now) }
 {
     if !has_mark(entry) {
         return read_bare(alloc, entry, place + at);
@@ -106,7 +109,7 @@ fn read_entry(alloc: Global, entry: &[u8], place: usize, at: usize) -> Result<Ad
 }
 
 fn read_bare(alloc: Global, entry: &[u8], place: usize) -> Result<Address, ListFault>
-    ensures { GivesList (λ address. address) result (bare_of place (address_of (trimmed entry.now))) }
+    ensures { Gives wrong.NoMemory (λ address. address) result (bare_of place (address_of (trimmed entry.now))) }
 {
     match Address::read(alloc, trim(entry)) {
         Ok(address) => Ok(address),
@@ -116,7 +119,7 @@ fn read_bare(alloc: Global, entry: &[u8], place: usize) -> Result<Address, ListF
 }
 
 fn read_angled(alloc: Global, inside: &[u8], place: usize) -> Result<Address, ListFault>
-    ensures { GivesList (λ address. address) result (or_syntax place (address_of (trimmed inside.now))) }
+    ensures { Gives wrong.NoMemory (λ address. address) result (or_syntax place (address_of (trimmed inside.now))) }
 {
     match Address::read(alloc, trim(inside)) {
         Ok(address) => Ok(address),
@@ -176,7 +179,8 @@ fn add_value(
     behind: &[Start],
     name: &[u8],
 ) -> Result<(), AllocError>
-    ensures { OnOk result (text.new.items ≡ text.old.items ++ flat_map with_comma (values_of name.now (cut (field_at bytes.now start behind.now) ∷ []))) }
+    ensures { OnOk result (text.new.items
+        ≡ text.old.items ++ flat_map with_comma (values_of name.now (cut (field_at bytes.now start behind.now) ∷ []))) }
 {
     if !has_name(bytes, start, name) {
         return Ok(());

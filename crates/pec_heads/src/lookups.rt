@@ -1,4 +1,4 @@
-ghost use Rattle.std.specs.Prelude.{◌≡◌, ℕ, List, [], ◌∷◌, length, not, slice_get};
+ghost use Rattle.std.specs.Prelude.{◌≡◌, [], ◌∷◌, length, not, slice_get};
 ghost use Rattle.std.specs.List.{list_any};
 ghost use Rattle.std.specs.Option.{option_map};
 ghost use Rattle.std.specs.Str.{str_eq_ignore_ascii_case};
@@ -48,7 +48,8 @@ pub(crate) fn value<'a>(fields: &'a Fields, name: &[u8], i: usize) -> Option<&'a
 
 /// Whether a field of this name has a value that isn't blank.
 pub(crate) fn is_filled(fields: &Fields, name: &[u8]) -> bool
-    ensures { result ≡ list_any (λ value. not (is_all_blank value)) (values_of name.now (fields_shown fields.now)) }
+    ensures { result ≡ list_any (λ value. not (is_all_blank value))
+        (values_of name.now (fields_shown fields.now)) }
 {
     let bytes = fields.bytes.as_slice();
     let mut rest = fields.starts.as_slice();
@@ -63,7 +64,8 @@ pub(crate) fn is_filled(fields: &Fields, name: &[u8]) -> bool
 
 /// Whether the field that starts there, before those behind it, has this name and a value that isn't blank.
 fn fills(bytes: &[u8], start: Start, behind: &[Start], name: &[u8]) -> bool
-    ensures { result ≡ list_any (λ value. not (is_all_blank value)) (values_of name.now (cut (field_at bytes.now start behind.now) ∷ [])) }
+    ensures { result ≡ list_any (λ value. not (is_all_blank value))
+        (values_of name.now (cut (field_at bytes.now start behind.now) ∷ [])) }
 {
     has_name(bytes, start, name) && !is_all_blank(value_at(bytes, start, behind))
 }

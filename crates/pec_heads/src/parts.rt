@@ -1,4 +1,4 @@
-ghost use Rattle.std.specs.Prelude.{◌≡◌, ℕ, List, take, drop};
+ghost use Rattle.std.specs.Prelude.{◌≡◌, take, drop};
 ghost use Rattle.pec_heads.specs.Bytes.{part_of};
 
 /// The bytes from a place up to another, as far as there are any.

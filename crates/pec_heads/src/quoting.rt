@@ -1,4 +1,4 @@
-ghost use Rattle.std.specs.Prelude.{◌≡◌, ℕ, ◌<◌, IfSome, Option, position, length};
+ghost use Rattle.std.specs.Prelude.{◌≡◌, ◌<◌, IfSome, Option, length};
 ghost use Rattle.pec_heads.specs.Lists.{is_phrase_byte};
 ghost use Rattle.pec_heads.specs.ListReading.{angle_from, comma_from};
 ghost use Rattle.pec_heads.specs.declared.quoting.Quoting.TheVariants as quotings;
@@ -12,7 +12,7 @@ pub(crate) enum Quoting {
 }
 
 impl Quoting {
-    ghost use Rattle.std.specs.Prelude.{◌≡◌, ℕ};
+    ghost use Rattle.std.specs.Prelude.{◌≡◌};
     ghost use Rattle.pec_heads.specs.ListReading.{after, is_outside};
 
     /// Where the next byte stands.

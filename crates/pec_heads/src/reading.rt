@@ -1,9 +1,11 @@
-ghost use Rattle.std.specs.Prelude.{◌≡◌, ℕ, ◌+◌, ◌<◌, ◌^◌, List, [], length, position, OnOk, IfSome, option_map};
+ghost use Rattle.std.specs.Prelude.{◌≡◌, ◌+◌, ◌<◌, ◌^◌, length, position, OnOk, IfSome};
 ghost use Rattle.std.specs.List.{list_all};
 ghost use Rattle.pec_heads.specs.Bytes.{begins_blank};
 ghost use Rattle.pec_heads.specs.Heads.{is_control, is_colon, is_name, is_name_byte};
 ghost use Rattle.pec_heads.specs.HeadReading.{added, head_of, line_of, role_of};
-ghost use Rattle.pec_heads.specs.Views.{AreStored, Gives, line_answer, role_shown, raw_fields};
+ghost use Rattle.pec_types.specs.Answers.{Gives, seen_as};
+ghost use Rattle.pec_heads.specs.Views.{AreStored, role_shown, raw_fields};
+ghost use Rattle.pec_heads.specs.declared.faults.HeadFault.TheVariants as faults;
 
 use crate::LINE_LIMIT;
 use crate::faults::HeadFault;
@@ -14,7 +16,7 @@ use std::alloc::{AllocError, Global};
 /// The fields at the front of a message, and the place after the empty line that ends them.
 #[tactic(auto, unfolding(crate::specs::HeadReading::head_of))]
 pub(crate) fn read_fields(alloc: Global, message: &[u8]) -> Result<(Fields, usize), HeadFault>
-    ensures { Gives (λ read. (raw_fields read.0, read.1)) result (head_of message.now) }
+    ensures { Gives faults.NoMemory (λ read. (raw_fields read.0, read.1)) result (head_of message.now) }
 {
     let mut fields = Fields::new(alloc);
     let mut place = 0;
@@ -45,7 +47,7 @@ enum Line<'a> {
 #[tactic(auto, unfolding(crate::specs::HeadReading::line_of))]
 fn read_line(line: &[u8], place: usize, first: bool) -> Result<Line<'_>, HeadFault>
     requires { place + length line.now < 2 ^ 64 }
-    ensures { line_answer result ≡ line_of place first line.now }
+    ensures { seen_as role_shown result ≡ line_of place first line.now }
 {
     if line.len() > LINE_LIMIT {
         return Err(HeadFault::LineTooLong(place));
@@ -60,7 +62,7 @@ fn read_line(line: &[u8], place: usize, first: bool) -> Result<Line<'_>, HeadFau
 /// What a line does that isn't too long and has no control byte.
 #[tactic(auto, unfolding(crate::specs::HeadReading::role_of))]
 fn read_role(line: &[u8], place: usize, first: bool) -> Result<Line<'_>, HeadFault>
-    ensures { line_answer result ≡ role_of place first line.now }
+    ensures { seen_as role_shown result ≡ role_of place first line.now }
 {
     if line.is_empty() {
         return Ok(Line::Empty);

@@ -1,4 +1,4 @@
-ghost use Rattle.std.specs.Prelude.{◌≡◌, ℕ, List, [], IfOk, OnOk};
+ghost use Rattle.std.specs.Prelude.{◌≡◌, [], IfOk, OnOk};
 ghost use Rattle.pec_heads.specs.FactsOfHeads.{recipients_of};
 ghost use Rattle.pec_heads.specs.FactsReading.{with_recipient, with_recipients};
 ghost use Rattle.pec_heads.specs.Views.{AreKnown};
@@ -21,8 +21,8 @@ pub(crate) fn recipients(
     Ok(gathered.all)
 }
 
-/// Recipients in their order, and the set of their addresses. In a tree an address is found without going over all of them,
-/// whatever addresses a message has.
+/// Recipients in their order, and the set of their addresses. In a tree an address is found without going over all of
+/// them, whatever addresses a message has.
 #[derive(Drop)]
 struct Gathered {
     all: Vec<Recipient>,

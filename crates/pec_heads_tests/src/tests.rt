@@ -1,69 +1,66 @@
 //! Vectors and tables whose answers were worked out by hand from the rules of RFC 5322 and of this project's profile.
-use pec_heads::{Head, HeadFault, ListFault};
-use pec_types::{AddressFault, Class, Facts, Recipient, Text, Wish};
+use pec_heads::{Head, HeadFault, ListFault, end_head, put_addresses, put_field};
+use pec_types::{Address, AddressFault, Class, Facts, Recipient, Text, Wish};
 use std::alloc::Global;
 use std::process::Abort;
 use std::test::Fail;
 
 /// The place behind the head, or the fault.
-fn reads(alloc: Global, text: &[u8]) -> Result<usize, HeadFault> {
+fn place_behind(alloc: Global, text: &[u8]) -> Result<usize, HeadFault> {
     let (_, place) = Head::read(alloc, text)?;
     Ok(place)
 }
 
 #[test]
-fn heads(rt: HostRuntime) {
-    let table = [
-        (b"A: b\r\n c\n\nx".as_slice(), Ok(10)),
-        (b"A: b\r\n".as_slice(), Err(HeadFault::NoEnd)),
-        (b"".as_slice(), Err(HeadFault::NoEnd)),
-        (b"\r".as_slice(), Err(HeadFault::NoEnd)),
-        (b"\n".as_slice(), Ok(1)),
-        (b"\r\nA: b\n\n".as_slice(), Ok(2)),
-        (b"A: b\nC: d".as_slice(), Err(HeadFault::NoEnd)),
-        (b"A: b\n\x01".as_slice(), Err(HeadFault::NoEnd)),
-        (b" A: b\n\n".as_slice(), Err(HeadFault::BadName(0))),
-        (b"\tb\n\n".as_slice(), Err(HeadFault::BadName(0))),
-        (b"A : b\n\n".as_slice(), Err(HeadFault::BadName(0))),
-        (b"A: b\n: c\n\n".as_slice(), Err(HeadFault::BadName(5))),
-        (b"A: b\nB\n\n".as_slice(), Err(HeadFault::NoColon(5))),
-        (b"A: b\rc\n\n".as_slice(), Err(HeadFault::BareControl(4))),
-        (b"A: b\r\r\n\n".as_slice(), Err(HeadFault::BareControl(4))),
-        (
-            b"A: b\nabc\x7f\n\n".as_slice(),
-            Err(HeadFault::BareControl(8)),
-        ),
-        (b"A: b\n \n\n".as_slice(), Ok(8)),
-        (b"A:\n\n".as_slice(), Ok(4)),
+fn a_head_ends_at_its_empty_line_or_has_the_fault_of_its_first_wrong_line(rt: HostRuntime) {
+    let rows: [(&str, Result<usize, HeadFault>); 18] = [
+        ("A: b\r\n c\n\nx", Ok(10)), // folded; both line ends
+        ("A: b\r\n", Err(HeadFault::NoEnd)), // a field, no empty line
+        ("", Err(HeadFault::NoEnd)), // no line at all
+        ("\r", Err(HeadFault::NoEnd)), // a last piece without LF is no line
+        ("\n", Ok(1)), // no field
+        ("\r\nA: b\n\n", Ok(2)), // the first empty line ends it
+        ("A: b\nC: d", Err(HeadFault::NoEnd)), // the last piece isn't read
+        ("A: b\n\x01", Err(HeadFault::NoEnd)), // nor is a control byte in it
+        (" A: b\n\n", Err(HeadFault::BadName(0))), // a first line goes on with nothing
+        ("\tb\n\n", Err(HeadFault::BadName(0))), // also without a colon
+        ("A : b\n\n", Err(HeadFault::BadName(0))), // a space in a name
+        ("A: b\n: c\n\n", Err(HeadFault::BadName(5))), // an empty name
+        ("A: b\nB\n\n", Err(HeadFault::NoColon(5))), // no colon
+        ("A: b\rc\n\n", Err(HeadFault::BareControl(4))), // CR inside a line
+        ("A: b\r\r\n\n", Err(HeadFault::BareControl(4))), // one CR belongs to the end
+        ("A: b\nabc\x7f\n\n", Err(HeadFault::BareControl(8))), // before the missing colon
+        ("A: b\n \n\n", Ok(8)), // a blank line goes on
+        ("A:\n\n", Ok(4)), // an empty value
     ];
-    for (text, want) in table {
-        assert_eq!(rt; reads(rt.alloc(), text), want, "{text:?}");
+    for (text, want) in rows {
+        assert_eq!(rt; place_behind(rt.alloc(), text.as_bytes()), want, "{text:?}");
     }
 }
 
 /// A line of so many bytes, with this end, and an empty one.
-fn long_line(alloc: Global, bytes: usize, end: &[u8]) -> Result<Vec<u8>, Fail> {
-    let mut text = Vec::from_slice(alloc, b"A:".as_slice())?;
+fn long_line(alloc: Global, bytes: usize, end: &str) -> Result<Vec<u8>, Fail> {
+    let mut text = Vec::from_slice(alloc, b"A:")?;
     for _ in 2..bytes {
         text.push(b'x')?;
     }
-    text.extend_from_slice(end)?;
+    text.extend_from_slice(end.as_bytes())?;
     text.push(b'\n')?;
     Ok(text)
 }
 
 #[test]
-fn long_lines(rt: HostRuntime) -> Result<(), Fail> {
-    let table = [
-        (998, b"\n".as_slice(), Ok(1000)),
-        (998, b"\r\n".as_slice(), Ok(1001)),
-        (999, b"\n".as_slice(), Err(HeadFault::LineTooLong(0))),
-        (999, b"\r\n".as_slice(), Err(HeadFault::LineTooLong(0))),
-        (999, b"\x01\n".as_slice(), Err(HeadFault::LineTooLong(0))),
+fn a_line_has_at_most_998_bytes_without_its_end(rt: HostRuntime) -> Result<(), Fail> {
+    let rows: [(usize, &str, Result<usize, HeadFault>); 5] = [
+        (998, "\n", Ok(1000)),
+        (998, "\r\n", Ok(1001)), // CRLF isn't counted
+        (999, "\n", Err(HeadFault::LineTooLong(0))),
+        (999, "\r\n", Err(HeadFault::LineTooLong(0))),
+        (999, "\x01\n", Err(HeadFault::LineTooLong(0))), // before its control byte
     ];
-    for (bytes, end, want) in table {
+    for (bytes, end, want) in rows {
         let text = long_line(rt.alloc(), bytes, end)?;
-        assert_eq!(rt; reads(rt.alloc(), text.as_slice()), want, "{bytes}");
+        assert_eq!(rt; place_behind(rt.alloc(), text.as_slice()), want, "{bytes}");
     }
     Ok(())
 }
@@ -83,52 +80,41 @@ fn is_text(found: &Option<Text>, want: &[u8]) -> bool {
 }
 
 #[test]
-fn values(rt: HostRuntime) -> Result<(), Fail> {
-    let text = b"Subject: \xc3\xa8\r\n b\r\n\tc \r\nTO:x\nto : y\n";
-    assert_eq!(rt;
-        reads(rt.alloc(), text.as_slice()),
-        Err(HeadFault::BadName(27))
-    );
-    let text = b"Subject: \xc3\xa8\r\n b\r\n\tc \r\nTO:x\nto:\t y\n\n";
-    let (head, _) = Head::read(rt.alloc(), text.as_slice())?;
-    let subject = head.field(b"sUBJECT".as_slice());
-    assert!(rt; is_value(subject, b"\xc3\xa8 b\tc".as_slice()));
-    assert!(rt; head.field(b"Subjec".as_slice()).is_none());
-    assert_eq!(rt; head.count(b"To".as_slice()), 2);
-    assert!(rt; is_value(head.value(b"To".as_slice(), 0), b"x".as_slice()));
-    assert!(rt; is_value(head.value(b"To".as_slice(), 1), b"y".as_slice()));
-    assert!(rt; head.value(b"To".as_slice(), 2).is_none());
-    Ok(())
-}
-
-#[test]
-fn folded(rt: HostRuntime) -> Result<(), Fail> {
-    let text = b"A:\n x\nB: y\r\n z\nC: \n\t\na: w\n\tv\nc:\n\n";
-    let (head, _) = Head::read(rt.alloc(), text.as_slice())?;
-    let table = [
-        (b"A".as_slice(), 0, b"x".as_slice()),
-        (b"A".as_slice(), 1, b"w\tv".as_slice()),
-        (b"b".as_slice(), 0, b"y z".as_slice()),
-        (b"C".as_slice(), 0, b"".as_slice()),
-        (b"C".as_slice(), 1, b"".as_slice()),
+fn values_are_found_by_name_in_any_case_and_unfolded(rt: HostRuntime) -> Result<(), Fail> {
+    let text =
+        b"Subject: \xc3\xa8\r\n b\r\n\tc \r\nTO:x\nto:\t y\nA:\n x\nC: \n\t\na: w\n\tv\nc:\n\n";
+    let (head, _) = Head::read(rt.alloc(), text)?;
+    let rows: [(&str, usize, &[u8]); 7] = [
+        ("sUBJECT", 0, b"\xc3\xa8 b\tc"), // each continuation keeps its blank
+        ("To", 0, b"x"),
+        ("To", 1, b"y"), // trimmed of a tab
+        ("A", 0, b"x"), // nothing in the first line
+        ("A", 1, b"w\tv"),
+        ("C", 0, b""), // blanks alone, in two lines
+        ("C", 1, b""),
     ];
-    for (name, i, want) in table {
-        assert!(rt; is_value(head.value(name, i), want), "{name:?} {i}");
+    for (name, i, want) in rows {
+        assert!(rt;
+            is_value(head.value(name.as_bytes(), i), want),
+            "{name} {i}"
+        );
     }
-    assert!(rt; head.is_filled(b"a".as_slice()));
-    assert!(rt; !head.is_filled(b"c".as_slice()));
-    assert!(rt; !head.is_filled(b"D".as_slice()));
+    assert_eq!(rt; head.count(b"To"), 2);
+    assert!(rt; is_value(head.field(b"tO"), b"x"));
+    assert!(rt; head.value(b"To", 2).is_none());
+    assert!(rt; head.field(b"Subjec").is_none());
+    assert!(rt; head.is_filled(b"a") && !head.is_filled(b"c") && !head.is_filled(b"D"));
     Ok(())
 }
 
 /// The addresses of the field `To` with this value, each with a space, or the fault.
-fn list(rt: &impl Abort, alloc: Global, value: &[u8]) -> Result<Vec<u8>, ListFault> {
-    let mut text = Vec::from_slice(alloc, b"To:".as_slice())?;
-    text.extend_from_slice(value)?;
-    text.extend_from_slice(b"\n\n".as_slice())?;
+fn list(rt: &impl Abort, alloc: Global, value: &str) -> Result<Vec<u8>, ListFault> {
+    let mut text = Vec::from_slice(alloc, b"To:")?;
+    text.extend_from_slice(value.as_bytes())?;
+    text.extend_from_slice(b"\n\n")?;
     let (head, _) = Head::read(alloc, text.as_slice()).expect(rt, "a head");
     let mut all = Vec::new(alloc);
-    for address in head.addresses(alloc, b"to".as_slice())? {
+    for address in head.addresses(alloc, b"to")? {
         all.extend_from_slice(address.bytes())?;
         all.push(b' ')?;
     }
@@ -136,53 +122,47 @@ fn list(rt: &impl Abort, alloc: Global, value: &[u8]) -> Result<Vec<u8>, ListFau
 }
 
 #[test]
-fn lists(rt: HostRuntime) -> Result<(), Fail> {
-    let table = [
-        (
-            b"\"Rossi, Mario\" <m@a.it>, b@a.it,".as_slice(),
-            b"m@a.it b@a.it ".as_slice(),
-        ),
-        (b"a@b\nTo: C@D".as_slice(), b"a@b c@d ".as_slice()),
-        (b"\"a\\\",b\" <a@b>".as_slice(), b"a@b ".as_slice()),
-        (b"<a@b>".as_slice(), b"a@b ".as_slice()),
-        (b"x \"y\"z < a@b\t> ".as_slice(), b"a@b ".as_slice()),
-        (b"a@b,,c@d".as_slice(), b"a@b c@d ".as_slice()),
-        (b"a@b, a@b".as_slice(), b"a@b a@b ".as_slice()),
+fn a_list_is_its_entries_outside_quotes(rt: HostRuntime) -> Result<(), Fail> {
+    let rows: [(&str, &str); 7] = [
+        ("\"Rossi, Mario\" <m@a.it>, b@a.it,", "m@a.it b@a.it "), // a quoted comma; a blank entry
+        ("a@b\nTo: C@D", "a@b c@d "), // two fields; lower case
+        ("\"a\\\",b\" <a@b>", "a@b "), // a backslash takes the quote with it
+        ("<a@b>", "a@b "), // an empty phrase
+        ("x \"y\"z < a@b\t> ", "a@b "), // blanks inside the angles
+        ("a@b,,c@d", "a@b c@d "),
+        ("a@b, a@b", "a@b a@b "), // repeats stay
     ];
-    for (value, want) in table {
+    for (value, want) in rows {
         let all = list(&rt, rt.alloc(), value)?;
-        assert_eq!(rt; all.as_slice(), want, "{value:?}");
+        assert_eq!(rt; all.as_slice(), want.as_bytes(), "{value:?}");
     }
     Ok(())
 }
 
 #[test]
-fn wrong_lists(rt: HostRuntime) {
-    let table = [
+fn a_wrong_list_has_the_fault_of_its_first_wrong_entry(rt: HostRuntime) {
+    let rows: [(&str, ListFault); 13] = [
         (
-            b"a@b (x)".as_slice(),
+            "a@b (x)",
             ListFault::BadAddress(0, AddressFault::BadDomain(3)),
-        ),
+        ), // no comments
         (
-            b"a@b,  c@".as_slice(),
+            "a@b,  c@",
             ListFault::BadAddress(6, AddressFault::BadDomain(2)),
-        ),
-        (
-            b"a b".as_slice(),
-            ListFault::BadAddress(0, AddressFault::NoAt),
-        ),
-        (b"a@b,  <c@d> x".as_slice(), ListFault::Syntax(4)),
-        (b"\"x\" a@b".as_slice(), ListFault::Syntax(0)),
-        (b"<a@b".as_slice(), ListFault::Syntax(0)),
-        (b"x:y <a@b>".as_slice(), ListFault::Syntax(0)),
-        (b"Rossi <a@b@c>".as_slice(), ListFault::Syntax(0)),
-        (b"\"x\\".as_slice(), ListFault::Syntax(0)),
-        (b"a@b, \"x <c@d>, e@f".as_slice(), ListFault::Syntax(4)),
-        (b"a@b\nTo: \"x\nTo: y\" z".as_slice(), ListFault::Syntax(4)),
-        (b" , ,".as_slice(), ListFault::Empty),
-        (b"".as_slice(), ListFault::Empty),
+        ), // from its first ink
+        ("a b", ListFault::BadAddress(0, AddressFault::NoAt)),
+        ("a@b,  <c@d> x", ListFault::Syntax(4)), // from behind the comma
+        ("\"x\" a@b", ListFault::Syntax(0)), // a quote, no angles
+        ("<a@b", ListFault::Syntax(0)),
+        ("x:y <a@b>", ListFault::Syntax(0)), // a colon in a phrase
+        ("Rossi <a@b@c>", ListFault::Syntax(0)), // no address inside
+        ("\"x\\", ListFault::Syntax(0)), // the quote isn't closed
+        ("a@b, \"x <c@d>, e@f", ListFault::Syntax(4)), // and takes the comma with it
+        ("a@b\nTo: \"x\nTo: y\" z", ListFault::Syntax(4)), // over the joined fields
+        (" , ,", ListFault::Empty),
+        ("", ListFault::Empty),
     ];
-    for (value, want) in table {
+    for (value, want) in rows {
         match list(&rt, rt.alloc(), value) {
             Ok(_) => assert!(rt; false, "{value:?}"),
             Err(fault) => assert_eq!(rt; fault, want, "{value:?}"),
@@ -195,7 +175,7 @@ fn facts_of(rt: &impl Abort, alloc: Global, text: &[u8]) -> Option<Facts> {
     head.facts(alloc).expect(rt, "memory")
 }
 
-/// The recipients, each with its class, and a space.
+/// The recipients, each with a plus where it is primary and a space otherwise.
 fn shown(alloc: Global, recipients: &[Recipient]) -> Result<Vec<u8>, Fail> {
     let mut all = Vec::new(alloc);
     for recipient in recipients {
@@ -209,10 +189,10 @@ fn shown(alloc: Global, recipients: &[Recipient]) -> Result<Vec<u8>, Fail> {
 }
 
 #[test]
-fn facts(rt: HostRuntime) -> Result<(), Fail> {
+fn facts_are_what_the_first_fields_say(rt: HostRuntime) -> Result<(), Fail> {
     let text =
         b"From: Anna <A@b>\nTo: c@d, e@f\nTo: C@D\nCc: g@h, e@f, g@h\nX-TipoRicevuta: BREVE\nSubject: \t\xe8\tx \nMessage-ID: <1>\nReply-To: \x80\n\n";
-    let Some(facts) = facts_of(&rt, rt.alloc(), text.as_slice()) else {
+    let Some(facts) = facts_of(&rt, rt.alloc(), text) else {
         assert!(rt; false, "no facts");
         return Ok(());
     };
@@ -220,32 +200,83 @@ fn facts(rt: HostRuntime) -> Result<(), Fail> {
     let all = shown(rt.alloc(), facts.recipients.as_slice())?;
     assert_eq!(rt; all.as_slice(), b"c@d+e@f+g@h ".as_slice());
     assert_eq!(rt; facts.wish, Wish::Brief);
-    assert!(rt; is_text(&facts.subject, b"? x".as_slice()));
-    assert!(rt; is_text(&facts.reference, b"<1>".as_slice()));
+    assert!(rt; is_text(&facts.subject, b"? x"));
+    assert!(rt; is_text(&facts.reference, b"<1>"));
     assert_eq!(rt; facts.reply.bytes(), b"?".as_slice());
     Ok(())
 }
 
 #[test]
-fn few_facts(rt: HostRuntime) -> Result<(), Fail> {
+fn what_a_head_leaves_out_is_absent_or_the_sender(rt: HostRuntime) -> Result<(), Fail> {
     let text = b"From: a@b\nTo: c@d\nX-TipoRicevuta: nessuna\nSubject:\nReply-To: \n\n";
-    let Some(facts) = facts_of(&rt, rt.alloc(), text.as_slice()) else {
+    let Some(facts) = facts_of(&rt, rt.alloc(), text) else {
         assert!(rt; false, "no facts");
         return Ok(());
     };
     assert_eq!(rt; facts.wish, Wish::Full);
     assert!(rt; facts.subject.is_none() && facts.reference.is_none());
     assert_eq!(rt; facts.reply.bytes(), b"a@b".as_slice());
-    let table = [
-        b"To: c@d\n\n".as_slice(),
-        b"From: a@b\n\n".as_slice(),
-        b"From: a@b, a@b\nTo: c@d\n\n".as_slice(),
-        b"From: a@b\nFrom: a@b\nTo: c@d\n\n".as_slice(),
-        b"From: a@b\nTo: ,\n\n".as_slice(),
-        b"From: a@b\nTo: c@d\nCc:\n\n".as_slice(),
+    Ok(())
+}
+
+#[test]
+fn a_head_without_one_sender_or_with_a_wrong_list_has_no_facts(rt: HostRuntime) {
+    let rows: [(&str, &str); 6] = [
+        ("To: c@d\n\n", "no From"),
+        ("From: a@b\n\n", "no To"),
+        ("From: a@b, a@b\nTo: c@d\n\n", "two addresses in From"),
+        ("From: a@b\nFrom: a@b\nTo: c@d\n\n", "two From fields"),
+        ("From: a@b\nTo: ,\n\n", "a To without an address"),
+        ("From: a@b\nTo: c@d\nCc:\n\n", "a Cc without an address"),
     ];
-    for text in table {
-        assert!(rt; facts_of(&rt, rt.alloc(), text).is_none(), "{text:?}");
+    for (text, reason) in rows {
+        assert!(rt;
+            facts_of(&rt, rt.alloc(), text.as_bytes()).is_none(),
+            "{reason}"
+        );
+    }
+}
+
+/// A head that is written field by field, and a body behind it.
+fn written(alloc: Global) -> Result<Vec<u8>, Fail> {
+    let first = Address::read(alloc, b"Anna@alfa.example")?;
+    let second = Address::read(alloc, b"bob@beta.example")?;
+    let mut text = Vec::new(alloc);
+    put_field(&mut text, b"From", b"a@b")?;
+    put_addresses(&mut text, b"To", &[&first, &second, &first])?;
+    put_addresses(&mut text, b"Cc", &[&second])?;
+    put_addresses(&mut text, b"Bcc", &[])?;
+    put_field(&mut text, b"Subject", b"POSTA CERTIFICATA: ")?;
+    end_head(&mut text)?;
+    text.extend_from_slice(b"x")?;
+    Ok(text)
+}
+
+#[test]
+fn a_written_head_has_crlf_at_each_line_and_is_read_as_it_was_written(
+    rt: HostRuntime,
+) -> Result<(), Fail> {
+    let text = written(rt.alloc())?;
+    let want =
+        b"From: a@b\r\nTo: anna@alfa.example,\r\n bob@beta.example,\r\n anna@alfa.example\r\nCc: bob@beta.example\r\nBcc: \r\nSubject: POSTA CERTIFICATA: \r\n\r\nx";
+    assert_eq!(rt; text.as_slice(), want.as_slice());
+    let (head, place) = Head::read(rt.alloc(), text.as_slice())?;
+    assert_eq!(rt; place, text.len() - 1);
+    let rows: [(&str, &str); 5] = [
+        ("From", "a@b"),
+        (
+            "To",
+            "anna@alfa.example, bob@beta.example, anna@alfa.example",
+        ), // unfolded
+        ("Cc", "bob@beta.example"),
+        ("Bcc", ""),
+        ("Subject", "POSTA CERTIFICATA:"), // the blank at the end is cut off
+    ];
+    for (name, want) in rows {
+        assert!(rt;
+            is_value(head.field(name.as_bytes()), want.as_bytes()),
+            "{name}"
+        );
     }
     Ok(())
 }

@@ -1,0 +1,6 @@
+-- The law of bounds, from the lemmas.
+use Rattle.pec_heads.proofs.BoundLaws.{bounded, gathered, recipients_are_both}
+use Rattle.pec_heads.proofs.heads.facts_are_bounded.Goals as goal
+
+pub returns : goal.returns
+returns c = record { texts = bounded; gathered = gathered; recipients = recipients_are_both c.an_address_is_told_exactly.ensures }
