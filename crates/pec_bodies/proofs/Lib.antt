@@ -1,7 +1,14 @@
-pub mod LineLemmas
+pub mod AnswerLemmas
+pub mod LineFacts
 pub mod PieceLemmas
+pub mod ParameterLaws
+pub mod BoundaryLaws
+pub mod WrittenLaws
 pub mod MarkLaws
 pub mod CutLaws
 pub mod PartLaws
 pub mod ComposeLaws
 pub mod NumberLaws
+pub mod TakenLaws
+pub mod FreeLaws
+pub mod OrderLaws

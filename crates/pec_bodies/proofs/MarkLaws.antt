@@ -6,10 +6,11 @@ use Rattle.std.proofs.lemmas.Slice.Eq.{bytes_eq-Decides}
 use Rattle.std.specs.List.{list_all}
 use Rattle.std.specs.Prelude.{codes}
 use Rattle.std.specs.Str.{bytes_eq}
-use Rattle.pec_heads.proofs.Tools.{some_is}
+use Rattle.pec_types.specs.Bytes.{after_front}
 use Rattle.pec_heads.specs.Bytes.{is_blank, AreBlanks}
-use Rattle.pec_bodies.specs.Marks.{IsClosing, IsDelimiter, after_front, behind_dashed, closing_mark, dashed, mark_at, mark_behind, mark_of}
-use Rattle.pec_bodies.specs.Parameters.{◌>>=◌}
+use Rattle.pec_bodies.proofs.AnswerLemmas.{some_is}
+use Rattle.pec_bodies.specs.Marks.{IsClosing, IsDelimiter, behind_dashed, closing_mark, dashed, mark_at, mark_behind, mark_of}
+use Rattle.pec_types.specs.Options.{◌>>=◌}
 use Rattle.pec_bodies.specs.declared.marks.Mark.TheVariants.{Delimiter, Closing, Text}
 
 front_step : (front text rest : List ℕ) (t : Bool) → bytes_eq (take (length front) text) front ≡ t → cond t (Some (drop (length front) text)) None ≡ Some rest → text ≡ front ++ rest

@@ -1,28 +1,27 @@
 -- The numbers that a line takes: those that the first digits behind its front spell.
-use Rattle.std.proofs.Common.{◌≡◌, ℕ, ◌+◌, ◌-◌, ◌*◌, ◌^◌, ◌<◌, ◌≤◌, Bool, true, false, ◌&&◌, ◌||◌, eqb, ltb, List, [], ◌∷◌, ◌++◌, length, take, drop, get_or, refl, sym, ◌∙◌, ap, inl, inr, ◌⊎◌, arith, rules, suc, length-append}
+use Rattle.std.proofs.Common.{◌≡◌, ℕ, ◌+◌, ◌-◌, ◌*◌, ◌^◌, ◌<◌, ◌≤◌, Bool, true, false, not, ◌&&◌, ◌||◌, eqb, ltb, List, [], ◌∷◌, ◌++◌, length, take, drop, get_or, set, refl, sym, ◌∙◌, ap, inl, inr, ◌⊎◌, arith, rules, suc}
+use Rattle.std.proofs.Math.Bool.{or-false, or-true}
 use Rattle.std.proofs.Math.Seq.{take-append_seam}
 use Rattle.std.proofs.lemmas.Bool.{false≢true, eqb-true, eq-eqb, ne_eqb, ltb-true, ltb-false, lt-ltb, leb-true, and_parts, and_from, or_cases, or_left, or_right, or_from, and_right, and_left}
 use Rattle.std.proofs.lemmas.Bool.Decides.{same_from_decides}
 use Rattle.std.proofs.lemmas.Fmt.{decimal-digits_value, digits_decimal, digits_value-decimal, decimal_nonempty, first_decimal, decimal_digit}
-use Rattle.std.proofs.lemmas.List.Sums.{count_by-le-length}
-use Rattle.std.proofs.lemmas.List.{at_drop_more, take-append-drop}
+use Rattle.std.proofs.lemmas.Grind.{get_or-set_at}
+use Rattle.std.proofs.lemmas.List.{at_drop_more, get_or-set_other, take-append-drop}
 use Rattle.std.proofs.lemmas.Slice.Eq.{bytes_eq-Decides}
 use Rattle.std.proofs.lemmas.Str.Parse.{IsNumeralModel, numerals_by_fold}
 use Rattle.std.specs.Char.{is_ascii_digit}
 use Rattle.std.specs.Fmt.{decimal}
 use Rattle.std.specs.List.{list_all}
-use Rattle.pec_heads.specs.Lines.{last_piece, size, whole_lines}
-use Rattle.pec_bodies.proofs.LineLemmas.{lines_within}
-use Rattle.pec_bodies.specs.Composing.{all_lines, begins, boundary_number}
+use Rattle.pec_bodies.specs.Composing.{begins, boundary_number}
 use Rattle.pec_bodies.specs.Marks.{dashed}
-use Rattle.pec_bodies.specs.Numbers.{front_lines, number_front}
+use Rattle.pec_bodies.specs.Numbers.{is_marked, number_front}
 
 -- ---- fronts
 
 begins_so : (front rest : List ℕ) → begins front (front ++ rest) ≡ true
 begins_so front rest = (bytes_eq-Decides front (take (length front) (front ++ rest))).1 (sym (take-append_seam front rest))
 
-begins_then : (front text : List ℕ) → begins front text ≡ true → text ≡ front ++ drop (length front) text
+pub begins_then : (front text : List ℕ) → begins front text ≡ true → text ≡ front ++ drop (length front) text
 begins_then front text e =
     let same : front ≡ take (length front) text = (bytes_eq-Decides front (take (length front) text)).0 e
     in sym (take-append-drop (length front) text) ∙ ap (λ xs. xs ++ drop (length front) text) (sym same)
@@ -162,6 +161,23 @@ past_none n text i k inside below =
     at_drop_more (λ xs. spells_behind n xs k) text i 0 inside
     ∙ past_by n (get_or text i 0) (drop (i + 1) text) k below (below_none (with_digit n (get_or text i 0)) (drop (i + 1) text) k below)
 
+-- a digit that makes 0 spells it, and no digit behind it spells anything
+pub lone_zero : (n : ℕ) (text : List ℕ) (i k : ℕ) → i < length text → is_ascii_digit (get_or text i 0) ≡ true → with_digit n (get_or text i 0) ≡ 0
+    → spells_behind n (drop i text) k ≡ eqb k 0
+lone_zero n text i k inside digit zero =
+    at_drop_more (λ xs. spells_behind n xs k) text i 0 inside
+    ∙ ap (λ t. t && (eqb k (with_digit n (get_or text i 0)) || (ltb 0 (with_digit n (get_or text i 0)) && spells_behind (with_digit n (get_or text i 0)) (drop (i + 1) text) k))) digit
+    ∙ ap (λ w. eqb k w || (ltb 0 w && spells_behind w (drop (i + 1) text) k)) zero
+    ∙ or-false (eqb k 0)
+
+-- one mark more
+pub marked_one : (marks : List Bool) (at k : ℕ) → at < length marks → is_marked (set marks at true) k ≡ (is_marked marks k || eqb k at)
+marked_one marks at k inside = by_place marks at k inside (eqb k at) refl
+  where
+    by_place : (marks : List Bool) (at k : ℕ) → at < length marks → (t : Bool) → eqb k at ≡ t → is_marked (set marks at true) k ≡ (is_marked marks k || t)
+    by_place marks at k inside true e = get_or-set_at marks at k true false (eqb-true k at e) inside ∙ sym (or-true (is_marked marks k))
+    by_place marks at k inside false e = get_or-set_other marks at k true false (λ same. false≢true (sym e ∙ eq-eqb k at same)) ∙ sym (or-false (is_marked marks k))
+
 -- ---- lines
 
 -- what a line takes is what the text behind its front begins with
@@ -173,17 +189,18 @@ pub takes_none : (line : List ℕ) (k : ℕ) → begins number_front line ≡ fa
 unfolding boundary_number
 takes_none line k e = begins-append number_front (decimal k) line ∙ and_left (begins number_front line) _ e
 
--- a part has no more lines than bytes, but for the last piece
-pub front_lines_le : (part : List ℕ) → front_lines part ≤ length part + 1
-front_lines_le part =
-    omega (
-      arith,
-      count_by-le-length (begins number_front) (all_lines part),
-      length-append (whole_lines part) (last_piece part ∷ []),
-      lines_count (whole_lines part),
-      lines_within part,
-    )
+-- ---- the digits of a number
+
+pub digits_pass : (test : ℕ → Bool) → ((c : ℕ) → 48 ≤ c → c ≤ 57 → test c ≡ true) → (n : ℕ) → n < 2 ^ 64 → list_all test (decimal n) ≡ true
+digits_pass test passes n small = all_pass test passes (decimal n) (digits_decimal own n small)
   where
-    lines_count : (lines : List (List ℕ)) → length lines ≤ size lines
-    lines_count [] = omega arith
-    lines_count (line ∷ lines) = omega (arith, lines_count lines)
+    all_pass : (test : ℕ → Bool) → ((c : ℕ) → 48 ≤ c → c ≤ 57 → test c ≡ true) → (ds : List ℕ) → list_all is_ascii_digit ds ≡ true → list_all test ds ≡ true
+    all_pass test passes [] e = refl
+    all_pass test passes (c ∷ cs) e =
+        let p = and_parts (is_ascii_digit c) (list_all is_ascii_digit cs) e
+        in let bounds = and_parts _ _ p.0
+        in and_from (test c) (list_all test cs) (passes c (leb-true 48 c bounds.0) (leb-true c 57 bounds.1)) (all_pass test passes cs p.1)
+
+-- a digit is no such byte
+pub digit_other : (b : ℕ) → (c : ℕ) → (c ≡ b → ⊥) → not (eqb c b) ≡ true
+digit_other b c other = ap not (ne_eqb c b other)

@@ -3,7 +3,9 @@ use Rattle.std.proofs.Common.{◌≡◌, ℕ, ◌+◌, List, [], ◌∷◌, Bool
 use Rattle.std.proofs.lemmas.Bool.{cond_both}
 use Rattle.std.specs.List.{onto_first}
 use Rattle.std.specs.Option.{option_map}
-use Rattle.pec_bodies.specs.Parameters.{AllQuoted, before, behind_first, first_named, is_quote, is_semicolon, leaves_open, or_else, pieces_from, pieces_of, semicolon_from, turned, value_named}
+use Rattle.pec_types.specs.Bytes.{is_quote}
+use Rattle.pec_bodies.specs.Parameters.{AllQuoted, is_semicolon, leaves_open}
+use Rattle.pec_bodies.specs.ParametersReading.{before, behind_first, first_named, or_else, pieces_from, pieces_of, semicolon_from, turned, value_named}
 
 abbrev pub cut_at : List ℕ → Option ℕ → List (List ℕ)
 cut_at text None = text ∷ []
@@ -46,11 +48,11 @@ looked_at name text piece k o e p v = rw (v, p) (sym (next_piece name text k e))
 -- ---- the law of pieces
 
 -- whether the byte behind some stands in quotes
-abbrev after_all : Bool → List ℕ → Bool
+abbrev pub after_all : Bool → List ℕ → Bool
 after_all q [] = q
 after_all q (b ∷ bs) = after_all (turned q b) bs
 
-abbrev AllQuotedFrom : Bool → List ℕ → Type 0
+abbrev pub AllQuotedFrom : Bool → List ℕ → Type 0
 AllQuotedFrom q bytes = (front back : List ℕ) → bytes ≡ front ++ 59 ∷ back → after_all q front ≡ true
 
 later_quoted : (q : Bool) (b : ℕ) (bs : List ℕ) → AllQuotedFrom q (b ∷ bs) → AllQuotedFrom (turned q b) bs
@@ -73,7 +75,7 @@ pieces_next q [] back h e = rw e refl
 pieces_next q (b ∷ front) back h e =
     rw (no_cut q (is_semicolon b) b front refl h) (ap (onto_first b) (pieces_next (turned q b) front back (later_quoted q b front h) e))
 
-flips : (q : Bool) (bs : List ℕ) → (q ≡ false → after_all q bs ≡ leaves_open bs) × (q ≡ true → after_all q bs ≡ not (leaves_open bs))
+pub flips : (q : Bool) (bs : List ℕ) → (q ≡ false → after_all q bs ≡ leaves_open bs) × (q ≡ true → after_all q bs ≡ not (leaves_open bs))
 flips q [] = (λ e. e, λ e. e)
 flips q (b ∷ bs) = flip_step q bs (is_quote b) (flips q bs) (flips (not q) bs)
   where

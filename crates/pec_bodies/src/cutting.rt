@@ -1,13 +1,22 @@
-ghost use Rattle.std.specs.Prelude.{◌≡◌, ℕ, ◌≤◌, [], drop, length, map, IfSome};
+ghost use Rattle.std.specs.Prelude.{◌≡◌, ℕ, ◌≤◌, [], drop, length, IfSome};
 ghost use Rattle.std.specs.Option.{option_map};
 ghost use Rattle.pec_heads.specs.Lines.{whole_lines, last_piece};
-ghost use Rattle.pec_bodies.specs.PartsReading.{cut_of, opening_from, wholes_from};
-ghost use Rattle.pec_bodies.specs.Giving.{GivesParts};
+ghost use Rattle.pec_bodies.specs.PartsReading.{begun_at, cut_of, opening_from, wholes_from};
+ghost use Rattle.pec_types.specs.Answers.{Gives};
+ghost use Rattle.pec_bodies.specs.declared.faults.BodyFault.TheVariants as faults;
+ghost use Rattle.pec_bodies.specs.Views.{wholes_shown};
 
 use crate::faults::BodyFault;
 use crate::marks::{Mark, mark_of};
 use pec_heads::{content, first_line};
 use std::alloc::Global;
+
+/// The bytes of a part, and the place of the first of them in the body.
+#[derive(Clone, Copy, Drop)]
+pub(crate) struct Whole<'a> {
+    pub(crate) start: usize,
+    pub(crate) bytes: &'a [u8],
+}
 
 /// The parts of a body, as slices of it.
 #[tactic(auto, unfolding(crate::specs::PartsReading::cut_of))]
@@ -15,8 +24,8 @@ pub(crate) fn cut<'a>(
     alloc: Global,
     body: &'a [u8],
     boundary: &[u8],
-) -> Result<Vec<&'a [u8]>, BodyFault>
-    ensures { GivesParts (λ wholes. map (λ whole. whole.now) wholes.items) result (cut_of boundary.now body.now) }
+) -> Result<Vec<Whole<'a>>, BodyFault>
+    ensures { Gives faults.NoMemory (λ wholes. wholes_shown wholes.items) result (cut_of boundary.now body.now) }
 {
     let Some(start) = opening(body, boundary) else {
         return Err(BodyFault::NoOpening);
@@ -27,7 +36,8 @@ pub(crate) fn cut<'a>(
 
 /// The place behind the first delimiter.
 fn opening(body: &[u8], boundary: &[u8]) -> Option<usize>
-    ensures value { option_map (λ start. (start, whole_lines (drop start body.now))) result ≡ opening_from boundary.now 0 (whole_lines body.now) }
+    ensures value { option_map (λ start. (start, whole_lines (drop start body.now))) result
+        ≡ opening_from boundary.now 0 (whole_lines body.now) }
     ensures last { IfSome result (λ start. last_piece (drop start body.now) ≡ last_piece body.now) }
     ensures within { IfSome result (λ start. start ≤ length body.now) }
 {
@@ -49,9 +59,11 @@ fn wholes_behind<'a>(
     body: &'a [u8],
     boundary: &[u8],
     opening: usize,
-) -> Result<Vec<&'a [u8]>, BodyFault>
+) -> Result<Vec<Whole<'a>>, BodyFault>
     requires { opening ≤ length body.now }
-    ensures { GivesParts (λ wholes. map (λ whole. whole.now) wholes.items) result (wholes_from body.now boundary.now (last_piece (drop opening body.now)) [] opening opening opening (whole_lines (drop opening body.now))) }
+    ensures { Gives faults.NoMemory (λ wholes. wholes_shown wholes.items) result
+        (wholes_from (record { body = body.now; boundary = boundary.now; last = last_piece (drop opening body.now) }) []
+        (begun_at opening) (whole_lines (drop opening body.now))) }
 {
     let mut wholes = Vec::new(alloc);
     let mut start = opening;
@@ -67,19 +79,28 @@ fn wholes_behind<'a>(
                 at += line.len() + 1;
             }
             Mark::Delimiter => {
-                wholes.push(&body[start..end])?;
+                wholes.push(Whole {
+                    start,
+                    bytes: &body[start..end],
+                })?;
                 at += line.len() + 1;
                 start = at;
                 end = at;
             }
             Mark::Closing => {
-                wholes.push(&body[start..end])?;
+                wholes.push(Whole {
+                    start,
+                    bytes: &body[start..end],
+                })?;
                 return Ok(wholes);
             }
         }
     }
     if mark_of(rest, boundary) == Mark::Closing {
-        wholes.push(&body[start..end])?;
+        wholes.push(Whole {
+            start,
+            bytes: &body[start..end],
+        })?;
         return Ok(wholes);
     }
     Err(BodyFault::NoClosing)

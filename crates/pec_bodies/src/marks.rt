@@ -1,15 +1,18 @@
 ghost use Rattle.std.specs.Prelude.{◌≡◌, ◌↔◌, ℕ, List};
 ghost use Rattle.std.specs.Option.{option_map};
-ghost use Rattle.pec_bodies.specs.Marks.{IsClosing, IsDelimiter, after_front, behind_dashed, mark_of, mark_behind};
+ghost use Rattle.pec_types.specs.Bytes.{Bytes, after_front};
+ghost use Rattle.pec_bodies.specs.Marks.{IsClosing, IsDelimiter, behind_dashed, mark_of, mark_behind};
 ghost use Rattle.pec_bodies.specs.declared.marks.Mark.TheVariants as marks;
 
 use pec_heads::is_all_blank;
 
-/// The law of delimiters: a line, without its line end, is one where it is two dashes, the boundary and blanks, and a closing
-/// one where two dashes stand before the blanks.
+/// The law of delimiters: a line, without its line end, is one where it is two dashes, the boundary and blanks, and a
+/// closing one where two dashes stand before the blanks.
 pub fn delimiters_are_dashes_and_the_boundary()
-    ensures delimiter { (boundary line : List ℕ) → (mark_of boundary line ≡ marks.Delimiter ↔ IsDelimiter boundary line) }
-    ensures closing { (boundary line : List ℕ) → (mark_of boundary line ≡ marks.Closing ↔ IsClosing boundary line) }
+    ensures delimiter { (boundary line : Bytes)
+        → (mark_of boundary line ≡ marks.Delimiter ↔ IsDelimiter boundary line) }
+    ensures closing { (boundary line : Bytes)
+        → (mark_of boundary line ≡ marks.Closing ↔ IsClosing boundary line) }
 {}
 
 /// What a line of a body is to a boundary.
@@ -61,7 +64,7 @@ fn mark_behind(rest: &[u8]) -> Mark
     }
 }
 
-#[tactic(auto, unfolding(crate::specs::Marks::after_front))]
+#[tactic(auto, unfolding(pec_types::specs::Bytes::after_front))]
 fn after_front<'a>(text: &'a [u8], front: &[u8]) -> Option<&'a [u8]>
     ensures { option_map (λ rest. rest.now) result ≡ after_front front.now text.now }
 {

@@ -1,34 +1,30 @@
-ghost use Rattle.std.specs.Prelude.{◌≡◌, ℕ, ◌+◌, ◌*◌, ◌<◌, ◌≤◌, ◌++◌, min, true, false, length, IfNone, IfOk, IfSome, vec_len};
+ghost use Rattle.std.specs.Prelude.{◌≡◌, ℕ, ◌+◌, ◌-◌, ◌*◌, ◌<◌, ◌≤◌, ◌++◌, map, min, true, false, length, IfNone, IfOk, IfSome, vec_len};
+ghost use Rattle.std.specs.Char.{is_ascii_digit};
 ghost use Rattle.std.specs.Fmt.{decimal};
-ghost use Rattle.std.specs.List.{list_any, sum_by};
-ghost use Rattle.pec_bodies.specs.Composing.{all_lines, begins, boundary_number, is_taken};
+ghost use Rattle.std.specs.List.{list_any, prefix_len};
+ghost use Rattle.pec_bodies.specs.Composing.{IsLeastFree, all_lines, begins, boundary_number, boundary_taken};
 ghost use Rattle.pec_bodies.specs.Marks.{dashed};
-ghost use Rattle.pec_bodies.specs.Numbers.{MarksMore, front_lines, is_marked, number_front};
+ghost use Rattle.pec_bodies.specs.Numbers.{MarksMore, digits_of, is_marked, number_front, room_for, room_in};
 
-use pec_heads::first_line;
-use pec_types::{NoMemory, Text8};
-use std::alloc::{AllocError, Global};
+use pec_heads::{first_line, lines_have_their_size};
+use pec_types::NoMemory;
+use std::alloc::Global;
 
-/// Numbers from here on aren't looked at: to take all below would need lines of some 60 GB.
-const NUMBER_LIMIT: usize = 4_294_967_296;
-
-/// The most digits of a number below `NUMBER_LIMIT`, and so the most numbers that one line takes.
-const DIGIT_LIMIT: usize = 10;
-
-/// The least number whose boundary is free. One of the numbers that are looked at is, since there are more of them than the lines
-/// can take; where none were, the answer would be want of memory.
-pub(crate) fn free_number(alloc: Global, parts: &[Text8]) -> Result<u64, NoMemory>
-    ensures free { IfOk result (λ n. is_taken (boundary_number n) parts.now ≡ false) }
-    ensures least { IfOk result (λ n. (k : ℕ) → k < n → is_taken (boundary_number k) parts.now ≡ true) }
+/// The least number whose boundary is free: no line of a part begins with `--=_pec_n`, where the last piece of a part counts
+/// as a line. The parts are looked at where they stand, and may be handed in as pieces of whole lines.
+pub fn free_number(alloc: Global, parts: &[&[u8]]) -> Result<u64, NoMemory>
+    ensures { IfOk result (λ n. IsLeastFree (map (λ part. part.now) parts.now) n) }
 {
+    // One of the numbers that are looked at is free: there are more of them than the lines can take.
     let marks = numbers_taken(alloc, parts)?;
-    match first_unmarked(marks.as_slice()) {
-        Some(number) => Ok(number as u64),
-        None => Err(NoMemory),
-    }
+    let Some(number) = first_unmarked(marks.as_slice()) else {
+        unreachable!()
+    };
+    Ok(number as u64)
 }
 
 fn first_unmarked(marks: &[bool]) -> Option<usize>
+    ensures none { IfNone result ((k : ℕ) → k < length marks.now → is_marked marks.now k ≡ true) }
     ensures below { IfSome result (λ n. n < length marks.now) }
     ensures unmarked { IfSome result (λ n. is_marked marks.now n ≡ false) }
     ensures first { IfSome result (λ n. (k : ℕ) → k < n → is_marked marks.now k ≡ true) }
@@ -37,64 +33,76 @@ fn first_unmarked(marks: &[bool]) -> Option<usize>
 }
 
 /// For each number that is looked at whether it is taken.
-fn numbers_taken(alloc: Global, parts: &[Text8]) -> Result<Vec<bool>, AllocError>
-    ensures room { IfOk result (λ marks. vec_len marks ≡ min NUMBER_LIMIT (DIGIT_LIMIT * sum_by front_lines parts.now + 1)) }
-    ensures taken { IfOk result (λ marks. (k : ℕ) → k < vec_len marks → is_marked marks.items k ≡ is_taken (boundary_number k) parts.now) }
+fn numbers_taken(alloc: Global, parts: &[&[u8]]) -> Result<Vec<bool>, NoMemory>
+    ensures room { IfOk result (λ marks. vec_len marks ≡ room_for (map (λ part. part.now) parts.now) + 1) }
+    ensures taken { IfOk result (λ marks. (k : ℕ) → k < vec_len marks
+        → is_marked marks.items k ≡ boundary_taken (boundary_number k) (map (λ part. part.now) parts.now)) }
 {
-    let mut marks = vec![in alloc; false; room(parts)]?;
+    let Some(room) = room(parts) else {
+        return Err(NoMemory);
+    };
+    let mut marks = vec![in alloc; false; room]?;
     mark_parts(marks.as_mut_slice(), parts);
     Ok(marks)
 }
 
-/// How many numbers are looked at: one more than the lines can take. A line has nine bytes at least, so these are hardly more than
-/// the parts' bytes.
-fn room(parts: &[Text8]) -> usize
-    ensures { result ≡ min NUMBER_LIMIT (DIGIT_LIMIT * sum_by front_lines parts.now + 1) }
+/// How many numbers are looked at: one more than the lines can take. They can't take more than they have bytes, so it
+/// is hardly more than the parts' bytes, and mostly 1. `None` where there are more of them than a list has places.
+fn room(parts: &[&[u8]]) -> Option<usize>
+    ensures { IfSome result (λ room. room ≡ room_for (map (λ part. part.now) parts.now) + 1) }
 {
-    let taken = count_lines(parts).saturating_mul(DIGIT_LIMIT);
-    taken.saturating_add(1).min(NUMBER_LIMIT)
-}
-
-/// How many lines of the parts may take numbers.
-fn count_lines(parts: &[Text8]) -> usize
-    ensures { result ≡ min usize.MAX (sum_by front_lines parts.now) }
-{
-    let mut count: usize = 0;
+    let mut room: usize = 1;
     for part in parts {
-        count = count.saturating_add(count_in(part.bytes()));
+        room = room.checked_add(room_in(part))?;
     }
-    count
+    Some(room)
 }
 
-#[tactic(auto, using(crate::proofs::NumberLaws::front_lines_le))]
-fn count_in(part: &[u8]) -> usize
-    ensures { result ≡ front_lines part.now }
+fn room_in(part: &[u8]) -> usize
+    ensures { result ≡ room_in part.now }
 {
-    let mut count: usize = 0;
+    // A text is no shorter than its lines: that bounds the sum.
+    lines_have_their_size();
+    let mut room: usize = 0;
     let mut rest = part;
     while let Some((line, behind)) = first_line(rest) {
-        if tail(line).is_some() {
-            count += 1;
-        }
+        room += digits_of(line);
         rest = behind;
     }
-    if tail(rest).is_some() {
-        count += 1;
-    }
-    count
+    room + digits_of(rest)
 }
 
-fn mark_parts(marks: &mut [bool], parts: &[Text8])
-    requires { length marks.old ≤ NUMBER_LIMIT }
-    ensures { MarksMore (λ k. is_taken (boundary_number k) parts.now) marks.old marks.new }
+/// How many digits a line has where its number stands.
+fn digits_of(line: &[u8]) -> usize
+    ensures { result ≡ digits_of line.now }
+{
+    match tail(line) {
+        Some(text) => digits(text),
+        None => 0,
+    }
+}
+
+/// How many digits a text begins with.
+fn digits(text: &[u8]) -> usize
+    ensures { result ≡ prefix_len is_ascii_digit text.now }
+{
+    for (i, byte) in text.iter().enumerate() {
+        if !byte.is_ascii_digit() {
+            return i;
+        }
+    }
+    text.len()
+}
+
+fn mark_parts(marks: &mut [bool], parts: &[&[u8]])
+    ensures { MarksMore (λ k. boundary_taken (boundary_number k) (map (λ part. part.now) parts.now)) marks.old marks.new }
 {
     for part in parts {
-        mark_part(marks, part.bytes());
+        mark_part(marks, part);
     }
 }
 
 fn mark_part(marks: &mut [bool], part: &[u8])
-    requires { length marks.old ≤ NUMBER_LIMIT }
     ensures { MarksMore (λ k. list_any (begins (dashed (boundary_number k))) (all_lines part.now)) marks.old marks.new }
 {
     let mut rest = part;
@@ -107,7 +115,6 @@ fn mark_part(marks: &mut [bool], part: &[u8])
 
 /// Marks each number whose delimiter the line begins with.
 fn mark_line(marks: &mut [bool], line: &[u8])
-    requires { length marks.old ≤ NUMBER_LIMIT }
     ensures { MarksMore (λ k. begins (dashed (boundary_number k)) line.now) marks.old marks.new }
 {
     if let Some(digits) = tail(line) {
@@ -125,7 +132,6 @@ fn tail(line: &[u8]) -> Option<&[u8]>
 
 /// Marks each number that the text begins with.
 fn mark_fronts(marks: &mut [bool], text: &[u8])
-    requires { length marks.old ≤ NUMBER_LIMIT }
     ensures { MarksMore (λ k. begins (decimal k) text.now) marks.old marks.new }
 {
     let mut number: usize = 0;
@@ -133,7 +139,7 @@ fn mark_fronts(marks: &mut [bool], text: &[u8])
         if !byte.is_ascii_digit() {
             return;
         }
-        number = 10 * number + usize::from(*byte - b'0');
+        number = with_digit(number, *byte);
         if number >= marks.len() {
             return;
         }
@@ -143,4 +149,14 @@ fn mark_fronts(marks: &mut [bool], text: &[u8])
             return;
         }
     }
+}
+
+/// A number with one more digit, or the greatest one where that is too large.
+fn with_digit(number: usize, digit: u8) -> usize
+    requires { 48 ≤ digit }
+    ensures { result ≡ min usize.MAX (10 * number + (digit - 48)) }
+{
+    number
+        .saturating_mul(10)
+        .saturating_add(usize::from(digit - b'0'))
 }

@@ -1,24 +1,43 @@
-ghost use Rattle.std.specs.Prelude.{◌≡◌, ◌<◌, ℕ, List, [], ◌∷◌, ◌++◌, false, length, position, IfSome};
+ghost use Rattle.std.specs.Prelude.{◌≡◌, ◌↔◌, ◌<◌, ℕ, List, [], ◌∷◌, ◌++◌, true, false, length, position, Some, None, IfSome};
 ghost use Rattle.std.specs.Option.{option_map};
 ghost use Rattle.pec_heads.specs.Heads.{NamedValue};
-ghost use Rattle.pec_bodies.specs.Parameters.{AllQuoted, before, boundary_of, is_equals, is_multipart, leaves_open, parameter_of, pieces_of, sized, semicolon_from, unquoted, value_named};
+ghost use Rattle.pec_types.specs.Bytes.{Bytes, semicolon};
+ghost use Rattle.pec_bodies.specs.Parameters.{ArePieces, HasNoBoundary, HasNoParameter, HasNoQuote, IsBoundary, IsFirstPiece, IsParameter, IsParameterName, is_equals, is_multipart, with_parameter};
+ghost use Rattle.pec_bodies.specs.ParametersReading.{before, boundary_of, parameter_of, pieces_of, sized, semicolon_from, unquoted, value_named};
 ghost use Rattle.std.specs.Str.{str_eq_ignore_ascii_case};
 
 use crate::BOUNDARY_LIMIT;
-use pec_heads::{Head, trim};
+use pec_heads::{Head, blanks_are_cut_at_both_ends, trim};
 
-/// The law of pieces: a value is cut at the first `;` that stands outside double quotes, and what is behind it likewise; a
-/// value without one is one piece.
+/// The law of parameters: `parameter_of` gives a value where the first piece of the name has it, and nothing where no
+/// piece has the name; `boundary_of` gives a head's boundary.
+pub fn a_value_has_one_parameter_of_a_name()
+    ensures found { (name value found : Bytes) → (parameter_of name value ≡ Some found ↔ IsParameter name value found) }
+    ensures none { (name value : Bytes) → (parameter_of name value ≡ None ↔ HasNoParameter name value) }
+    ensures boundary { (head : List NamedValue) (boundary : Bytes)
+        → (boundary_of head ≡ Some boundary ↔ IsBoundary head boundary) }
+    ensures no_boundary { (head : List NamedValue) → (boundary_of head ≡ None ↔ HasNoBoundary head) }
+{}
+
+/// The law of written parameters: a parameter in quotes is read as it was written, by its name in whatever case.
+pub fn a_written_parameter_is_read()
+    ensures { (first name wanted value : Bytes) → IsFirstPiece first → IsParameterName name
+        → str_eq_ignore_ascii_case name wanted ≡ true → HasNoQuote value
+        → parameter_of wanted (with_parameter first name value) ≡ Some value }
+{
+    blanks_are_cut_at_both_ends();
+}
+
+/// The law of pieces: a value is cut at each `;` outside double quotes, in one way, and `pieces_of` gives it.
 pub fn values_are_cut_outside_quotes()
-    ensures cut { (front back : List ℕ) → AllQuoted front → leaves_open front ≡ false → pieces_of (front ++ 59 ∷ back) ≡ front ∷ pieces_of back }
-    ensures whole { (value : List ℕ) → AllQuoted value → pieces_of value ≡ value ∷ [] }
+    ensures { (value : Bytes) (pieces : List Bytes) → (pieces_of value ≡ pieces ↔ ArePieces value pieces) }
 {}
 
 /// The value of the first parameter of this name, whatever the case of its letters (RFC 2045, section 5.1, within this
 /// project's profile): `value` is cut at each `;` outside double quotes, and the pieces behind the first are looked at,
-/// without blanks at their ends, as `name=value`. A value in double quotes is what stands between them, unchanged. `None`
-/// where no parameter has the name. It takes no memory.
-#[tactic(auto, using(crate::proofs::PieceLemmas::no_more), unfolding(crate::specs::Parameters::parameter_of))]
+/// without blanks at their ends, as `name=value`. A value in double quotes is what stands between them, unchanged.
+/// `None` where no parameter has the name. It takes no memory.
+#[tactic(auto, using(crate::proofs::PieceLemmas::no_more), unfolding(crate::specs::ParametersReading::parameter_of))]
 pub fn parameter<'a>(value: &'a [u8], name: &[u8]) -> Option<&'a [u8]>
     ensures { option_map (λ found. found.now) result ≡ parameter_of name.now value.now }
 {
@@ -33,7 +52,7 @@ pub fn parameter<'a>(value: &'a [u8], name: &[u8]) -> Option<&'a [u8]>
 }
 
 /// The boundary of a multipart's head: 1 to 70 bytes.
-#[tactic(auto, unfolding(crate::specs::Parameters::boundary_of))]
+#[tactic(auto, unfolding(crate::specs::ParametersReading::boundary_of))]
 pub(crate) fn boundary(head: &Head) -> Option<&[u8]>
     ensures { option_map (λ found. found.now) result ≡ boundary_of head.now }
 {
@@ -82,7 +101,7 @@ fn semicolon(text: &[u8]) -> Option<usize>
 }
 
 /// The value of a piece, where it has this name.
-#[tactic(auto, unfolding(crate::specs::Parameters::value_named))]
+#[tactic(auto, unfolding(crate::specs::ParametersReading::value_named))]
 fn value_named<'a>(piece: &'a [u8], name: &[u8]) -> Option<&'a [u8]>
     ensures { option_map (λ found. found.now) result ≡ value_named name.now piece.now }
 {
@@ -108,7 +127,7 @@ fn equals(piece: &[u8]) -> Option<usize>
 }
 
 /// What stands between double quotes, where the value begins and ends with one; otherwise the value.
-#[tactic(auto, unfolding(crate::specs::Parameters::unquoted))]
+#[tactic(auto, unfolding(crate::specs::ParametersReading::unquoted))]
 fn unquoted(value: &[u8]) -> &[u8]
     ensures { result.now ≡ unquoted value.now }
 {

@@ -1,7 +1,7 @@
 -- Each turn looks at the first of the pieces that are left.
 use Rattle.std.proofs.Common.{Some, None, drop, sym, ◌∙◌, ◌+◌, arith, length-drop}
 use Rattle.std.proofs.lemmas.List.{take_rest}
-use Rattle.pec_bodies.specs.Parameters.{parameter_of}
+use Rattle.pec_bodies.specs.ParametersReading.{parameter_of}
 use Rattle.pec_bodies.proofs.PieceLemmas.{looked_at}
 use Rattle.pec_bodies.proofs.parameters.parameter.Goals as goal
 

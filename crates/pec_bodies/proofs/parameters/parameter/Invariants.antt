@@ -1,6 +1,6 @@
 -- The parameter that is looked for stands in the pieces behind the next `;`.
 use Rattle.std.proofs.Common.{◌≡◌, ◌≤◌, length, false}
-use Rattle.pec_bodies.specs.Parameters.{behind_first, first_named, pieces_from}
+use Rattle.pec_bodies.specs.ParametersReading.{behind_first, first_named, pieces_from}
 use Rattle.pec_bodies.proofs.parameters.parameter.Given as goal
 
 abbrev pub invariant-loop-at : goal.invariant-loop-at

@@ -1,11 +1,15 @@
 -- What was read is what `parts_of` gives, and so what the body is.
-use Rattle.pec_bodies.proofs.PartLaws.{answers, each_fault, only_parts}
+use Rattle.pec_types.specs.Answers.{told_is_read}
+use Rattle.pec_bodies.specs.Multiparts.{IsBodyFault, IsParts}
+use Rattle.pec_bodies.specs.PartsReading.{parts_of}
+use Rattle.pec_bodies.specs.declared.faults.BodyFault.TheVariants as faults
 use Rattle.pec_bodies.proofs.parts.Parts.read.Goals as goal
 
 pub returns : goal.returns
-returns c = record {
-  answer = answers c.args.head.now c.args.body.now c.cut.result c.cut.ensures;
-  only = only_parts c.args.head.now c.args.body.now c.cut.result c.cut.ensures;
-  each = each_fault c.args.head.now c.args.body.now c.cut.result c.cut.ensures;
-  exact = c.cut.ensures;
-}
+returns c =
+    let head = c.args.head.now
+    in let body = c.args.body.now
+    in record {
+      reads = told_is_read (IsParts head body) (IsBodyFault head body) faults.NoMemory c.cut.result (parts_of head body) (c.a_body_has_one_reading.ensures.told head body) c.cut.ensures;
+      exact = c.cut.ensures;
+    }
