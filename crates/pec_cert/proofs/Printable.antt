@@ -9,10 +9,10 @@ use Rattle.pec_types.specs.Address.{is_atom_byte, AllAtomBytes, IsAtom, ends_wel
 use Rattle.pec_types.specs.Text.{is_unprintable, AllPrintable}
 use Rattle.pec_cert.proofs.Texts.{all_printable, printable_all}
 
-abbrev Printable : List ℕ → Type 0
+abbrev pub Printable : List ℕ → Type 0
 Printable bytes = AllByRecursion (λ c. is_unprintable c ≡ false) bytes
 
-joined : (a b : List ℕ) → Printable a → Printable b → Printable (a ++ b)
+pub joined : (a b : List ℕ) → Printable a → Printable b → Printable (a ++ b)
 joined [] b first second = second
 joined (c ∷ a) b first second = (first.0, joined a b first.1 second)
 

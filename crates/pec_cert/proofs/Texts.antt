@@ -11,7 +11,7 @@ use Rattle.pec_grammar.proofs.Sequences.{seen_lawful, same_lawful, word_lawful, 
 use Rattle.pec_grammar.proofs.Alternatives.{Apart, HasByte, union_lawful, many_lawful}
 use Rattle.pec_grammar.proofs.Openings.{choice_lawful, Opens}
 use Rattle.pec_cert.specs.Markup.{escape}
-use Rattle.pec_cert.specs.Reading.{is_plain, escapes, char_at, content_at, element_at}
+use Rattle.pec_cert.specs.LinesReading.{is_plain, escapes, char_at, content_at, element_at}
 
 not_or : (x y : Bool) → not (x || y) ≡ true → (x ≡ false) × (not y ≡ true)
 not_or true y e = absurd (false≢true e)

@@ -1,6 +1,7 @@
 -- What is answered on the values of a text, or on some of them in a row.
-use Rattle.std.specs.Prelude.{◌≡◌, ℕ, List, Result, Ok, Err}
+use Rattle.std.specs.Prelude.{◌≡◌, List, Result, Ok, Err}
 use Rattle.std.specs.List.{AllByRecursion}
+use Rattle.pec_types.specs.Bytes.{Bytes}
 use Rattle.pec_cert.specs.Certificate.{Value, IsGood, IsFirstFault, CanBeWritten, lines_of}
 use Rattle.pec_cert.specs.Shown.{IsShown}
 use Rattle.pec_cert.specs.declared.certificates.CertData.{CertData}
@@ -8,11 +9,12 @@ use Rattle.pec_cert.specs.declared.lines.Lines.{Lines}
 use Rattle.pec_cert.specs.declared.faults.CertFault.{CertFault}
 use Rattle.pec_cert.specs.declared.faults.CertFault.TheVariants.{NoMemory}
 
-abbrev pub AllGood : List (List ℕ × Value) → Type 0
-AllGood vs = AllByRecursion (λ (v : List ℕ × Value). IsGood v.1) vs
+-- each of these values may stand in a certification text
+abbrev pub AllGood : List (Bytes × Value) → Type 0
+AllGood vs = AllByRecursion (λ (v : Bytes × Value). IsGood v.1) vs
 
 -- all are good, and this was made of them; or the first fault among them
-abbrev pub Checked : {X : Type 0} → List (List ℕ × Value) → (X → Type 0) → Result X CertFault → Type 0
+abbrev pub Checked : {X : Type 0} → List (Bytes × Value) → (X → Type 0) → Result X CertFault → Type 0
 Checked vs Made (Ok x) = AllGood vs × Made x
 Checked vs Made (Err NoMemory) = Unit {0}
 Checked vs Made (Err fault) = IsFirstFault vs fault

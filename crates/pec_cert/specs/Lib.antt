@@ -1,8 +1,12 @@
 pub mod Certificate
+pub mod CertificateReading
 pub mod Checking
+pub mod Clock
+pub mod HeaderDate
+pub mod HeaderDateReading
 pub mod Lines
+pub mod LinesReading
 pub mod Markup
-pub mod Reading
 pub mod Shown
 pub mod Stamp
 pub mod Zone

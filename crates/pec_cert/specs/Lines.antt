@@ -1,10 +1,11 @@
--- The lines of a certification text: RFC 6109 section 4.4 for what the elements are for, this project's profile for their order and
--- spelling. Here an address is any text, and a date any digits.
-use Rattle.std.specs.Prelude.{◌≡◌, ℕ, Bool, true, false, List, ◌++◌, IfSome, codes}
+-- The lines of a certification text (`text_of`, and `IsShape` at the end): RFC 6109 section 4.4 for what the elements
+-- are for, this project's profile for their order and spelling. Here an address is any text, and a date any digits.
+use Rattle.std.specs.Prelude.{◌≡◌, Bool, true, false, ◌++◌, IfSome, codes}
 use Rattle.std.specs.List.{flat_map, AllByRecursion}
+use Rattle.pec_types.specs.Bytes.{Bytes}
 use Rattle.pec_types.specs.Text.{AllPrintable}
+use Rattle.pec_types.specs.Words.{wish_word}
 use Rattle.pec_types.specs.declared.messages.Wish.{Wish}
-use Rattle.pec_types.specs.declared.messages.Wish.TheVariants.{Full, Brief, Concise}
 use Rattle.pec_grammar.specs.Grammar.{optional_text, AllOfSome}
 use Rattle.pec_cert.specs.Markup.{escape, closing, element}
 use Rattle.pec_cert.specs.Shown.{zone_text, day_text, time_text, HasDigits}
@@ -13,10 +14,11 @@ use Rattle.pec_cert.specs.declared.certificates.CertKind.TheVariants as kinds
 use Rattle.pec_cert.specs.declared.certificates.CertError.{CertError}
 use Rattle.pec_cert.specs.declared.certificates.CertError.TheVariants as errors
 use Rattle.pec_cert.specs.declared.lines.Addressee.{Addressee}
-use Rattle.pec_cert.specs.declared.lines.Shown.{Shown}
+use Rattle.pec_cert.specs.declared.stamps.Shown.{Shown}
 use Rattle.pec_cert.specs.declared.lines.Lines.{Lines}
 
-abbrev pub kind_word : CertKind → List ℕ
+-- the word of a kind
+abbrev pub kind_word : CertKind → Bytes
 kind_word kinds.Acceptance = codes "accettazione"
 kind_word kinds.NonAcceptance = codes "non-accettazione"
 kind_word kinds.Charge = codes "presa-in-carico"
@@ -26,45 +28,47 @@ kind_word kinds.DeliveryError = codes "errore-consegna"
 kind_word kinds.DelayNotice = codes "preavviso-errore-consegna"
 kind_word kinds.VirusDetection = codes "rilevazione-virus"
 
-abbrev pub error_word : CertError → List ℕ
+-- the word of an error
+abbrev pub error_word : CertError → Bytes
 error_word errors.Nothing = codes "nessuno"
 error_word errors.NoRecipient = codes "no-dest"
 error_word errors.NoDomain = codes "no-dominio"
 error_word errors.Virus = codes "virus"
 error_word errors.Other = codes "altro"
 
-abbrev pub class_word : Bool → List ℕ
+-- the word of a recipient's class: certified or not
+abbrev pub class_word : Bool → Bytes
 class_word true = codes "certificato"
 class_word false = codes "esterno"
 
-abbrev pub wish_word : Wish → List ℕ
-wish_word Full = codes "completa"
-wish_word Brief = codes "breve"
-wish_word Concise = codes "sintetica"
-
 -- the first three lines
-abbrev pub front_text : CertKind → CertError → List ℕ
+abbrev pub front_text : CertKind → CertError → Bytes
 front_text kind error =
-    codes "<?xml version=\"1.0\" encoding=\"UTF-8\"?>\r\n<postacert tipo=\"" ++ (kind_word kind ++ (codes "\" errore=\"" ++ (error_word error ++ codes "\">\r\n<intestazione>\r\n")))
+    codes "<?xml version=\"1.0\" encoding=\"UTF-8\"?>\r\n<postacert tipo=\"" ++ (kind_word kind
+    ++ (codes "\" errore=\"" ++ (error_word error ++ codes "\">\r\n<intestazione>\r\n")))
 
-abbrev pub addressee_opening : Bool → List ℕ
+-- the tag before a recipient's address
+abbrev pub addressee_opening : Bool → Bytes
 addressee_opening certified = codes "<destinatari tipo=\"" ++ (class_word certified ++ codes "\">")
 
-abbrev pub addressee_text : Addressee → List ℕ
+-- the line of a recipient
+abbrev pub addressee_text : Addressee → Bytes
 addressee_text r = addressee_opening r.certified ++ (flat_map escape r.address ++ closing (codes "destinatari"))
 
-abbrev pub shown_text : Shown → List ℕ
+-- the four lines of a moment
+abbrev pub shown_text : Shown → Bytes
 shown_text shown =
     codes "<data zona=\"" ++ (zone_text shown.zone ++ (codes "\">\r\n"
     ++ (codes "<giorno>" ++ (day_text shown.day ++ (codes "</giorno>\r\n"
     ++ (codes "<ora>" ++ (time_text shown.time ++ (codes "</ora>\r\n"
     ++ codes "</data>\r\n"))))))))
 
-abbrev pub wish_text : Wish → List ℕ
+-- the line of a wish
+abbrev pub wish_text : Wish → Bytes
 wish_text wish = codes "<ricevuta tipo=\"" ++ (wish_word wish ++ codes "\"/>\r\n")
 
 -- the text, line by line
-abbrev pub text_of : Lines → List ℕ
+abbrev pub text_of : Lines → Bytes
 text_of l =
     front_text l.kind l.error
     ++ (element (codes "mittente") l.sender
@@ -99,5 +103,5 @@ pub record Fits (l : Lines) : Type 0 where
   pub detail : IfSome l.detail AllPrintable
 
 -- a text has the shape of a certification text
-abbrev pub IsShape : Lines → List ℕ → Type 0
+abbrev pub IsShape : Lines → Bytes → Type 0
 IsShape l text = Fits l × (text ≡ text_of l)

@@ -1,11 +1,13 @@
 ghost use Rattle.std.specs.Prelude.{◌≡◌, ◌<◌, ◌≤ℤ◌, ℕ, ℤ, pos, ◌+ℤ◌, ◌*ℤ◌, MatchOption};
 ghost use Rattle.jiff_core.specs.DateTime.{civil_nanos};
 ghost use Rattle.jiff_core.specs.Timestamp.{nanos_of_seconds};
-ghost use Rattle.pec_cert.specs.Stamp.{IsMinutes};
+ghost use Rattle.pec_types.specs.declared.moments.TheConstants.{END_OF_TIME};
+ghost use Rattle.pec_cert.specs.Clock.{shown_of};
+ghost use Rattle.pec_cert.specs.Stamp.{Instant, IsMinutes, IsStamp};
 ghost use Rattle.pec_cert.specs.Shown.{AnswersShown, HasDigits, IsZone, IsDay, IsTime, IsShown, minutes_ahead};
+ghost use Rattle.pec_cert.specs.declared.stamps.Shown.{Shown as ShownTo};
 
-use crate::lines::{Shown, ShownDay, ShownTime, ShownZone};
-use crate::stamps::Stamp;
+use crate::stamps::{Shown, ShownDay, ShownTime, ShownZone, Stamp};
 use jiff_core::civil::{Date, DateTime, Time};
 use jiff_core::{Offset, Timestamp};
 use pec_types::Moment;
@@ -41,7 +43,8 @@ pub(crate) fn stamp_of(shown: Shown) -> Result<Stamp, Part>
 }
 
 fn minutes_of(zone: ShownZone) -> Option<i32>
-    ensures { MatchOption result (IsZone zone → ⊥) (λ minutes. IsZone zone × (minutes ≡ minutes_ahead zone) × IsMinutes minutes) }
+    ensures { MatchOption result (IsZone zone → ⊥)
+        (λ minutes. IsZone zone × (minutes ≡ minutes_ahead zone) × IsMinutes minutes) }
 {
     if zone.hours > 25 || zone.minutes > 59 {
         return None;
@@ -53,7 +56,7 @@ fn minutes_of(zone: ShownZone) -> Option<i32>
     if minutes == 0 { None } else { Some(-minutes) }
 }
 
-fn date_of(day: ShownDay) -> Option<Date>
+pub(crate) fn date_of(day: ShownDay) -> Option<Date>
     requires { (day.day < 100) × (day.month < 100) × (day.year < 10000) }
     ensures { MatchOption result (IsDay day → ⊥)
         (λ date. IsDay day × (date.year ≡ pos day.year) × (date.month ≡ day.month) × (date.day ≡ day.day)) }
@@ -76,8 +79,8 @@ fn time_of(time: ShownTime) -> Option<Time>
 }
 
 fn moment_of(seconds: i64) -> Option<Moment>
-    ensures { MatchOption result ((moment : ℕ) → moment < 4_102_444_800 → seconds ≡ pos moment → ⊥)
-        (λ moment. (moment < 4_102_444_800) × (seconds ≡ pos moment)) }
+    ensures { MatchOption result ((moment : ℕ) → moment < END_OF_TIME → seconds ≡ pos moment → ⊥)
+        (λ moment. (moment < END_OF_TIME) × (seconds ≡ pos moment)) }
 {
     if seconds < 0 {
         return None;
@@ -85,21 +88,34 @@ fn moment_of(seconds: i64) -> Option<Moment>
     Moment::new(seconds as u64)
 }
 
-/// What a text shows of a moment.
-pub(crate) fn shown_of(stamp: Stamp) -> Shown
-    ensures shown { IsShown result stamp }
-    ensures digits { HasDigits result }
-{
-    let clock = clock_of(stamp.moment, stamp.minutes);
-    let time = ShownTime {
-        hour: clock.time.hour,
-        minute: clock.time.minute,
-        second: clock.time.second,
-    };
-    let day = day_of(clock.date);
-    let zone = zone_of(stamp.minutes);
-    Shown { zone, day, time }
+impl Stamp {
+    /// What the clock shows at the moment, by the calendar of `jiff`. It takes no memory.
+    pub fn shown(self) -> Shown
+        ensures shown { IsShown result self }
+        // The same as a function of the stamp, for definitions that build on it.
+        ensures exact { result ≡ shown_of self }
+        ensures digits { HasDigits result }
+    {
+        let clock = clock_of(self.moment, self.minutes);
+        let time = ShownTime {
+            hour: clock.time.hour,
+            minute: clock.time.minute,
+            second: clock.time.second,
+        };
+        let day = day_of(clock.date);
+        let zone = zone_of(self.minutes);
+        Shown { zone, day, time }
+    }
 }
+
+/// The law of clocks: before the year 2100 each moment is shown in each zone, and in one way.
+pub fn a_moment_is_shown_in_one_way()
+    ensures shown { (stamp : Instant) → IsStamp stamp → IsShown (shown_of stamp) stamp }
+    ensures only { (shown : ShownTo) (stamp : Instant) → IsShown shown stamp → shown ≡ shown_of stamp }
+    ensures one { (shown : ShownTo) (stamp other : Instant) → IsShown shown stamp → IsShown shown other
+        → stamp ≡ other }
+    ensures digits { (shown : ShownTo) (stamp : Instant) → IsShown shown stamp → HasDigits shown }
+{}
 
 fn zone_of(minutes: i32) -> ShownZone
     requires { IsMinutes minutes }
@@ -132,7 +148,7 @@ fn clock_of(moment: Moment, minutes: i32) -> DateTime
     requires { IsMinutes minutes }
     ensures clock { civil_nanos result ≡ pos moment *ℤ pos 1_000_000_000 +ℤ nanos_of_seconds (minutes *ℤ pos 60) }
     ensures year { pos 0 ≤ℤ result.date.year }
-    ensures moment { moment < 4_102_444_800 }
+    ensures moment { moment < END_OF_TIME }
 {
     let Ok(instant) = Timestamp::from_nanosecond(moment.seconds() as i128 * 1_000_000_000) else {
         unreachable!()

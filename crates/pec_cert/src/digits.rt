@@ -1,13 +1,13 @@
 ghost use Rattle.std.specs.Prelude.{◌≡◌, ◌<◌, IfOk};
 ghost use Rattle.pec_grammar.specs.Grammar.{byte_at};
 ghost use Rattle.pec_grammar.specs.Reading.{standing, Gives};
-ghost use Rattle.pec_cert.specs.Reading.{digit_at, two_at, four_at, zone_at, day_at, time_at, shown_at};
+ghost use Rattle.pec_cert.specs.LinesReading.{digit_at, two_at, four_at, zone_at, day_at, time_at, shown_at};
 
-use crate::lines::{Shown, ShownDay, ShownTime, ShownZone};
+use crate::stamps::{Shown, ShownDay, ShownTime, ShownZone};
 use pec_grammar::{Cursor, Stop, one_of, word};
 
 /// Reads what a text shows of a moment.
-#[tactic(auto, unfolding(crate::specs::Reading::shown_at))]
+#[tactic(auto, unfolding(crate::specs::LinesReading::shown_at))]
 pub(crate) fn shown(at: Cursor<'_>) -> Result<(Shown, Cursor<'_>), Stop<'_>>
     ensures { Gives (λ x. (x.0, standing x.1)) result (shown_at (standing at.entry)) }
 {
@@ -21,8 +21,8 @@ pub(crate) fn shown(at: Cursor<'_>) -> Result<(Shown, Cursor<'_>), Stop<'_>>
     Ok((Shown { zone, day, time }, at))
 }
 
-#[tactic(auto, unfolding(crate::specs::Reading::zone_at))]
-fn zone(at: Cursor<'_>) -> Result<(ShownZone, Cursor<'_>), Stop<'_>>
+#[tactic(auto, unfolding(crate::specs::LinesReading::zone_at))]
+pub(crate) fn zone(at: Cursor<'_>) -> Result<(ShownZone, Cursor<'_>), Stop<'_>>
     ensures { Gives (λ x. (x.0, standing x.1)) result (zone_at (standing at.entry)) }
 {
     let signs: [(&[u8], bool); 2] = [(b"+", true), (b"-", false)];
@@ -37,7 +37,7 @@ fn zone(at: Cursor<'_>) -> Result<(ShownZone, Cursor<'_>), Stop<'_>>
     Ok((zone, at))
 }
 
-#[tactic(auto, unfolding(crate::specs::Reading::day_at))]
+#[tactic(auto, unfolding(crate::specs::LinesReading::day_at))]
 fn day(at: Cursor<'_>) -> Result<(ShownDay, Cursor<'_>), Stop<'_>>
     ensures { Gives (λ x. (x.0, standing x.1)) result (day_at (standing at.entry)) }
 {
@@ -49,8 +49,8 @@ fn day(at: Cursor<'_>) -> Result<(ShownDay, Cursor<'_>), Stop<'_>>
     Ok((ShownDay { day, month, year }, at))
 }
 
-#[tactic(auto, unfolding(crate::specs::Reading::time_at))]
-fn time(at: Cursor<'_>) -> Result<(ShownTime, Cursor<'_>), Stop<'_>>
+#[tactic(auto, unfolding(crate::specs::LinesReading::time_at))]
+pub(crate) fn time(at: Cursor<'_>) -> Result<(ShownTime, Cursor<'_>), Stop<'_>>
     ensures { Gives (λ x. (x.0, standing x.1)) result (time_at (standing at.entry)) }
 {
     let (hour, at) = two_digits(at)?;
@@ -66,8 +66,8 @@ fn time(at: Cursor<'_>) -> Result<(ShownTime, Cursor<'_>), Stop<'_>>
     Ok((time, at))
 }
 
-#[tactic(auto, unfolding(crate::specs::Reading::four_at))]
-fn four_digits(at: Cursor<'_>) -> Result<(u16, Cursor<'_>), Stop<'_>>
+#[tactic(auto, unfolding(crate::specs::LinesReading::four_at))]
+pub(crate) fn four_digits(at: Cursor<'_>) -> Result<(u16, Cursor<'_>), Stop<'_>>
     ensures { Gives (λ x. (x.0, standing x.1)) result (four_at (standing at.entry)) }
 {
     let (high, at) = two_digits(at)?;
@@ -75,8 +75,8 @@ fn four_digits(at: Cursor<'_>) -> Result<(u16, Cursor<'_>), Stop<'_>>
     Ok((high as u16 * 100 + low as u16, at))
 }
 
-#[tactic(auto, unfolding(crate::specs::Reading::two_at))]
-fn two_digits(at: Cursor<'_>) -> Result<(u8, Cursor<'_>), Stop<'_>>
+#[tactic(auto, unfolding(crate::specs::LinesReading::two_at))]
+pub(crate) fn two_digits(at: Cursor<'_>) -> Result<(u8, Cursor<'_>), Stop<'_>>
     ensures gives { Gives (λ x. (x.0, standing x.1)) result (two_at (standing at.entry)) }
     ensures below { IfOk result (λ x. x.0 < 100) }
 {
@@ -85,7 +85,7 @@ fn two_digits(at: Cursor<'_>) -> Result<(u8, Cursor<'_>), Stop<'_>>
     Ok((tens * 10 + ones, at))
 }
 
-#[tactic(auto, unfolding(crate::specs::Reading::digit_at, pec_grammar::specs::Grammar::byte_at))]
+#[tactic(auto, unfolding(crate::specs::LinesReading::digit_at, pec_grammar::specs::Grammar::byte_at))]
 fn digit(at: Cursor<'_>) -> Result<(u8, Cursor<'_>), Stop<'_>>
     ensures gives { Gives (λ x. (x.0, standing x.1)) result (digit_at (standing at.entry)) }
     ensures below { IfOk result (λ x. x.0 < 10) }

@@ -2,10 +2,10 @@ ghost use Rattle.std.specs.Prelude.{◌≡◌, IfOk};
 ghost use Rattle.pec_types.specs.Text.{AllPrintable};
 ghost use Rattle.pec_grammar.specs.Grammar.{byte_at, many_at, optional_at};
 ghost use Rattle.pec_grammar.specs.Reading.{standing, Gives, MayGive};
-ghost use Rattle.pec_cert.specs.Reading.{is_plain, char_at, content_at, element_at};
+ghost use Rattle.pec_cert.specs.LinesReading.{is_plain, char_at, content_at, element_at};
 
 use pec_grammar::{Cursor, ReadError, Stop, one_of, word};
-use pec_types::{Text, TextFault};
+use pec_types::{NoMemory, Text};
 use std::alloc::{AllocError, Global};
 
 /// Reads a byte that stands for itself.
@@ -24,7 +24,7 @@ fn plain(at: Cursor<'_>) -> Result<(u8, Cursor<'_>), Stop<'_>>
 }
 
 /// Reads a byte of a text: one that stands for itself, or one of the four escapes.
-#[tactic(auto, unfolding(crate::specs::Reading::char_at))]
+#[tactic(auto, unfolding(crate::specs::LinesReading::char_at))]
 fn character(at: Cursor<'_>) -> Result<(u8, Cursor<'_>), Stop<'_>>
     ensures { Gives (λ x. (x.0, standing x.1)) result (char_at (standing at.entry)) }
 {
@@ -66,15 +66,14 @@ fn printable(alloc: Global, bytes: &[u8]) -> Result<Text, AllocError>
     requires { AllPrintable bytes.now }
     ensures { IfOk result (λ text. text ≡ bytes.now) }
 {
-    match Text::new(alloc, bytes) {
+    match Text::of_printable(alloc, bytes) {
         Ok(text) => Ok(text),
-        Err(TextFault::NotPrintable(_)) => unreachable!(),
-        Err(TextFault::NoMemory) => Err(AllocError),
+        Err(NoMemory) => Err(AllocError),
     }
 }
 
 /// Reads a text and the closing tag behind it.
-#[tactic(auto, unfolding(crate::specs::Reading::content_at))]
+#[tactic(auto, unfolding(crate::specs::LinesReading::content_at))]
 pub(crate) fn content<'a>(
     alloc: Global,
     at: Cursor<'a>,
@@ -88,7 +87,7 @@ pub(crate) fn content<'a>(
 }
 
 /// Reads an element with its two tags.
-#[tactic(auto, unfolding(crate::specs::Reading::element_at))]
+#[tactic(auto, unfolding(crate::specs::LinesReading::element_at))]
 pub(crate) fn element<'a>(
     alloc: Global,
     at: Cursor<'a>,
@@ -109,7 +108,8 @@ pub(crate) fn optional_element<'a>(
     start_tag: &[u8],
     end_tag: &[u8],
 ) -> Result<(Option<Text>, Cursor<'a>), ReadError<'a>>
-    ensures { MayGive (λ x. (x.0, standing x.1)) result (optional_at (element_at start_tag.now end_tag.now) (standing at.entry)) }
+    ensures { MayGive (λ x. (x.0, standing x.1)) result (optional_at (element_at start_tag.now end_tag.now)
+        (standing at.entry)) }
 {
     match element(alloc, at, start_tag, end_tag) {
         Ok((text, after)) => Ok((Some(text), after)),

@@ -17,7 +17,8 @@ use pec_types::Text;
 use std::alloc::{AllocError, Global};
 
 pub(crate) fn sender_place(alloc: Global, lines: &Lines) -> Result<usize, AllocError>
-    ensures { IfOk result (λ place. place ≡ length (front_text lines.now.kind lines.now.error ++ opening (codes "mittente"))) }
+    ensures { IfOk result (λ place. place ≡ length (front_text lines.now.kind lines.now.error
+        ++ opening (codes "mittente"))) }
 {
     let mut front = Vec::new(alloc);
     put_front(&mut front, lines.kind, lines.error)?;
@@ -33,7 +34,8 @@ pub(crate) fn recipient_place(
     certified: bool,
 ) -> Result<usize, AllocError>
     requires { number ≤ length lines.now.recipients }
-    ensures { IfOk result (λ place. place ≡ length ((before_recipients lines.now ++ flat_map addressee_text (take number lines.now.recipients)) ++ addressee_opening certified)) }
+    ensures { IfOk result (λ place. place ≡ length ((before_recipients lines.now
+        ++ flat_map addressee_text (take number lines.now.recipients)) ++ addressee_opening certified)) }
 {
     let mut front = Vec::new(alloc);
     put_beginning(&mut front, lines.kind, lines.error, lines.sender.bytes())?;
@@ -45,7 +47,8 @@ pub(crate) fn recipient_place(
 /// The place of a part of what is shown of the moment.
 pub(crate) fn shown_place(alloc: Global, lines: &Lines, part: Part) -> Result<usize, AllocError>
     requires { HasDigits lines.now.shown }
-    ensures { IfOk result (λ place. place ≡ length (before_part (before_shown lines.now ++ codes "<data zona=\"") lines.now.shown part)) }
+    ensures { IfOk result (λ place. place ≡ length (before_part
+        (before_shown lines.now ++ codes "<data zona=\"") lines.now.shown part)) }
 {
     let mut front = Vec::new(alloc);
     put_before_shown(&mut front, lines)?;
@@ -89,7 +92,8 @@ pub(crate) fn received_place(
 ) -> Result<usize, AllocError>
     requires number { number ≤ length lines.now.received }
     requires digits { HasDigits lines.now.shown }
-    ensures { IfOk result (λ place. place ≡ length ((before_received lines.now ++ flat_map (element (codes "ricezione")) (take number lines.now.received)) ++ opening (codes "ricezione"))) }
+    ensures { IfOk result (λ place. place ≡ length ((before_received lines.now
+        ++ flat_map (element (codes "ricezione")) (take number lines.now.received)) ++ opening (codes "ricezione"))) }
 {
     let mut front = Vec::new(alloc);
     put_before_delivered(&mut front, lines)?;

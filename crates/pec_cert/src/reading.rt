@@ -1,34 +1,42 @@
-ghost use Rattle.std.specs.Prelude.{◌≡◌, ◌≢◌, ℕ, List, Ok, Err};
+ghost use Rattle.std.specs.Prelude.{◌≡◌, ◌<◌};
+ghost use Rattle.pec_types.specs.Answers.{OrNoMemory, ReadsExactly, TellsExactly};
+ghost use Rattle.pec_types.specs.Bytes.{Bytes};
 ghost use Rattle.pec_grammar.specs.Grammar.{ending};
 ghost use Rattle.pec_grammar.specs.Reading.{MayGive};
-ghost use Rattle.pec_cert.specs.Certificate.{AnswersCert, IsCert};
-ghost use Rattle.pec_cert.specs.Reading.{lines_at};
+ghost use Rattle.pec_cert.specs.Certificate.{CanBeWritten, IsCert, IsCertFault};
+ghost use Rattle.pec_cert.specs.CertificateReading.{cert_of, cert_text};
+ghost use Rattle.pec_cert.specs.LinesReading.{lines_at};
+ghost use Rattle.pec_cert.specs.Stamp.{IsStamp};
 ghost use Rattle.pec_cert.specs.declared.certificates.CertData.{CertData};
+ghost use Rattle.pec_cert.specs.declared.faults.CertFault.{CertFault as Fault};
 ghost use Rattle.pec_cert.specs.declared.faults.CertFault.TheVariants as faults;
 
 use crate::certificates::CertData;
 use crate::faults::CertFault;
 use crate::lines::Lines;
 use crate::shape::lines;
-use crate::values::cert_of;
+use crate::values::cert_from_lines;
 use pec_grammar::{Cursor, ReadError, Stop};
+use pec_types::an_address_is_told_exactly;
 use std::alloc::Global;
 
-/// What a certification text certifies.
+/// What a certification text certifies (RFC 6109, section 4.4, in the spelling of this project's profile). The faults
+/// of a text that has the shape of a certification text come by their places.
 pub fn read(alloc: Global, text: &[u8]) -> Result<CertData, CertFault>
-    // A certificate is answered where the text is its text, and a fault is the one at its exact place.
-    ensures answer { AnswersCert text.now result }
-    // What is a certification text is never refused.
-    ensures only { (cert : CertData) → IsCert cert text.now → result ≢ Err faults.NoMemory → result ≡ Ok cert }
+    ensures reads { ReadsExactly (λ cert. IsCert cert text.now) (IsCertFault text.now) faults.NoMemory result }
+    // The same answer as a function of the bytes, for definitions that build on it.
+    ensures exact { OrNoMemory faults.NoMemory result (cert_of text.now) }
 {
+    a_text_has_one_answer();
     read_text(alloc, text)
 }
 
 fn read_text(alloc: Global, text: &[u8]) -> Result<CertData, CertFault>
-    ensures { AnswersCert text.now result }
+    ensures { OrNoMemory faults.NoMemory result (cert_of text.now) }
 {
+    a_text_has_one_answer();
     match whole_text(alloc, text) {
-        Ok(lines) => cert_of(alloc, lines),
+        Ok(lines) => cert_from_lines(alloc, lines),
         Err(ReadError::Stop(stop)) => Err(CertFault::Syntax(text.len() - stop.rest.len())),
         Err(ReadError::NoMemory) => Err(CertFault::NoMemory),
     }
@@ -44,8 +52,26 @@ fn whole_text(alloc: Global, text: &[u8]) -> Result<Lines, ReadError<'_>>
     Ok(lines)
 }
 
-/// No text belongs to two certificates, and no certificate has two texts.
+/// The law of certification texts: no text belongs to two certificates, no certificate has two texts, and what is no
+/// certification text has one first fault.
 pub fn one_text()
-    ensures value { (c d : CertData) (text : List ℕ) → IsCert c text → IsCert d text → c ≡ d }
-    ensures text { (c : CertData) (s t : List ℕ) → IsCert c s → IsCert c t → s ≡ t }
+    ensures value { (c d : CertData) (text : Bytes) → IsCert c text → IsCert d text → c ≡ d }
+    ensures text { (c : CertData) (s t : Bytes) → IsCert c s → IsCert c t → s ≡ t }
+    ensures fault { (text : Bytes) (f g : Fault) → IsCertFault text f → IsCertFault text g → f ≡ g }
+    ensures either { (c : CertData) (text : Bytes) (f : Fault) → IsCert c text → IsCertFault text f → ⊥ }
+{}
+
+/// The function that tells the certificate of a text, or the text's fault, is one with the relations: definitions above
+/// may take either.
+pub fn a_text_has_one_answer()
+    ensures { (text : Bytes) → TellsExactly (λ cert. IsCert cert text) (IsCertFault text) (cert_of text) }
+{
+    an_address_is_told_exactly();
+}
+
+/// The same of the function that gives the text of a certificate: each certificate that can be written, of a moment
+/// before the year 2100, has this text, and no other.
+pub fn a_certificate_has_one_text()
+    ensures text { (cert : CertData) → CanBeWritten cert → IsStamp cert.stamp → IsCert cert (cert_text cert) }
+    ensures only { (cert : CertData) (text : Bytes) → IsCert cert text → text ≡ cert_text cert }
 {}

@@ -1,7 +1,7 @@
 ghost use Rattle.std.specs.Prelude.{◌≡◌};
 ghost use Rattle.pec_grammar.specs.Grammar.{choice_at, many_at, several_at, optional_at};
 ghost use Rattle.pec_grammar.specs.Reading.{standing, Gives, MayGive};
-ghost use Rattle.pec_cert.specs.Reading.{kind_table, error_table, class_table, wish_table, front_at, addressee_at, wish_at, received_at, lines_at};
+ghost use Rattle.pec_cert.specs.LinesReading.{kind_table, error_table, class_table, wish_table, front_at, addressee_at, wish_at, received_at, lines_at};
 
 use crate::certificates::{CertError, CertKind};
 use crate::digits::shown;
@@ -12,7 +12,7 @@ use pec_types::{Items, Text, Wish};
 use std::alloc::Global;
 
 /// Reads the lines of a certification text, where an address is any text and a date any digits.
-#[tactic(auto, unfolding(crate::specs::Reading::lines_at))]
+#[tactic(auto, unfolding(crate::specs::LinesReading::lines_at))]
 pub(crate) fn lines(alloc: Global, at: Cursor<'_>) -> Result<(Lines, Cursor<'_>), ReadError<'_>>
     ensures { MayGive (λ x. (x.0, standing x.1)) result (lines_at (standing at.entry)) }
 {
@@ -56,7 +56,7 @@ pub(crate) fn lines(alloc: Global, at: Cursor<'_>) -> Result<(Lines, Cursor<'_>)
 }
 
 /// Reads the first three lines.
-#[tactic(auto, unfolding(crate::specs::Reading::front_at))]
+#[tactic(auto, unfolding(crate::specs::LinesReading::front_at))]
 fn front(at: Cursor<'_>) -> Result<((CertKind, CertError), Cursor<'_>), Stop<'_>>
     ensures { Gives (λ x. (x.0, standing x.1)) result (front_at (standing at.entry)) }
 {
@@ -124,7 +124,7 @@ fn addressees(
     }
 }
 
-#[tactic(auto, unfolding(crate::specs::Reading::addressee_at))]
+#[tactic(auto, unfolding(crate::specs::LinesReading::addressee_at))]
 fn addressee(alloc: Global, at: Cursor<'_>) -> Result<(Addressee, Cursor<'_>), ReadError<'_>>
     ensures { MayGive (λ x. (x.0, standing x.1)) result (addressee_at (standing at.entry)) }
 {
@@ -143,7 +143,7 @@ fn class(at: Cursor<'_>) -> Result<(bool, Cursor<'_>), Stop<'_>>
     Ok((certified, at))
 }
 
-#[tactic(auto, unfolding(crate::specs::Reading::wish_at))]
+#[tactic(auto, unfolding(crate::specs::LinesReading::wish_at))]
 fn wish(at: Cursor<'_>) -> Result<(Wish, Cursor<'_>), Stop<'_>>
     ensures { Gives (λ x. (x.0, standing x.1)) result (wish_at (standing at.entry)) }
 {
@@ -191,7 +191,7 @@ fn all_received(alloc: Global, at: Cursor<'_>) -> Result<(Items<Text>, Cursor<'_
     }
 }
 
-#[tactic(auto, unfolding(crate::specs::Reading::received_at))]
+#[tactic(auto, unfolding(crate::specs::LinesReading::received_at))]
 fn received(alloc: Global, at: Cursor<'_>) -> Result<(Text, Cursor<'_>), ReadError<'_>>
     ensures { MayGive (λ x. (x.0, standing x.1)) result (received_at (standing at.entry)) }
 {

@@ -14,11 +14,11 @@ use crate::faults::CertFault;
 use crate::lines::Lines;
 use crate::places::{delivered_place, received_place, recipient_place, sender_place, shown_place};
 use crate::stamps::Stamp;
-use pec_types::{Address, AddressFault, Items};
-use std::alloc::{AllocError, Global};
+use pec_types::{Address, Items, NoMemory, an_address_is_told_exactly};
+use std::alloc::Global;
 
 /// What the lines say, or the fault of the first value in them that is wrong.
-pub(crate) fn cert_of(alloc: Global, lines: Lines) -> Result<CertData, CertFault>
+pub(crate) fn cert_from_lines(alloc: Global, lines: Lines) -> Result<CertData, CertFault>
     requires { Fits lines }
     ensures { Checked (values lines) (λ cert. Says lines cert) result }
 {
@@ -46,7 +46,8 @@ pub(crate) fn cert_of(alloc: Global, lines: Lines) -> Result<CertData, CertFault
 }
 
 fn sender_of(alloc: Global, lines: &Lines) -> Result<Address, CertFault>
-    ensures { Checked ((front_text lines.now.kind lines.now.error ++ opening (codes "mittente"), address lines.now.sender) ∷ []) (λ sender. sender ≡ lines.now.sender) result }
+    ensures { Checked ((front_text lines.now.kind lines.now.error ++ opening (codes "mittente"), address lines.now.sender)
+        ∷ []) (λ sender. sender ≡ lines.now.sender) result }
 {
     match lower_address(alloc, lines.sender.bytes())? {
         Some(sender) => Ok(sender),
@@ -55,7 +56,8 @@ fn sender_of(alloc: Global, lines: &Lines) -> Result<Address, CertFault>
 }
 
 fn recipients_of(alloc: Global, lines: &Lines) -> Result<Items<CertRecipient>, CertFault>
-    ensures { Checked (addressees_from (before_recipients lines.now) lines.now.recipients) (λ recipients. map addressee recipients ≡ lines.now.recipients) result }
+    ensures { Checked (addressees_from (before_recipients lines.now) lines.now.recipients)
+        (λ recipients. map addressee recipients ≡ lines.now.recipients) result }
 {
     let mut all = Vec::new(alloc);
     for (i, r) in lines.recipients.as_slice().iter().enumerate() {
@@ -72,7 +74,8 @@ fn recipients_of(alloc: Global, lines: &Lines) -> Result<Items<CertRecipient>, C
 
 fn stamp_in(alloc: Global, lines: &Lines) -> Result<Stamp, CertFault>
     requires { HasDigits lines.now.shown }
-    ensures { Checked ((before_shown lines.now ++ codes "<data zona=\"", clock lines.now.shown) ∷ []) (λ stamp. IsShown lines.now.shown stamp) result }
+    ensures { Checked ((before_shown lines.now ++ codes "<data zona=\"", clock lines.now.shown)
+        ∷ []) (λ stamp. IsShown lines.now.shown stamp) result }
 {
     match stamp_of(lines.shown) {
         Ok(stamp) => Ok(stamp),
@@ -82,7 +85,8 @@ fn stamp_in(alloc: Global, lines: &Lines) -> Result<Stamp, CertFault>
 
 fn delivered_of(alloc: Global, lines: &Lines) -> Result<Option<Address>, CertFault>
     requires { HasDigits lines.now.shown }
-    ensures { Checked (delivered_from (before_delivered lines.now) lines.now.delivered) (λ delivered. delivered ≡ lines.now.delivered) result }
+    ensures { Checked (delivered_from (before_delivered lines.now) lines.now.delivered)
+        (λ delivered. delivered ≡ lines.now.delivered) result }
 {
     let Some(text) = &lines.delivered else {
         return Ok(None);
@@ -95,7 +99,8 @@ fn delivered_of(alloc: Global, lines: &Lines) -> Result<Option<Address>, CertFau
 
 fn received_of(alloc: Global, lines: &Lines) -> Result<Items<Address>, CertFault>
     requires { HasDigits lines.now.shown }
-    ensures { Checked (received_from (before_received lines.now) lines.now.received) (λ received. received ≡ lines.now.received) result }
+    ensures { Checked (received_from (before_received lines.now) lines.now.received)
+        (λ received. received ≡ lines.now.received) result }
 {
     let mut all = Vec::new(alloc);
     for (i, text) in lines.received.as_slice().iter().enumerate() {
@@ -108,17 +113,16 @@ fn received_of(alloc: Global, lines: &Lines) -> Result<Items<Address>, CertFault
 }
 
 // The address that these bytes are, if they are one in lower case.
-fn lower_address(alloc: Global, bytes: &[u8]) -> Result<Option<Address>, AllocError>
-    ensures { IfOk result (λ found. MatchOption found (IsLowerAddress bytes.now → ⊥) (λ found. (found ≡ bytes.now) × IsLowerAddress bytes.now)) }
+fn lower_address(alloc: Global, bytes: &[u8]) -> Result<Option<Address>, NoMemory>
+    ensures { IfOk result (λ found. MatchOption found (IsLowerAddress bytes.now → ⊥)
+        (λ found. (found ≡ bytes.now) × IsLowerAddress bytes.now)) }
 {
-    match Address::read(alloc, bytes) {
-        Ok(address) => {
-            if address.bytes() == bytes {
-                return Ok(Some(address));
-            }
-            Ok(None)
-        }
-        Err(AddressFault::NoMemory) => Err(AllocError),
-        Err(_) => Ok(None),
+    an_address_is_told_exactly();
+    let Some(address) = Address::find(alloc, bytes)? else {
+        return Ok(None);
+    };
+    if address.bytes() != bytes {
+        return Ok(None);
     }
+    Ok(Some(address))
 }

@@ -4,19 +4,29 @@ ghost use Rattle.pec_types.specs.Address.{IsLowerAddress};
 ghost use Rattle.pec_types.specs.Text.{AllPrintable};
 ghost use Rattle.pec_grammar.specs.Grammar.{optional_text};
 ghost use Rattle.pec_cert.specs.Certificate.{addressee, IsCert};
+ghost use Rattle.pec_cert.specs.CertificateReading.{cert_text};
 ghost use Rattle.pec_cert.specs.declared.certificates.CertRecipient.{CertRecipient};
-ghost use Rattle.pec_cert.specs.Lines.{kind_word, error_word, class_word, wish_word, front_text, addressee_opening, addressee_text, shown_text, wish_text};
+ghost use Rattle.pec_cert.specs.Lines.{kind_word, error_word, class_word, front_text, addressee_opening, addressee_text, shown_text, wish_text};
 ghost use Rattle.pec_cert.specs.Markup.{escape, two_digits, four_digits, opening, closing, element};
 ghost use Rattle.pec_cert.specs.Shown.{sign_word, zone_text, day_text, time_text, HasDigits};
 
 use crate::certificates::{CertData, CertError, CertKind, CertRecipient};
-use crate::dates::shown_of;
-use crate::lines::{Shown, ShownDay, ShownTime, ShownZone};
+use crate::stamps::{Shown, ShownDay, ShownTime, ShownZone};
 use pec_types::{Address, NoMemory, Text, Wish};
 use std::alloc::{AllocError, Global};
 
 /// The text of a certificate that has a recipient.
 pub fn write(alloc: Global, cert: &CertData) -> Result<Vec<u8>, NoMemory>
+    requires { 0 < length cert.now.recipients }
+    ensures text { IfOk result (λ text. IsCert cert.now text.items) }
+    // The same as a function of the certificate, for definitions that build on it.
+    ensures exact { IfOk result (λ text. text.items ≡ cert_text cert.now) }
+{
+    let text = write_text(alloc, cert)?;
+    Ok(text)
+}
+
+fn write_text(alloc: Global, cert: &CertData) -> Result<Vec<u8>, AllocError>
     requires { 0 < length cert.now.recipients }
     ensures { IfOk result (λ text. IsCert cert.now text.items) }
 {
@@ -24,7 +34,7 @@ pub fn write(alloc: Global, cert: &CertData) -> Result<Vec<u8>, NoMemory>
     put_beginning(&mut out, cert.kind, cert.error, cert.sender.bytes())?;
     put_recipients(&mut out, cert.recipients.as_slice())?;
     put_middle(&mut out, &cert.reply, &cert.subject, &cert.provider)?;
-    put_shown(&mut out, shown_of(cert.stamp))?;
+    put_shown(&mut out, cert.stamp.shown())?;
     put_names(&mut out, &cert.id, &cert.reference, cert.wish)?;
     put_delivered(&mut out, &cert.delivered)?;
     put_received(&mut out, cert.received.as_slice())?;
@@ -45,7 +55,8 @@ pub(crate) fn put_beginning(
     error: CertError,
     sender: &[u8],
 ) -> Result<(), AllocError>
-    ensures { OnOk result (out.new.items ≡ out.old.items ++ (front_text kind error ++ element (codes "mittente") sender.now)) }
+    ensures { OnOk result (out.new.items ≡ out.old.items ++ (front_text kind error
+        ++ element (codes "mittente") sender.now)) }
 {
     put_front(out, kind, error)?;
     put_element(out, b"<mittente>", sender, b"</mittente>\r\n")?;
@@ -96,7 +107,8 @@ fn word_of_error(error: CertError) -> &'static [u8]
 }
 
 fn put_recipients(out: &mut Vec<u8>, recipients: &[CertRecipient]) -> Result<(), AllocError>
-    ensures lines { OnOk result (out.new.items ≡ out.old.items ++ flat_map addressee_text (map addressee recipients.now)) }
+    ensures lines { OnOk result (out.new.items ≡ out.old.items
+        ++ flat_map addressee_text (map addressee recipients.now)) }
     ensures lower { OnOk result (AllByRecursion (λ (r : CertRecipient). IsLowerAddress r.address) recipients.now) }
 {
     for r in recipients {
@@ -111,7 +123,8 @@ pub(crate) fn put_addressee(
     certified: bool,
     address: &[u8],
 ) -> Result<(), AllocError>
-    ensures { OnOk result (out.new.items ≡ out.old.items ++ (addressee_opening certified ++ (flat_map escape address.now ++ closing (codes "destinatari")))) }
+    ensures { OnOk result (out.new.items ≡ out.old.items ++ (addressee_opening certified
+        ++ (flat_map escape address.now ++ closing (codes "destinatari")))) }
 {
     put_addressee_opening(out, certified)?;
     put_text(out, address)?;
@@ -146,8 +159,10 @@ pub(crate) fn put_middle(
     provider: &Text,
 ) -> Result<(), AllocError>
     ensures lines { OnOk result (out.new.items ≡ out.old.items
-        ++ (element (codes "risposte") reply.now ++ (optional_text (element (codes "oggetto")) subject.now ++ (codes "</intestazione>\r\n<dati>\r\n" ++ element (codes "gestore-emittente") provider.now)))) }
-    ensures printable { OnOk result (AllPrintable reply.now × IfSome subject.now AllPrintable × AllPrintable provider.now) }
+        ++ (element (codes "risposte") reply.now ++ (optional_text (element (codes "oggetto")) subject.now
+        ++ (codes "</intestazione>\r\n<dati>\r\n" ++ element (codes "gestore-emittente") provider.now)))) }
+    ensures printable { OnOk result (AllPrintable reply.now × IfSome subject.now AllPrintable
+        × AllPrintable provider.now) }
 {
     put_element(out, b"<risposte>", reply.bytes(), b"</risposte>\r\n")?;
     put_optional(out, b"<oggetto>", subject, b"</oggetto>\r\n")?;
@@ -194,12 +209,11 @@ pub(crate) fn put_day(out: &mut Vec<u8>, day: ShownDay) -> Result<(), AllocError
     out.push(b'/')?;
     put_two_digits(out, day.month)?;
     out.push(b'/')?;
-    put_two_digits(out, (day.year / 100) as u8)?;
-    put_two_digits(out, (day.year % 100) as u8)?;
+    put_four_digits(out, day.year)?;
     Ok(())
 }
 
-fn put_time(out: &mut Vec<u8>, time: ShownTime) -> Result<(), AllocError>
+pub(crate) fn put_time(out: &mut Vec<u8>, time: ShownTime) -> Result<(), AllocError>
     requires { (time.hour < 100) × (time.minute < 100) × (time.second < 100) }
     ensures { OnOk result (out.new.items ≡ out.old.items ++ time_text time) }
 {
@@ -211,7 +225,16 @@ fn put_time(out: &mut Vec<u8>, time: ShownTime) -> Result<(), AllocError>
     Ok(())
 }
 
-fn put_two_digits(out: &mut Vec<u8>, number: u8) -> Result<(), AllocError>
+pub(crate) fn put_four_digits(out: &mut Vec<u8>, number: u16) -> Result<(), AllocError>
+    requires { number < 10000 }
+    ensures { OnOk result (out.new.items ≡ out.old.items ++ four_digits number) }
+{
+    put_two_digits(out, (number / 100) as u8)?;
+    put_two_digits(out, (number % 100) as u8)?;
+    Ok(())
+}
+
+pub(crate) fn put_two_digits(out: &mut Vec<u8>, number: u8) -> Result<(), AllocError>
     requires { number < 100 }
     ensures { OnOk result (out.new.items ≡ out.old.items ++ two_digits number) }
 {
@@ -228,7 +251,8 @@ pub(crate) fn put_names(
     wish: Option<Wish>,
 ) -> Result<(), AllocError>
     ensures lines { OnOk result (out.new.items ≡ out.old.items
-        ++ (element (codes "identificativo") id.now ++ (optional_text (element (codes "msgid")) reference.now ++ optional_text wish_text wish))) }
+        ++ (element (codes "identificativo") id.now ++ (optional_text (element (codes "msgid")) reference.now
+        ++ optional_text wish_text wish))) }
     ensures printable { OnOk result (AllPrintable id.now × IfSome reference.now AllPrintable) }
 {
     put_element(
@@ -249,23 +273,14 @@ fn put_wish(out: &mut Vec<u8>, wish: Option<Wish>) -> Result<(), AllocError>
         return Ok(());
     };
     out.extend_from_slice(b"<ricevuta tipo=\"")?;
-    out.extend_from_slice(word_of_wish(wish))?;
+    out.extend_from_slice(wish.word())?;
     out.extend_from_slice(b"\"/>\r\n")?;
     Ok(())
 }
 
-fn word_of_wish(wish: Wish) -> &'static [u8]
-    ensures { result.now ≡ wish_word wish }
-{
-    match wish {
-        Wish::Full => b"completa",
-        Wish::Brief => b"breve",
-        Wish::Concise => b"sintetica",
-    }
-}
-
 fn put_delivered(out: &mut Vec<u8>, delivered: &Option<Address>) -> Result<(), AllocError>
-    ensures line { OnOk result (out.new.items ≡ out.old.items ++ optional_text (element (codes "consegna")) delivered.now) }
+    ensures line { OnOk result (out.new.items ≡ out.old.items
+        ++ optional_text (element (codes "consegna")) delivered.now) }
     ensures lower { OnOk result (IfSome delivered.now IsLowerAddress) }
 {
     let Some(address) = delivered else {
@@ -292,7 +307,8 @@ pub(crate) fn put_optional(
     text: &Option<Text>,
     end_tag: &[u8],
 ) -> Result<(), AllocError>
-    ensures line { OnOk result (out.new.items ≡ out.old.items ++ optional_text (λ bytes. start_tag.now ++ (flat_map escape bytes ++ end_tag.now)) text.now) }
+    ensures line { OnOk result (out.new.items ≡ out.old.items ++ optional_text (λ bytes. start_tag.now
+        ++ (flat_map escape bytes ++ end_tag.now)) text.now) }
     ensures printable { OnOk result (IfSome text.now AllPrintable) }
 {
     let Some(text) = text else {
@@ -309,7 +325,8 @@ pub(crate) fn put_element(
     text: &[u8],
     end_tag: &[u8],
 ) -> Result<(), AllocError>
-    ensures { OnOk result (out.new.items ≡ out.old.items ++ (start_tag.now ++ (flat_map escape text.now ++ end_tag.now))) }
+    ensures { OnOk result (out.new.items ≡ out.old.items ++ (start_tag.now ++ (flat_map escape text.now
+        ++ end_tag.now))) }
 {
     out.extend_from_slice(start_tag)?;
     put_text(out, text)?;

@@ -1,6 +1,9 @@
-ghost use Rattle.std.specs.Prelude.{◌≡◌, ◌↔◌, pos, int_div, IfOk, IsErr, IsNone};
+ghost use Rattle.std.specs.Prelude.{◌≡◌, ◌↔◌, ◌<◌, ℕ, pos, int_div, IfOk, IsErr, IsNone};
 ghost use Rattle.jiff_tz.specs.PosixReader.{read_whole};
-ghost use Rattle.pec_cert.specs.Stamp.{IsMinutes};
+ghost use Rattle.jiff_tz.specs.declared.posix.TimeZone.{TimeZone};
+ghost use Rattle.pec_types.specs.Bytes.{Bytes};
+ghost use Rattle.pec_types.specs.declared.moments.TheConstants.{END_OF_TIME};
+ghost use Rattle.pec_cert.specs.Stamp.{IsMinutes, IsStamp};
 ghost use Rattle.pec_cert.specs.Zone.{IsRule, stamp_of};
 
 use crate::stamps::Stamp;
@@ -32,7 +35,8 @@ impl Model for Zone {
 }
 
 impl Zone {
-    /// The zone of a rule, which is read once. `BadRule` comes exactly where `jiff` refuses the rule. It takes no memory.
+    /// The zone of a rule, which is read once. `BadRule` comes exactly where `jiff` refuses the rule. It takes no
+    /// memory.
     pub fn read(rule: &Text) -> Result<Zone, ZoneFault>
         ensures rule { IfOk result (λ zone. IsRule rule.now zone) }
         ensures refused { IsErr result ↔ IsNone (read_whole rule.now) }
@@ -43,7 +47,8 @@ impl Zone {
         }
     }
 
-    /// The moment with the whole minutes, towards zero, that a clock of this zone is ahead of UTC then. It takes no memory.
+    /// The moment with the whole minutes, towards zero, that a clock of this zone is ahead of UTC then. It takes no
+    /// memory.
     #[tactic(auto, unfolding(crate::specs::Zone::stamp_of))]
     pub fn stamp(&self, moment: Moment) -> Stamp
         ensures { result ≡ stamp_of self.now moment }
@@ -56,6 +61,14 @@ impl Zone {
         Stamp { moment, minutes }
     }
 }
+
+/// The law of zones: two zones that a rule reads as give the same stamp at every moment, so that a rule's text alone
+/// says what is shown; and each zone gives one at every moment.
+pub fn a_rule_has_one_clock()
+    ensures one { (text : Bytes) (rule other : TimeZone) → IsRule text rule → IsRule text other → (moment : ℕ)
+        → stamp_of rule moment ≡ stamp_of other moment }
+    ensures stamp { (rule : TimeZone) (moment : ℕ) → moment < END_OF_TIME → IsStamp (stamp_of rule moment) }
+{}
 
 // The whole minutes of an offset, towards zero.
 fn whole_minutes(offset: Offset) -> i32

@@ -3,62 +3,194 @@ use pec_types::{Moment, Text};
 use std::alloc::{AllocError, Global};
 use std::test::Fail;
 
-const ENVELOPE: &str =
-    "<?xml version=\"1.0\" encoding=\"UTF-8\"?>\r\n<postacert tipo=\"posta-certificata\" errore=\"nessuno\">\r\n<intestazione>\r\n<mittente>alice@alfa.example</mittente>\r\n<destinatari tipo=\"certificato\">anna@alfa.example</destinatari>\r\n<risposte>alice@alfa.example</risposte>\r\n<oggetto>Ciao</oggetto>\r\n</intestazione>\r\n<dati>\r\n<gestore-emittente>alfa</gestore-emittente>\r\n<data zona=\"+0100\">\r\n<giorno>02/01/2024</giorno>\r\n<ora>10:00:00</ora>\r\n</data>\r\n<identificativo>pec.0000000@alfa.example</identificativo>\r\n<ricevuta tipo=\"completa\"/>\r\n</dati>\r\n</postacert>\r\n";
+const ENVELOPE: &str = "<?xml version=\"1.0\" encoding=\"UTF-8\"?>\r\n\
+    <postacert tipo=\"posta-certificata\" errore=\"nessuno\">\r\n\
+    <intestazione>\r\n\
+    <mittente>alice@alfa.example</mittente>\r\n\
+    <destinatari tipo=\"certificato\">anna@alfa.example</destinatari>\r\n\
+    <risposte>alice@alfa.example</risposte>\r\n\
+    <oggetto>Ciao</oggetto>\r\n\
+    </intestazione>\r\n\
+    <dati>\r\n\
+    <gestore-emittente>alfa</gestore-emittente>\r\n\
+    <data zona=\"+0100\">\r\n\
+    <giorno>02/01/2024</giorno>\r\n\
+    <ora>10:00:00</ora>\r\n\
+    </data>\r\n\
+    <identificativo>pec.0000000@alfa.example</identificativo>\r\n\
+    <ricevuta tipo=\"completa\"/>\r\n\
+    </dati>\r\n\
+    </postacert>\r\n";
 
 // Every element that may be absent is there, and what is repeated stands twice.
-const FULL: &str =
-    "<?xml version=\"1.0\" encoding=\"UTF-8\"?>\r\n<postacert tipo=\"preavviso-errore-consegna\" errore=\"altro\">\r\n<intestazione>\r\n<mittente>a&amp;b@alfa.example</mittente>\r\n<destinatari tipo=\"esterno\">x@posta.example</destinatari>\r\n<destinatari tipo=\"certificato\">bob@beta.example</destinatari>\r\n<risposte>&lt;&amp;&gt;&quot;</risposte>\r\n<oggetto></oggetto>\r\n</intestazione>\r\n<dati>\r\n<gestore-emittente>beta</gestore-emittente>\r\n<data zona=\"-2559\">\r\n<giorno>31/12/1969</giorno>\r\n<ora>00:00:59</ora>\r\n</data>\r\n<identificativo>i</identificativo>\r\n<msgid>&lt;m&gt;</msgid>\r\n<ricevuta tipo=\"breve\"/>\r\n<consegna>bob@beta.example</consegna>\r\n<ricezione>bob@beta.example</ricezione>\r\n<ricezione>carl@beta.example</ricezione>\r\n<errore-esteso>24 ore</errore-esteso>\r\n</dati>\r\n</postacert>\r\n";
+const FULL: &str = "<?xml version=\"1.0\" encoding=\"UTF-8\"?>\r\n\
+    <postacert tipo=\"preavviso-errore-consegna\" errore=\"altro\">\r\n\
+    <intestazione>\r\n\
+    <mittente>a&amp;b@alfa.example</mittente>\r\n\
+    <destinatari tipo=\"esterno\">x@posta.example</destinatari>\r\n\
+    <destinatari tipo=\"certificato\">bob@beta.example</destinatari>\r\n\
+    <risposte>&lt;&amp;&gt;&quot;</risposte>\r\n\
+    <oggetto></oggetto>\r\n\
+    </intestazione>\r\n\
+    <dati>\r\n\
+    <gestore-emittente>beta</gestore-emittente>\r\n\
+    <data zona=\"-2559\">\r\n\
+    <giorno>31/12/1969</giorno>\r\n\
+    <ora>00:00:59</ora>\r\n\
+    </data>\r\n\
+    <identificativo>i</identificativo>\r\n\
+    <msgid>&lt;m&gt;</msgid>\r\n\
+    <ricevuta tipo=\"breve\"/>\r\n\
+    <consegna>bob@beta.example</consegna>\r\n\
+    <ricezione>bob@beta.example</ricezione>\r\n\
+    <ricezione>carl@beta.example</ricezione>\r\n\
+    <errore-esteso>24 ore</errore-esteso>\r\n\
+    </dati>\r\n\
+    </postacert>\r\n";
 
 // None of them is there.
-const BARE: &str =
-    "<?xml version=\"1.0\" encoding=\"UTF-8\"?>\r\n<postacert tipo=\"presa-in-carico\" errore=\"no-dominio\">\r\n<intestazione>\r\n<mittente>a@b</mittente>\r\n<destinatari tipo=\"certificato\">c@d</destinatari>\r\n<risposte></risposte>\r\n</intestazione>\r\n<dati>\r\n<gestore-emittente></gestore-emittente>\r\n<data zona=\"+0000\">\r\n<giorno>01/01/1970</giorno>\r\n<ora>00:00:00</ora>\r\n</data>\r\n<identificativo></identificativo>\r\n</dati>\r\n</postacert>\r\n";
+const BARE: &str = "<?xml version=\"1.0\" encoding=\"UTF-8\"?>\r\n\
+    <postacert tipo=\"presa-in-carico\" errore=\"no-dominio\">\r\n\
+    <intestazione>\r\n\
+    <mittente>a@b</mittente>\r\n\
+    <destinatari tipo=\"certificato\">c@d</destinatari>\r\n\
+    <risposte></risposte>\r\n\
+    </intestazione>\r\n\
+    <dati>\r\n\
+    <gestore-emittente></gestore-emittente>\r\n\
+    <data zona=\"+0000\">\r\n\
+    <giorno>01/01/1970</giorno>\r\n\
+    <ora>00:00:00</ora>\r\n\
+    </data>\r\n\
+    <identificativo></identificativo>\r\n\
+    </dati>\r\n\
+    </postacert>\r\n";
 
-// Rules, seconds since 1970, and the minutes that are to be shown: at the second before and after each change, north and south of the
-// equator, at half hours, and at offsets with odd seconds.
-const STAMPS: &str = "CET-1CEST,M3.5.0,M10.5.0/3\t1704186000\t60
-CET-1CEST,M3.5.0,M10.5.0/3\t1719824400\t120
-CET-1CEST,M3.5.0,M10.5.0/3\t1711846799\t60
-CET-1CEST,M3.5.0,M10.5.0/3\t1711846800\t120
-CET-1CEST,M3.5.0,M10.5.0/3\t1729990799\t120
-CET-1CEST,M3.5.0,M10.5.0/3\t1729990800\t60
-AEST-10AEDT,M10.1.0,M4.1.0/3\t1712419199\t660
-AEST-10AEDT,M10.1.0,M4.1.0/3\t1712419200\t600
-AEST-10AEDT,M10.1.0,M4.1.0/3\t1728143999\t600
-AEST-10AEDT,M10.1.0,M4.1.0/3\t1728144000\t660
-ACST-9:30ACDT,M10.1.0,M4.1.0/3\t1712420999\t630
-ACST-9:30ACDT,M10.1.0,M4.1.0/3\t1712421000\t570
-NST3:30NDT,M3.2.0,M11.1.0\t1710048599\t-210
-NST3:30NDT,M3.2.0,M11.1.0\t1710048600\t-150
-ABC0:00:30\t0\t0
-ABC1:30:30\t0\t-90
-ABC-1:30:30\t4102444799\t90
-ABC24:59:59\t4102444799\t-1499";
+const ITALY: &str = "CET-1CEST,M3.5.0,M10.5.0/3";
+
+const SYDNEY: &str = "AEST-10AEDT,M10.1.0,M4.1.0/3";
+
+const ADELAIDE: &str = "ACST-9:30ACDT,M10.1.0,M4.1.0/3";
+
+const NEWFOUNDLAND: &str = "NST3:30NDT,M3.2.0,M11.1.0";
+
+// Rules, seconds since 1970, and the minutes that a clock there is ahead of UTC.
+const STAMPS: [(&str, u64, i32); 18] = [
+    (ITALY, 1704186000, 60), // winter
+    (ITALY, 1719824400, 120), // summer
+    (ITALY, 1711846799, 60), // the second before summer time
+    (ITALY, 1711846800, 120), // its first second
+    (ITALY, 1729990799, 120), // the second before winter time
+    (ITALY, 1729990800, 60), // its first second
+    (SYDNEY, 1712419199, 660), // south of the equator summer ends in April
+    (SYDNEY, 1712419200, 600),
+    (SYDNEY, 1728143999, 600), // and begins in October
+    (SYDNEY, 1728144000, 660),
+    (ADELAIDE, 1712420999, 630), // half hours, ahead of UTC
+    (ADELAIDE, 1712421000, 570),
+    (NEWFOUNDLAND, 1710048599, -210), // half hours, behind it
+    (NEWFOUNDLAND, 1710048600, -150),
+    ("ABC0:00:30", 0, 0), // odd seconds are cut off
+    ("ABC1:30:30", 0, -90), // towards zero: behind UTC
+    ("ABC-1:30:30", 4102444799, 90), // and ahead of it, in the last second that there is
+    ("ABC24:59:59", 4102444799, -1499),
+];
 
 #[test]
-fn stamps(rt: HostRuntime) -> Result<(), Fail> {
-    for row in STAMPS.lines() {
-        let mut fields = row.split('\t');
-        let rule = fields.next().ok_or("a rule")?;
-        let seconds = fields
-            .next()
-            .ok_or("seconds")?
-            .parse::<u64>()
-            .ok()
-            .ok_or("a number")?;
-        let minutes = fields
-            .next()
-            .ok_or("minutes")?
-            .parse::<i32>()
-            .ok()
-            .ok_or("a number")?;
-        let moment = Moment::new(seconds).ok_or("a moment")?;
-        let zone = zone_of(rt.alloc(), rule.as_bytes()).ok_or("a zone")?;
-        let stamp = zone.stamp(moment);
-        assert_eq!(rt; stamp.minutes, minutes, "{row}");
-        assert_eq!(rt; stamp.moment, moment, "{row}");
+fn a_zone_stamps_with_whole_minutes(rt: HostRuntime) -> Result<(), Fail> {
+    for (rule, seconds, minutes) in STAMPS {
+        let stamp = stamped(rt.alloc(), rule, seconds).ok_or("a stamp")?;
+        assert_eq!(rt; stamp.minutes, minutes, "{rule} at {seconds}");
+        assert_eq!(rt; stamp.moment.seconds(), seconds, "{rule} at {seconds}");
     }
     assert_eq!(rt; zone_of(rt.alloc(), b"nonsense!"), None);
+    Ok(())
+}
+
+fn stamped(alloc: Global, rule: &str, seconds: u64) -> Option<Stamp> {
+    let zone = zone_of(alloc, rule.as_bytes())?;
+    Some(zone.stamp(Moment::new(seconds)?))
+}
+
+// Rules, seconds since 1970, and the date of a head.
+const HEADER_DATES: [(&str, u64, &str); 20] = [
+    (ITALY, 1704186000, "Tue, 02 Jan 2024 10:00:00 +0100"), // winter
+    (ITALY, 1719824400, "Mon, 01 Jul 2024 11:00:00 +0200"), // summer
+    ("UTC0", 0, "Thu, 01 Jan 1970 00:00:00 +0000"), // the first second
+    ("ABC24:59", 0, "Tue, 30 Dec 1969 23:01:00 -2459"), // days before 1970
+    ("ABC-24:59", 4102444799, "Sat, 02 Jan 2100 00:58:59 +2459"), // days after 2099
+    ("UTC0", 68169600, "Tue, 29 Feb 1972 00:00:00 +0000"), // a leap day
+    ("UTC0", 951782400, "Tue, 29 Feb 2000 00:00:00 +0000"), // that of a century
+    ("UTC0", 951868800, "Wed, 01 Mar 2000 00:00:00 +0000"), // and the day after it
+    ("ABC1", 1704067200, "Sun, 31 Dec 2023 23:00:00 -0100"), // the year before UTC's
+    // The last second of each further month, three and a half hours behind UTC.
+    ("NST3:30", 1675222199, "Tue, 31 Jan 2023 23:59:59 -0330"),
+    ("NST3:30", 1677641399, "Tue, 28 Feb 2023 23:59:59 -0330"),
+    ("NST3:30", 1680319799, "Fri, 31 Mar 2023 23:59:59 -0330"),
+    ("NST3:30", 1682911799, "Sun, 30 Apr 2023 23:59:59 -0330"),
+    ("NST3:30", 1685590199, "Wed, 31 May 2023 23:59:59 -0330"),
+    ("NST3:30", 1688182199, "Fri, 30 Jun 2023 23:59:59 -0330"),
+    ("NST3:30", 1693538999, "Thu, 31 Aug 2023 23:59:59 -0330"),
+    ("NST3:30", 1696130999, "Sat, 30 Sep 2023 23:59:59 -0330"),
+    ("NST3:30", 1698809399, "Tue, 31 Oct 2023 23:59:59 -0330"),
+    ("NST3:30", 1701401399, "Thu, 30 Nov 2023 23:59:59 -0330"),
+    ("NST3:30", 1672543799, "Sat, 31 Dec 2022 23:59:59 -0330"),
+];
+
+// And the line of a text.
+const DAY_LINES: [(&str, u64, &str); 5] = [
+    (ITALY, 1704186000, "Giorno 02/01/2024 ore 10:00:00 (+0100)"), // winter
+    (ITALY, 1719824400, "Giorno 01/07/2024 ore 11:00:00 (+0200)"), // summer
+    ("UTC0", 0, "Giorno 01/01/1970 ore 00:00:00 (+0000)"), // the first second
+    ("ABC24:59", 0, "Giorno 30/12/1969 ore 23:01:00 (-2459)"), // days before 1970
+    (
+        "ABC-24:59",
+        4102444799,
+        "Giorno 02/01/2100 ore 00:58:59 (+2459)",
+    ), // days after 2099
+];
+
+#[test]
+fn a_stamp_is_printed_in_heads_and_texts(rt: HostRuntime) -> Result<(), Fail> {
+    for (rule, seconds, date) in HEADER_DATES {
+        let stamp = stamped(rt.alloc(), rule, seconds).ok_or("a stamp")?;
+        let printed = header_date(rt.alloc(), stamp)?;
+        assert_eq!(rt; printed.as_slice(), date.as_bytes(), "{date}");
+        assert_eq!(rt; read_header_date(date.as_bytes()), Some(stamp), "{date}");
+    }
+    for (rule, seconds, line) in DAY_LINES {
+        let stamp = stamped(rt.alloc(), rule, seconds).ok_or("a stamp")?;
+        let printed = day_line(rt.alloc(), stamp)?;
+        assert_eq!(rt; printed.as_slice(), line.as_bytes(), "{line}");
+    }
+    Ok(())
+}
+
+const NO_DATES: [&str; 17] = [
+    "",
+    "Mon, 02 Jan 2024 10:00:00 +0100", // a Tuesday
+    "tue, 02 Jan 2024 10:00:00 +0100", // names have one spelling
+    "Tue, 02 jan 2024 10:00:00 +0100",
+    "02 Jan 2024 10:00:00 +0100", // the weekday may not be absent
+    "Tue, 2 Jan 2024 10:00:00 +0100", // two digits
+    "Tue,02 Jan 2024 10:00:00 +0100", // one space
+    "Tue,  02 Jan 2024 10:00:00 +0100",
+    "Tue, 02 Jan 24 10:00:00 +0100", // four digits
+    "Tue, 02 Jan 2024 10:00 +0100", // seconds may not be absent
+    "Tue, 02 Jan 2024 10:00:00 GMT", // a zone is an offset
+    "Tue, 02 Jan 2024 10:00:00 -0000", // and this is none
+    "Tue, 02 Jan 2024 10:00:00 +2600",
+    "Tue, 02 Jan 2024 24:00:00 +0100",
+    "Thu, 29 Feb 2023 10:00:00 +0100", // no leap year
+    "Fri, 01 Jan 2100 01:00:00 +0100", // no moment
+    "Tue, 02 Jan 2024 10:00:00 +0100 ", // bytes behind it
+];
+
+#[test]
+fn other_spellings_are_no_dates(rt: HostRuntime) -> Result<(), Fail> {
+    for text in NO_DATES {
+        assert_eq!(rt; read_header_date(text.as_bytes()), None, "{text}");
+    }
     Ok(())
 }
 
@@ -89,7 +221,7 @@ fn edited(alloc: Global, place: usize, cut: usize, put: &[u8]) -> Result<Vec<u8>
 }
 
 #[test]
-fn what_is_read_is_written(rt: HostRuntime) -> Result<(), Fail> {
+fn what_is_read_is_written_again(rt: HostRuntime) -> Result<(), Fail> {
     assert!(rt; is_written_again(rt.alloc(), ENVELOPE));
     assert!(rt; is_written_again(rt.alloc(), FULL));
     assert!(rt; is_written_again(rt.alloc(), BARE));
@@ -101,6 +233,7 @@ fn what_is_read_is_written(rt: HostRuntime) -> Result<(), Fail> {
     assert_eq!(rt; cert.reply.bytes(), "<&>\"".as_bytes());
     assert_eq!(rt; cert.stamp.moment.seconds(), 7199);
     assert_eq!(rt; cert.stamp.minutes, -1559);
+    assert_eq!(rt; cert.stamp.shown().zone.hours, 25);
     assert_eq!(rt; cert.received.as_slice().len(), 2);
     Ok(())
 }
@@ -119,79 +252,92 @@ fn is_written_again(alloc: Global, text: &str) -> bool {
     again.as_slice() == text.as_bytes()
 }
 
-// Places in the envelope's text, how many bytes are cut out there, what is put there, and the fault's place.
-const SYNTAX: &str = "114\t1\tX\t114
-166\t1\tX\t166
-57\t1\tq\t57
-58\t1\tr\t59
-84\t1\tx\t84
-85\t1\to\t86
-267\t1\t&\t268
-267\t1\t<\t268
-267\t1\t\"\t267
-267\t1\t>\t267
-267\t1\t\x1f\t267
-267\t1\t\x7f\t267
-267\t1\t&am;\t270
-267\t1\t&apos;\t269
-260\t1\tx\t260
-218\t1\td\t219
-217\t41\t\t218
-365\t1\t \t365
-368\t1\tx\t368
-384\t1\t-\t384
-306\t1\t\t306
-497\t1\tz\t498
-517\t0\t \t517
-543\t1\t\t543
-544\t0\tx\t544
-0\t1\t\t0";
+// A byte or more of the envelope's text, by their place and number, what stands there instead, and the fault of that text.
+type Row = (usize, usize, &'static str, CertFault);
 
-const ADDRESSES: &str = "121\t1\tA\t121
-121\t18\t\t121
-126\t1\tx\t121
-185\t1\tN\t184
-184\t17\ta b@c\t184";
+const SHAPES: [Row; 26] = [
+    (0, 1, "", CertFault::Syntax(0)), // the first byte is wanting
+    (57, 1, "q", CertFault::Syntax(57)), // no kind begins so
+    (58, 1, "r", CertFault::Syntax(59)), // `pr` goes on as another kind does
+    (84, 1, "x", CertFault::Syntax(84)), // no error begins so
+    (85, 1, "o", CertFault::Syntax(86)), // `no` goes on as another error does
+    (114, 1, "X", CertFault::Syntax(114)), // tags have one spelling
+    (166, 1, "X", CertFault::Syntax(166)), // and so have their attributes
+    (217, 41, "", CertFault::Syntax(218)), // no reply address: a tag may begin here, and this one may not
+    (218, 1, "d", CertFault::Syntax(219)), // `<d` goes on as a recipient's line does
+    (260, 1, "x", CertFault::Syntax(260)), // `<o` is a subject's, and goes on as one alone
+    (267, 1, "&", CertFault::Syntax(268)), // an escape begins, and no escape goes on so
+    (267, 1, "&am;", CertFault::Syntax(270)),
+    (267, 1, "&apos;", CertFault::Syntax(269)),
+    (267, 1, "<", CertFault::Syntax(268)), // a closing tag begins
+    (267, 1, "\"", CertFault::Syntax(267)), // these stand escaped alone
+    (267, 1, ">", CertFault::Syntax(267)),
+    (267, 1, "\x1f", CertFault::Syntax(267)), // these never stand
+    (267, 1, "\x7f", CertFault::Syntax(267)),
+    (306, 1, "", CertFault::Syntax(306)), // a carriage return is wanting
+    (365, 1, " ", CertFault::Syntax(365)), // a zone has a sign
+    (368, 1, "x", CertFault::Syntax(368)), // and digits
+    (384, 1, "-", CertFault::Syntax(384)), // days are parted by slashes
+    (497, 1, "z", CertFault::Syntax(498)), // `<ricez` goes on as an address received does
+    (517, 0, " ", CertFault::Syntax(517)), // no blank before a tag's end
+    (543, 1, "", CertFault::Syntax(543)), // the last byte is wanting
+    (544, 0, "x", CertFault::Syntax(544)), // bytes behind the end
+];
 
-const DATES: &str = "382\t10\t32/01/2024\t382
-382\t10\t00/01/2024\t382
-382\t10\t01/13/2024\t382
-382\t10\t29/02/2023\t382
-382\t10\t03/01/2100\t382
-382\t10\t31/12/1969\t382
-408\t8\t24:00:00\t408
-408\t8\t10:00:60\t408
-365\t5\t+2600\t365
-365\t5\t-0000\t365
-365\t5\t+2560\t365";
+const VALUES: [Row; 16] = [
+    (121, 1, "A", CertFault::BadAddress(121)), // capitals
+    (121, 18, "", CertFault::BadAddress(121)), // nothing at all
+    (126, 1, "x", CertFault::BadAddress(121)), // no `@`
+    (185, 1, "N", CertFault::BadAddress(184)), // a recipient's, at its first byte
+    (184, 17, "a b@c", CertFault::BadAddress(184)), // a blank
+    (382, 10, "32/01/2024", CertFault::BadDate(382)),
+    (382, 10, "00/01/2024", CertFault::BadDate(382)),
+    (382, 10, "01/13/2024", CertFault::BadDate(382)),
+    (382, 10, "29/02/2023", CertFault::BadDate(382)), // no leap year
+    (382, 10, "03/01/2100", CertFault::BadDate(382)), // a day, and no moment: after 2099
+    (382, 10, "31/12/1969", CertFault::BadDate(382)), // and before 1970
+    (408, 8, "24:00:00", CertFault::BadDate(408)),
+    (408, 8, "10:00:60", CertFault::BadDate(408)),
+    (365, 5, "+2600", CertFault::BadDate(365)),
+    (365, 5, "-0000", CertFault::BadDate(365)), // no offset has one spelling
+    (365, 5, "+2560", CertFault::BadDate(365)),
+];
 
-// The fault of the text that a row says, and the place that the row says.
-fn tried(alloc: Global, row: &str) -> Option<(Option<CertFault>, usize)> {
-    let mut fields = row.split('\t');
-    let place = fields.next()?.parse::<usize>().ok()?;
-    let cut = fields.next()?.parse::<usize>().ok()?;
-    let put = fields.next()?;
-    let want = fields.next()?.parse::<usize>().ok()?;
+// The fault of the text that a row says.
+fn fault_in(alloc: Global, (place, cut, put, _): Row) -> Option<CertFault> {
     let text = edited(alloc, place, cut, put.as_bytes()).ok()?;
-    Some((fault_of(alloc, text.as_slice()), want))
+    fault_of(alloc, text.as_slice())
 }
 
 #[test]
-fn faults(rt: HostRuntime) -> Result<(), Fail> {
-    for row in SYNTAX.lines() {
-        let (fault, place) = tried(rt.alloc(), row).ok_or("a row")?;
-        assert_eq!(rt; fault, Some(CertFault::Syntax(place)), "{row}");
+fn a_text_of_another_shape_has_its_first_fault(rt: HostRuntime) -> Result<(), Fail> {
+    for row in SHAPES {
+        assert_eq!(rt;
+            fault_in(rt.alloc(), row),
+            Some(row.3),
+            "{} {} {}",
+            row.0,
+            row.1,
+            row.2
+        );
     }
-    for row in ADDRESSES.lines() {
-        let (fault, place) = tried(rt.alloc(), row).ok_or("a row")?;
-        assert_eq!(rt; fault, Some(CertFault::BadAddress(place)), "{row}");
-    }
-    for row in DATES.lines() {
-        let (fault, place) = tried(rt.alloc(), row).ok_or("a row")?;
-        assert_eq!(rt; fault, Some(CertFault::BadDate(place)), "{row}");
-    }
-    let (none, _) = tried(rt.alloc(), "365\t5\t+2500\t0").ok_or("a row")?;
-    assert_eq!(rt; none, None);
     assert_eq!(rt; fault_of(rt.alloc(), b""), Some(CertFault::Syntax(0)));
+    Ok(())
+}
+
+#[test]
+fn a_wrong_value_has_its_place(rt: HostRuntime) -> Result<(), Fail> {
+    for row in VALUES {
+        assert_eq!(rt;
+            fault_in(rt.alloc(), row),
+            Some(row.3),
+            "{} {} {}",
+            row.0,
+            row.1,
+            row.2
+        );
+    }
+    let farthest = edited(rt.alloc(), 365, 5, b"+2500")?;
+    assert_eq!(rt; fault_of(rt.alloc(), farthest.as_slice()), None);
     Ok(())
 }

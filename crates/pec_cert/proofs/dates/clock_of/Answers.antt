@@ -2,7 +2,7 @@ use Rattle.std.proofs.Common.{arith, ◌≡◌, pos, ◌*ℤ◌, ◌+ℤ◌}
 use Rattle.jiff_core.specs.DateTime.{civil_nanos}
 use Rattle.jiff_core.specs.Timestamp.{nanos_of_seconds}
 use Rattle.jiff_core.proofs.SignedLemmas.{signed_casts}
-use Rattle.pec_cert.proofs.Calendar.{year_from}
+use Rattle.pec_cert.proofs.CalendarLemmas.{year_from}
 use Rattle.pec_cert.proofs.dates.clock_of.Goals as goal
 
 pub returns-clause-clock : goal.returns-clause-clock

@@ -1,6 +1,6 @@
 use Rattle.std.proofs.Common.{arith, ◌∙◌, inr}
 use Rattle.jiff_core.proofs.SignedLemmas.{signed_arith}
-use Rattle.pec_cert.proofs.Calendar.{same_seconds, kept}
+use Rattle.pec_cert.proofs.CalendarLemmas.{same_seconds, kept}
 use Rattle.pec_cert.proofs.dates.stamp_of.Goals as goal
 
 pub returns-in_default-moment_of : goal.returns-in_default-moment_of

@@ -1,6 +1,6 @@
 use Rattle.std.proofs.Common.{refl}
 use Rattle.std.proofs.lemmas.Result.{err_from_is_err_and}
-use Rattle.pec_cert.specs.Reading.{shown_at}
+use Rattle.pec_cert.specs.LinesReading.{shown_at}
 use Rattle.pec_cert.proofs.digits.shown.Goals as goal
 
 pub returns-in_err-at-3 : goal.returns-in_err-at-3

@@ -1,6 +1,6 @@
 use Rattle.pec_grammar.specs.Reading.{standing}
 use Rattle.pec_grammar.proofs.Repeats.{goes_on, ends_here, shrinks}
-use Rattle.pec_cert.specs.Reading.{char_at}
+use Rattle.pec_cert.specs.LinesReading.{char_at}
 use Rattle.pec_cert.proofs.Texts.{character, character_lawful, character_has_byte, printable_push, read_printable}
 use Rattle.pec_cert.proofs.markup.text.Goals as goal
 

@@ -1,5 +1,5 @@
 use Rattle.pec_cert.specs.Lines.{addressee_text}
-use Rattle.pec_cert.proofs.Puts.{line_taken}
+use Rattle.pec_cert.proofs.PutLemmas.{line_taken}
 use Rattle.pec_cert.proofs.places.put_addressees.Goals as goal
 
 pub loop-r-preserved : goal.loop-r-preserved

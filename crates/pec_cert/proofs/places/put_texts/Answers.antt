@@ -1,6 +1,6 @@
 use Rattle.std.specs.Prelude.{codes}
 use Rattle.pec_cert.specs.Markup.{element}
-use Rattle.pec_cert.proofs.Puts.{line_taken}
+use Rattle.pec_cert.proofs.PutLemmas.{line_taken}
 use Rattle.pec_cert.proofs.places.put_texts.Goals as goal
 
 pub loop-address-preserved : goal.loop-address-preserved

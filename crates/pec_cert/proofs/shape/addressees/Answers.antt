@@ -1,8 +1,8 @@
 use Rattle.std.proofs.Common.{subst}
 use Rattle.pec_grammar.specs.Reading.{standing, Fails}
 use Rattle.pec_grammar.proofs.Repeats.{goes_on, ends_here, shrinks}
-use Rattle.pec_cert.specs.Reading.{addressee_at}
-use Rattle.pec_cert.proofs.Parts.{addressee, addressee_lawful, addressee_has_byte}
+use Rattle.pec_cert.specs.LinesReading.{addressee_at}
+use Rattle.pec_cert.proofs.PartLemmas.{addressee, addressee_lawful, addressee_has_byte}
 use Rattle.pec_cert.proofs.shape.addressees.Goals as goal
 
 pub returns-in-Err-Stop : goal.returns-in-Err-Stop

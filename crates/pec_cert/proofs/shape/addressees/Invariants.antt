@@ -2,7 +2,7 @@ use Rattle.std.proofs.Common.{length}
 use Rattle.pec_grammar.specs.Grammar.{several_at}
 use Rattle.pec_grammar.specs.Reading.{standing}
 use Rattle.pec_grammar.proofs.Repeats.{SoFar}
-use Rattle.pec_cert.specs.Reading.{addressee_at}
+use Rattle.pec_cert.specs.LinesReading.{addressee_at}
 use Rattle.pec_cert.proofs.shape.addressees.Given as goal
 
 abbrev pub invariant-others : goal.invariant-others

@@ -1,8 +1,8 @@
 use Rattle.std.proofs.Common.{subst}
 use Rattle.pec_grammar.specs.Reading.{standing, Fails}
 use Rattle.pec_grammar.proofs.Repeats.{goes_on, ends_here, shrinks}
-use Rattle.pec_cert.specs.Reading.{received_at}
-use Rattle.pec_cert.proofs.Parts.{received, received_lawful, received_has_byte}
+use Rattle.pec_cert.specs.LinesReading.{received_at}
+use Rattle.pec_cert.proofs.PartLemmas.{received, received_lawful, received_has_byte}
 use Rattle.pec_cert.proofs.shape.all_received.Goals as goal
 
 pub returns-in-Err-Stop : goal.returns-in-Err-Stop

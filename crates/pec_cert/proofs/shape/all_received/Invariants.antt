@@ -2,7 +2,7 @@ use Rattle.std.proofs.Common.{length}
 use Rattle.pec_grammar.specs.Grammar.{many_at}
 use Rattle.pec_grammar.specs.Reading.{standing}
 use Rattle.pec_grammar.proofs.Repeats.{SoFar}
-use Rattle.pec_cert.specs.Reading.{received_at}
+use Rattle.pec_cert.specs.LinesReading.{received_at}
 use Rattle.pec_cert.proofs.shape.all_received.Given as goal
 
 abbrev pub invariant-others : goal.invariant-others

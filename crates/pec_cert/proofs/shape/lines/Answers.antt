@@ -4,7 +4,7 @@ use Rattle.std.proofs.lemmas.Result.{err_from_is_err_and}
 use Rattle.pec_grammar.specs.Grammar.{many_at}
 use Rattle.pec_grammar.specs.Reading.{standing}
 use Rattle.pec_grammar.proofs.Loops.{fails_by, leads_on}
-use Rattle.pec_cert.specs.Reading.{element_at, received_at, lines_at}
+use Rattle.pec_cert.specs.LinesReading.{element_at, received_at, lines_at}
 use Rattle.pec_cert.proofs.shape.lines.Goals as goal
 
 pub returns-in_err-at : goal.returns-in_err-at

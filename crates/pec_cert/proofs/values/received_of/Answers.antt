@@ -2,8 +2,8 @@ use Rattle.std.proofs.Common.{◌∙◌, subst, sym, take, List, ℕ}
 use Rattle.std.specs.Prelude.{codes}
 use Rattle.pec_cert.specs.Certificate.{before_received}
 use Rattle.pec_cert.specs.Markup.{opening, element}
-use Rattle.pec_cert.proofs.Checks.{Found, wrong_at, good_at, text_is}
-use Rattle.pec_cert.proofs.Puts.{taken}
+use Rattle.pec_cert.proofs.CheckLemmas.{Found, wrong_at, good_at, text_is}
+use Rattle.pec_cert.proofs.PutLemmas.{taken}
 use Rattle.pec_cert.proofs.values.received_of.Goals as goal
 
 pub returns-in_default : goal.returns-in_default

@@ -3,8 +3,8 @@ use Rattle.pec_cert.specs.Certificate.{addressee, before_recipients}
 use Rattle.pec_cert.specs.Lines.{addressee_opening, addressee_text}
 use Rattle.pec_cert.specs.declared.lines.Addressee.{Addressee}
 use Rattle.pec_cert.specs.declared.certificates.CertRecipient.{CertRecipient}
-use Rattle.pec_cert.proofs.Checks.{Found, wrong_at, good_at, map_push, addressee_is}
-use Rattle.pec_cert.proofs.Puts.{taken}
+use Rattle.pec_cert.proofs.CheckLemmas.{Found, wrong_at, good_at, map_push, addressee_is}
+use Rattle.pec_cert.proofs.PutLemmas.{taken}
 use Rattle.pec_cert.proofs.values.recipients_of.Goals as goal
 
 pub returns-in_default : goal.returns-in_default

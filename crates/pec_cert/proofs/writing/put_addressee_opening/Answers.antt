@@ -1,7 +1,7 @@
 use Rattle.std.proofs.Common.{◌++◌}
 use Rattle.std.specs.Prelude.{codes}
 use Rattle.pec_cert.specs.Lines.{class_word}
-use Rattle.pec_cert.proofs.Puts.{put_more, put_same}
+use Rattle.pec_cert.proofs.PutLemmas.{put_more, put_same}
 use Rattle.pec_cert.proofs.writing.put_addressee_opening.Goals as goal
 
 pub returns : goal.returns

@@ -3,7 +3,7 @@ use Rattle.std.specs.Prelude.{codes}
 use Rattle.pec_grammar.specs.Grammar.{optional_text}
 use Rattle.pec_cert.specs.Markup.{element}
 use Rattle.pec_cert.specs.Lines.{wish_text}
-use Rattle.pec_cert.proofs.Puts.{put_more}
+use Rattle.pec_cert.proofs.PutLemmas.{put_more}
 use Rattle.pec_cert.proofs.writing.put_names.Goals as goal
 
 pub returns-clause-lines : goal.returns-clause-lines

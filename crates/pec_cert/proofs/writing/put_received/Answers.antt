@@ -1,7 +1,7 @@
 use Rattle.std.specs.Prelude.{codes}
 use Rattle.pec_types.specs.Address.{IsLowerAddress}
 use Rattle.pec_cert.specs.Markup.{element}
-use Rattle.pec_cert.proofs.Puts.{line_taken, all_taken}
+use Rattle.pec_cert.proofs.PutLemmas.{line_taken, all_taken}
 use Rattle.pec_cert.proofs.writing.put_received.Goals as goal
 
 pub loop-address-preserved : goal.loop-address-preserved

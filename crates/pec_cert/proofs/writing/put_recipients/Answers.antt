@@ -2,7 +2,7 @@ use Rattle.pec_types.specs.Address.{IsLowerAddress}
 use Rattle.pec_cert.specs.Certificate.{addressee}
 use Rattle.pec_cert.specs.Lines.{addressee_text}
 use Rattle.pec_cert.specs.declared.certificates.CertRecipient.{CertRecipient}
-use Rattle.pec_cert.proofs.Puts.{lines_taken, all_taken}
+use Rattle.pec_cert.proofs.PutLemmas.{lines_taken, all_taken}
 use Rattle.pec_cert.proofs.writing.put_recipients.Goals as goal
 
 pub loop-r-preserved : goal.loop-r-preserved

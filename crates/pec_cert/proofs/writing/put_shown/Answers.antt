@@ -1,7 +1,7 @@
 use Rattle.std.proofs.Common.{◌++◌}
 use Rattle.std.specs.Prelude.{codes}
 use Rattle.pec_cert.specs.Shown.{zone_text, day_text, time_text}
-use Rattle.pec_cert.proofs.Puts.{put_more}
+use Rattle.pec_cert.proofs.PutLemmas.{put_more}
 use Rattle.pec_cert.proofs.writing.put_shown.Goals as goal
 
 pub returns : goal.returns

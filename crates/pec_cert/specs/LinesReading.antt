@@ -1,121 +1,149 @@
--- How the shape of a certification text is read: its parts as grammars. That they spell the text of `Lines`, and are read exactly, are laws
--- of the crate.
+-- How the shape of a certification text is read: its parts as grammars of pec_grammar, and all of them in `lines_at`,
+-- at the end. That they spell the text of `Lines`, and are read exactly, stands in `read`'s contract.
 use Rattle.std.specs.Prelude.{ℕ, ◌+◌, ◌-◌, ◌*◌, Bool, true, false, not, ◌||◌, ◌==◌, List, [], ◌∷◌, Ok, codes}
 use Rattle.std.specs.Char.{is_ascii_digit}
+use Rattle.pec_types.specs.Bytes.{Bytes, digit_zero, quote}
 use Rattle.pec_types.specs.Text.{is_unprintable}
 use Rattle.pec_types.specs.declared.messages.Wish.{Wish}
 use Rattle.pec_types.specs.declared.messages.Wish.TheVariants.{Full, Brief, Concise}
 use Rattle.pec_grammar.specs.Grammar.{Cursor, Read, ◌>>=◌, byte_at, both_at, seen_at, word_at, led_at, ended_at, otherwise, choice_at, optional_at, many_at, several_at}
+use Rattle.pec_cert.specs.Markup.{ampersand, less_than, greater_than}
 use Rattle.pec_cert.specs.declared.certificates.CertKind.{CertKind}
 use Rattle.pec_cert.specs.declared.certificates.CertKind.TheVariants as kinds
 use Rattle.pec_cert.specs.declared.certificates.CertError.{CertError}
 use Rattle.pec_cert.specs.declared.certificates.CertError.TheVariants as errors
 use Rattle.pec_cert.specs.declared.lines.Addressee.{Addressee}
 use Rattle.pec_cert.specs.declared.lines.Lines.{Lines}
-use Rattle.pec_cert.specs.declared.lines.ShownZone.{ShownZone}
-use Rattle.pec_cert.specs.declared.lines.ShownDay.{ShownDay}
-use Rattle.pec_cert.specs.declared.lines.ShownTime.{ShownTime}
-use Rattle.pec_cert.specs.declared.lines.Shown.{Shown}
+use Rattle.pec_cert.specs.declared.stamps.ShownZone.{ShownZone}
+use Rattle.pec_cert.specs.declared.stamps.ShownDay.{ShownDay}
+use Rattle.pec_cert.specs.declared.stamps.ShownTime.{ShownTime}
+use Rattle.pec_cert.specs.declared.stamps.Shown.{Shown}
 
 -- Text.
 
 -- a byte that stands for itself
 abbrev pub is_plain : ℕ → Bool
-is_plain c = not (is_unprintable c || (c == 38 || (c == 60 || (c == 62 || c == 34))))
+is_plain c = not (is_unprintable c || (c == ampersand || (c == less_than || (c == greater_than || c == quote))))
 
-abbrev pub escapes : List (List ℕ × ℕ)
-escapes = (codes "&amp;", 38) ∷ (codes "&lt;", 60) ∷ (codes "&gt;", 62) ∷ (codes "&quot;", 34) ∷ []
+-- the four escapes, each with the byte that it stands for
+abbrev pub escapes : List (Bytes × ℕ)
+escapes =
+    (codes "&amp;", ampersand) ∷ (codes "&lt;", less_than) ∷ (codes "&gt;", greater_than) ∷ (codes "&quot;", quote) ∷ []
 
+-- a byte of a text
 unfoldable pub char_at : Cursor → Read ℕ
 char_at at = otherwise (byte_at is_plain at) at (choice_at escapes)
 
 -- text, and the closing tag behind it
-unfoldable pub content_at : List ℕ → Cursor → Read (List ℕ)
+unfoldable pub content_at : Bytes → Cursor → Read Bytes
 content_at end_tag = ended_at (many_at char_at) end_tag
 
-unfoldable pub element_at : List ℕ → List ℕ → Cursor → Read (List ℕ)
+-- an element with its two tags
+unfoldable pub element_at : Bytes → Bytes → Cursor → Read Bytes
 element_at start_tag end_tag = led_at start_tag (content_at end_tag)
 
 -- Numbers.
 
+-- a digit, as its number
 unfoldable pub digit_at : Cursor → Read ℕ
-digit_at = seen_at (λ b. b - 48) (byte_at is_ascii_digit)
+digit_at = seen_at (λ b. b - digit_zero) (byte_at is_ascii_digit)
 
+-- two digits
 unfoldable pub two_at : Cursor → Read ℕ
 two_at = seen_at (λ p. p.0 * 10 + p.1) (both_at digit_at digit_at)
 
+-- four digits
 unfoldable pub four_at : Cursor → Read ℕ
 four_at = seen_at (λ p. p.0 * 100 + p.1) (both_at two_at two_at)
 
 -- What is shown of a moment.
 
-abbrev pub signs : List (List ℕ × Bool)
+-- the two signs: whether the zone is ahead of UTC
+abbrev pub signs : List (Bytes × Bool)
 signs = (codes "+", true) ∷ (codes "-", false) ∷ []
 
 abbrev pub zone_from : Bool × (ℕ × ℕ) → ShownZone
 zone_from p = record { ahead = p.0; hours = p.1.0; minutes = p.1.1 }
 
+-- `+0100`
 unfoldable pub zone_at : Cursor → Read ShownZone
 zone_at = seen_at zone_from (both_at (choice_at signs) (both_at two_at two_at))
 
 abbrev pub day_from : ℕ × (ℕ × ℕ) → ShownDay
 day_from p = record { day = p.0; month = p.1.0; year = p.1.1 }
 
+-- `02/01/2024`
 unfoldable pub day_at : Cursor → Read ShownDay
 day_at = seen_at day_from (both_at two_at (led_at (codes "/") (both_at two_at (led_at (codes "/") four_at))))
 
 abbrev pub time_from : ℕ × (ℕ × ℕ) → ShownTime
 time_from p = record { hour = p.0; minute = p.1.0; second = p.1.1 }
 
+-- `10:00:00`
 unfoldable pub time_at : Cursor → Read ShownTime
 time_at = seen_at time_from (both_at two_at (led_at (codes ":") (both_at two_at (led_at (codes ":") two_at))))
 
 abbrev pub shown_from : ShownZone × (ShownDay × ShownTime) → Shown
 shown_from p = record { zone = p.0; day = p.1.0; time = p.1.1 }
 
+-- the four lines of `data`
 unfoldable pub shown_at : Cursor → Read Shown
 shown_at =
-    seen_at shown_from (led_at (codes "<data zona=\"") (both_at zone_at (led_at (codes "\">\r\n<giorno>") (both_at day_at (led_at (codes "</giorno>\r\n<ora>")
+    seen_at shown_from (led_at (codes "<data zona=\"") (both_at zone_at (led_at (codes "\">\r\n<giorno>")
+    (both_at day_at (led_at (codes "</giorno>\r\n<ora>")
     (ended_at time_at (codes "</ora>\r\n</data>\r\n")))))))
 
 -- The lines.
 
-abbrev pub kind_table : List (List ℕ × CertKind)
+-- the kinds, by their words
+abbrev pub kind_table : List (Bytes × CertKind)
 kind_table =
-    (codes "accettazione", kinds.Acceptance) ∷ (codes "non-accettazione", kinds.NonAcceptance) ∷ (codes "presa-in-carico", kinds.Charge)
-    ∷ (codes "avvenuta-consegna", kinds.Delivery) ∷ (codes "posta-certificata", kinds.Envelope) ∷ (codes "errore-consegna", kinds.DeliveryError)
+    (codes "accettazione", kinds.Acceptance) ∷ (codes "non-accettazione", kinds.NonAcceptance)
+    ∷ (codes "presa-in-carico", kinds.Charge)
+    ∷ (codes "avvenuta-consegna", kinds.Delivery) ∷ (codes "posta-certificata", kinds.Envelope)
+    ∷ (codes "errore-consegna", kinds.DeliveryError)
     ∷ (codes "preavviso-errore-consegna", kinds.DelayNotice) ∷ (codes "rilevazione-virus", kinds.VirusDetection) ∷ []
 
-abbrev pub error_table : List (List ℕ × CertError)
+-- the errors, by their words
+abbrev pub error_table : List (Bytes × CertError)
 error_table =
-    (codes "nessuno", errors.Nothing) ∷ (codes "no-dest", errors.NoRecipient) ∷ (codes "no-dominio", errors.NoDomain) ∷ (codes "virus", errors.Virus)
+    (codes "nessuno", errors.Nothing) ∷ (codes "no-dest", errors.NoRecipient) ∷ (codes "no-dominio", errors.NoDomain)
+    ∷ (codes "virus", errors.Virus)
     ∷ (codes "altro", errors.Other) ∷ []
 
+-- the first three lines
 unfoldable pub front_at : Cursor → Read (CertKind × CertError)
 front_at =
     led_at (codes "<?xml version=\"1.0\" encoding=\"UTF-8\"?>\r\n<postacert tipo=\"")
-    (both_at (choice_at kind_table) (led_at (codes "\" errore=\"") (ended_at (choice_at error_table) (codes "\">\r\n<intestazione>\r\n"))))
+    (both_at (choice_at kind_table) (led_at (codes "\" errore=\"") (ended_at (choice_at error_table)
+    (codes "\">\r\n<intestazione>\r\n"))))
 
-abbrev pub class_table : List (List ℕ × Bool)
+-- whether a recipient is certified, by the words for it
+abbrev pub class_table : List (Bytes × Bool)
 class_table = (codes "certificato", true) ∷ (codes "esterno", false) ∷ []
 
-abbrev pub addressee_from : Bool × List ℕ → Addressee
+abbrev pub addressee_from : Bool × Bytes → Addressee
 addressee_from p = record { certified = p.0; address = p.1 }
 
+-- the line of a recipient
 unfoldable pub addressee_at : Cursor → Read Addressee
 addressee_at =
-    seen_at addressee_from (led_at (codes "<destinatari tipo=\"") (both_at (choice_at class_table) (led_at (codes "\">") (content_at (codes "</destinatari>\r\n")))))
+    seen_at addressee_from (led_at (codes "<destinatari tipo=\"") (both_at (choice_at class_table)
+    (led_at (codes "\">") (content_at (codes "</destinatari>\r\n")))))
 
-abbrev pub wish_table : List (List ℕ × Wish)
+-- the wishes, by their words
+abbrev pub wish_table : List (Bytes × Wish)
 wish_table = (codes "completa", Full) ∷ (codes "breve", Brief) ∷ (codes "sintetica", Concise) ∷ []
 
+-- the line of a wish
 unfoldable pub wish_at : Cursor → Read Wish
 wish_at = led_at (codes "<ricevuta tipo=\"") (ended_at (choice_at wish_table) (codes "\"/>\r\n"))
 
-unfoldable pub received_at : Cursor → Read (List ℕ)
+-- the line of an address that was received
+unfoldable pub received_at : Cursor → Read Bytes
 received_at = element_at (codes "<ricezione>") (codes "</ricezione>\r\n")
 
--- all of them
+-- all the lines
 unfoldable pub lines_at : Cursor → Read Lines
 lines_at at = do
   front ← front_at at

@@ -10,11 +10,11 @@ use Rattle.pec_grammar.proofs.Openings.{choice_lawful}
 use Rattle.pec_cert.specs.Markup.{two_digits, four_digits}
 use Rattle.pec_cert.specs.Shown.{sign_word, zone_text, day_text, time_text, HasDigits}
 use Rattle.pec_cert.specs.Lines.{shown_text}
-use Rattle.pec_cert.specs.Reading.{digit_at, two_at, four_at, signs, zone_from, zone_at, day_from, day_at, time_from, time_at, shown_from, shown_at}
-use Rattle.pec_cert.specs.declared.lines.ShownZone.{ShownZone}
-use Rattle.pec_cert.specs.declared.lines.ShownDay.{ShownDay}
-use Rattle.pec_cert.specs.declared.lines.ShownTime.{ShownTime}
-use Rattle.pec_cert.specs.declared.lines.Shown.{Shown}
+use Rattle.pec_cert.specs.LinesReading.{digit_at, two_at, four_at, signs, zone_from, zone_at, day_from, day_at, time_from, time_at, shown_from, shown_at}
+use Rattle.pec_cert.specs.declared.stamps.ShownZone.{ShownZone}
+use Rattle.pec_cert.specs.declared.stamps.ShownDay.{ShownDay}
+use Rattle.pec_cert.specs.declared.stamps.ShownTime.{ShownTime}
+use Rattle.pec_cert.specs.declared.stamps.Shown.{Shown}
 
 digit_range : (b : ℕ) → is_ascii_digit b ≡ true → (48 ≤ b) × (b ≤ 57)
 digit_range b e = (grind (arith, nat_tests), grind (arith, nat_tests))

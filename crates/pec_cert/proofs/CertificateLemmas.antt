@@ -1,5 +1,5 @@
 -- What is read is the one certificate of the text.
-use Rattle.std.proofs.Common.{◌≡◌, ◌≢◌, ℕ, ◌-◌, ◌≤◌, List, [], ◌∷◌, ◌++◌, length, map, Option, Some, None, Result, Ok, Err, refl, sym, ap, subst, ◌∙◌, inl, inr, arith, ℤ, pos}
+use Rattle.std.proofs.Common.{◌≡◌, ℕ, ◌-◌, ◌≤◌, List, [], ◌∷◌, ◌++◌, length, map, Option, Some, None, Ok, Err, refl, sym, ap, subst, ◌∙◌, inl, inr, arith, ℤ, pos}
 use Rattle.std.specs.Prelude.{IfSome, codes}
 use Rattle.std.specs.List.{AllByRecursion}
 use Rattle.std.proofs.lemmas.Bool.Decides.{nat_tests}
@@ -10,33 +10,34 @@ use Rattle.pec_types.specs.Text.{AllPrintable}
 use Rattle.pec_grammar.specs.FirstFault.{FirstFault}
 use Rattle.pec_grammar.specs.Grammar.{AllOfSome, ending}
 use Rattle.pec_grammar.proofs.Whole.{one_value, whole_told, Tells}
-use Rattle.pec_cert.specs.Certificate.{Value, address, clock, addressee, lines_of, CanBeWritten, IsCert, values, values_from, delivered_from, before_recipients, before_delivered, before_received, IsGood, IsFaultOf, IsFirstFault, AnswersCert}
-use Rattle.pec_cert.specs.Checking.{AllGood, Checked, Says}
+use Rattle.pec_cert.specs.Certificate.{Value, address, clock, addressee, lines_of, CanBeWritten, IsCert, values, values_from, delivered_from, before_recipients, before_delivered, before_received, IsGood, IsFaultOf, IsFirstFault, IsCertFault}
+use Rattle.pec_cert.specs.CertificateReading.{recipient_from, cert_from}
+use Rattle.pec_cert.specs.Checking.{AllGood, Says}
 use Rattle.pec_cert.specs.Lines.{addressee_opening, addressee_text, text_of, IsShape}
 use Rattle.pec_cert.specs.Markup.{opening, element}
-use Rattle.pec_cert.specs.Reading.{lines_at}
+use Rattle.pec_cert.specs.LinesReading.{lines_at}
 use Rattle.pec_cert.specs.Shown.{HasDigits, IsMomentOf, seconds_shown, IsShown, AnswersShown}
 use Rattle.pec_cert.specs.Stamp.{Instant}
 use Rattle.pec_cert.specs.declared.certificates.CertData.{CertData}
 use Rattle.pec_cert.specs.declared.certificates.CertRecipient.{CertRecipient}
 use Rattle.pec_cert.specs.declared.lines.Addressee.{Addressee}
 use Rattle.pec_cert.specs.declared.lines.Lines.{Lines}
-use Rattle.pec_cert.specs.declared.lines.Shown.{Shown}
+use Rattle.pec_cert.specs.declared.stamps.Shown.{Shown}
 use Rattle.pec_cert.specs.declared.dates.Part.{Part}
 use Rattle.pec_cert.specs.declared.dates.Part.TheVariants.{Zone, Day, Time}
 use Rattle.pec_cert.specs.declared.faults.CertFault.{CertFault}
 use Rattle.pec_cert.specs.declared.faults.CertFault.TheVariants.{Syntax, BadDate, BadAddress, NoMemory}
-use Rattle.pec_cert.proofs.Calendar.{one_stamp, one_shown}
-use Rattle.pec_cert.proofs.Checks.{all_checked}
+use Rattle.pec_cert.proofs.CalendarLemmas.{one_stamp, one_shown}
+use Rattle.pec_cert.proofs.CheckLemmas.{all_checked}
 use Rattle.pec_cert.proofs.Printable.{printable_address}
-use Rattle.pec_cert.proofs.Whole.{lines, lines_lawful}
+use Rattle.pec_cert.proofs.WholeLemmas.{lines, lines_lawful}
 
 -- A text of a certificate has the shape of one.
 
 month_short : (y : ℤ) (m : ℕ) → days_in_month y m ≤ 31
 month_short y m = grind (arith, nat_tests)
 
-shown_digits : (shown : Shown) (stamp : Instant) → IsShown shown stamp → HasDigits shown
+pub shown_digits : (shown : Shown) (stamp : Instant) → IsShown shown stamp → HasDigits shown
 shown_digits shown stamp is =
     let day = is.day in
     record {
@@ -87,37 +88,15 @@ shape_of c text is =
 
 -- No text belongs to two certificates, and no certificate has two texts.
 
-recipient_from : Addressee → CertRecipient
-recipient_from r = record { address = r.address; certified = r.certified }
-
 recipients_back : (rs : List CertRecipient) → map recipient_from (map addressee rs) ≡ rs
-unfolding recipient_from
 recipients_back [] = refl
 recipients_back (r ∷ rs) = ap (λ z. r ∷ z) (recipients_back rs)
-
-cert_from : Lines → Instant → CertData
-cert_from l stamp = record {
-  kind = l.kind;
-  error = l.error;
-  sender = l.sender;
-  recipients = map recipient_from l.recipients;
-  reply = l.reply;
-  subject = l.subject;
-  provider = l.provider;
-  stamp = stamp;
-  id = l.id;
-  reference = l.reference;
-  wish = l.wish;
-  delivered = l.delivered;
-  received = l.received;
-  detail = l.detail;
-}
 
 with_recipients : CertData → List CertRecipient → CertData
 with_recipients c rs = record c { recipients = rs }
 
 from_lines : (c : CertData) (shown : Shown) → cert_from (lines_of c shown) c.stamp ≡ c
-unfolding cert_from with_recipients
+unfolding with_recipients
 from_lines c shown = ap (λ rs. with_recipients c rs) (recipients_back c.recipients)
 
 pub one_cert : (c d : CertData) (text : List ℕ) → IsCert c text → IsCert d text → c ≡ d
@@ -137,18 +116,26 @@ no_syntax [] place first = first
 no_syntax ((front, address bytes) ∷ vs) place first = elim first [ inl here ↦ here | inr later ↦ no_syntax vs place later.1 ]
 no_syntax ((front, clock shown) ∷ vs) place first = elim first [ inl here ↦ here | inr later ↦ no_syntax vs place later.1 ]
 
-pub answered : (text : List ℕ) (l : Lines) (r : Result CertData CertFault) → IsShape l text → Checked (values l) (λ (c : CertData). Says l c) r → AnswersCert text r
-answered text l (Ok c) shape checked =
-    let said = checked.1 in
-    record { shown = l.shown; stamp = said.stamp; written = said.written; spelled = shape.1 ∙ ap text_of said.lines }
-answered text l (Err (Syntax place)) shape checked = absurd (no_syntax (values l) place checked)
-answered text l (Err (BadDate place)) shape checked = (l, shape, checked)
-answered text l (Err (BadAddress place)) shape checked = (l, shape, checked)
-answered text l (Err NoMemory) shape checked = tt
+not_memory : (vs : List (List ℕ × Value)) → IsFirstFault vs NoMemory → ⊥
+not_memory [] first = first
+not_memory ((front, address bytes) ∷ vs) first = elim first [ inl here ↦ here | inr later ↦ not_memory vs later.1 ]
+not_memory ((front, clock shown) ∷ vs) first = elim first [ inl here ↦ here | inr later ↦ not_memory vs later.1 ]
+
+module _ (text : List ℕ) (l : Lines) (shape : IsShape l text) where
+  -- what the lines of a text say is what it certifies
+  pub said_cert : (c : CertData) → Says l c → IsCert c text
+  said_cert c said = record { shown = l.shown; stamp = said.stamp; written = said.written; spelled = shape.1 ∙ ap text_of said.lines }
+
+  -- the fault of the first value that is wrong is the text's
+  pub said_fault : (fault : CertFault) → IsFirstFault (values l) fault → IsCertFault text fault
+  said_fault (Syntax place) first = absurd (no_syntax (values l) place first)
+  said_fault (BadDate place) first = (l, shape, first)
+  said_fault (BadAddress place) first = (l, shape, first)
+  said_fault NoMemory first = absurd (not_memory (values l) first)
 
 -- What is a certification text is never refused.
 
-clock_right : (shown : Shown) (stamp : Instant) (part : Part) → IsShown shown stamp → AnswersShown shown (Err part) → ⊥
+pub clock_right : (shown : Shown) (stamp : Instant) (part : Part) → IsShown shown stamp → AnswersShown shown (Err part) → ⊥
 clock_right shown stamp Zone is wrong = wrong is.zone
 clock_right shown stamp Day is wrong = elim wrong.1 [
   | inl day ↦ day is.day
@@ -156,7 +143,7 @@ clock_right shown stamp Day is wrong = elim wrong.1 [
 ]
 clock_right shown stamp Time is wrong = wrong.2 is.time
 
-not_wrong : (front : List ℕ) (v : Value) (fault : CertFault) → IsGood v → IsFaultOf front v fault → ⊥
+pub not_wrong : (front : List ℕ) (v : Value) (fault : CertFault) → IsGood v → IsFaultOf front v fault → ⊥
 not_wrong front (address bytes) (BadAddress place) good wrong = wrong.0 good
 not_wrong front (address bytes) (BadDate place) good wrong = wrong
 not_wrong front (address bytes) (Syntax place) good wrong = wrong
@@ -200,12 +187,11 @@ refused c text l fault is shape first =
     let same = one_value lines lines_lawful l (lines_of c is.shown) text shape (shape_of c text is) in
     none_wrong (values (lines_of c is.shown)) fault (all_values_good c is.shown is.stamp is.written) (subst (λ x. IsFirstFault (values x) fault) same first)
 
-pub answered_only : (c : CertData) (text : List ℕ) (r : Result CertData CertFault) → AnswersCert text r → IsCert c text → r ≢ Err NoMemory → r ≡ Ok c
-answered_only c text (Ok d) answer is some = ap (λ x. Ok x) (one_cert d c text answer is)
-answered_only c text (Err (Syntax place)) answer is some = absurd (answer.other (lines_of c is.shown) (shape_of c text is))
-answered_only c text (Err (BadDate place)) answer is some = absurd (refused c text answer.0 (BadDate place) is answer.1 answer.2)
-answered_only c text (Err (BadAddress place)) answer is some = absurd (refused c text answer.0 (BadAddress place) is answer.1 answer.2)
-answered_only c text (Err NoMemory) answer is some = absurd (some refl)
+pub never_both : (c : CertData) (text : List ℕ) (fault : CertFault) → IsCert c text → IsCertFault text fault → ⊥
+never_both c text (Syntax place) is wrong = wrong.other (lines_of c is.shown) (shape_of c text is)
+never_both c text (BadDate place) is wrong = refused c text wrong.0 (BadDate place) is wrong.1 wrong.2
+never_both c text (BadAddress place) is wrong = refused c text wrong.0 (BadAddress place) is wrong.1 wrong.2
+never_both c text NoMemory is wrong = wrong
 
 -- What the lines of a text are, from reading them.
 

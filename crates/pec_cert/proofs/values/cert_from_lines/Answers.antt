@@ -4,8 +4,8 @@ use Rattle.pec_cert.specs.Certificate.{addressee}
 use Rattle.pec_cert.specs.Shown.{IsShown}
 use Rattle.pec_cert.specs.Stamp.{Instant}
 use Rattle.pec_cert.specs.declared.certificates.CertRecipient.{CertRecipient}
-use Rattle.pec_cert.proofs.Checks.{after_sender, after_recipients, after_stamp, after_delivered, all_checked, lines_are, says}
-use Rattle.pec_cert.proofs.values.cert_of.Goals as goal
+use Rattle.pec_cert.proofs.CheckLemmas.{after_sender, after_recipients, after_stamp, after_delivered, all_checked, lines_are, says}
+use Rattle.pec_cert.proofs.values.cert_from_lines.Goals as goal
 
 pub returns-in_err-recipients : goal.returns-in_err-recipients
 returns-in_err-recipients c =

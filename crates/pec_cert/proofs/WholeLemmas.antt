@@ -9,14 +9,14 @@ use Rattle.pec_grammar.proofs.Alternatives.{maybe_lawful, many_lawful}
 use Rattle.pec_grammar.proofs.Openings.{Opens, apart_by, led_opens, word_opens, maybe_opens, many_opens, both_opens}
 use Rattle.pec_grammar.proofs.Repeats.{several_lawful}
 use Rattle.pec_cert.specs.Lines.{text_of, Fits}
-use Rattle.pec_cert.specs.Reading.{front_at, addressee_at, shown_at, wish_at, received_at, lines_at}
+use Rattle.pec_cert.specs.LinesReading.{front_at, addressee_at, shown_at, wish_at, received_at, lines_at}
 use Rattle.pec_cert.specs.declared.certificates.CertKind.{CertKind}
 use Rattle.pec_cert.specs.declared.certificates.CertError.{CertError}
 use Rattle.pec_cert.specs.declared.lines.Addressee.{Addressee}
-use Rattle.pec_cert.specs.declared.lines.Shown.{Shown}
+use Rattle.pec_cert.specs.declared.stamps.Shown.{Shown}
 use Rattle.pec_cert.specs.declared.lines.Lines.{Lines}
-use Rattle.pec_cert.proofs.Numbers.{shown, shown_lawful}
-use Rattle.pec_cert.proofs.Parts.{front, front_lawful, addressee, addressee_lawful, addressee_opens, addressee_has_byte, wish, wish_lawful, wish_opens, received, received_lawful, received_opens, received_has_byte}
+use Rattle.pec_cert.proofs.NumberLemmas.{shown, shown_lawful}
+use Rattle.pec_cert.proofs.PartLemmas.{front, front_lawful, addressee, addressee_lawful, addressee_opens, addressee_has_byte, wish, wish_lawful, wish_opens, received, received_lawful, received_opens, received_has_byte}
 use Rattle.pec_cert.proofs.Texts.{tagged, tagged_lawful, tagged_opens}
 
 -- The grammar, from its end.

@@ -152,7 +152,7 @@ delivered_lower : (front : List ℕ) (o : Option (List ℕ)) → AllGood (delive
 delivered_lower front None good = tt
 delivered_lower front (Some bytes) good = good.0
 
-split : (us vs : List (List ℕ × Value)) → AllGood (us ++ vs) → AllGood us × AllGood vs
+pub split : (us vs : List (List ℕ × Value)) → AllGood (us ++ vs) → AllGood us × AllGood vs
 split [] vs good = (tt, good)
 split (u ∷ us) vs good = let r = split us vs good.1 in ((good.0, r.0), r.1)
 

@@ -9,12 +9,13 @@ use Rattle.jiff_core.specs.declared.civil.datetime.DateTime.{DateTime}
 use Rattle.jiff_core.proofs.DateLemmas.{civil, epoch_day_injective, epoch_day-lt, days_from_civil-day, days_from_civil-next_year}
 use Rattle.jiff_core.proofs.DateTimeLemmas.{civil_nanos-parts, time_nanos_bound}
 use Rattle.jiff_core.proofs.SignedLemmas.{signed_arith}
+use Rattle.pec_types.specs.declared.moments.TheConstants.{END_OF_TIME}
 use Rattle.pec_cert.specs.Stamp.{Instant, IsMinutes}
 use Rattle.pec_cert.specs.Shown.{IsZone, IsDay, IsTime, minutes_ahead, seconds_shown, IsShown}
-use Rattle.pec_cert.specs.declared.lines.ShownZone.{ShownZone}
-use Rattle.pec_cert.specs.declared.lines.ShownDay.{ShownDay}
-use Rattle.pec_cert.specs.declared.lines.ShownTime.{ShownTime}
-use Rattle.pec_cert.specs.declared.lines.Shown.{Shown}
+use Rattle.pec_cert.specs.declared.stamps.ShownZone.{ShownZone}
+use Rattle.pec_cert.specs.declared.stamps.ShownDay.{ShownDay}
+use Rattle.pec_cert.specs.declared.stamps.ShownTime.{ShownTime}
+use Rattle.pec_cert.specs.declared.stamps.Shown.{Shown}
 
 -- a date and a time that have these parts
 pub record HasParts (shown : Shown) (dt : DateTime) : Type 0 where
@@ -78,7 +79,7 @@ pub kept : (minutes : ℤ) → IsMinutes minutes → to_z w32 (of_z w32 minutes)
 kept minutes small = omega (arith, signed_arith)
 
 -- a clock's date and time, as they are shown
-pub shown_is : (shown : Shown) (dt : DateTime) (moment : ℕ) (minutes : ℤ) → HasParts shown dt → IsZone shown.zone → minutes ≡ minutes_ahead shown.zone → moment < 4_102_444_800
+pub shown_is : (shown : Shown) (dt : DateTime) (moment : ℕ) (minutes : ℤ) → HasParts shown dt → IsZone shown.zone → minutes ≡ minutes_ahead shown.zone → moment < END_OF_TIME
     → civil_nanos dt ≡ pos moment *ℤ pos 1_000_000_000 +ℤ nanos_of_seconds (minutes *ℤ pos 60) → IsShown shown (record { moment = moment; minutes = minutes })
 shown_is shown dt moment minutes p zone ahead early_enough clock = record {
   zone = zone;

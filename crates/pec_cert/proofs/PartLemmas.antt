@@ -3,6 +3,7 @@ use Rattle.std.proofs.Common.{◌≡◌, ℕ, Bool, true, false, List, [], ◌�
 use Rattle.std.specs.Prelude.{codes}
 use Rattle.std.specs.List.{flat_map}
 use Rattle.pec_types.specs.Text.{AllPrintable}
+use Rattle.pec_types.specs.Words.{wish_word}
 use Rattle.pec_types.specs.declared.messages.Wish.{Wish}
 use Rattle.pec_types.specs.declared.messages.Wish.TheVariants.{Full, Brief, Concise}
 use Rattle.pec_grammar.specs.Grammar.{Grammar, both, choice, HasValue, led, ended}
@@ -11,8 +12,8 @@ use Rattle.pec_grammar.proofs.Sequences.{Views, seen_lawful, same_lawful, both_l
 use Rattle.pec_grammar.proofs.Alternatives.{HasByte}
 use Rattle.pec_grammar.proofs.Openings.{choice_lawful, Opens}
 use Rattle.pec_cert.specs.Markup.{escape, closing}
-use Rattle.pec_cert.specs.Lines.{kind_word, error_word, class_word, wish_word, front_text, addressee_text, wish_text}
-use Rattle.pec_cert.specs.Reading.{kind_table, error_table, class_table, wish_table, front_at, addressee_from, addressee_at, wish_at, received_at}
+use Rattle.pec_cert.specs.Lines.{kind_word, error_word, class_word, front_text, addressee_text, wish_text}
+use Rattle.pec_cert.specs.LinesReading.{kind_table, error_table, class_table, wish_table, front_at, addressee_from, addressee_at, wish_at, received_at}
 use Rattle.pec_cert.specs.declared.certificates.CertKind.{CertKind}
 use Rattle.pec_cert.specs.declared.certificates.CertKind.TheVariants as kinds
 use Rattle.pec_cert.specs.declared.certificates.CertError.{CertError}
