@@ -10,7 +10,8 @@ use Rattle.base64.specs.GeneralPurpose.{IsBytes, decode_of, encode_of}
 use Rattle.base64.proofs.EngineFacts.{decode_of-encode_of, decode_of_strict}
 use Rattle.base64.proofs.RoundTrip.{length-encode_symbols}
 use Rattle.pec_seal.specs.Seals.{HasLine, IsTag, Line, tag_text}
-use Rattle.pec_seal.specs.Opening.{after_front, before_back, cut_last, first_line, line_at, tag_at, whole_tag}
+use Rattle.pec_types.specs.Bytes.{after_front}
+use Rattle.pec_seal.specs.Opening.{before_back, cut_last, first_line, line_at, tag_at, whole_tag}
 use Rattle.pec_seal.proofs.Printable.{AllPrintable_from, are_printable, are_printable-append, are_printable-encode_of, are_printable_from, are_printable-take, are_printable_parts, IsBytes_from, position_at_end}
 
 -- ---- each step of the reading, both ways
@@ -24,12 +25,14 @@ unguarded true x y e = cc e
 unguarded false x y e = cc e
 
 after_front_some : (front text rest : List ℕ) → after_front front text ≡ Some rest → text ≡ front ++ rest
+unfolding after_front
 after_front_some front text rest e =
     let parts = guarded _ _ rest e in
     let begins = (bytes_eq-Decides (take (length front) text) front).0 parts.0 in
     sym (rw (← begins, ← parts.1) (take-append-drop (length front) text))
 
 after_front_again : (front rest : List ℕ) → after_front front (front ++ rest) ≡ Some rest
+unfolding after_front
 after_front_again front rest =
     rw (take_at front rest (length front) refl, drop_at front rest (length front) refl, (bytes_eq-Decides front front).1 refl) refl
 
@@ -85,7 +88,7 @@ are_printable-tag_text tag is = are_printable-encode_of standard tag is.bytes
 
 first_again : (front bytes : List ℕ) → are_printable front ≡ true
     → first_line (front ++ (codes "\r\n" ++ bytes)) ≡ Some (front, bytes)
-unfolding first_line
+unfolding first_line after_front
 first_again front bytes all =
     let end : List ℕ = 13 ∷ 10 ∷ bytes in
     rw (position_at_end front (10 ∷ bytes) 13 all refl, drop_at front end (length front) refl, take_at front end (length front) refl) refl

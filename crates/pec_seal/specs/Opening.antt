@@ -1,23 +1,18 @@
 -- How a sealed text is read, from its front: the first byte outside 0x20 to 0x7e ends the line. This project's profile.
 -- What is read so is what `Seals` says, by the laws of `sealing_and_opening`.
-use Rattle.std.specs.Prelude.{◌≡◌, ℕ, ◌-◌, List, length, take, drop, codes, nat_lt, if◌then◌else◌, ◌==◌, position, Option, Some, None, option_and_then, Result, Ok, Err}
+use Rattle.std.specs.Prelude.{◌≡◌, ℕ, ◌-◌, List, length, take, drop, codes, nat_lt, if◌then◌else◌, ◌==◌, position, Option, Some, None, Result, Ok, Err}
 use Rattle.std.specs.Result.{result_ok}
 use Rattle.std.specs.Str.{bytes_eq}
 use Rattle.base64.specs.Engines.{standard}
 use Rattle.base64.specs.GeneralPurpose.{decode_of, IsBytes}
+use Rattle.pec_types.specs.Bytes.{after_front}
+use Rattle.pec_types.specs.Options.{◌>>=◌}
 use Rattle.pec_types.specs.Text.{is_unprintable}
 use Rattle.pec_seal.specs.Seals.{Seals, Line}
 use Rattle.pec_seal.specs.declared.seals.SealFault.{SealFault}
 use Rattle.pec_seal.specs.declared.seals.SealFault.TheVariants.{NoSeal, UnknownProvider, WrongTag}
 
-infixl 10 ◌>>=◌
-abbrev pub ◌>>=◌ : {A B : Type 0} → Option A → (A → Option B) → Option B
-o >>= f = option_and_then f o
-
--- what follows this front, and what this back follows
-abbrev pub after_front : List ℕ → List ℕ → Option (List ℕ)
-after_front front text = if bytes_eq (take (length front) text) front then Some (drop (length front) text) else None
-
+-- what this back follows
 abbrev pub before_back : List ℕ → List ℕ → Option (List ℕ)
 before_back back text =
     if bytes_eq (drop (length text - length back) text) back then Some (take (length text - length back) text) else None

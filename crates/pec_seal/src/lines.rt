@@ -1,11 +1,10 @@
 ghost use Rattle.std.specs.Prelude.{◌≡◌, ℕ, ◌<◌, List, ◌++◌, Option, None, Some, option_map, IfSome, IfOk, length, take, position};
-ghost use Rattle.pec_types.specs.Text.{is_unprintable};
 ghost use Rattle.pec_seal.specs.Seals.{line_text, tag_text};
 ghost use Rattle.pec_seal.specs.Opening.{first_line, line_at, tag_at, HasTagBytes};
 ghost use Rattle.pec_seal.specs.Views.{line_shown};
 
 use base64::engine::general_purpose::STANDARD;
-use pec_types::NoMemory;
+use pec_types::{NoMemory, first_unprintable};
 use std::alloc::Global;
 
 const FIELD: &[u8] = b"X-Sigillo: ";
@@ -36,7 +35,7 @@ pub(crate) fn write_line(alloc: Global, name: &[u8], tag: &[u8; 32]) -> Result<V
 }
 
 /// The seal line at the front of a text, and what stands behind it.
-#[tactic(auto, unfolding(crate::specs::Opening::line_at))]
+#[tactic(auto, unfolding(crate::specs::Opening::line_at, pec_types::specs::Bytes::after_front))]
 pub(crate) fn read_line(text: &[u8]) -> Option<Line<'_>>
     ensures value { option_map line_shown result ≡ line_at text.now }
     ensures bytes { HasTagBytes text.now }
@@ -50,20 +49,13 @@ pub(crate) fn read_line(text: &[u8]) -> Option<Line<'_>>
 }
 
 /// The printable bytes at the front of a text, which CR and LF end, and what stands behind these.
-#[tactic(auto, unfolding(crate::specs::Opening::first_line))]
+#[tactic(auto, unfolding(crate::specs::Opening::first_line, pec_types::specs::Bytes::after_front))]
 fn first_line(text: &[u8]) -> Option<(&[u8], &[u8])>
     ensures { option_map (λ cut. (cut.0.now, cut.1.now)) result ≡ first_line text.now }
 {
     let end = first_unprintable(text)?;
     let bytes = text[end..].strip_prefix(LINE_END)?;
     Some((&text[..end], bytes))
-}
-
-fn first_unprintable(text: &[u8]) -> Option<usize>
-    ensures value { result ≡ position is_unprintable text.now }
-    ensures below { IfSome result (λ place. place < length text.now) }
-{
-    text.iter().position(|b| *b < 0x20 || 0x7e < *b)
 }
 
 /// The tag that 44 characters of base64 stand for.
