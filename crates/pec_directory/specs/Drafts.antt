@@ -1,6 +1,7 @@
 -- What is kept of a directory while it is read.
-use Rattle.std.specs.Prelude.{◌≡◌, ℕ, ◌≤◌, ◌<◌, List, [], ◌∷◌, ◌++◌, length, Result, Ok, Err}
+use Rattle.std.specs.Prelude.{◌≡◌, ◌≤◌, ◌<◌, List, [], ◌∷◌, ◌++◌, length, Result, Ok, Err}
 use Rattle.pec_index.specs.Entries.{Finds}
+use Rattle.pec_types.specs.Bytes.{Bytes}
 use Rattle.pec_directory.specs.Directory.{Provider, accounts_of, providers_of}
 use Rattle.pec_directory.specs.Indexes.{deeds_from, spots_from}
 use Rattle.pec_directory.specs.Walk.{most_accounts, most_providers}
@@ -19,7 +20,7 @@ pub record IsOpen (draft : Draft) : Type 0 where
   pub few : draft.accounts ≤ most_accounts
 
 -- the indexes and the count are those of the providers that were read
-pub record IsRead (draft : Draft) (places : List (List ℕ × Place)) : Type 0 where
+pub record IsRead (draft : Draft) (places : List (Bytes × Place)) : Type 0 where
   pub homes : Finds draft.homes (deeds_from 0 (read_so_far draft))
   pub spots : Finds places (spots_from 0 (read_so_far draft))
   pub count : draft.accounts ≡ length (accounts_of (read_so_far draft))

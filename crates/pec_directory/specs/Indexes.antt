@@ -1,35 +1,39 @@
 -- What a directory's indexes find: the provider of a domain, and the place of an account.
 use Rattle.std.specs.Prelude.{◌≡◌, ℕ, ◌+◌, ◌≤◌, ◌==◌, Bool, false, List, [], ◌∷◌, ◌++◌, length, Option, Some, None, slice_get}
 use Rattle.pec_index.specs.Entries.{Finds}
+use Rattle.pec_types.specs.Bytes.{Bytes}
 use Rattle.pec_directory.specs.Directory.{Account, Kept, Provider, providers_of}
 use Rattle.pec_directory.specs.Walk.{domains_of, most_providers, stands_twice}
 use Rattle.pec_directory.specs.declared.places.Place.{Place}
 
 -- each domain with the number of its provider
-abbrev pub deeds_of : ℕ → List (List ℕ) → List (List ℕ × ℕ)
+abbrev pub deeds_of : ℕ → List Bytes → List (Bytes × ℕ)
 deeds_of number [] = []
 deeds_of number (domain ∷ domains) = (domain, number) ∷ deeds_of number domains
 
 -- those of providers that are numbered from here on
-abbrev pub deeds_from : ℕ → List Provider → List (List ℕ × ℕ)
+abbrev pub deeds_from : ℕ → List Provider → List (Bytes × ℕ)
 deeds_from number [] = []
 deeds_from number (provider ∷ providers) = deeds_of number provider.domains ++ deeds_from (number + 1) providers
 
 -- each account with its place, the first at this one
-abbrev pub spots_of : ℕ → ℕ → List Account → List (List ℕ × Place)
+abbrev pub spots_of : ℕ → ℕ → List Account → List (Bytes × Place)
 spots_of number at [] = []
-spots_of number at (account ∷ accounts) = (account.address, record { provider = number; account = at }) ∷ spots_of number (at + 1) accounts
+spots_of number at (account ∷ accounts) =
+    (account.address, record { provider = number; account = at }) ∷ spots_of number (at + 1) accounts
 
-abbrev pub spots_from : ℕ → List Provider → List (List ℕ × Place)
+-- those of providers that are numbered from here on
+abbrev pub spots_from : ℕ → List Provider → List (Bytes × Place)
 spots_from number [] = []
 spots_from number (provider ∷ providers) = spots_of number 0 provider.accounts ++ spots_from (number + 1) providers
 
 -- the indexes are those of these providers
-pub record IsIndexed (kept : List Kept) (homes : List (List ℕ × ℕ)) (places : List (List ℕ × Place)) : Type 0 where
+pub record IsIndexed (kept : List Kept) (homes : List (Bytes × ℕ)) (places : List (Bytes × Place)) : Type 0 where
   pub few : length kept ≤ most_providers
   pub homes_are : Finds homes (deeds_from 0 (providers_of kept))
   pub places_are : Finds places (spots_from 0 (providers_of kept))
 
+-- the account at this place among those of a provider that may not be there
 abbrev pub account_at : Option Provider → ℕ → Option Account
 account_at None at = None
 account_at (Some provider) at = slice_get provider.accounts at
@@ -45,9 +49,11 @@ is_here number None = false
 is_here number (Some home) = home == number
 
 -- the index of domains is that of these providers and of the next one
-abbrev pub HasDomains : List (List ℕ × ℕ) → List Provider → List (List ℕ) → Type 0
-HasDomains homes earlier domains = Finds homes (deeds_from 0 earlier ++ deeds_of (length earlier) domains) × (stands_twice (domains_of earlier) domains ≡ false)
+abbrev pub HasDomains : List (Bytes × ℕ) → List Provider → List Bytes → Type 0
+HasDomains homes earlier domains =
+    Finds homes (deeds_from 0 earlier ++ deeds_of (length earlier) domains)
+    × (stands_twice (domains_of earlier) domains ≡ false)
 
 -- the index of accounts is that of these providers and of accounts of the next one
-abbrev pub HasAccounts : List (List ℕ × Place) → List Provider → List Account → Type 0
+abbrev pub HasAccounts : List (Bytes × Place) → List Provider → List Account → Type 0
 HasAccounts places earlier accounts = Finds places (spots_from 0 earlier ++ spots_of (length earlier) 0 accounts)

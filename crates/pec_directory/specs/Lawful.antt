@@ -1,53 +1,59 @@
--- What holds of every directory, in the words of the trade (RFC 6109, section 4.5, within this project's profile).
-use Rattle.std.specs.Prelude.{◌≡◌, ℕ, ◌+◌, ◌<◌, ◌≤◌, true, false, List, [], ◌∷◌, ◌++◌, length, IsSome}
+-- What holds of every directory, in the words of the trade (RFC 6109, section 4.5, within this project's profile):
+-- `IsLawful`, at the end.
+use Rattle.std.specs.Prelude.{◌≡◌, ◌+◌, ◌<◌, ◌≤◌, true, false, List, [], ◌∷◌, ◌++◌, length, IsSome}
+use Rattle.std.specs.List.{AllByRecursion}
 use Rattle.hex.specs.Hex.{IsBytes}
 use Rattle.jiff_tz.specs.PosixReader.{read_whole}
 use Rattle.pec_types.specs.Address.{IsLowerAddress}
-use Rattle.pec_types.specs.Text.{AllPrintable}
+use Rattle.pec_types.specs.Bytes.{Bytes}
 use Rattle.pec_directory.specs.Directory.{Account, Provider, accounts_of}
-use Rattle.pec_directory.specs.Fields.{greatest_limit, is_name, is_some_list, is_visible}
+use Rattle.pec_directory.specs.Fields.{greatest_limit, greatest_quota, is_name, is_some_list, is_visible, longest_key, longest_rule, service_at}
 use Rattle.pec_directory.specs.Walk.{domains_of, is_named, is_outside, is_taken, most_accounts, most_providers, stands_twice}
 
-abbrev pub AllPrint : List (List ℕ) → Type 0
-AllPrint [] = Unit {0}
-AllPrint (text ∷ texts) = AllPrintable text × AllPrint texts
+-- `posta-certificata@` and the domain are an address in lower case; so the domain has at most 236 bytes, all printable
+abbrev pub IsOwnDomain : Bytes → Type 0
+IsOwnDomain domain = IsLowerAddress (service_at domain)
 
--- An account stands rightly behind these of its provider and those of earlier providers: its address is in its provider's domains, and
--- nobody before it has it, no receipts go to it, and no provider writes from it.
-pub record IsNextAccount (earlier : List Provider) (receipts : List ℕ) (domains : List (List ℕ)) (before : List Account) (account : Account) : Type 0 where
+-- An account stands rightly behind these of its provider and those of earlier providers: its address is in its
+-- provider's domains, and nobody before it has it, no receipts go to it, and no provider writes from it.
+pub record IsNextAccount (earlier : List Provider) (receipts : Bytes) (domains : List Bytes) (before : List Account)
+    (account : Account) : Type 0 where
   pub address : IsLowerAddress account.address
   pub inside : is_outside domains account.address ≡ false
   pub free : is_taken earlier receipts before account.address ≡ false
   pub room : length (accounts_of earlier) + length before < most_accounts
-  pub quota : account.quota ≤ 1000000
-  pub key : is_visible 64 account.key ≡ true
+  pub quota : account.quota ≤ greatest_quota
+  pub key : is_visible longest_key account.key ≡ true
 
-abbrev pub AreNextAccounts : List Provider → List ℕ → List (List ℕ) → List Account → List Account → Type 0
+-- each account stands rightly behind those before it
+abbrev pub AreNextAccounts : List Provider → Bytes → List Bytes → List Account → List Account → Type 0
 AreNextAccounts earlier receipts domains before [] = Unit {0}
 AreNextAccounts earlier receipts domains before (account ∷ accounts) =
-    IsNextAccount earlier receipts domains before account × AreNextAccounts earlier receipts domains (before ++ account ∷ []) accounts
+    IsNextAccount earlier receipts domains before account
+    × AreNextAccounts earlier receipts domains (before ++ account ∷ []) accounts
 
--- A provider stands rightly behind these: its name and its domains are its own, its receipts go to an address in one of its domains, and so
--- are its accounts'.
+-- A provider stands rightly behind these: its name and its domains are its own, its receipts go to an address in one of
+-- its domains, and each of its accounts stands rightly.
 pub record IsNext (earlier : List Provider) (provider : Provider) : Type 0 where
   pub name : is_name provider.name ≡ true
   pub name_once : is_named provider.name earlier ≡ false
   pub receipts : IsLowerAddress provider.receipts
   pub receipts_inside : is_outside provider.domains provider.receipts ≡ false
   pub domains : is_some_list provider.domains ≡ true
-  pub domains_print : AllPrint provider.domains
+  pub domains_are : AllByRecursion IsOwnDomain provider.domains
   pub domains_once : stands_twice (domains_of earlier) provider.domains ≡ false
   pub key : (16 ≤ length provider.key) × (length provider.key ≤ 64) × IsBytes provider.key
-  pub rule : is_visible 128 provider.rule ≡ true
+  pub rule : is_visible longest_rule provider.rule ≡ true
   pub zone : IsSome (read_whole provider.rule)
   pub limit : (1 ≤ provider.limit) × (provider.limit ≤ greatest_limit)
   pub accounts : AreNextAccounts earlier provider.receipts provider.domains [] provider.accounts
 
+-- each provider stands rightly behind those before it
 abbrev pub AreNext : List Provider → List Provider → Type 0
 AreNext earlier [] = Unit {0}
 AreNext earlier (provider ∷ providers) = IsNext earlier provider × AreNext (earlier ++ provider ∷ []) providers
 
--- one to sixteen providers, each rightly behind those before it
+-- One to sixteen providers, each rightly behind those before it.
 pub record IsLawful (providers : List Provider) : Type 0 where
   pub some : 0 < length providers
   pub few : length providers ≤ most_providers

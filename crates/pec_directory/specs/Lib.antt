@@ -1,9 +1,12 @@
 pub mod Canonical
 pub mod Directory
 pub mod Drafts
+pub mod Faults
 pub mod Feeding
 pub mod Fields
+pub mod Ids
 pub mod Indexes
 pub mod Lawful
+pub mod Tables
 pub mod Views
 pub mod Walk

@@ -1,23 +1,20 @@
--- What a directory's text says, or the first fault of it: the tests that are made on the table of the text, in their order. Providers count
--- from 0, accounts from 1; the number 0 stands for the receipt address. This project's profile.
+-- The walk over a directory's text: the tests that are made on the table of the text, in their order, and the first
+-- fault that they find. `directory_of`, at the end, is the whole. Providers count from 0, accounts from 1; the number 0
+-- stands for the receipt address. This project's profile.
 use Rattle.std.specs.Prelude.{ℕ, ◌+◌, ◌==◌, Bool, false, not, ◌||◌, nat_le, nat_lt, List, [], ◌∷◌, ◌++◌, length, codes, take, Option, Some, None, is_none, if◌then◌else◌, Result, Ok, Err}
 use Rattle.std.specs.List.{flat_map, list_any}
-use Rattle.std.specs.Result.{result_ok}
 use Rattle.std.specs.Str.{bytes_eq}
 use Rattle.jiff_tz.specs.PosixReader.{read_whole}
 use Rattle.toml.specs.Data.{Data, Items, Members, no_items, item, table, get}
 use Rattle.toml.specs.Parse.{parse_document}
-use Rattle.pec_types.specs.AddressReading.{address_of, domain_of}
+use Rattle.pec_types.specs.AddressReading.{domain_of}
+use Rattle.pec_types.specs.Bytes.{Bytes}
+use Rattle.pec_types.specs.Results.{◌>>=◌}
 use Rattle.pec_directory.specs.Directory.{Account, Provider, accounts_of}
-use Rattle.pec_directory.specs.Fields.{accounts_at, domains_at, key_at, key_of, limit_at, name_at, quota_at, rule_at, tables_of, text_at}
+use Rattle.pec_directory.specs.Fields.{accounts_at, address_in, domains_at, key_at, key_of, limit_at, name_at, quota_at, rule_at, tables_of, service_at, text_at}
 use Rattle.pec_directory.specs.declared.faults.DirectoryFault.{DirectoryFault}
 use Rattle.pec_directory.specs.declared.faults.DirectoryFault.TheVariants.{NotToml, BadField, NameTwice, DomainTwice, BadAddress, AccountOutside, AccountTwice, BadKey, BadZone, TooMany, NoProvider}
 use Rattle.pec_directory.specs.declared.faults.Field.TheVariants as field
-
-infixl 10 ◌>>=◌
-abbrev pub ◌>>=◌ : {A B : Type 0} → Result A DirectoryFault → (A → Result B DirectoryFault) → Result B DirectoryFault
-(Ok x) >>= f = f x
-(Err fault) >>= f = Err fault
 
 -- what is there, or else this fault
 abbrev pub or_fault : {A : Type 0} → DirectoryFault → Option A → Result A DirectoryFault
@@ -28,38 +25,36 @@ or_fault fault (Some x) = Ok x
 abbrev pub fault_if : {A : Type 0} → Bool → DirectoryFault → Result A DirectoryFault → Result A DirectoryFault
 fault_if test fault answer = if test then Err fault else answer
 
-abbrev pub address_in : List ℕ → Option (List ℕ)
-address_in text = result_ok (address_of text)
-
 -- ---- a provider's own fields
 
 -- the receipt address
-unfoldable pub receipts_in : ℕ → Data → Result (List ℕ) DirectoryFault
+unfoldable pub receipts_in : ℕ → Data → Result Bytes DirectoryFault
 receipts_in number provider = do
   text ← or_fault (BadField number field.MailReceipt) (text_at (codes "mailReceipt") provider)
   or_fault (BadAddress number 0) (address_in text)
 
 -- the key of seals
-unfoldable pub key_in : ℕ → Data → Result (List ℕ) DirectoryFault
+unfoldable pub key_in : ℕ → Data → Result Bytes DirectoryFault
 key_in number provider = do
   text ← or_fault (BadField number field.Key) (text_at (codes "key") provider)
   or_fault (BadKey number) (key_of text)
 
 -- the rule of the zone
-unfoldable pub rule_in : ℕ → Data → Result (List ℕ) DirectoryFault
+unfoldable pub rule_in : ℕ → Data → Result Bytes DirectoryFault
 rule_in number provider = do
   rule ← or_fault (BadField number field.Zone) (rule_at provider)
   fault_if (is_none (read_whole rule)) (BadZone number) (Ok rule)
 
--- the fields of a provider, but for its accounts
+-- The fields of a provider, but for its accounts.
 pub record Fields : Type 0 where
-  pub name : List ℕ
-  pub receipts : List ℕ
-  pub domains : List (List ℕ)
-  pub key : List ℕ
-  pub rule : List ℕ
+  pub name : Bytes
+  pub receipts : Bytes
+  pub domains : List Bytes
+  pub key : Bytes
+  pub rule : Bytes
   pub limit : ℕ
 
+-- a provider's own fields, each by its type and form
 unfoldable pub fields_of : ℕ → Data → Result Fields DirectoryFault
 fields_of number provider = do
   name ← or_fault (BadField number field.Name) (name_at provider)
@@ -73,42 +68,46 @@ fields_of number provider = do
 -- ---- tests on a provider among those before it
 
 -- an earlier provider has the name
-abbrev pub is_named : List ℕ → List Provider → Bool
+abbrev pub is_named : Bytes → List Provider → Bool
 is_named name earlier = list_any (λ (provider : Provider). bytes_eq name provider.name) earlier
 
 -- all domains of these providers
-abbrev pub domains_of : List Provider → List (List ℕ)
+abbrev pub domains_of : List Provider → List Bytes
 domains_of providers = flat_map (λ (provider : Provider). provider.domains) providers
 
-abbrev pub is_among : List ℕ → List (List ℕ) → Bool
+-- one of these texts is this one
+abbrev pub is_among : Bytes → List Bytes → Bool
 is_among text texts = list_any (λ other. bytes_eq text other) texts
 
 -- one of these texts stands among those before it
-abbrev pub stands_twice : List (List ℕ) → List (List ℕ) → Bool
+abbrev pub stands_twice : List Bytes → List Bytes → Bool
 stands_twice before [] = false
 stands_twice before (text ∷ texts) = is_among text before || stands_twice (before ++ text ∷ []) texts
 
 -- the address is in none of these domains
-abbrev pub is_outside : List (List ℕ) → List ℕ → Bool
+abbrev pub is_outside : List Bytes → Bytes → Bool
 is_outside domains address = not (is_among (domain_of address) domains)
 
 -- ---- accounts
 
-abbrev pub is_address_of : List ℕ → List Account → Bool
+-- one of these accounts has the address
+abbrev pub is_address_of : Bytes → List Account → Bool
 is_address_of address accounts = list_any (λ (account : Account). bytes_eq address account.address) accounts
 
 -- receipts of this provider or of an earlier one go to the address
-abbrev pub takes_receipts : List Provider → List ℕ → List ℕ → Bool
-takes_receipts earlier receipts address = bytes_eq address receipts || list_any (λ (provider : Provider). bytes_eq address provider.receipts) earlier
+abbrev pub takes_receipts : List Provider → Bytes → Bytes → Bool
+takes_receipts earlier receipts address =
+    bytes_eq address receipts || list_any (λ (provider : Provider). bytes_eq address provider.receipts) earlier
 
 -- the address that providers write from, in whatever domain
-abbrev pub is_service : List ℕ → Bool
-is_service address = bytes_eq (take 18 address) (codes "posta-certificata@")
+abbrev pub is_service : Bytes → Bool
+is_service address = bytes_eq (take (length (service_at [])) address) (service_at [])
 
 -- an account may not have the address: one before it has it, receipts go to it, or providers write from it
-abbrev pub is_taken : List Provider → List ℕ → List Account → List ℕ → Bool
+abbrev pub is_taken : List Provider → Bytes → List Account → Bytes → Bool
 is_taken earlier receipts before address =
-    is_address_of address (accounts_of earlier ++ before) || (takes_receipts earlier receipts address || is_service address)
+    is_address_of address (accounts_of earlier ++ before)
+    || (takes_receipts earlier receipts address || is_service address)
 
 -- the greatest number of accounts of a directory
 abbrev pub most_accounts : ℕ
@@ -134,9 +133,18 @@ accounts_from earlier fields before (item account accounts) =
 
 -- ---- providers
 
+-- a provider's own fields and its accounts
 abbrev pub with_accounts : Fields → List Account → Provider
 with_accounts fields accounts =
-    record { name = fields.name; receipts = fields.receipts; domains = fields.domains; key = fields.key; rule = fields.rule; limit = fields.limit; accounts = accounts }
+    record {
+      name = fields.name;
+      receipts = fields.receipts;
+      domains = fields.domains;
+      key = fields.key;
+      rule = fields.rule;
+      limit = fields.limit;
+      accounts = accounts;
+    }
 
 -- the tests on a provider behind those on its own fields
 unfoldable pub settled : List Provider → Fields → Items → Result Provider DirectoryFault
@@ -156,10 +164,12 @@ provider_in earlier provider = do
 -- the providers that are left, behind these
 abbrev pub providers_from : List Provider → Items → Result (List Provider) DirectoryFault
 providers_from earlier no_items = Ok earlier
-providers_from earlier (item provider providers) = provider_in earlier provider >>= λ next. providers_from (earlier ++ next ∷ []) providers
+providers_from earlier (item provider providers) =
+    provider_in earlier provider >>= λ next. providers_from (earlier ++ next ∷ []) providers
 
 -- ---- the whole
 
+-- how many items there are
 abbrev pub count_of : Items → ℕ
 count_of no_items = 0
 count_of (item value values) = count_of values + 1
@@ -168,6 +178,7 @@ count_of (item value values) = count_of values + 1
 abbrev pub most_providers : ℕ
 most_providers = 16
 
+-- the tables of an array that has to be there
 abbrev pub tables_in : Option Data → Option Items
 tables_in None = None
 tables_in (Some value) = tables_of value
@@ -184,15 +195,17 @@ directory_in whole = do
       fault_if (nat_lt most_providers (count_of providers)) TooMany (
       providers_from [] providers))
 
+-- a document's table
 abbrev pub table_of : Option Members → Option Data
 table_of None = None
 table_of (Some members) = Some (table members)
 
-unfoldable pub document_of : List ℕ → Option Data
+-- the table that a text of TOML is
+unfoldable pub document_of : Bytes → Option Data
 document_of text = table_of (parse_document text)
 
--- what the text of a directory says
-unfoldable pub directory_of : List ℕ → Result (List Provider) DirectoryFault
+-- what the text of a directory says, or the first fault of the walk
+unfoldable pub directory_of : Bytes → Result (List Provider) DirectoryFault
 directory_of text = do
   whole ← or_fault NotToml (document_of text)
   directory_in whole

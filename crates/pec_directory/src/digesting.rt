@@ -25,7 +25,8 @@ fn feed_providers(
     hasher: &mut Sha256,
     providers: &[Provider],
 ) -> Result<(), NoMemory>
-    ensures { OnOk result (Fed hasher.old hasher.new (flat_map (λ (kept : Kept). provider_text kept.provider) providers.now)) }
+    ensures { OnOk result
+        (Fed hasher.old hasher.new (flat_map (λ (kept : Kept). provider_text kept.provider) providers.now)) }
 {
     for provider in providers {
         feed_provider(alloc, hasher, provider)?;

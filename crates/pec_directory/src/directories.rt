@@ -1,18 +1,17 @@
-ghost use Rattle.std.specs.Prelude.{◌≡◌, ◌≤◌, ℕ, List, Ok, Some, length, option_map};
-ghost use Rattle.pec_directory.specs.Canonical.{canonical};
-ghost use Rattle.pec_directory.specs.Directory.{Provider as Shown, named, providers_of};
+ghost use Rattle.std.specs.Prelude.{◌≡◌, ◌<◌, ◌≤◌, Some, length, option_map, IfSome};
+ghost use Rattle.pec_directory.specs.Directory.{named, providers_of};
 ghost use Rattle.pec_directory.specs.Indexes.{reached};
-ghost use Rattle.pec_directory.specs.Lawful.{IsLawful};
-ghost use Rattle.pec_directory.specs.Walk.{directory_of, most_providers};
+ghost use Rattle.pec_directory.specs.Walk.{most_providers};
 
 use crate::accounts::Account;
 use crate::digesting::digest;
 use crate::faults::DirectoryFault;
+use crate::ids::id_of;
 use crate::places::Place;
 use crate::providers::Provider;
 use crate::reading::read_text;
 use pec_index::Index;
-use pec_types::{Address, NoMemory};
+use pec_types::{Address, MsgId, NoMemory};
 use std::alloc::Global;
 use std::marker::Model;
 
@@ -36,17 +35,23 @@ impl Model for Directory {
 
     ghost view = { λ directory. directory.providers.items };
 
-    ghost invariant = { λ directory. IsIndexed directory.providers.items directory.homes directory.places × IsLawful (providers_of directory.providers.items) };
+    ghost invariant = { λ directory. IsIndexed directory.providers.items directory.homes directory.places
+        × IsLawful (providers_of directory.providers.items) };
 }
 
 impl Directory {
-    ghost use Rattle.std.specs.Prelude.{◌≡◌, ◌≤◌, length, option_map, slice_get, IfOk};
+    ghost use Rattle.std.specs.Prelude.{◌≡◌, ◌↔◌, ◌<◌, ◌≤◌, Some, length, option_map, slice_get, IfOk, IfSome, IsTrue};
+    ghost use Rattle.pec_types.specs.Answers.{Gives, ReadsExactly, seen_as};
+    ghost use Rattle.pec_types.specs.Message.{Id};
     ghost use Rattle.pec_directory.specs.Canonical.{digest_of};
-    ghost use Rattle.pec_directory.specs.Directory.{account_of, home_of, named, providers_of};
+    ghost use Rattle.pec_directory.specs.Directory.{account_home, account_of, first_domain, home_of, is_account_of, is_certified, named, providers_of};
+    ghost use Rattle.pec_directory.specs.Faults.{IsDirectoryFault};
+    ghost use Rattle.pec_directory.specs.Ids.{Names, id_of};
     ghost use Rattle.pec_directory.specs.Indexes.{IsIndexed};
     ghost use Rattle.pec_directory.specs.Lawful.{IsLawful};
-    ghost use Rattle.pec_directory.specs.Views.{Gives};
+    ghost use Rattle.pec_directory.specs.Tables.{IsDirectory};
     ghost use Rattle.pec_directory.specs.Walk.{directory_of, most_providers};
+    ghost use Rattle.pec_directory.specs.declared.faults.DirectoryFault.TheVariants as faults;
 
     /// The directory of these providers, with their indexes.
     pub(crate) fn new(
@@ -65,9 +70,15 @@ impl Directory {
         }
     }
 
-    /// The directory that a text is, in the form of TOML that docs/formats.md has, or the first fault of its tests. This project's profile.
+    /// The directory that a text is, in the form of TOML that docs/formats.md has, or the first fault of its tests.
+    /// This project's profile.
     pub fn read(alloc: Global, text: &str) -> Result<Directory, DirectoryFault>
-        ensures { Gives providers_of result (directory_of text.now) }
+        // Providers are answered exactly where the text's tables say them and they are lawful; and otherwise the fault
+        // of the first test that is met.
+        ensures reads { ReadsExactly (IsDirectory text.now) (IsDirectoryFault text.now) faults.NoMemory
+            (seen_as providers_of result) }
+        // The same answer as a function of the text, for definitions that build on it.
+        ensures exact { Gives faults.NoMemory providers_of result (directory_of text.now) }
     {
         read_text(alloc, text)
     }
@@ -89,12 +100,70 @@ impl Directory {
         self.providers.len() as u32
     }
 
-    /// The provider that manages an address's domain, by its number from 0; `None` says that the address is an external one. It takes no
-    /// memory.
+    /// The provider that manages an address's domain, by its number from 0; `None` says that the address is an external
+    /// one. It takes no memory.
     pub fn home_of(&self, address: &Address) -> Option<u32>
-        ensures { result ≡ home_of (providers_of self.now) address.now }
+        ensures home { result ≡ home_of (providers_of self.now) address.now }
+        ensures within { IfSome result (λ number. number < length self.now) }
     {
         self.homes.get(address.domain()).copied()
+    }
+
+    /// Whether some provider manages the address's domain: any other address is an external one (RFC 6109, section
+    /// 2.1). It takes no memory.
+    pub fn is_certified(&self, address: &Address) -> bool
+        ensures { result ≡ is_certified (providers_of self.now) address.now }
+    {
+        self.home_of(address).is_some()
+    }
+
+    /// The number of the provider whose account the address is; `None` says that it is no account. It takes no memory.
+    #[tactic(auto, unfolding(crate::specs::Directory::account_home))]
+    pub fn account_home(&self, address: &Address) -> Option<u32>
+        ensures home { result ≡ account_home (providers_of self.now) address.now }
+        ensures within { IfSome result (λ number. number < length self.now) }
+    {
+        if self.account(address).is_none() {
+            return None;
+        }
+        self.home_of(address)
+    }
+
+    /// Whether the address is an account of the provider of this number. Only a provider of the directory has accounts.
+    /// It takes no memory.
+    #[tactic(auto, unfolding(crate::specs::Directory::is_account_of))]
+    pub fn is_account_of(&self, number: u32, address: &Address) -> bool
+        ensures value { result ≡ is_account_of (providers_of self.now) number address.now }
+        ensures within { IsTrue result → number < length self.now }
+    {
+        match self.account_home(address) {
+            Some(home) => home == number,
+            None => false,
+        }
+    }
+
+    /// The first domain of the provider of a number, by which its messages are named; nothing where there is no such
+    /// provider. It takes no memory.
+    #[tactic(auto, unfolding(crate::specs::Directory::first_domain))]
+    pub fn first_domain(&self, number: u32) -> &[u8]
+        ensures { result.now ≡ first_domain (providers_of self.now) number }
+    {
+        match self.provider(number) {
+            Some(provider) => provider.first_domain(),
+            None => b"",
+        }
+    }
+
+    /// The message that a text names: the one whose name, `pec.NNNNNNN@DOMAIN` of a provider's first domain and a
+    /// number below 1,000,000 in seven digits, is the text; `None` says that the text names no message of the
+    /// directory's providers. This project's profile.
+    pub fn id_of(&self, alloc: Global, text: &[u8]) -> Result<Option<MsgId>, NoMemory>
+        ensures names { IfOk result (λ found. (id : Id) →
+            (found ≡ Some id) ↔ Names (providers_of self.now) text.now id) }
+        // The same answer as a function of the text, for definitions that build on it.
+        ensures exact { IfOk result (λ found. found ≡ id_of (providers_of self.now) text.now) }
+    {
+        id_of(alloc, self.providers.as_slice(), text)
     }
 
     /// The account of an address. It takes no memory.
@@ -114,22 +183,12 @@ impl Directory {
 
     /// The number, from 0, of the provider of a name. It takes no memory.
     pub fn named(&self, name: &[u8]) -> Option<u32>
-        ensures { result ≡ named (providers_of self.now) name.now }
+        ensures number { result ≡ named (providers_of self.now) name.now }
+        ensures within { IfSome result (λ number. number < length self.now) }
     {
         place_of_name(self.providers.as_slice(), name)
     }
 }
-
-/// The law of directories: names differ, each domain is one provider's, receipts go to an address in their provider's domains, no two
-/// accounts have one address and each is in its provider's domains; and what else docs/formats.md asks of a directory.
-pub fn a_directory_is_lawful()
-    ensures { (text : List ℕ) (providers : List Shown) → directory_of text ≡ Ok providers → IsLawful providers }
-{}
-
-/// The law of canonical texts: two directories with one canonical text are one.
-pub fn a_canonical_text_is_one_directory()
-    ensures { (providers others : List Shown) → IsLawful providers → IsLawful others → canonical providers ≡ canonical others → providers ≡ others }
-{}
 
 /// The account at a place.
 fn account_at(providers: &[Provider], place: Place) -> Option<&Account>
@@ -143,7 +202,8 @@ fn account_at(providers: &[Provider], place: Place) -> Option<&Account>
 #[tactic(auto, unfolding(crate::specs::Directory::named))]
 fn place_of_name(providers: &[Provider], name: &[u8]) -> Option<u32>
     requires { length providers.now ≤ most_providers }
-    ensures { result ≡ named (providers_of providers.now) name.now }
+    ensures number { result ≡ named (providers_of providers.now) name.now }
+    ensures within { IfSome result (λ number. number < length providers.now) }
 {
     for (number, provider) in providers.iter().enumerate() {
         if name == provider.name().bytes() {

@@ -20,7 +20,7 @@ pub(crate) struct Draft {
 }
 
 /// Whether one of the providers has the name.
-#[tactic(auto, using(crate::proofs::Walking::any_said))]
+#[tactic(auto, using(crate::proofs::WalkLemmas::any_said))]
 pub(crate) fn is_named(name: &[u8], providers: &[Provider]) -> bool
     ensures { result ≡ is_named name.now (providers_of providers.now) }
 {
@@ -47,7 +47,8 @@ pub(crate) fn is_here(homes: &Index<u32>, number: u32, address: &Address) -> boo
 
 /// Whether receipts of one of these providers, or those that go here, go to the address, or providers write from it.
 pub(crate) fn is_reserved(providers: &[Provider], receipts: &Address, address: &Address) -> bool
-    ensures { result ≡ (takes_receipts (providers_of providers.now) receipts.now address.now || is_service address.now) }
+    ensures { result
+        ≡ (takes_receipts (providers_of providers.now) receipts.now address.now || is_service address.now) }
 {
     takes_receipts(providers, receipts, address) || is_service(address.bytes())
 }
@@ -59,9 +60,10 @@ fn takes_receipts(providers: &[Provider], receipts: &Address, address: &Address)
 }
 
 /// Whether receipts of one of these providers go to the address.
-#[tactic(auto, using(crate::proofs::Walking::any_said))]
+#[tactic(auto, using(crate::proofs::WalkLemmas::any_said))]
 fn are_receipts(providers: &[Provider], address: &[u8]) -> bool
-    ensures { result ≡ list_any (λ (provider : Shown). bytes_eq address.now provider.receipts) (providers_of providers.now) }
+    ensures { result
+        ≡ list_any (λ (provider : Shown). bytes_eq address.now provider.receipts) (providers_of providers.now) }
 {
     has_receipts(providers, address)
 }

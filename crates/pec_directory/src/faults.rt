@@ -19,8 +19,8 @@ pub enum Field {
     Quota,
 }
 
-/// Why a text is no directory. Providers count from 0, and a provider's accounts from 1, where 0 is its receipt address. This
-/// project's profile.
+/// Why a text is no directory. Providers count from 0, and a provider's accounts from 1, where 0 is its receipt
+/// address. This project's profile.
 #[derive(Clone, Copy, Debug, PartialEq, Eq)]
 pub enum DirectoryFault {
     /// It isn't TOML.

@@ -30,7 +30,7 @@ fn has_length(least: usize, most: usize, text: &[u8]) -> bool
 }
 
 /// A provider's name: 1 to 32 lower-case letters, digits and hyphens.
-#[tactic(auto, using(crate::proofs::Forms::name_printable), unfolding(crate::specs::Fields::name_at))]
+#[tactic(auto, using(crate::proofs::FormLemmas::name_printable), unfolding(crate::specs::Fields::name_at))]
 pub(crate) fn name_at(alloc: Global, provider: &Value) -> Result<Option<Text>, NoMemory>
     ensures { IfOk result (λ found. found ≡ name_at (view provider.now)) }
 {
@@ -187,7 +187,7 @@ pub(crate) fn key_at(alloc: Global, account: &Value) -> Result<Option<Text>, NoM
 }
 
 /// A text of 1 to so many bytes from 0x21 to 0x7e.
-#[tactic(auto, using(crate::proofs::Forms::visible_printable))]
+#[tactic(auto, using(crate::proofs::FormLemmas::visible_printable))]
 fn visible_text(alloc: Global, most: usize, text: &[u8]) -> Result<Option<Text>, NoMemory>
     ensures { IfOk result (λ found. found ≡ where_true (is_visible most text.now) (Some text.now)) }
 {
@@ -275,7 +275,7 @@ pub(crate) fn tables_of(value: &Value) -> Option<&[Value]>
     }
 }
 
-#[tactic(auto, using(crate::proofs::Forms::are_tables_view))]
+#[tactic(auto, using(crate::proofs::FormLemmas::are_tables_view))]
 fn are_tables(values: &[Value]) -> bool
     ensures { result ≡ are_tables (items_view values.now) }
 {

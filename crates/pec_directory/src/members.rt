@@ -1,10 +1,12 @@
 ghost use Rattle.std.specs.Prelude.{◌≡◌, ◌+◌, ◌≤◌, nat_le, false, ◌++◌, ◌∷◌, [], length, IfOk};
 ghost use Rattle.toml.specs.View.{items_view, view};
+ghost use Rattle.pec_types.specs.Answers.{Gives, OrNoMemory};
 ghost use Rattle.pec_directory.specs.Directory.{Account as Shown, accounts_of};
 ghost use Rattle.pec_directory.specs.Drafts.{IsOpen, read_so_far};
 ghost use Rattle.pec_directory.specs.Indexes.{HasAccounts, HasDomains};
-ghost use Rattle.pec_directory.specs.Views.{Gives, fields_shown};
+ghost use Rattle.pec_directory.specs.Views.{fields_shown};
 ghost use Rattle.pec_directory.specs.Walk.{account_in, accounts_from, is_outside, is_taken, most_accounts};
+ghost use Rattle.pec_directory.specs.declared.faults.DirectoryFault.TheVariants as faults;
 
 use crate::accounts::Account;
 use crate::drafts::{Draft, is_here, is_reserved};
@@ -20,7 +22,8 @@ use toml::Value;
 /// The greatest number of accounts of a directory.
 const MOST_ACCOUNTS: usize = 10_000;
 
-/// The accounts of the provider with these fields, behind those that were read, or the fault of the first that isn't right.
+/// The accounts of the provider with these fields, behind those that were read, or the fault of the first that isn't
+/// right.
 pub(crate) fn read_accounts(
     alloc: Global,
     draft: &Draft,
@@ -31,7 +34,8 @@ pub(crate) fn read_accounts(
     requires open { IsOpen draft.now }
     requires domains { HasDomains draft.now.homes (read_so_far draft.now) fields.now.domains.items }
     requires accounts { HasAccounts places.old (read_so_far draft.now) [] }
-    ensures answer { Gives (λ all. all.items) result (accounts_from (read_so_far draft.now) (fields_shown fields.now) [] (items_view values.now)) }
+    ensures answer { Gives faults.NoMemory (λ all. all.items) result
+        (accounts_from (read_so_far draft.now) (fields_shown fields.now) [] (items_view values.now)) }
     ensures accounts { IfOk result (λ all. HasAccounts places.new (read_so_far draft.now) all.items) }
     ensures few { IfOk result (λ all. draft.now.accounts + length all.items ≤ most_accounts) }
 {
@@ -57,8 +61,10 @@ fn read_account(
     requires few { draft.now.accounts + length before.now ≤ most_accounts }
     requires domains { HasDomains draft.now.homes (read_so_far draft.now) fields.now.domains.items }
     requires accounts { HasAccounts places.old (read_so_far draft.now) before.now }
-    ensures answer { Gives (λ account. account) result (account_in (read_so_far draft.now) (fields_shown fields.now) before.now (view value.now)) }
-    ensures accounts { IfOk result (λ account. HasAccounts places.new (read_so_far draft.now) (before.now ++ account ∷ [])) }
+    ensures answer { OrNoMemory faults.NoMemory result
+        (account_in (read_so_far draft.now) (fields_shown fields.now) before.now (view value.now)) }
+    ensures accounts { IfOk result (λ account.
+        HasAccounts places.new (read_so_far draft.now) (before.now ++ account ∷ [])) }
     ensures few { IfOk result (λ account. draft.now.accounts + (length before.now + 1) ≤ most_accounts) }
 {
     let provider = draft.providers.len() as u32;
@@ -106,8 +112,10 @@ fn is_taken(
     address: &Address,
 ) -> Result<bool, NoMemory>
     requires { HasAccounts places.old (read_so_far draft.now) before.now }
-    ensures taken { IfOk result (λ taken. taken ≡ is_taken (read_so_far draft.now) fields.now.receipts before.now address.now) }
-    ensures put { IfOk result (λ taken. taken ≡ false → (account : Shown) → account.address ≡ address.now → HasAccounts places.new (read_so_far draft.now) (before.now ++ account ∷ [])) }
+    ensures taken { IfOk result (λ taken.
+        taken ≡ is_taken (read_so_far draft.now) fields.now.receipts before.now address.now) }
+    ensures put { IfOk result (λ taken. taken ≡ false → (account : Shown) → account.address ≡ address.now
+        → HasAccounts places.new (read_so_far draft.now) (before.now ++ account ∷ [])) }
 {
     if is_reserved(draft.providers.as_slice(), &fields.receipts, address) {
         return Ok(true);

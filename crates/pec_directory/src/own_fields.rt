@@ -2,8 +2,10 @@ ghost use Rattle.std.specs.Prelude.{◌≡◌, ◌↔◌, Ok, IfOk, is_none, opt
 ghost use Rattle.jiff_tz.specs.PosixReader.{read_whole};
 ghost use Rattle.toml.specs.View.{view};
 ghost use Rattle.pec_cert.specs.Zone.{IsRule};
-ghost use Rattle.pec_directory.specs.Views.{Gives, fields_shown};
+ghost use Rattle.pec_types.specs.Answers.{Gives, OrNoMemory};
+ghost use Rattle.pec_directory.specs.Views.{fields_shown};
 ghost use Rattle.pec_directory.specs.Walk.{fields_of, key_in, receipts_in, rule_in};
+ghost use Rattle.pec_directory.specs.declared.faults.DirectoryFault.TheVariants as faults;
 
 use crate::faults::{DirectoryFault, Field};
 use crate::fields::{domains_at, key_of, limit_at, name_at, rule_at, text_at};
@@ -31,7 +33,7 @@ pub(crate) fn read_fields(
     number: u32,
     provider: &Value,
 ) -> Result<Fields, DirectoryFault>
-    ensures answer { Gives fields_shown result (fields_of number (view provider.now)) }
+    ensures answer { Gives faults.NoMemory fields_shown result (fields_of number (view provider.now)) }
     ensures zone { IfOk result (λ fields. IsRule fields.rule fields.zone) }
 {
     let Some(name) = name_at(alloc, provider)? else {
@@ -59,7 +61,7 @@ pub(crate) fn read_fields(
 
 #[tactic(auto, unfolding(crate::specs::Walk::receipts_in))]
 fn read_receipts(alloc: Global, number: u32, provider: &Value) -> Result<Address, DirectoryFault>
-    ensures { Gives (λ address. address) result (receipts_in number (view provider.now)) }
+    ensures { OrNoMemory faults.NoMemory result (receipts_in number (view provider.now)) }
 {
     let Some(text) = text_at("mailReceipt", provider) else {
         return Err(DirectoryFault::BadField(number, Field::MailReceipt));
@@ -72,7 +74,7 @@ fn read_receipts(alloc: Global, number: u32, provider: &Value) -> Result<Address
 
 #[tactic(auto, unfolding(crate::specs::Walk::key_in))]
 fn read_key(alloc: Global, number: u32, provider: &Value) -> Result<Vec<u8>, DirectoryFault>
-    ensures { Gives (λ key. key.items) result (key_in number (view provider.now)) }
+    ensures { Gives faults.NoMemory (λ key. key.items) result (key_in number (view provider.now)) }
 {
     let Some(text) = text_at("key", provider) else {
         return Err(DirectoryFault::BadField(number, Field::Key));
@@ -86,7 +88,7 @@ fn read_key(alloc: Global, number: u32, provider: &Value) -> Result<Vec<u8>, Dir
 /// The rule of the provider's zone, and the zone.
 #[tactic(auto, unfolding(crate::specs::Walk::rule_in))]
 fn read_rule(alloc: Global, number: u32, provider: &Value) -> Result<(Text, Zone), DirectoryFault>
-    ensures answer { Gives (λ ruled. ruled.0) result (rule_in number (view provider.now)) }
+    ensures answer { Gives faults.NoMemory (λ ruled. ruled.0) result (rule_in number (view provider.now)) }
     ensures zone { IfOk result (λ ruled. IsRule ruled.0 ruled.1) }
 {
     let Some(rule) = rule_at(alloc, provider)? else {

@@ -25,7 +25,15 @@ impl Model for Provider {
     ghost use Rattle.pec_directory.specs.Directory as shown;
 
     ghost view = { λ p. record {
-      provider = record { name = p.name; receipts = p.receipts; domains = p.domains; key = p.key; rule = p.rule; limit = p.limit; accounts = p.accounts };
+      provider = record {
+        name = p.name;
+        receipts = p.receipts;
+        domains = p.domains;
+        key = p.key;
+        rule = p.rule;
+        limit = p.limit;
+        accounts = p.accounts;
+      };
       zone = p.zone;
     } };
 
@@ -35,6 +43,7 @@ impl Model for Provider {
 impl Provider {
     ghost use Rattle.std.specs.Prelude.{◌≡◌};
     ghost use Rattle.pec_cert.specs.Zone.{IsRule};
+    ghost use Rattle.pec_directory.specs.Directory.{first_of};
 
     /// The name, by which scripts and seals know the provider. It takes no memory.
     pub fn name(&self) -> &Text
@@ -55,6 +64,17 @@ impl Provider {
         ensures { result.now ≡ self.now.provider.domains }
     {
         self.domains.as_slice()
+    }
+
+    /// The first of its domains, by which its messages are named; nothing where it has none, which no provider of a
+    /// directory is. It takes no memory.
+    pub fn first_domain(&self) -> &[u8]
+        ensures { result.now ≡ first_of self.now.provider.domains }
+    {
+        match self.domains.as_slice() {
+            [] => b"",
+            [first, ..] => first.bytes(),
+        }
     }
 
     /// The key of its seals. It takes no memory.

@@ -1,8 +1,9 @@
 ghost use Rattle.std.specs.Prelude.{◌≡◌, ◌<◌, ◌≤◌, ◌==◌, nat_lt, false, [], length, option_map};
 ghost use Rattle.toml.specs.View.{items_view, view};
+ghost use Rattle.pec_types.specs.Answers.{Gives};
 ghost use Rattle.pec_directory.specs.Directory.{providers_of};
-ghost use Rattle.pec_directory.specs.Views.{Gives};
 ghost use Rattle.pec_directory.specs.Walk.{count_of, directory_in, directory_of, most_providers, providers_from, providers_in};
+ghost use Rattle.pec_directory.specs.declared.faults.DirectoryFault.TheVariants as faults;
 
 use crate::directories::Directory;
 use crate::drafts::Draft;
@@ -19,7 +20,7 @@ const MOST_PROVIDERS: usize = 16;
 /// The directory that a text is, or its first fault.
 #[tactic(auto, unfolding(crate::specs::Walk::directory_of, crate::specs::Walk::document_of))]
 pub(crate) fn read_text(alloc: Global, text: &str) -> Result<Directory, DirectoryFault>
-    ensures { Gives providers_of result (directory_of text.now) }
+    ensures { Gives faults.NoMemory providers_of result (directory_of text.now) }
 {
     let table = match toml::table_from_str(alloc, text) {
         Ok(table) => table,
@@ -33,7 +34,7 @@ pub(crate) fn read_text(alloc: Global, text: &str) -> Result<Directory, Director
 /// What the table of a directory says.
 #[tactic(auto, unfolding(crate::specs::Walk::directory_in))]
 fn read_whole(alloc: Global, whole: &Value) -> Result<Directory, DirectoryFault>
-    ensures { Gives providers_of result (directory_in (view whole.now)) }
+    ensures { Gives faults.NoMemory providers_of result (directory_in (view whole.now)) }
 {
     let Some(values) = providers_in(whole) else {
         return Err(DirectoryFault::NoProvider);
@@ -57,7 +58,7 @@ fn providers_in(whole: &Value) -> Option<&[Value]>
     tables_of(value)
 }
 
-#[tactic(auto, using(crate::proofs::Steps::count_view))]
+#[tactic(auto, using(crate::proofs::StepLemmas::count_view))]
 fn is_none(values: &[Value]) -> bool
     ensures none { result ≡ (count_of (items_view values.now) == 0) }
     ensures some { result ≡ false → 0 < length values.now }
@@ -66,7 +67,7 @@ fn is_none(values: &[Value]) -> bool
 }
 
 /// Whether there are more than a directory may have.
-#[tactic(auto, using(crate::proofs::Steps::count_view))]
+#[tactic(auto, using(crate::proofs::StepLemmas::count_view))]
 fn are_many(values: &[Value]) -> bool
     ensures many { result ≡ nat_lt most_providers (count_of (items_view values.now)) }
     ensures few { result ≡ false → length values.now ≤ most_providers }
@@ -78,7 +79,7 @@ fn are_many(values: &[Value]) -> bool
 fn read_providers(alloc: Global, values: &[Value]) -> Result<Directory, DirectoryFault>
     requires some { 0 < length values.now }
     requires few { length values.now ≤ most_providers }
-    ensures { Gives providers_of result (providers_from [] (items_view values.now)) }
+    ensures { Gives faults.NoMemory providers_of result (providers_from [] (items_view values.now)) }
 {
     let mut draft = Draft {
         providers: Vec::new(alloc),

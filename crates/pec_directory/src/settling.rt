@@ -2,11 +2,13 @@ ghost use Rattle.std.specs.Prelude.{◌≡◌, ◌+◌, ◌<◌, ◌^◌, true, 
 ghost use Rattle.toml.specs.View.{items_view, view};
 ghost use Rattle.pec_cert.specs.Zone.{IsRule};
 ghost use Rattle.pec_index.specs.Entries.{Finds};
+ghost use Rattle.pec_types.specs.Answers.{Gives};
 ghost use Rattle.pec_directory.specs.Directory.{providers_of};
 ghost use Rattle.pec_directory.specs.Drafts.{IsRead, onto, read_so_far};
 ghost use Rattle.pec_directory.specs.Indexes.{HasDomains, deeds_from};
-ghost use Rattle.pec_directory.specs.Views.{Gives, fields_shown};
+ghost use Rattle.pec_directory.specs.Views.{fields_shown};
 ghost use Rattle.pec_directory.specs.Walk.{domains_of, most_providers, provider_in, settled, stands_twice, with_accounts};
+ghost use Rattle.pec_directory.specs.declared.faults.DirectoryFault.TheVariants as faults;
 
 use crate::accounts::Account;
 use crate::drafts::{Draft, is_named};
@@ -31,7 +33,8 @@ pub(crate) fn read_provider(
 ) -> Result<(), DirectoryFault>
     requires room { length draft.old.providers.items < most_providers }
     requires read { IsRead draft.old places.old }
-    ensures answer { Gives (λ _. read_so_far draft.new) result (onto (read_so_far draft.old) (provider_in (read_so_far draft.old) (view provider.now))) }
+    ensures answer { Gives faults.NoMemory (λ _. read_so_far draft.new) result
+        (onto (read_so_far draft.old) (provider_in (read_so_far draft.old) (view provider.now))) }
     ensures read { OnOk result (IsRead draft.new places.new) }
 {
     let number = draft.providers.len() as u32;
@@ -55,7 +58,8 @@ fn settle(
     requires room { length draft.old.providers.items < most_providers }
     requires read { IsRead draft.old places.old }
     requires zone { IsRule fields.rule fields.zone }
-    ensures answer { Gives (λ _. read_so_far draft.new) result (onto (read_so_far draft.old) (settled (read_so_far draft.old) (fields_shown fields) (items_view values.now))) }
+    ensures answer { Gives faults.NoMemory (λ _. read_so_far draft.new) result
+        (onto (read_so_far draft.old) (settled (read_so_far draft.old) (fields_shown fields) (items_view values.now))) }
     ensures read { OnOk result (IsRead draft.new places.new) }
 {
     let number = draft.providers.len() as u32;
@@ -77,8 +81,10 @@ fn settle(
 fn claim(alloc: Global, draft: &mut Draft, domains: &[Text]) -> Result<bool, NoMemory>
     requires room { length draft.old.providers.items < most_providers }
     requires homes { Finds draft.old.homes (deeds_from 0 (read_so_far draft.old)) }
-    ensures once { IfOk result (λ claimed. claimed ≡ not (stands_twice (domains_of (read_so_far draft.old)) domains.now)) }
-    ensures homes { IfOk result (λ claimed. claimed ≡ true → HasDomains draft.new.homes (read_so_far draft.old) domains.now) }
+    ensures once { IfOk result (λ claimed.
+        claimed ≡ not (stands_twice (domains_of (read_so_far draft.old)) domains.now)) }
+    ensures homes { IfOk result (λ claimed.
+        claimed ≡ true → HasDomains draft.new.homes (read_so_far draft.old) domains.now) }
     ensures providers { draft.new.providers ≡ draft.old.providers }
     ensures accounts { draft.new.accounts ≡ draft.old.accounts }
 {
@@ -94,8 +100,10 @@ fn enter(
 ) -> Result<bool, NoMemory>
     requires room { length providers.now < most_providers }
     requires homes { Finds homes.old (deeds_from 0 (providers_of providers.now)) }
-    ensures once { IfOk result (λ entered. entered ≡ not (stands_twice (domains_of (providers_of providers.now)) domains.now)) }
-    ensures homes { IfOk result (λ entered. entered ≡ true → HasDomains homes.new (providers_of providers.now) domains.now) }
+    ensures once { IfOk result (λ entered.
+        entered ≡ not (stands_twice (domains_of (providers_of providers.now)) domains.now)) }
+    ensures homes { IfOk result (λ entered.
+        entered ≡ true → HasDomains homes.new (providers_of providers.now) domains.now) }
 {
     let number = providers.len() as u32;
     for domain in domains {
@@ -110,7 +118,8 @@ fn enter(
 fn keep(draft: &mut Draft, fields: Fields, accounts: Vec<Account>) -> Result<(), NoMemory>
     requires zone { IsRule fields.rule fields.zone }
     requires few { draft.old.accounts + length accounts.items < 2 ^ 63 }
-    ensures kept { OnOk result (read_so_far draft.new ≡ read_so_far draft.old ++ with_accounts (fields_shown fields) accounts.items ∷ []) }
+    ensures kept { OnOk result
+        (read_so_far draft.new ≡ read_so_far draft.old ++ with_accounts (fields_shown fields) accounts.items ∷ []) }
     ensures homes { draft.new.homes ≡ draft.old.homes }
     ensures count { OnOk result (draft.new.accounts ≡ draft.old.accounts + length accounts.items) }
 {

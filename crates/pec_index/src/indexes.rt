@@ -1,5 +1,5 @@
-ghost use Rattle.std.specs.Prelude.{◌≡◌, List, ℕ, None, false, option_map, IfOk, OnErr};
-ghost use Rattle.pec_index.specs.Entries.{Finds, IsAdded, value_at};
+ghost use Rattle.std.specs.Prelude.{◌≡◌, None, false, option_map, IfOk, OnErr};
+ghost use Rattle.pec_index.specs.Entries.{Entries, Finds, IsAdded, Key, value_at};
 
 use std::alloc::{AllocError, Global};
 use std::collections::BTreeMap;
@@ -12,10 +12,9 @@ pub struct Index<V> {
 }
 
 impl<V> Model for Index<V> {
-    ghost use Rattle.std.specs.Prelude.{List, ℕ};
-    ghost use Rattle.pec_index.specs.Entries.{shown};
+    ghost use Rattle.pec_index.specs.Entries.{Entries, shown};
 
-    ghost Value = { List (List ℕ × V) };
+    ghost Value = { Entries V };
 
     ghost view = { λ index. shown index.map.entries };
 }
@@ -23,7 +22,7 @@ impl<V> Model for Index<V> {
 impl<V: Drop> Index<V> {
     /// A map with no key. It takes no memory.
     pub fn new(alloc: Global) -> Index<V>
-        ensures { (key : List ℕ) → value_at key result ≡ None }
+        ensures { (key : Key) → value_at key result ≡ None }
     {
         Index {
             map: BTreeMap::new(alloc),
@@ -37,10 +36,12 @@ impl<V: Drop> Index<V> {
         self.map.get(key)
     }
 
-    /// Puts a value at a key, unless one stands there. The answer says whether it was put.
+    /// Puts a value at a key, unless one stands there. The answer says whether it was put; where it wasn't, or memory
+    /// ran out, the map is as it was.
     pub fn add(&mut self, alloc: Global, key: &[u8], value: V) -> Result<bool, AllocError>
         // Of the keys, it's as if the entry stood behind all others.
-        ensures added { IfOk result (λ added. (entries : List (List ℕ × V)) → Finds self.old entries → IsAdded added self.new entries key.now value) }
+        ensures added { IfOk result (λ added. (entries : Entries V) →
+            Finds self.old entries → IsAdded added self.new entries key.now value) }
         ensures kept { IfOk result (λ added. added ≡ false → self.new ≡ self.old) }
         ensures err { OnErr result (self.new ≡ self.old) }
     {
@@ -58,13 +59,20 @@ mod tests {
     use super::*;
     use std::test::Fail;
 
+    /// Each row has a key, a value, and whether the value is put there.
     #[test]
-    fn keeps_the_first_value(rt: HostRuntime) -> Result<(), Fail> {
+    fn the_first_value_at_a_key_stays(rt: HostRuntime) -> Result<(), Fail> {
+        let rows: [(&[u8], u32, bool); 4] = [
+            (b"alfa", 7, true),
+            (b"", 8, true), // no byte is a key too
+            (b"alfa", 9, false), // the first value stays
+            (b"alfb", 10, true), // another last byte, another key
+        ];
         let mut index = Index::new(rt.alloc());
         assert_eq!(rt; index.get(b"alfa").copied(), None);
-        assert!(rt; index.add(rt.alloc(), b"alfa", 7u32)?);
-        assert!(rt; index.add(rt.alloc(), b"", 8)?);
-        assert!(rt; !index.add(rt.alloc(), b"alfa", 9)?);
+        for (key, value, put) in rows {
+            assert_eq!(rt; index.add(rt.alloc(), key, value)?, put, "{key:?}");
+        }
         assert_eq!(rt; index.get(b"alfa").copied(), Some(7));
         assert_eq!(rt; index.get(b"").copied(), Some(8));
         assert_eq!(rt; index.get(b"alf").copied(), None);

@@ -2,7 +2,7 @@ use Rattle.std.proofs.Common.{◌++◌, codes}
 use Rattle.std.specs.Fmt.{decimal}
 use Rattle.hex.specs.Hex.{encode_lower}
 use Rattle.pec_directory.specs.Canonical.{back_of, line_of}
-use Rattle.pec_directory.proofs.Feeds.{fed_more}
+use Rattle.pec_directory.proofs.FeedLemmas.{fed_more}
 use Rattle.pec_directory.proofs.digesting.feed_back.Goals as goal
 
 pub returns : goal.returns

@@ -1,6 +1,6 @@
 use Rattle.std.proofs.Common.{codes}
 use Rattle.pec_directory.specs.Canonical.{front_of, line_of}
-use Rattle.pec_directory.proofs.Feeds.{fed_more}
+use Rattle.pec_directory.proofs.FeedLemmas.{fed_more}
 use Rattle.pec_directory.proofs.digesting.feed_front.Goals as goal
 
 pub returns : goal.returns

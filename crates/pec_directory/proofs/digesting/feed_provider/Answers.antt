@@ -1,7 +1,7 @@
 use Rattle.std.proofs.Common.{◌++◌}
 use Rattle.std.specs.List.{flat_map}
 use Rattle.pec_directory.specs.Canonical.{account_line, back_of, domain_line, front_of, provider_text}
-use Rattle.pec_directory.proofs.Feeds.{fed_more}
+use Rattle.pec_directory.proofs.FeedLemmas.{fed_more}
 use Rattle.pec_directory.proofs.digesting.feed_provider.Goals as goal
 
 pub returns : goal.returns

@@ -1,4 +1,4 @@
-use Rattle.pec_directory.proofs.Forms.{domain_printable}
+use Rattle.pec_directory.proofs.FormLemmas.{domain_printable}
 use Rattle.pec_directory.proofs.fields.domain_in.Goals as goal
 
 pub of_printable-requires : goal.of_printable-requires

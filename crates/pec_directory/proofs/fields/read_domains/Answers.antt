@@ -1,5 +1,5 @@
 use Rattle.std.proofs.Common.{sym, ◌∙◌}
-use Rattle.pec_directory.proofs.Forms.{domain_none, domain_step}
+use Rattle.pec_directory.proofs.FormLemmas.{domain_none, domain_step}
 use Rattle.pec_directory.proofs.fields.read_domains.Goals as goal
 
 pub returns-in_default : goal.returns-in_default

@@ -1,6 +1,6 @@
 use Rattle.std.proofs.Common.{ap, not, ◌∙◌, rules}
 use Rattle.pec_types.specs.AddressReading.{domain_of}
-use Rattle.pec_directory.proofs.Walking.{outside_here}
+use Rattle.pec_directory.proofs.WalkLemmas.{outside_here}
 use Rattle.pec_directory.proofs.members.is_outside.Goals as goal
 
 pub returns : goal.returns

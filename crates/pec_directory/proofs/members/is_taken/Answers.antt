@@ -1,7 +1,7 @@
 use Rattle.std.proofs.Common.{◌≡◌, ◌||◌, length, sym, ◌∙◌, false, rules}
 use Rattle.pec_directory.specs.Directory.{providers_of}
 use Rattle.pec_directory.specs.Walk.{is_service, takes_receipts}
-use Rattle.pec_directory.proofs.Walking.{put_there, taken_is}
+use Rattle.pec_directory.proofs.WalkLemmas.{put_there, taken_is}
 use Rattle.pec_directory.proofs.members.is_taken.Goals as goal
 
 pub returns-clause-taken : goal.returns-clause-taken

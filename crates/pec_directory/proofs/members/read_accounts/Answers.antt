@@ -1,7 +1,7 @@
 use Rattle.std.proofs.Common.{◌∷◌, [], length, ap, ◌∙◌, arith, length-append}
 use Rattle.pec_directory.specs.Drafts.{read_so_far}
 use Rattle.pec_directory.specs.Views.{fields_shown}
-use Rattle.pec_directory.proofs.Steps.{accounts_step}
+use Rattle.pec_directory.proofs.StepLemmas.{accounts_step}
 use Rattle.pec_directory.proofs.members.read_accounts.Goals as goal
 
 pub loop-value-preserved : goal.loop-value-preserved

@@ -3,8 +3,8 @@ use Rattle.std.proofs.lemmas.List.{at_drop_all}
 use Rattle.toml.specs.View.{items_view}
 use Rattle.pec_directory.specs.Drafts.{read_so_far}
 use Rattle.pec_directory.specs.Walk.{providers_from}
-use Rattle.pec_directory.proofs.Laws.{lawful_from}
-use Rattle.pec_directory.proofs.Steps.{count_view}
+use Rattle.pec_directory.proofs.LawfulLemmas.{lawful_from}
+use Rattle.pec_directory.proofs.StepLemmas.{count_view}
 use Rattle.pec_directory.proofs.reading.read_providers.Goals as goal
 
 pub new-requires-3-clause-lawful : goal.new-requires-3-clause-lawful

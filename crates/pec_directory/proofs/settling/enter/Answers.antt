@@ -1,5 +1,5 @@
 use Rattle.std.proofs.Common.{◌≡◌, true, false, not, length, refl, sym, ap, subst, ◌∙◌, rules}
-use Rattle.pec_directory.proofs.Entering.{Answers, entered, met, unmet}
+use Rattle.pec_directory.proofs.EnteringLemmas.{Answers, entered, met, unmet}
 use Rattle.pec_directory.proofs.settling.enter.Goals as goal
 
 pub returns-then-not-branch-clause-once : goal.returns-then-not-branch-clause-once

@@ -2,7 +2,7 @@ use Rattle.std.proofs.Common.{◌≡◌, ◌+◌, ◌++◌, ◌∷◌, [], true,
 use Rattle.pec_directory.specs.Drafts.{read_so_far}
 use Rattle.pec_directory.specs.Views.{fields_shown}
 use Rattle.pec_directory.specs.Walk.{with_accounts}
-use Rattle.pec_directory.proofs.Keeping.{counted_more, deeds_more, spots_more}
+use Rattle.pec_directory.proofs.KeepingLemmas.{counted_more, deeds_more, spots_more}
 use Rattle.pec_directory.proofs.settling.settle.Goals as goal
 
 pub returns-clause-read : goal.returns-clause-read

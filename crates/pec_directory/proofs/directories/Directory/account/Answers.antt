@@ -1,5 +1,5 @@
 use Rattle.std.proofs.Common.{[], refl, ap, ◌∙◌, option_map}
-use Rattle.pec_directory.proofs.Lookups.{account-found}
+use Rattle.pec_directory.proofs.LookupLemmas.{account-found}
 use Rattle.pec_directory.specs.Directory.{account_of, providers_of}
 use Rattle.pec_directory.specs.Indexes.{reached}
 use Rattle.pec_directory.proofs.directories.Directory.account.Goals as goal

@@ -9,9 +9,9 @@ use Rattle.toml.specs.View.{items_view, view}
 use Rattle.toml.specs.declared.value.Value.{Value}
 use Rattle.pec_types.specs.Address.{IsLowerAddress, HasDomain}
 use Rattle.pec_types.specs.Text.{is_unprintable, AllPrintable}
-use Rattle.pec_cert.proofs.Printable.{printable_address}
-use Rattle.pec_cert.proofs.Texts.{all_printable, printable_all}
-use Rattle.pec_directory.specs.Fields.{are_tables, domain_of_item, domains_of, has_length, is_name, is_name_byte, is_visible, is_visible_byte}
+use Rattle.pec_types.proofs.TextLaws.{all_printable, printable_address, printable_all}
+use Rattle.pec_directory.specs.Fields.{are_tables, domain_of_item, domains_of, has_length, is_name, is_name_byte, is_visible, is_visible_byte, service_at}
+use Rattle.pec_directory.specs.Lawful.{IsOwnDomain}
 
 both : (x y : Bool) → (x && y) ≡ true → (x ≡ true) × (y ≡ true)
 both true y e = (refl, e)
@@ -42,6 +42,9 @@ behind (b ∷ front) back all = behind front back all.1
 pub domain_printable : (address domain : List ℕ) → IsLowerAddress address → HasDomain address domain → AllPrintable domain
 domain_printable address domain lower parts =
     printable_all domain (behind parts.local (64 ∷ domain) (rw parts.parts at (all_printable address (printable_address address lower)))).1
+
+pub own_printable : (domain : List ℕ) → IsOwnDomain domain → AllPrintable domain
+own_printable domain own = printable_all domain (behind (service_at []) domain (all_printable (service_at domain) (printable_address (service_at domain) own)))
 
 pub are_tables_view : (values : List Value) → are_tables (items_view values) ≡ list_all (λ value. is_some (as_table (view value))) values
 are_tables_view [] = refl

@@ -2,9 +2,10 @@
 use Rattle.std.proofs.Common.{◌≡◌, ℕ, ◌+◌, ◌<◌, List, [], ◌∷◌, ◌++◌, length, get_or, drop, Ok, refl, sym, ap, ◌∙◌, arith}
 use Rattle.toml.specs.View.{items_view, view}
 use Rattle.toml.specs.declared.value.Value.{Value}
+use Rattle.pec_types.specs.Results.{◌>>=◌}
 use Rattle.pec_directory.specs.Directory.{Account, Provider}
-use Rattle.pec_directory.specs.Walk.{Fields, ◌>>=◌, account_in, accounts_from, count_of, provider_in, providers_from}
-use Rattle.pec_directory.proofs.Forms.{items_view-step}
+use Rattle.pec_directory.specs.Walk.{Fields, account_in, accounts_from, count_of, provider_in, providers_from}
+use Rattle.pec_directory.proofs.FormLemmas.{items_view-step}
 
 pub accounts_step : (earlier : List Provider) (fields : Fields) (before : List Account) (values : List Value) (i : ℕ) (value : Value) (account : Account)
     → i < length values → value ≡ get_or values i value → account_in earlier fields before (view value) ≡ Ok account

@@ -11,13 +11,13 @@ use Rattle.pec_directory.specs.Directory.{Account, Kept, Provider, accounts_of, 
 use Rattle.pec_directory.specs.Indexes.{HasAccounts, HasDomains, deeds_from, deeds_of, is_here, spots_from, spots_of}
 use Rattle.pec_directory.specs.Walk.{domains_of, is_address_of, is_among, is_service, is_taken, stands_twice, takes_receipts}
 use Rattle.pec_directory.specs.declared.places.Place.{Place}
-use Rattle.pec_directory.proofs.Lookups.{value_at-deeds}
+use Rattle.pec_directory.proofs.LookupLemmas.{value_at-deeds}
 
 pub any_said : (test : Provider → Bool) (kept : List Kept) → list_any test (providers_of kept) ≡ list_any (λ (one : Kept). test one.provider) kept
 any_said test [] = refl
 any_said test (one ∷ kept) = ap (λ b. test one.provider || b) (any_said test kept)
 
-neither : (x y : Bool) → (x || y) ≡ false → (x ≡ false) × (y ≡ false)
+pub neither : (x y : Bool) → (x || y) ≡ false → (x ≡ false) × (y ≡ false)
 neither true y e = absurd (false≢true (sym e))
 neither false y e = (refl, e)
 

@@ -1,4 +1,5 @@
--- A canonical text is that of one directory: its lines are cut at their ends, each line at its first space, and an account's at its last two.
+-- A canonical text is that of one directory: its lines are cut at their ends, each line at its first space, and an
+-- account's at its last two.
 use Rattle.std.proofs.Common.{◌≡◌, ℕ, suc, zero, ◌+◌, ◌-◌, ◌*◌, ◌/◌, ◌%◌, ◌^◌, ◌<◌, ◌≤◌, Bool, true, false, not, ◌&&◌, eqb, List, [], ◌∷◌, ◌++◌, codes, get_or, Result, Ok, refl, sym, ap, subst, ◌∙◌, arith, rules, append_assoc}
 use Rattle.std.specs.Prelude.{slice_index}
 use Rattle.std.specs.Fmt.{decimal}
@@ -12,13 +13,12 @@ use Rattle.hex.proofs.HexLemmas.{decode_of-encode_lower}
 use Rattle.hex.specs.declared.error.FromHexError.{FromHexError}
 use Rattle.hex.specs.Hex.{IsBytes, decode_of, encode_lower, encode_with, lower_digits}
 use Rattle.pec_types.specs.Text.{is_unprintable, AllPrintable}
-use Rattle.pec_cert.proofs.Printable.{printable_address}
-use Rattle.pec_cert.proofs.Texts.{all_printable}
+use Rattle.pec_types.proofs.TextLaws.{all_printable, printable_address}
 use Rattle.pec_directory.specs.Canonical.{account_line, account_value, back_of, canonical, domain_line, front_of, line_of, provider_text}
 use Rattle.pec_directory.specs.Directory.{Account, Provider}
 use Rattle.pec_directory.specs.Fields.{has_length, is_visible, is_visible_byte}
-use Rattle.pec_directory.specs.Lawful.{AllPrint, AreNext, AreNextAccounts, IsLawful}
-use Rattle.pec_directory.proofs.Forms.{name_printable, visible_printable}
+use Rattle.pec_directory.specs.Lawful.{AreNext, AreNextAccounts, IsLawful, IsOwnDomain}
+use Rattle.pec_directory.proofs.FormLemmas.{name_printable, own_printable, visible_printable}
 
 -- ---- cutting at a byte
 
@@ -210,9 +210,9 @@ clean-append : (es fs : List Entry) → AreClean es → AreClean fs → AreClean
 clean-append [] fs p q = q
 clean-append (e ∷ es) fs p q = (p.0, p.1, clean-append es fs p.2 q)
 
-clean_domains : (ds : List (List ℕ)) → AllPrint ds → AreClean (domain_entries ds)
+clean_domains : (ds : List (List ℕ)) → AllByRecursion IsOwnDomain ds → AreClean (domain_entries ds)
 clean_domains [] all = tt
-clean_domains (d ∷ ds) all = (refl, printed d all.0, clean_domains ds all.1)
+clean_domains (d ∷ ds) all = (refl, printed d (own_printable d all.0), clean_domains ds all.1)
 
 small : (n most : ℕ) → n ≤ most → most < 2 ^ 64 → n < 2 ^ 64
 small n most a b = omega arith
@@ -246,7 +246,7 @@ clean_providers earlier (p ∷ ps) all =
       (
         refl,
         printed p.receipts (printable_address p.receipts all.0.receipts),
-        clean-append (domain_entries p.domains) _ (clean_domains p.domains all.0.domains_print)
+        clean-append (domain_entries p.domains) _ (clean_domains p.domains all.0.domains_are)
             (refl, hexed p.key, (refl, printed p.rule (visible_printable 128 p.rule all.0.rule), (refl, decimal_lacks 10 p.limit (omega arith) (limit_fits p.limit all.0.limit.1), clean-append (account_entries p.accounts) (entries_of ps) accounts rest))),
       ),
     )

@@ -1,29 +1,30 @@
--- What the walk finds right holds of the directory.
-use Rattle.std.proofs.Common.{◌≡◌, ℕ, ℤ, pos, negsuc, ◌+◌, ◌<◌, ◌≤◌, Bool, true, false, ◌&&◌, List, [], ◌∷◌, ◌++◌, length, codes, eqb, leb, ltb, leb-true, leb-false, ltb-false, append-nil, append_assoc, Option, Some, None, is_none, IsSome, option_and_then, option_map, Result, Ok, Err, refl, sym, subst, ◌∙◌, arith}
-use Rattle.std.specs.List.{list_all}
+-- What the walk finds right is what the tables say, and is lawful: `directory_so`, at the end.
+use Rattle.std.proofs.Common.{◌≡◌, ℕ, ℤ, pos, negsuc, ◌+◌, ◌<◌, ◌≤◌, Bool, true, false, ◌&&◌, List, [], ◌∷◌, ◌++◌, length, codes, eqb, leb, ltb, leb-true, leb-false, ltb-false, append-nil, append_assoc, Option, Some, None, is_none, IsSome, option_and_then, option_map, Result, Ok, Err, refl, sym, ap, subst, ◌∙◌, arith}
+use Rattle.std.specs.List.{list_all, position, AllByRecursion}
 use Rattle.std.specs.Result.{result_ok}
-use Rattle.std.proofs.lemmas.Bool.{eqb-false, false≢true}
+use Rattle.std.proofs.lemmas.Bool.{cond-true, eqb-false, false≢true, lt-ltb}
 use Rattle.hex.proofs.HexLemmas.{decode_of-ok}
 use Rattle.hex.specs.Hex.{IsBytes, decode_of}
 use Rattle.hex.specs.declared.error.FromHexError.{FromHexError}
 use Rattle.jiff_tz.specs.PosixReader.{read_whole}
 use Rattle.jiff_tz.specs.PosixText.{TzText}
 use Rattle.toml.specs.Data.{Data, Items, no_items, item, as_array, as_integer, as_str, get}
-use Rattle.pec_types.specs.Address.{AnswersAddress, HasDomain, IsLowerAddress}
-use Rattle.pec_types.specs.AddressReading.{address_of, domain_of}
-use Rattle.pec_types.specs.Text.{AllPrintable}
+use Rattle.pec_types.specs.Address.{IsLowerAddress, IsReadAs, lowered}
+use Rattle.pec_types.specs.AddressReading.{address_of, behind_sign, domain_of, is_at_sign}
+use Rattle.pec_types.specs.Bytes.{Bytes}
+use Rattle.pec_types.specs.Results.{◌>>=◌}
 use Rattle.pec_types.specs.declared.addresses.AddressFault.{AddressFault}
-use Rattle.pec_types.proofs.AddressLaws.{answered, domain_is}
+use Rattle.pec_types.proofs.AddressLaws.{told_exactly}
 use Rattle.pec_types.proofs.LowerCase.{kept_address}
 use Rattle.pec_directory.specs.Directory.{Account, Provider, accounts_of}
-use Rattle.pec_directory.specs.Fields.{accounts_at, domain_in, domain_of_item, domains_at, domains_of, greatest_limit, has_length, is_hex, is_hex_byte, is_name, is_some_list, is_visible, key_at, key_of, limit_at, limit_of, name_at, number_in, number_of, quota_at, rule_at, text_at, where_true}
-use Rattle.pec_directory.specs.Lawful.{AllPrint, AreNext, AreNextAccounts, IsLawful, IsNext, IsNextAccount}
+use Rattle.pec_directory.specs.Fields.{accounts_at, address_at, address_in, domain_in, domain_of_item, domains_at, domains_of, greatest_limit, has_length, is_hex, is_hex_byte, is_name, is_some_list, is_visible, key_at, key_of, limit_at, limit_of, name_at, number_in, number_of, quota_at, receipts_at, rule_at, seal_key_at, service_at, text_at, where_true}
+use Rattle.pec_directory.specs.Lawful.{AreNext, AreNextAccounts, IsLawful, IsNext, IsNextAccount, IsOwnDomain}
+use Rattle.pec_directory.specs.Tables.{IsDirectory, SayAccounts, SayProviders, SaysAccount, SaysProvider}
 use Rattle.pec_directory.specs.Walk as walk
-use Rattle.pec_directory.specs.Walk.{◌>>=◌, Fields, account_in, accounts_from, address_in, count_of, directory_in, directory_of, document_of, fault_if, fields_of, is_named, is_outside, is_taken, key_in, most_accounts, most_providers, or_fault, provider_in, providers_from, providers_in, receipts_in, rule_in, settled, stands_twice, with_accounts}
+use Rattle.pec_directory.specs.Walk.{Fields, account_in, accounts_from, count_of, directory_in, directory_of, document_of, fault_if, fields_of, is_named, is_outside, is_taken, key_in, most_accounts, most_providers, or_fault, provider_in, providers_from, providers_in, receipts_in, rule_in, settled, stands_twice, with_accounts}
 use Rattle.pec_directory.specs.declared.faults.DirectoryFault.{DirectoryFault}
 use Rattle.pec_directory.specs.declared.faults.DirectoryFault.TheVariants.{NotToml, BadField, NameTwice, DomainTwice, BadAddress, AccountOutside, AccountTwice, BadKey, BadZone, TooMany, NoProvider}
 use Rattle.pec_directory.specs.declared.faults.Field.TheVariants as field
-use Rattle.pec_directory.proofs.Forms.{domain_printable}
 
 -- ---- steps that were taken
 
@@ -70,56 +71,70 @@ both false y e = absurd (false≢true e)
 
 -- ---- fields
 
-address_lower : (text a : List ℕ) (r : Result (List ℕ) AddressFault) → address_of text ≡ r → result_ok r ≡ Some a → IsLowerAddress a
-address_lower text a (Ok b) is e =
-    let answer = subst (AnswersAddress text) is (answered text) in
-    kept_address text a answer.0 (sym (same b a e) ∙ answer.1)
-address_lower text a (Err fault) is e = let h : ⊥ = cc in absurd h
+read_so : (text a : Bytes) (r : Result Bytes AddressFault) → address_of text ≡ r → result_ok r ≡ Some a → IsReadAs text a
+read_so text a (Ok b) is e = let read = ((told_exactly text).value b).0 is in (read.0, sym (same b a e) ∙ read.1)
+read_so text a (Err fault) is e = let h : ⊥ = cc in absurd h
 
-pub named_so : (entry : Data) (name : List ℕ) → name_at entry ≡ Some name → is_name name ≡ true
+address_lower : (text a : Bytes) → address_in text ≡ Some a → IsLowerAddress a
+address_lower text a e = let read = read_so text a (address_of text) refl e in kept_address text a read.0 read.1
+
+pub named_so : (entry : Data) (name : Bytes) → name_at entry ≡ Some name → is_name name ≡ true
 unfolding name_at
 named_so entry name e =
     let text = then_some (text_at (codes "name") entry) (λ t. where_true (is_name t) (Some t)) name e in
     let fits = where_some (is_name text.0) (Some text.0) name text.2 in
     subst (λ t. is_name t ≡ true) (same text.0 name fits.1) fits.0
 
-pub receipts_so : (number : ℕ) (entry : Data) (address : List ℕ) → receipts_in number entry ≡ Ok address → IsLowerAddress address
-unfolding receipts_in
+pub receipts_so : (number : ℕ) (entry : Data) (address : Bytes) → receipts_in number entry ≡ Ok address → (receipts_at entry ≡ Some address) × IsLowerAddress address
+unfolding receipts_in receipts_at
 receipts_so number entry address e =
     let text = or_ok (BadField number field.MailReceipt) (text_at (codes "mailReceipt") entry) (λ t. or_fault (BadAddress number 0) (address_in t)) address e in
-    address_lower text.0 address (address_of text.0) refl (or_last (BadAddress number 0) (address_in text.0) address text.2)
+    let read = or_last (BadAddress number 0) (address_in text.0) address text.2 in
+    (ap (option_and_then address_in) text.1 ∙ read, address_lower text.0 address read)
 
-domain_prints : (text domain : List ℕ) → domain_in text ≡ Some domain → AllPrintable domain
+-- a text behind the service's name, in lower case
+service_lower : (text : Bytes) → lowered (service_at text) ≡ service_at (lowered text)
+service_lower text = refl
+
+service_sign : (domain : Bytes) → position is_at_sign (service_at domain) ≡ Some 17
+service_sign domain = cond-true (ltb 17 (length (service_at domain))) (Some 17) None (lt-ltb 17 (length (service_at domain)) (omega arith))
+
+service_domain : (domain : Bytes) → domain_of (service_at domain) ≡ domain
+unfolding domain_of
+service_domain domain = ap (behind_sign (service_at domain)) (service_sign domain)
+
+domain_own : (text domain : Bytes) → domain_in text ≡ Some domain → IsOwnDomain domain
 unfolding domain_in
-domain_prints text domain e =
-    let service = codes "posta-certificata@" ++ text in
-    let address = then_some (result_ok (address_of service)) (λ a. Some (domain_of a)) domain e in
-    let lower = address_lower service address.0 (address_of service) refl address.1 in
-    domain_printable address.0 domain lower (subst (HasDomain address.0) (same (domain_of address.0) domain address.2) (domain_is address.0 lower.address))
+domain_own text domain e =
+    let address = then_some (address_in (service_at text)) (λ a. Some (domain_of a)) domain e in
+    let read = read_so (service_at text) address.0 (address_of (service_at text)) refl address.1 in
+    let whole : address.0 ≡ service_at (lowered text) = read.1 ∙ service_lower text in
+    let is : domain ≡ lowered text = sym (same (domain_of address.0) domain address.2) ∙ ap domain_of whole ∙ service_domain (lowered text) in
+    subst IsLowerAddress (whole ∙ ap service_at (sym is)) (address_lower (service_at text) address.0 address.1)
 
-item_prints : (value : Data) (domain : List ℕ) → domain_of_item value ≡ Some domain → AllPrintable domain
+item_own : (value : Data) (domain : Bytes) → domain_of_item value ≡ Some domain → IsOwnDomain domain
 unfolding domain_of_item
-item_prints value domain e = let text = then_some (as_str value) domain_in domain e in domain_prints text.0 domain text.2
+item_own value domain e = let text = then_some (as_str value) domain_in domain e in domain_own text.0 domain text.2
 
-all_print : (values : Items) (domains : List (List ℕ)) → domains_of values ≡ Some domains → AllPrint domains
-all_print no_items domains e = subst AllPrint (same [] domains e) tt
-all_print (item value values) domains e =
+all_own : (values : Items) (domains : List Bytes) → domains_of values ≡ Some domains → AllByRecursion IsOwnDomain domains
+all_own no_items domains e = subst (AllByRecursion IsOwnDomain) (same [] domains e) tt
+all_own (item value values) domains e =
     let first = then_some (domain_of_item value) (λ d. option_map (λ rest. d ∷ rest) (domains_of values)) domains e in
     let rest = map_some (λ r. first.0 ∷ r) (domains_of values) domains first.2 in
-    subst AllPrint rest.2 (item_prints value first.0 first.1, all_print values rest.0 rest.1)
+    subst (AllByRecursion IsOwnDomain) rest.2 (item_own value first.0 first.1, all_own values rest.0 rest.1)
 
-pub domains_so : (entry : Data) (domains : List (List ℕ)) → domains_at entry ≡ Some domains → (is_some_list domains ≡ true) × AllPrint domains
+pub domains_so : (entry : Data) (domains : List Bytes) → domains_at entry ≡ Some domains → (is_some_list domains ≡ true) × AllByRecursion IsOwnDomain domains
 unfolding domains_at
 domains_so entry domains e =
-    let checked : List (List ℕ) → Option (List (List ℕ)) = λ d. where_true (is_some_list d) (Some d) in
+    let checked : List Bytes → Option (List Bytes) = λ d. where_true (is_some_list d) (Some d) in
     let list = then_some (get (codes "managedDomains") entry) (λ l. option_and_then (λ i. option_and_then checked (domains_of i)) (as_array l)) domains e in
     let items = then_some (as_array list.0) (λ i. option_and_then checked (domains_of i)) domains list.2 in
     let read = then_some (domains_of items.0) checked domains items.2 in
     let some = where_some (is_some_list read.0) (Some read.0) domains read.2 in
     let is = same read.0 domains some.1 in
-    (subst (λ d. is_some_list d ≡ true) is some.0, subst AllPrint is (all_print items.0 read.0 read.1))
+    (subst (λ d. is_some_list d ≡ true) is some.0, subst (AllByRecursion IsOwnDomain) is (all_own items.0 read.0 read.1))
 
-key_bytes : (text key : List ℕ) (r : Result (List ℕ) FromHexError) → decode_of text ≡ r → result_ok r ≡ Some key → has_length 32 128 text ≡ true → (16 ≤ length key) × (length key ≤ 64) × IsBytes key
+key_bytes : (text key : Bytes) (r : Result Bytes FromHexError) → decode_of text ≡ r → result_ok r ≡ Some key → has_length 32 128 text ≡ true → (16 ≤ length key) × (length key ≤ 64) × IsBytes key
 key_bytes text key (Ok bytes) is e fits =
     let ok = decode_of-ok text bytes is in
     let within = both (leb 32 (length text)) (leb (length text) 128) fits in
@@ -129,7 +144,13 @@ key_bytes text key (Ok bytes) is e fits =
     subst (λ k. (16 ≤ length k) × (length k ≤ 64) × IsBytes k) b (omega (arith, long, ok.2), omega (arith, short, ok.2), ok.3)
 key_bytes text key (Err fault) is e fits = let h : ⊥ = cc in absurd h
 
-pub key_so : (number : ℕ) (entry : Data) (key : List ℕ) → key_in number entry ≡ Ok key → (16 ≤ length key) × (length key ≤ 64) × IsBytes key
+pub seal_key_so : (number : ℕ) (entry : Data) (key : Bytes) → key_in number entry ≡ Ok key → seal_key_at entry ≡ Some key
+unfolding key_in seal_key_at
+seal_key_so number entry key e =
+    let text = or_ok (BadField number field.Key) (text_at (codes "key") entry) (λ t. or_fault (BadKey number) (key_of t)) key e in
+    ap (option_and_then key_of) text.1 ∙ or_last (BadKey number) (key_of text.0) key text.2
+
+pub key_so : (number : ℕ) (entry : Data) (key : Bytes) → key_in number entry ≡ Ok key → (16 ≤ length key) × (length key ≤ 64) × IsBytes key
 unfolding key_in key_of is_hex
 key_so number entry key e =
     let text = or_ok (BadField number field.Key) (text_at (codes "key") entry) (λ t. or_fault (BadKey number) (key_of t)) key e in
@@ -140,7 +161,14 @@ test_is : (o : Option TzText) → is_none o ≡ false → IsSome o
 test_is None e = absurd (false≢true (sym e))
 test_is (Some x) e = refl
 
-pub rule_so : (number : ℕ) (entry : Data) (rule : List ℕ) → rule_in number entry ≡ Ok rule → (is_visible 128 rule ≡ true) × IsSome (read_whole rule)
+pub rule_said : (number : ℕ) (entry : Data) (rule : Bytes) → rule_in number entry ≡ Ok rule → rule_at entry ≡ Some rule
+unfolding rule_in
+rule_said number entry rule e =
+    let text = or_ok (BadField number field.Zone) (rule_at entry) (λ r. fault_if (is_none (read_whole r)) (BadZone number) (Ok r)) rule e in
+    let zone = unless_ok (is_none (read_whole text.0)) (BadZone number) (Ok text.0) rule text.2 in
+    text.1 ∙ ap (λ r. Some r) (ok_same text.0 rule zone.1)
+
+pub rule_so : (number : ℕ) (entry : Data) (rule : Bytes) → rule_in number entry ≡ Ok rule → (is_visible 128 rule ≡ true) × IsSome (read_whole rule)
 unfolding rule_in rule_at
 rule_so number entry rule e =
     let text = or_ok (BadField number field.Zone) (rule_at entry) (λ r. fault_if (is_none (read_whole r)) (BadZone number) (Ok r)) rule e in
@@ -173,7 +201,7 @@ pub quota_so : (entry : Data) (quota : ℕ) → quota_at entry ≡ Some quota �
 unfolding quota_at
 quota_so entry quota e = let value = then_some (get (codes "quota") entry) (number_of 0 1000000) quota e in (number_of_so 0 1000000 value.0 quota value.2).1
 
-pub account_key_so : (entry : Data) (key : List ℕ) → key_at entry ≡ Some key → is_visible 64 key ≡ true
+pub account_key_so : (entry : Data) (key : Bytes) → key_at entry ≡ Some key → is_visible 64 key ≡ true
 unfolding key_at
 account_key_so entry key e =
     let text = then_some (text_at (codes "key") entry) (λ t. where_true (is_visible 64 t) (Some t)) key e in
@@ -185,48 +213,51 @@ account_key_so entry key e =
 -- four texts or numbers that were there, the last one read of the first
 four : {A B C D R : Type 0} (fa fb fc fd : DirectoryFault) (a : Option A) (b : Option B) (c : Option C) (d : A → Option D) (f : B → C → D → Result R DirectoryFault) (y : R)
     → (or_fault fa a >>= λ x. (or_fault fb b >>= λ z. (or_fault fc c >>= λ w. (or_fault fd (d x) >>= λ v. f z w v)))) ≡ Ok y
-    → (x : A) × (z : B) × (w : C) × (v : D) × (b ≡ Some z) × (c ≡ Some w) × (d x ≡ Some v) × (f z w v ≡ Ok y)
+    → (x : A) × (z : B) × (w : C) × (v : D) × (a ≡ Some x) × (b ≡ Some z) × (c ≡ Some w) × (d x ≡ Some v) × (f z w v ≡ Ok y)
 four fa fb fc fd None b c d f y e = let h : ⊥ = cc in absurd h
 four fa fb fc fd (Some x) None c d f y e = let h : ⊥ = cc in absurd h
 four fa fb fc fd (Some x) (Some z) None d f y e = let h : ⊥ = cc in absurd h
 four fa fb fc fd (Some x) (Some z) (Some w) d f y e =
     let last = or_ok fd (d x) (f z w) y e in
-    (x, z, w, last.0, refl, refl, last.1, last.2)
+    (x, z, w, last.0, refl, refl, refl, last.1, last.2)
 
-account_so : (earlier : List Provider) (fields : Fields) (before : List Account) (value : Data) (account : Account) → account_in earlier fields before value ≡ Ok account
-    → IsNextAccount earlier fields.receipts fields.domains before account
-unfolding account_in
+pub account_so : (earlier : List Provider) (fields : Fields) (before : List Account) (value : Data) (account : Account) → account_in earlier fields before value ≡ Ok account
+    → IsNextAccount earlier fields.receipts fields.domains before account × SaysAccount value account
+unfolding account_in address_at
 account_so earlier fields before value account e =
     let number = length earlier in
     let at = length before + 1 in
-    let checked : ℕ → List ℕ → List ℕ → Result Account DirectoryFault =
+    let checked : ℕ → Bytes → Bytes → Result Account DirectoryFault =
     λ quota key address. fault_if (is_outside fields.domains address) (AccountOutside number at) (
     fault_if (is_taken earlier fields.receipts before address) (AccountTwice number at) (
     fault_if (leb most_accounts (length (accounts_of earlier) + length before)) TooMany (
     Ok (record { address = address; quota = quota; key = key })))) in
     let said =
     four (BadField number field.Address) (BadField number field.Quota) (BadField number field.Key) (BadAddress number at) (text_at (codes "address") value) (quota_at value) (key_at value) address_in checked account e in
-    let inside = unless_ok (is_outside fields.domains said.3) (AccountOutside number at) _ account said.7 in
+    let inside = unless_ok (is_outside fields.domains said.3) (AccountOutside number at) _ account said.8 in
     let free = unless_ok (is_taken earlier fields.receipts before said.3) (AccountTwice number at) _ account inside.1 in
     let room = unless_ok (leb most_accounts (length (accounts_of earlier) + length before)) TooMany _ account free.1 in
     let is = ok_same (record { address = said.3; quota = said.1; key = said.2 }) account room.1 in
-    subst (λ a. IsNextAccount earlier fields.receipts fields.domains before a) is
-    record {
-      address = address_lower said.0 said.3 (address_of said.0) refl said.6;
-      inside = inside.0;
-      free = free.0;
-      room = leb-false most_accounts (length (accounts_of earlier) + length before) room.0;
-      quota = quota_so value said.1 said.4;
-      key = account_key_so value said.2 said.5;
-    }
+    subst (λ a. IsNextAccount earlier fields.receipts fields.domains before a × SaysAccount value a) is (
+      record {
+        address = address_lower said.0 said.3 said.7;
+        inside = inside.0;
+        free = free.0;
+        room = leb-false most_accounts (length (accounts_of earlier) + length before) room.0;
+        quota = quota_so value said.1 said.5;
+        key = account_key_so value said.2 said.6;
+      },
+      record { address = ap (option_and_then address_in) said.4 ∙ said.7; quota = said.5; key = said.6 },
+    )
 
 accounts_so : (earlier : List Provider) (fields : Fields) (before : List Account) (values : Items) (all : List Account) → accounts_from earlier fields before values ≡ Ok all
-    → (accounts : List Account) × (all ≡ before ++ accounts) × AreNextAccounts earlier fields.receipts fields.domains before accounts
-accounts_so earlier fields before no_items all e = ([], sym (ok_same before all e) ∙ sym (append-nil before), tt)
+    → (accounts : List Account) × (all ≡ before ++ accounts) × (AreNextAccounts earlier fields.receipts fields.domains before accounts × SayAccounts values accounts)
+accounts_so earlier fields before no_items all e = ([], sym (ok_same before all e) ∙ sym (append-nil before), (tt, tt))
 accounts_so earlier fields before (item value values) all e =
     let first = bind_ok (account_in earlier fields before value) (λ next. accounts_from earlier fields (before ++ next ∷ []) values) all e in
     let rest = accounts_so earlier fields (before ++ first.0 ∷ []) values all first.2 in
-    (first.0 ∷ rest.0, rest.1 ∙ append_assoc before (first.0 ∷ []) rest.0, (account_so earlier fields before value first.0 first.1, rest.2))
+    let one = account_so earlier fields before value first.0 first.1 in
+    (first.0 ∷ rest.0, rest.1 ∙ append_assoc before (first.0 ∷ []) rest.0, ((one.0, rest.2.0), (one.1, rest.2.1)))
 
 -- ---- providers
 
@@ -243,88 +274,113 @@ six (Ok x) (Ok z) (Ok w) (Ok v) (Ok u) (Err n) f y h = let no : ⊥ = cc in absu
 six (Ok x) (Ok z) (Ok w) (Ok v) (Ok u) (Ok t) f y h = (x, z, w, v, u, t, refl, refl, refl, refl, refl, refl, ok_same _ _ h)
 
 -- what holds of a provider's own fields
-record OwnFields (f : Fields) : Type 0 where
-  name : is_name f.name ≡ true
-  receipts : IsLowerAddress f.receipts
-  domains : (is_some_list f.domains ≡ true) × AllPrint f.domains
+record OwnFields (entry : Data) (f : Fields) : Type 0 where
+  name : (name_at entry ≡ Some f.name) × (is_name f.name ≡ true)
+  receipts : (receipts_at entry ≡ Some f.receipts) × IsLowerAddress f.receipts
+  domains_said : domains_at entry ≡ Some f.domains
+  domains : (is_some_list f.domains ≡ true) × AllByRecursion IsOwnDomain f.domains
+  key_said : seal_key_at entry ≡ Some f.key
   key : (16 ≤ length f.key) × (length f.key ≤ 64) × IsBytes f.key
+  rule_said : rule_at entry ≡ Some f.rule
   rule : (is_visible 128 f.rule ≡ true) × IsSome (read_whole f.rule)
+  limit_said : limit_at entry ≡ Some f.limit
   limit : (1 ≤ f.limit) × (f.limit ≤ greatest_limit)
 
-fields_so : (number : ℕ) (value : Data) (fields : Fields) → fields_of number value ≡ Ok fields → OwnFields fields
+fields_so : (number : ℕ) (value : Data) (fields : Fields) → fields_of number value ≡ Ok fields → OwnFields value fields
 unfolding fields_of
 fields_so number value fields e =
-    let made : List ℕ → List ℕ → List (List ℕ) → List ℕ → List ℕ → ℕ → Fields =
+    let made : Bytes → Bytes → List Bytes → Bytes → Bytes → ℕ → Fields =
     λ n r d k z l. record { name = n; receipts = r; domains = d; key = k; rule = z; limit = l } in
     let said =
     six (or_fault (BadField number field.Name) (name_at value)) (receipts_in number value) (or_fault (BadField number field.ManagedDomains) (domains_at value)) (key_in number value) (rule_in number value)
     (or_fault (BadField number field.Limit) (limit_at value)) made fields e in
-    subst OwnFields said.12
+    let name = or_last (BadField number field.Name) (name_at value) said.0 said.6 in
+    let domains = or_last (BadField number field.ManagedDomains) (domains_at value) said.2 said.8 in
+    let limit = or_last (BadField number field.Limit) (limit_at value) said.5 said.11 in
+    subst (OwnFields value) said.12
     record {
-      name = named_so value said.0 (or_last (BadField number field.Name) (name_at value) said.0 said.6);
+      name = (name, named_so value said.0 name);
       receipts = receipts_so number value said.1 said.7;
-      domains = domains_so value said.2 (or_last (BadField number field.ManagedDomains) (domains_at value) said.2 said.8);
+      domains_said = domains;
+      domains = domains_so value said.2 domains;
+      key_said = seal_key_so number value said.3 said.9;
       key = key_so number value said.3 said.9;
+      rule_said = rule_said number value said.4 said.10;
       rule = rule_so number value said.4 said.10;
-      limit = limit_so value said.5 (or_last (BadField number field.Limit) (limit_at value) said.5 said.11);
+      limit_said = limit;
+      limit = limit_so value said.5 limit;
     }
 
-settled_so : (earlier : List Provider) (fields : Fields) (values : Items) (provider : Provider) → OwnFields fields → settled earlier fields values ≡ Ok provider → IsNext earlier provider
+settled_so : (earlier : List Provider) (entry : Data) (fields : Fields) (values : Items) (provider : Provider) → OwnFields entry fields → accounts_at entry ≡ Some values
+    → settled earlier fields values ≡ Ok provider → IsNext earlier provider × SaysProvider entry provider
 unfolding settled
-settled_so earlier fields values provider own e =
+settled_so earlier entry fields values provider own there e =
     let number = length earlier in
     let name = unless_ok (is_named fields.name earlier) (NameTwice number) _ provider e in
     let once = unless_ok (stands_twice (walk.domains_of earlier) fields.domains) (DomainTwice number) _ provider name.1 in
     let inside = unless_ok (is_outside fields.domains fields.receipts) (AccountOutside number 0) _ provider once.1 in
     let read = bind_ok (accounts_from earlier fields [] values) (λ all. Ok (with_accounts fields all)) provider inside.1 in
     let accounts = accounts_so earlier fields [] values read.0 read.1 in
-    subst (IsNext earlier) (ok_same (with_accounts fields read.0) provider read.2)
-    record {
-      name = own.name;
-      name_once = name.0;
-      receipts = own.receipts;
-      receipts_inside = inside.0;
-      domains = own.domains.0;
-      domains_print = own.domains.1;
-      domains_once = once.0;
-      key = own.key;
-      rule = own.rule.0;
-      zone = own.rule.1;
-      limit = own.limit;
-      accounts = subst (AreNextAccounts earlier fields.receipts fields.domains []) (sym accounts.1) accounts.2;
-    }
+    subst (λ p. IsNext earlier p × SaysProvider entry p) (ok_same (with_accounts fields read.0) provider read.2) (
+      record {
+        name = own.name.1;
+        name_once = name.0;
+        receipts = own.receipts.1;
+        receipts_inside = inside.0;
+        domains = own.domains.0;
+        domains_are = own.domains.1;
+        domains_once = once.0;
+        key = own.key;
+        rule = own.rule.0;
+        zone = own.rule.1;
+        limit = own.limit;
+        accounts = subst (AreNextAccounts earlier fields.receipts fields.domains []) (sym accounts.1) accounts.2.0;
+      },
+      record {
+        fields = record { name = own.name.0; receipts = own.receipts.0; domains = own.domains_said; key = own.key_said; rule = own.rule_said; limit = own.limit_said };
+        tables = values;
+        are_tables = there;
+        accounts = subst (SayAccounts values) (sym accounts.1) accounts.2.1;
+      },
+    )
 
-provider_so : (earlier : List Provider) (value : Data) (provider : Provider) → provider_in earlier value ≡ Ok provider → IsNext earlier provider
+pub provider_so : (earlier : List Provider) (value : Data) (provider : Provider) → provider_in earlier value ≡ Ok provider → IsNext earlier provider × SaysProvider value provider
 unfolding provider_in
 provider_so earlier value provider e =
     let fields = bind_ok (fields_of (length earlier) value) (λ f. or_fault (BadField (length earlier) field.Account) (accounts_at value) >>= (λ a. settled earlier f a)) provider e in
     let accounts = or_ok (BadField (length earlier) field.Account) (accounts_at value) (settled earlier fields.0) provider fields.2 in
-    settled_so earlier fields.0 accounts.0 provider (fields_so (length earlier) value fields.0 fields.1) accounts.2
+    settled_so earlier value fields.0 accounts.0 provider (fields_so (length earlier) value fields.0 fields.1) accounts.1 accounts.2
 
 providers_so : (earlier : List Provider) (values : Items) (all : List Provider) → providers_from earlier values ≡ Ok all
-    → (providers : List Provider) × (all ≡ earlier ++ providers) × AreNext earlier providers × (length providers ≡ count_of values)
-providers_so earlier no_items all e = ([], sym (ok_same earlier all e) ∙ sym (append-nil earlier), tt, refl)
+    → (providers : List Provider) × (all ≡ earlier ++ providers) × (AreNext earlier providers × SayProviders values providers) × (length providers ≡ count_of values)
+providers_so earlier no_items all e = ([], sym (ok_same earlier all e) ∙ sym (append-nil earlier), (tt, tt), refl)
 providers_so earlier (item value values) all e =
     let first = bind_ok (provider_in earlier value) (λ next. providers_from (earlier ++ next ∷ []) values) all e in
     let rest = providers_so (earlier ++ first.0 ∷ []) values all first.2 in
-    (first.0 ∷ rest.0, rest.1 ∙ append_assoc earlier (first.0 ∷ []) rest.0, (provider_so earlier value first.0 first.1, rest.2), omega (arith, rest.3))
+    let one = provider_so earlier value first.0 first.1 in
+    (first.0 ∷ rest.0, rest.1 ∙ append_assoc earlier (first.0 ∷ []) rest.0, ((one.0, rest.2.0), (one.1, rest.2.1)), omega (arith, rest.3))
+
+said_from : (values : Items) (providers : List Provider) → 0 < count_of values → count_of values ≤ most_providers → providers_from [] values ≡ Ok providers
+    → IsLawful providers × SayProviders values providers
+said_from values providers some few e =
+    let all = providers_so [] values providers e in
+    subst (λ ps. IsLawful ps × SayProviders values ps) (sym all.1) (record { some = omega (arith, all.3); few = omega (arith, all.3); each = all.2.0 }, all.2.1)
 
 pub lawful_from : (values : Items) (providers : List Provider) → 0 < count_of values → count_of values ≤ most_providers → providers_from [] values ≡ Ok providers → IsLawful providers
-lawful_from values providers some few e =
-    let all = providers_so [] values providers e in
-    subst IsLawful (sym all.1) (record { some = omega (arith, all.3); few = omega (arith, all.3); each = all.2 })
+lawful_from values providers some few e = (said_from values providers some few e).0
 
-lawful_in : (whole : Data) (providers : List Provider) → directory_in whole ≡ Ok providers → IsLawful providers
+said_in : (whole : Data) (providers : List Provider) → directory_in whole ≡ Ok providers → (values : Items) × (providers_in whole ≡ Some values) × (IsLawful providers × SayProviders values providers)
 unfolding directory_in
-lawful_in whole providers e =
+said_in whole providers e =
     let values = or_ok NoProvider (providers_in whole) _ providers e in
     let some = unless_ok (eqb (count_of values.0) 0) NoProvider _ providers values.2 in
     let few = unless_ok (ltb most_providers (count_of values.0)) TooMany _ providers some.1 in
     let apart = eqb-false (count_of values.0) 0 some.0 in
-    lawful_from values.0 providers (omega arith) (ltb-false most_providers (count_of values.0) few.0) few.1
+    (values.0, values.1, said_from values.0 providers (omega arith) (ltb-false most_providers (count_of values.0) few.0) few.1)
 
-pub lawful : (text : List ℕ) (providers : List Provider) → directory_of text ≡ Ok providers → IsLawful providers
+pub directory_so : (text : Bytes) (providers : List Provider) → directory_of text ≡ Ok providers → IsDirectory text providers
 unfolding directory_of
-lawful text providers e =
+directory_so text providers e =
     let whole = or_ok NotToml (document_of text) directory_in providers e in
-    lawful_in whole.0 providers whole.2
+    let said = said_in whole.0 providers whole.2 in
+    record { whole = whole.0; is_toml = whole.1; tables = said.0; are_tables = said.1; say = said.2.1; lawful = said.2.0 }

@@ -7,8 +7,8 @@ use Rattle.pec_index.specs.Entries.{Finds, IsAdded, value_at}
 use Rattle.pec_directory.specs.Directory.{Kept, Provider, providers_of}
 use Rattle.pec_directory.specs.Indexes.{deeds_from, deeds_of}
 use Rattle.pec_directory.specs.Walk.{domains_of, is_among, stands_twice}
-use Rattle.pec_directory.proofs.Lookups.{value_at-deeds}
-use Rattle.pec_directory.proofs.Walking.{length-said, or_assoc, or_false, some_first}
+use Rattle.pec_directory.proofs.LookupLemmas.{value_at-deeds}
+use Rattle.pec_directory.proofs.WalkLemmas.{length-said, or_assoc, or_false, some_first}
 
 some_deed : (d : List ℕ) (n : ℕ) (domains : List (List ℕ)) (rest : List (List ℕ × ℕ)) → is_some (value_at d (deeds_of n domains ++ rest)) ≡ (is_among d domains || is_some (value_at d rest))
 some_deed d n domains rest = ap is_some (value_at-deeds d n domains rest) ∙ some_first (is_among d domains) n (value_at d rest)

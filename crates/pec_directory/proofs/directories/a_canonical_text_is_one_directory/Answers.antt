@@ -1,5 +1,0 @@
-use Rattle.pec_directory.proofs.Canonicals.{one_directory}
-use Rattle.pec_directory.proofs.directories.a_canonical_text_is_one_directory.Goals as goal
-
-pub returns : goal.returns
-returns c = one_directory

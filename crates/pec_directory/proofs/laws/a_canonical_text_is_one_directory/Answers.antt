@@ -1,0 +1,5 @@
+use Rattle.pec_directory.proofs.CanonicalLemmas.{one_directory}
+use Rattle.pec_directory.proofs.laws.a_canonical_text_is_one_directory.Goals as goal
+
+pub returns : goal.returns
+returns c = one_directory
