@@ -1,4 +1,6 @@
-pub mod Heads
-pub mod Sets
-pub mod Rows
-pub mod Laws
+pub mod Ties
+pub mod SetLemmas
+pub mod HeadLemmas
+pub mod AdmissionLemmas
+pub mod ReceptionLemmas
+pub mod DecisionLemmas

@@ -1,3 +1,7 @@
 pub mod Admission
-pub mod Limits
-pub mod Table
+pub mod AdmissionReading
+pub mod Case
+pub mod Decision
+pub mod DecisionReading
+pub mod Reception
+pub mod ReceptionReading

@@ -1,4 +1,4 @@
-ghost use Rattle.std.specs.Prelude.{◌≡◌, ◌*◌, ◌<◌, ◌↔◌, ◌⊎◌, ℕ, List, length, nat_lt, IfOk};
+ghost use Rattle.std.specs.Prelude.{◌≡◌, ◌*◌, ◌<◌, ◌↔◌, ◌⊎◌, length, nat_lt, IfOk};
 ghost use Rattle.std.specs.List.{list_all, list_any};
 ghost use Rattle.std.specs.Option.{option_map};
 ghost use Rattle.pec_directory.specs.Directory.{providers_of};
@@ -6,13 +6,16 @@ ghost use Rattle.pec_heads.specs.FactsOfHeads.{has_address};
 ghost use Rattle.pec_heads.specs.FactsReading.{listed, sender_of};
 ghost use Rattle.pec_types.specs.declared.messages.Cause.{Cause as CauseShown};
 ghost use Rattle.pec_types.specs.declared.messages.Facts.{Facts as FactsShown};
-ghost use Rattle.pec_points.specs.Table.{IsAccepted, IsCause};
+ghost use Rattle.pec_points.specs.Admission.{IsAccepted, IsCause, has_blind_copies};
+ghost use Rattle.pec_points.specs.AdmissionReading.{admission_by, admission_of, admission_with, has_recipient, head_in, is_path_of};
+ghost use Rattle.pec_points.specs.Case.{Case, case_at, limit_of};
 ghost use Rattle.pec_points.specs.declared.admission.Admission.TheVariants as answers;
-ghost use Rattle.pec_points.specs.Admission.{admission_in, admission_of, has_blind_copies, has_recipient, head_in, is_path_of};
-ghost use Rattle.pec_points.specs.Limits.{limit_of};
 
 use pec_directory::Directory;
-use pec_heads::{Head, HeadFault, ListFault};
+use pec_heads::{
+    Head, HeadFault, ListFault, a_head_has_one_account, a_list_has_one_reading,
+    a_text_has_one_reading,
+};
 use pec_types::{Address, Cause, Facts, NoMemory, Recipient};
 use std::alloc::Global;
 
@@ -25,21 +28,29 @@ pub enum Admission {
     Not(Cause),
 }
 
-/// The law of admission: of each message, submitted by an account for a path under a limit, some cause is that of the first row that
-/// applies, or it is accepted, never both; and there is one cause, and one account of the facts.
+/// The law of admission: in each case some cause is that of the first row that applies, or the message is accepted,
+/// never both; there is one cause, and one account of the facts. The function `admission_of` says which.
 pub fn a_message_has_one_answer()
-    ensures some { (limit : ℕ) (sender : List ℕ) (path : List (List ℕ)) (message : List ℕ)
-        → ((cause : CauseShown) × IsCause limit sender path message cause) ⊎ ((facts : FactsShown) × IsAccepted limit sender path message facts) }
-    ensures either { (limit : ℕ) (sender : List ℕ) (path : List (List ℕ)) (message : List ℕ) (cause : CauseShown) (facts : FactsShown)
-        → IsCause limit sender path message cause → IsAccepted limit sender path message facts → ⊥ }
-    ensures cause { (limit : ℕ) (sender : List ℕ) (path : List (List ℕ)) (message : List ℕ) (cause other : CauseShown)
-        → IsCause limit sender path message cause → IsCause limit sender path message other → cause ≡ other }
-    ensures facts { (limit : ℕ) (sender : List ℕ) (path : List (List ℕ)) (message : List ℕ) (facts others : FactsShown)
-        → IsAccepted limit sender path message facts → IsAccepted limit sender path message others → facts ≡ others }
-{}
+    ensures some { (case : Case)
+        → ((cause : CauseShown) × IsCause case cause) ⊎ ((facts : FactsShown) × IsAccepted case facts) }
+    ensures either { (case : Case) (cause : CauseShown) (facts : FactsShown)
+        → IsCause case cause → IsAccepted case facts → ⊥ }
+    ensures cause { (case : Case) (cause other : CauseShown)
+        → IsCause case cause → IsCause case other → cause ≡ other }
+    ensures facts { (case : Case) (facts others : FactsShown)
+        → IsAccepted case facts → IsAccepted case others → facts ≡ others }
+    ensures refused { (case : Case) (cause : CauseShown)
+        → (admission_of case ≡ answers.Not cause) ↔ IsCause case cause }
+    ensures accepted { (case : Case) (facts : FactsShown)
+        → (admission_of case ≡ answers.Accepted facts) ↔ IsAccepted case facts }
+{
+    a_text_has_one_reading();
+    a_list_has_one_reading();
+    a_head_has_one_account();
+}
 
-/// The admission of a message that an account submits for a forward path, at the provider of a number of the directory, from 0
-/// (RFC 6109, section 3.1.1). The limit is the one that the directory gives this provider, in bytes.
+/// The admission of a message that an account submits for a forward path, at the provider of a number of the directory,
+/// from 0 (RFC 6109, section 3.1.1). The limit is the one that the directory gives this provider, in bytes.
 pub fn admit(
     alloc: Global,
     directory: &Directory,
@@ -50,18 +61,24 @@ pub fn admit(
 ) -> Result<Admission, NoMemory>
     requires { provider < length directory.now }
     // The cause is exactly that of the first row of the table that applies.
-    ensures refused { (cause : CauseShown) → IfOk result (λ admission. (admission ≡ answers.Not cause) ↔ IsCause (limit_of (providers_of directory.now) provider) sender.now path.now message.now cause) }
+    ensures refused { (cause : CauseShown) → IfOk result (λ admission.
+        (admission ≡ answers.Not cause)
+        ↔ IsCause (case_at (providers_of directory.now) provider sender.now path.now message.now) cause) }
     // The message is accepted exactly where no row applies, with the facts of its head.
-    ensures accepted { (facts : FactsShown) → IfOk result (λ admission. (admission ≡ answers.Accepted facts) ↔ IsAccepted (limit_of (providers_of directory.now) provider) sender.now path.now message.now facts) }
+    ensures accepted { (facts : FactsShown) → IfOk result (λ admission.
+        (admission ≡ answers.Accepted facts)
+        ↔ IsAccepted (case_at (providers_of directory.now) provider sender.now path.now message.now) facts) }
     // The same answer as a function, for definitions that build on it.
-    ensures exact { IfOk result (λ admission. admission ≡ admission_of (limit_of (providers_of directory.now) provider) sender.now path.now message.now) }
+    ensures exact { IfOk result (λ admission.
+        admission ≡ admission_of (case_at (providers_of directory.now) provider sender.now path.now message.now)) }
 {
+    a_message_has_one_answer();
     let limit = limit_of(directory, provider);
     admit_message(alloc, limit, sender, path, message)
 }
 
 /// The limit of a provider, in bytes.
-#[tactic(auto, unfolding(crate::specs::Limits::limit_of))]
+#[tactic(auto, unfolding(crate::specs::Case::limit_of))]
 fn limit_of(directory: &Directory, provider: u32) -> u64
     ensures { result ≡ limit_of (providers_of directory.now) provider }
 {
@@ -71,7 +88,7 @@ fn limit_of(directory: &Directory, provider: u32) -> u64
     }
 }
 
-#[tactic(auto, unfolding(crate::specs::Admission::admission_in, crate::specs::Admission::admission_of, crate::specs::Admission::cause_of))]
+#[tactic(auto, unfolding(crate::specs::AdmissionReading::admission_of, crate::specs::AdmissionReading::admission_with))]
 fn admit_message(
     alloc: Global,
     limit: u64,
@@ -79,17 +96,19 @@ fn admit_message(
     path: &[Address],
     message: &[u8],
 ) -> Result<Admission, NoMemory>
-    ensures { IfOk result (λ admission. admission ≡ admission_of limit sender.now path.now message.now) }
+    ensures { IfOk result (λ admission.
+        admission
+        ≡ admission_of (record { limit = limit; sender = sender.now; path = path.now; message = message.now })) }
 {
     let Some(head) = read_head(alloc, message)? else {
         return Ok(Admission::Not(Cause::Head));
     };
-    let admission = admit_head(alloc, limit, sender, path, message.len(), &head)?;
+    let admission = admit_head(alloc, limit, sender, path, message, &head)?;
     Ok(admission)
 }
 
 /// The head at the front of a message, where there is one.
-#[tactic(auto, unfolding(crate::specs::Admission::head_in))]
+#[tactic(auto, unfolding(crate::specs::AdmissionReading::head_in))]
 fn read_head(alloc: Global, message: &[u8]) -> Result<Option<Head>, NoMemory>
     ensures { IfOk result (λ found. found ≡ head_in message.now) }
 {
@@ -100,17 +119,18 @@ fn read_head(alloc: Global, message: &[u8]) -> Result<Option<Head>, NoMemory>
     }
 }
 
-/// The admission of a message of so many bytes with this head.
-#[tactic(auto, unfolding(crate::specs::Admission::admission_in))]
+/// The admission of a message with this head.
+#[tactic(auto, unfolding(crate::specs::AdmissionReading::admission_with))]
 fn admit_head(
     alloc: Global,
     limit: u64,
     sender: &Address,
     path: &[Address],
-    bytes: usize,
+    message: &[u8],
     head: &Head,
 ) -> Result<Admission, NoMemory>
-    ensures { IfOk result (λ admission. admission ≡ admission_in limit sender.now path.now bytes head.now) }
+    ensures { IfOk result (λ admission. admission ≡ admission_with
+        (record { limit = limit; sender = sender.now; path = path.now; message = message.now }) (Some head.now)) }
 {
     let Some(from) = from_address(alloc, head)? else {
         return Ok(Admission::Not(Cause::From));
@@ -124,17 +144,25 @@ fn admit_head(
     let Some(facts) = head.facts(alloc)? else {
         return Ok(Admission::Not(Cause::ForwardPath));
     };
+    let admission = admit_facts(limit, path, message.len(), head, facts);
+    Ok(admission)
+}
+
+/// The admission of a message of so many bytes with this head and these facts of it, by its recipients and its size.
+fn admit_facts(limit: u64, path: &[Address], bytes: usize, head: &Head, facts: Facts) -> Admission
+    ensures { result ≡ admission_by limit path.now bytes head.now facts }
+{
     let recipients = facts.recipients.as_slice();
     if !is_path_of(path, recipients) {
-        return Ok(Admission::Not(Cause::ForwardPath));
+        return Admission::Not(Cause::ForwardPath);
     }
     if has_blind_copies(head) {
-        return Ok(Admission::Not(Cause::Bcc));
+        return Admission::Not(Cause::Bcc);
     }
     if is_over(limit, bytes, recipients.len()) {
-        return Ok(Admission::Not(Cause::Size));
+        return Admission::Not(Cause::Size);
     }
-    Ok(Admission::Accepted(facts))
+    Admission::Accepted(facts)
 }
 
 /// The one address of the one `From` field.
@@ -166,7 +194,7 @@ fn list(alloc: Global, head: &Head, name: &[u8]) -> Result<Option<Vec<Address>>,
 }
 
 /// The path is the set of the recipients' addresses. No more of these are looked at than the path has, and one.
-#[tactic(auto, unfolding(crate::specs::Admission::is_path_of))]
+#[tactic(auto, unfolding(crate::specs::AdmissionReading::is_path_of))]
 fn is_path_of(path: &[Address], recipients: &[Recipient]) -> bool
     ensures { result ≡ is_path_of path.now recipients.now }
 {

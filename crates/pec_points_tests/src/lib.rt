@@ -2,4 +2,10 @@
 #![tactic(auto)]
 
 #[cfg(test)]
-mod tests;
+mod admission;
+#[cfg(test)]
+mod decision;
+#[cfg(test)]
+mod limits;
+#[cfg(test)]
+mod reception;

@@ -8,7 +8,7 @@ use Rattle.std.specs.List.{list_all}
 use Rattle.std.specs.Str.{bytes_eq}
 use Rattle.pec_types.specs.declared.messages.Recipient.{Recipient}
 use Rattle.pec_heads.specs.FactsOfHeads.{has_address}
-use Rattle.pec_points.specs.Admission.{has_recipient, is_path_of}
+use Rattle.pec_points.specs.AdmissionReading.{has_recipient, is_path_of}
 
 all_pass : (p : List ℕ → Bool) (xs : List (List ℕ)) (x : List ℕ) → list_all p xs ≡ true → has_address xs x ≡ true → p x ≡ true
 all_pass p [] x h e = absurd cc
