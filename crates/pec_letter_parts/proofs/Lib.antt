@@ -1,0 +1,4 @@
+pub mod PieceLemmas
+pub mod PutLemmas
+pub mod ToldLemmas
+pub mod LetterLemmas

@@ -1,0 +1,7 @@
+pub mod Headings
+pub mod Contents
+pub mod Sealing
+pub mod Asking
+pub mod Letters
+pub mod LettersReading
+pub mod Views
