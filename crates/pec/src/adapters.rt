@@ -1,6 +1,6 @@
 //! The trusted edge: standard input and output as a source and a sink. They tell no content.
 
-use pec_outside::{Failed, Sink, Source};
+use pec_outside::{Counted, Failed, Sink, Source};
 use std::io::{Read, Write};
 
 /// A reader as a source, with the count of its faults.
@@ -20,12 +20,18 @@ impl<R> Input<R> {
     }
 }
 
+impl<R: Read> Counted for Input<R> {
+    ghost use Rattle.pec_outside.specs.Flow.{as_u64, u64_of};
+
+    ghost faults = { λ input. as_u64 input.faults };
+
+    ghost counted = { λ input. u64_of input.faults };
+}
+
 impl<R: Read> Source for Input<R> {
     ghost use Rattle.std.specs.Prelude.{None};
 
     ghost left = { λ _. None };
-
-    ghost faults = { λ input. input.faults };
 
     fn read(&mut self, room: &mut [u8]) -> Result<usize, Failed> {
         match self.reader.read(room) {
@@ -55,12 +61,18 @@ impl<W> Output<W> {
     }
 }
 
+impl<W: Write> Counted for Output<W> {
+    ghost use Rattle.pec_outside.specs.Flow.{as_u64, u64_of};
+
+    ghost faults = { λ output. as_u64 output.faults };
+
+    ghost counted = { λ output. u64_of output.faults };
+}
+
 impl<W: Write> Sink for Output<W> {
     ghost use Rattle.std.specs.Prelude.{None};
 
     ghost held = { λ _. None };
-
-    ghost faults = { λ output. output.faults };
 
     fn write(&mut self, piece: &[u8]) -> Result<usize, Failed> {
         match self.writer.write(piece) {

@@ -2,23 +2,18 @@
 #![tactic(auto)]
 
 mod adapters;
+mod words;
 
 use adapters::{Input, Output};
 use pec_top::{Status, run_pec};
+use std::io;
 use std::process::ExitCode;
-use std::{env, io};
+use words::words;
 
 fn main(rt: HostRuntime) -> ExitCode {
-    let no_memory = ExitCode::from(Status::NoMemory.code());
-    let Ok(args) = env::args(&rt) else {
-        return no_memory;
+    let Ok(words) = words(&rt, rt.alloc()) else {
+        return ExitCode::from(Status::NoMemory.code());
     };
-    let mut words = Vec::new(rt.alloc());
-    for word in args.skip(1) {
-        if words.push(word).is_err() {
-            return no_memory;
-        }
-    }
     let mut input = Input::new(rt.reader());
     let mut output = Output::new(io::writer(&rt));
     let status = run_pec(rt.alloc(), &words, &mut input, &mut output);

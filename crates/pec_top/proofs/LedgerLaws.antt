@@ -7,8 +7,7 @@ use Rattle.pec_types.specs.declared.messages.BookLine.{BookLine}
 use Rattle.pec_types.specs.declared.messages.Recipient.{Recipient}
 use Rattle.pec_types.specs.declared.messages.TheConstants.{MESSAGES}
 use Rattle.pec_top.specs.Booking.{line_of, lines_of, entry_lines}
-use Rattle.pec_directory.specs.Directory.{Provider}
-use Rattle.pec_top.specs.Accounts.{is_certified}
+use Rattle.pec_directory.specs.Directory.{Provider, is_certified}
 use Rattle.pec_top.specs.Ledger.{entries_in, entries_of, ledger_of, Message, Half, empty, moment_of, message_by, step, half_of, Row, row_of, rows_of, rows_from, lines_owned, book_of}
 use Rattle.pec_top.specs.declared.entries.Entry.{Entry}
 use Rattle.pec_top.specs.declared.entries.Entry.TheVariants.{Accepted, NotAccepted}

@@ -1,4 +1,3 @@
-mod AccountLaws
 mod InputLaws
 mod LedgerLaws
 mod LineGrammarLaws

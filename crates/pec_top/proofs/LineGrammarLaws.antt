@@ -18,7 +18,8 @@ use Rattle.pec_top.specs.Commands.{Command, submit, book, Submission, address_in
 use Rattle.pec_top.specs.LineGrammar.{IsCommand, IsPath, IsSubmission}
 use Rattle.pec_top.specs.Numbers.{number_of}
 use Rattle.pec_top.specs.Paths.{path_of}
-use Rattle.pec_top.specs.Reading.{◌>>=◌, last_word, where_true, word_at}
+use Rattle.pec_types.specs.Options.{◌>>=◌}
+use Rattle.pec_top.specs.Reading.{last_word, where_true, word_at}
 
 -- Moments and messages.
 

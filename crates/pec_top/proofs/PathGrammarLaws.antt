@@ -8,8 +8,8 @@ use Rattle.std.specs.Char.{is_ascii_alphanumeric}
 use Rattle.std.specs.List.{AllByRecursion, join_with_byte, slice_split}
 use Rattle.std.specs.Result.{result_ok}
 use Rattle.pec_types.proofs.AddressBytes.{Avoids, none_in}
-use Rattle.pec_types.proofs.AddressLaws.{answered, only_address}
-use Rattle.pec_types.specs.Address.{is_atom_byte, AnswersAddress, IsAddress, lowered}
+use Rattle.pec_types.proofs.AddressLaws.{only_address, told_exactly}
+use Rattle.pec_types.specs.Address.{is_atom_byte, IsAddress, IsReadAs, lowered}
 use Rattle.pec_types.specs.AddressReading.{address_of}
 use Rattle.pec_types.specs.declared.addresses.AddressFault.{AddressFault}
 use Rattle.pec_top.proofs.WordLaws.{Lacks, Led, led, lacks_append, lacks_by, tests_from}
@@ -47,12 +47,14 @@ no_comma_in text is = lacks_by (λ b. not (eqb b 44)) 44 refl text (none_in (λ 
 
 -- One address.
 
-told_address : (text address : List ℕ) (r : Result (List ℕ) AddressFault) → AnswersAddress text r → result_ok r ≡ Some address → IsAddress text × (address ≡ lowered text)
-told_address text address (Ok kept) told e = let same : kept ≡ address = cc in (told.0, sym same ∙ told.1)
-told_address text address (Err fault) told e = absurd cc
+told_address : (text address : List ℕ) (r : Result (List ℕ) AddressFault) → address_of text ≡ r → result_ok r ≡ Some address → IsAddress text × (address ≡ lowered text)
+told_address text address (Ok kept) read e =
+    let same : kept ≡ address = cc in
+    let told : IsReadAs text kept = ((told_exactly text).value kept).0 read in (told.0, sym same ∙ told.1)
+told_address text address (Err fault) read e = absurd cc
 
 pub address_read : (text address : List ℕ) → address_in text ≡ Some address → IsAddress text × (address ≡ lowered text)
-address_read text address e = told_address text address (address_of text) (answered text) e
+address_read text address e = told_address text address (address_of text) refl e
 
 pub address_again : (text address : List ℕ) → IsAddress text → address ≡ lowered text → address_in text ≡ Some address
 address_again text address is same = ap result_ok (only_address text is) ∙ ap (λ a. Some a) (sym same)

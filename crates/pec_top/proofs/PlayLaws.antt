@@ -4,8 +4,7 @@ use Rattle.std.proofs.lemmas.Bool.{le-leb, le-ltb, leb-false, leb-true, lt-leb, 
 use Rattle.pec_points.specs.declared.admission.Admission.{Admission}
 use Rattle.pec_points.specs.declared.admission.Admission.TheVariants as admissions
 use Rattle.pec_top.specs.Commands.{Command, submit, book, Submission}
-use Rattle.pec_directory.specs.Directory.{Provider}
-use Rattle.pec_top.specs.Accounts.{account_home, is_account_of}
+use Rattle.pec_directory.specs.Directory.{Provider, account_home, is_account_of}
 use Rattle.pec_top.specs.Play.{Plays, no_account, clock_back, full, not_accepted, accepted, no_book, booked, Played, admission, admitted, book_answer, book_at, count_of, full_text, kept_as, last_of, no_account_text, played, submitted}
 use Rattle.pec_top.specs.Printing.{clock_back_text}
 use Rattle.pec_top.specs.declared.entries.Entry.{Entry}

@@ -5,8 +5,7 @@ use Rattle.std.specs.Str.{bytes_eq}
 use Rattle.pec_types.specs.Message.{Id}
 use Rattle.pec_types.specs.declared.messages.BookLine.{BookLine}
 use Rattle.pec_types.specs.declared.messages.Recipient.{Recipient}
-use Rattle.pec_directory.specs.Directory.{Provider}
-use Rattle.pec_top.specs.Accounts.{is_certified}
+use Rattle.pec_directory.specs.Directory.{Provider, is_certified}
 use Rattle.pec_top.specs.declared.entries.Entry.{Entry}
 use Rattle.pec_top.specs.declared.entries.Entry.TheVariants.{Accepted, NotAccepted}
 

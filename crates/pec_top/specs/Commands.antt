@@ -10,7 +10,8 @@ use Rattle.pec_types.specs.AddressReading.{address_of}
 use Rattle.pec_types.specs.declared.moments.TheConstants.{END_OF_TIME}
 use Rattle.pec_top.specs.Numbers.{number_of}
 use Rattle.pec_top.specs.Paths.{path_of}
-use Rattle.pec_top.specs.Reading.{◌>>=◌, where_true, word_at, last_word}
+use Rattle.pec_types.specs.Options.{◌>>=◌}
+use Rattle.pec_top.specs.Reading.{where_true, word_at, last_word}
 
 -- a message that is handed in at the provider of this number
 pub record Submission : Type 0 where

@@ -1,4 +1,3 @@
-pub mod Accounts
 pub mod Booking
 pub mod Commands
 pub mod Directory

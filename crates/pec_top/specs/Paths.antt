@@ -3,7 +3,8 @@ use Rattle.std.specs.Prelude.{ℕ, Bool, ◌==◌, List, [], ◌∷◌, length, 
 use Rattle.std.specs.List.{slice_split}
 use Rattle.std.specs.Result.{result_ok}
 use Rattle.pec_types.specs.AddressReading.{address_of}
-use Rattle.pec_top.specs.Reading.{◌>>=◌, where_true}
+use Rattle.pec_types.specs.Options.{◌>>=◌}
+use Rattle.pec_top.specs.Reading.{where_true}
 
 abbrev pub is_comma : ℕ → Bool
 is_comma b = b == 44

@@ -1,15 +1,14 @@
 -- What a command does: the lines that are written, and every provider's entries afterwards. Admission is that of RFC 6109
 -- section 3.1.1; the rest is this project's profile.
 use Rattle.std.specs.Prelude.{◌≡◌, ℕ, ◌<◌, ◌≤◌, true, false, not, nat_lt, nat_le, List, length, codes, Option, Some, None, if◌then◌else◌}
-use Rattle.pec_directory.specs.Directory.{Provider}
-use Rattle.pec_points.specs.Admission.{admission_of}
-use Rattle.pec_points.specs.Limits.{limit_of}
+use Rattle.pec_directory.specs.Directory.{Provider, account_home, first_domain, is_account_of}
+use Rattle.pec_points.specs.AdmissionReading.{admission_of}
+use Rattle.pec_points.specs.Case.{case_at}
 use Rattle.pec_points.specs.declared.admission.Admission.{Admission}
 use Rattle.pec_points.specs.declared.admission.Admission.TheVariants as admissions
 use Rattle.pec_types.specs.declared.messages.Cause.{Cause}
 use Rattle.pec_types.specs.declared.messages.Facts.{Facts}
 use Rattle.pec_top.specs.Commands.{Command, submit, book, Submission}
-use Rattle.pec_top.specs.Accounts.{account_home, first_domain, is_account_of}
 use Rattle.pec_top.specs.Ledger.{book_of, ledger_of, with_entry}
 use Rattle.pec_top.specs.Printing.{accepted_text, not_accepted_text, clock_back_text, book_text}
 use Rattle.pec_top.specs.declared.entries.Entry.{Entry}
@@ -23,7 +22,7 @@ full_text = codes "full\n"
 
 -- what the access point of its provider says of a submission
 abbrev pub admission : List Provider → Submission → Admission
-admission providers s = admission_of (limit_of providers s.provider) s.sender s.path s.message
+admission providers s = admission_of (case_at providers s.provider s.sender s.path s.message)
 
 abbrev pub accepted_entry : Submission → Facts → Entry
 accepted_entry s facts = Accepted s.moment s.sender facts.recipients s.message

@@ -1,46 +1,11 @@
--- The lines of output. A message is named `pec.<number in seven digits>@<domain of its provider>`. This project's profile.
-use Rattle.std.specs.Prelude.{ℕ, ◌-◌, List, ◌++◌, length, take, codes, Option, Some, None}
+-- The lines of output. This project's profile.
+use Rattle.std.specs.Prelude.{ℕ, List, ◌++◌, length, codes, Option, Some, None}
 use Rattle.std.specs.Fmt.{decimal}
 use Rattle.std.specs.List.{flat_map}
+use Rattle.pec_types.specs.Words.{cause_word, class_word, decision_word, id_text}
 use Rattle.pec_types.specs.declared.messages.BookLine.{BookLine}
 use Rattle.pec_types.specs.declared.messages.Cause.{Cause}
-use Rattle.pec_types.specs.declared.messages.Cause.TheVariants as causes
-use Rattle.pec_types.specs.declared.messages.Class.{Class}
-use Rattle.pec_types.specs.declared.messages.Class.TheVariants as classes
 use Rattle.pec_types.specs.declared.messages.Decision.{Decision}
-use Rattle.pec_types.specs.declared.messages.Decision.TheVariants as decisions
-use Rattle.pec_types.specs.declared.messages.Refusal.{Refusal}
-use Rattle.pec_types.specs.declared.messages.Refusal.TheVariants as refusals
-
--- seven digits of a number below 10,000,000
-abbrev pub seven_digits : ℕ → List ℕ
-seven_digits number = take (7 - length (decimal number)) (codes "0000000") ++ decimal number
-
-unfoldable pub id_text : List ℕ → ℕ → List ℕ
-id_text domain number = codes "pec." ++ seven_digits number ++ codes "@" ++ domain
-
-abbrev pub cause_word : Cause → List ℕ
-cause_word causes.Head = codes "head"
-cause_word causes.From = codes "from"
-cause_word causes.To = codes "to"
-cause_word causes.ReversePath = codes "reverse-path"
-cause_word causes.ForwardPath = codes "forward-path"
-cause_word causes.Bcc = codes "bcc"
-cause_word causes.Size = codes "size"
-cause_word causes.Virus = codes "virus"
-
-abbrev pub class_word : Class → List ℕ
-class_word classes.Primary = codes "primary"
-class_word classes.Copy = codes "copy"
-
-abbrev pub refusal_word : Refusal → List ℕ
-refusal_word refusals.NoMailbox = codes "no-mailbox"
-refusal_word refusals.MailboxFull = codes "mailbox-full"
-refusal_word refusals.Virus = codes "virus"
-
-abbrev pub decision_word : Decision → List ℕ
-decision_word decisions.Placed = codes "delivered"
-decision_word (decisions.Refused refusal) = refusal_word refusal
 
 unfoldable pub accepted_text : List ℕ → ℕ → List ℕ
 accepted_text domain number = codes "accepted " ++ id_text domain number ++ codes "\n"

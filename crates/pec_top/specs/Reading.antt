@@ -1,21 +1,13 @@
 -- Words for readers of texts: what a reader finds, or nothing.
-use Rattle.std.specs.Prelude.{ℕ, ◌+◌, ◌==◌, Bool, List, length, take, drop, position, Option, Some, None, option_and_then, option_map, if◌then◌else◌, is_none}
-use Rattle.std.specs.Str.{bytes_eq}
-
-infixl 10 ◌>>=◌
-abbrev pub ◌>>=◌ : {A B : Type 0} → Option A → (A → Option B) → Option B
-found >>= next = option_and_then next found
+use Rattle.std.specs.Prelude.{ℕ, ◌+◌, ◌==◌, Bool, List, take, drop, position, Option, Some, None, option_map, if◌then◌else◌, is_none}
+use Rattle.pec_types.specs.Bytes.{space}
 
 -- goes on where the test passes
 abbrev pub where_true : {A : Type 0} → Bool → Option A → Option A
 where_true test found = if test then found else None
 
--- what stands behind a front
-unfoldable pub behind_front : List ℕ → List ℕ → Option (List ℕ)
-behind_front front text = if bytes_eq (take (length front) text) front then Some (drop (length front) text) else None
-
 abbrev pub is_space : ℕ → Bool
-is_space b = b == 32
+is_space b = b == space
 
 -- a word, and what stands behind the space after it
 unfoldable pub word_at : List ℕ → Option (List ℕ × List ℕ)

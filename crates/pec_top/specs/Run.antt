@@ -1,11 +1,13 @@
 -- What is left of the input, and what a run does with it: the words of the contracts of its parts.
-use Rattle.std.specs.Prelude.{◌≡◌, ℕ, ◌<◌, ◌≤◌, List, [], length, Option, Some, None, option_map, IfSome}
-use Rattle.pec_outside.specs.Flow.{followed_by, Wrote, WrotePart}
+use Rattle.std.specs.Prelude.{◌≡◌, ℕ, ◌<◌, ◌≤◌, List, [], length, Option, Some, None, option_map, IfSome, Result, IsErrOf}
+use Rattle.pec_outside.specs.Flow.{followed_by, HasRisen, Wrote, WrotePart}
 use Rattle.pec_directory.specs.Directory.{Provider}
 use Rattle.pec_top.specs.Lines.{raw_lines}
 use Rattle.pec_top.specs.Transcript.{Outcome, Turn, Parts, ended, directory_bytes, line_turn, long_turn, parts_of, script_from}
 use Rattle.pec_top.specs.declared.ending.End.{End}
 use Rattle.pec_top.specs.declared.ending.End.TheVariants.{Done}
+use Rattle.pec_top.specs.declared.ending.Stop.{Stop}
+use Rattle.pec_top.specs.declared.ending.Stop.TheVariants as stops
 use Rattle.pec_top.specs.declared.entries.Entry.{Entry}
 use Rattle.pec_top.specs.declared.input.Found.{Found}
 use Rattle.pec_top.specs.declared.input.Found.TheVariants as found
@@ -45,3 +47,10 @@ Stops told before after = IfSome told (λ outcome. WrotePart before after outcom
 abbrev pub Goes : Option Outcome → Option Outcome → Option (List ℕ) → Option (List ℕ) → Type 0
 Goes None now before after = Unit {0}
 Goes (Some whole) now before after = (rest : Outcome) × (now ≡ Some rest) × Wrote before after whole.text rest.text × (whole.end ≡ rest.end)
+
+-- A stop blames a device only where that device's count of faults rose in the call, and no count falls: the source's count
+-- before and after, then the sink's.
+abbrev pub BlamesDevices : {T : Type 0} → Result T Stop → ℕ → ℕ → ℕ → ℕ → Type 0
+BlamesDevices result source_old source_new sink_old sink_new =
+    (IsErrOf result stops.ReadFault → HasRisen source_old source_new) × ((IsErrOf result stops.WriteFault → HasRisen sink_old sink_new)
+    × ((source_old ≤ source_new) × (sink_old ≤ sink_new)))

@@ -4,7 +4,6 @@ ghost use Rattle.pec_types.specs.declared.messages.TheConstants.{MESSAGES};
 ghost use Rattle.pec_top.specs.Booking.{entry_lines, line_of, lines_of};
 ghost use Rattle.pec_top.specs.Ledger.{book_of, half_of};
 
-use crate::accounts::is_certified;
 use crate::entries::Entry;
 use pec_directory::Directory;
 use pec_types::{Address, BookLine, Moment, MsgId, NoMemory, Recipient};
@@ -91,7 +90,7 @@ fn push_recipient(
 ) -> Result<(), NoMemory>
     ensures { OnOk result (lines.new.items ≡ lines.old.items ++ line_of (providers_of directory.now) id accepted recipient.now) }
 {
-    if !is_certified(directory, &recipient.address) {
+    if !directory.is_certified(&recipient.address) {
         return Ok(());
     }
     lines.push(BookLine {

@@ -1,7 +1,6 @@
 //! The top call: a run from the bytes that come in to the bytes that go out.
 #![tactic(auto)]
 
-mod accounts;
 mod booking;
 mod commands;
 mod directory;

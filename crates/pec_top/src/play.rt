@@ -6,7 +6,6 @@ ghost use Rattle.pec_top.specs.Ledger.{entries_of};
 ghost use Rattle.pec_top.specs.Play.{Plays, admission, admitted, book_answer, no_account_text, played, submitted};
 ghost use Rattle.pec_top.specs.Views.{command_shown, played_shown, submission_shown};
 
-use crate::accounts::{account_home, first_domain, is_account_of};
 use crate::commands::{Command, Submission};
 use crate::entries::Entry;
 use crate::ledgers::Ledgers;
@@ -57,7 +56,7 @@ fn submit(
     ensures { IfOk result (λ text. played_shown text.items ledgers.new ≡ submitted (providers_of directory.now) ledgers.old (submission_shown submission)) }
 {
     let provider = submission.provider;
-    if !is_account_of(directory, provider, &submission.sender) {
+    if !directory.is_account_of(provider, &submission.sender) {
         let text = no_account(alloc)?;
         return Ok(text);
     }
@@ -91,7 +90,7 @@ fn take(
         path,
         message,
     } = submission;
-    let domain = first_domain(directory, provider);
+    let domain = directory.first_domain(provider);
     let number = ledgers.messages(provider);
     match admit(alloc, directory, provider, &sender, &path, message.bytes())? {
         Admission::Accepted(facts) => {
@@ -131,12 +130,12 @@ fn answer_book(
 ) -> Result<Vec<u8>, NoMemory>
     ensures { IfOk result (λ text. text.items ≡ book_answer (providers_of directory.now) ledgers.now account.now) }
 {
-    let Some(provider) = account_home(directory, account) else {
+    let Some(provider) = directory.account_home(account) else {
         let text = no_account(alloc)?;
         return Ok(text);
     };
     let lines = ledgers.book(alloc, directory, provider, account)?;
-    let text = book_text(alloc, first_domain(directory, provider), &lines)?;
+    let text = book_text(alloc, directory.first_domain(provider), &lines)?;
     Ok(text)
 }
 

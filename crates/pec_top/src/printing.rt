@@ -2,9 +2,9 @@ ghost use Rattle.std.specs.Prelude.{◌≡◌, ℕ, List, ◌++◌, codes, lengt
 ghost use Rattle.std.specs.Fmt.{decimal};
 ghost use Rattle.std.specs.List.{flat_map};
 ghost use Rattle.pec_types.specs.declared.messages.BookLine.{BookLine};
-ghost use Rattle.pec_top.specs.Printing.{accepted_text, book_text, cause_word, class_word, clock_back_text, decision_word, id_text, line_text, moment_text, not_accepted_text, outcome_text, refusal_word, seven_digits, state_text};
+ghost use Rattle.pec_top.specs.Printing.{accepted_text, book_text, clock_back_text, line_text, moment_text, not_accepted_text, outcome_text, state_text};
 
-use pec_types::{BookLine, Cause, Class, Decision, Moment, NoMemory, Refusal};
+use pec_types::{BookLine, Cause, Decision, Moment, NoMemory, id_text};
 use std::alloc::Global;
 
 /// Text that grows at its end: each call adds one piece.
@@ -61,22 +61,6 @@ impl Page {
     }
 }
 
-/// `pec.NNNNNNN@DOMAIN`, the name of a message.
-#[tactic(auto, unfolding(crate::specs::Printing::id_text))]
-pub(crate) fn id_text(alloc: Global, domain: &[u8], number: u64) -> Result<Vec<u8>, NoMemory>
-    ensures { IfOk result (λ text. text.items ≡ id_text domain.now number) }
-{
-    let mut buffer = itoa::Buffer::new();
-    let digits = buffer.format(number);
-    let zeros = b"0000000";
-    let page = Page::new(alloc)
-        .add(b"pec.")?
-        .add(&zeros[..7usize.saturating_sub(digits.len())])?
-        .add(digits.as_bytes())?;
-    let page = page.add(b"@")?.add(domain)?;
-    Ok(page.text)
-}
-
 /// `accepted ID`
 #[tactic(auto, unfolding(crate::specs::Printing::accepted_text))]
 pub(crate) fn accepted_text(alloc: Global, domain: &[u8], number: u64) -> Result<Vec<u8>, NoMemory>
@@ -101,7 +85,7 @@ pub(crate) fn not_accepted_text(
     let page = Page::new(alloc)
         .add(b"not-accepted ")?
         .word(&id)?
-        .add(cause_word(cause))?
+        .add(cause.word())?
         .add(b"\n")?;
     Ok(page.text)
 }
@@ -151,7 +135,7 @@ fn line_text(alloc: Global, domain: &[u8], line: &BookLine) -> Result<Vec<u8>, N
     let state = state_text(alloc, line)?;
     let page = Page::new(alloc).word(&id)?.word(line.recipient.bytes())?;
     let page = page
-        .word(class_word(line.class))?
+        .word(line.class.word())?
         .number(line.accepted.seconds())?;
     let page = page.add(b" ")?.add(&state)?.add(b"\n")?;
     Ok(page.text)
@@ -180,42 +164,7 @@ fn outcome_text(alloc: Global, outcome: Option<(Decision, Moment)>) -> Result<Ve
         return Ok(page.text);
     };
     let page = Page::new(alloc)
-        .word(decision_word(decision))?
+        .word(decision.word())?
         .number(moment.seconds())?;
     Ok(page.text)
-}
-
-fn cause_word(cause: Cause) -> &'static [u8]
-    ensures { result.now ≡ cause_word cause }
-{
-    match cause {
-        Cause::Head => b"head",
-        Cause::From => b"from",
-        Cause::To => b"to",
-        Cause::ReversePath => b"reverse-path",
-        Cause::ForwardPath => b"forward-path",
-        Cause::Bcc => b"bcc",
-        Cause::Size => b"size",
-        Cause::Virus => b"virus",
-    }
-}
-
-fn class_word(class: Class) -> &'static [u8]
-    ensures { result.now ≡ class_word class }
-{
-    match class {
-        Class::Primary => b"primary",
-        Class::Copy => b"copy",
-    }
-}
-
-fn decision_word(decision: Decision) -> &'static [u8]
-    ensures { result.now ≡ decision_word decision }
-{
-    match decision {
-        Decision::Placed => b"delivered",
-        Decision::Refused(Refusal::NoMailbox) => b"no-mailbox",
-        Decision::Refused(Refusal::MailboxFull) => b"mailbox-full",
-        Decision::Refused(Refusal::Virus) => b"virus",
-    }
 }

@@ -1,13 +1,5 @@
 ghost use Rattle.std.specs.Prelude.{◌≡◌, ℕ, ◌<◌, length, position, option_map, Option, Some, IfSome};
-ghost use Rattle.pec_top.specs.Reading.{behind_front, is_space, last_word, word_at};
-
-/// What stands behind a front, where the text begins with it.
-#[tactic(auto, unfolding(crate::specs::Reading::behind_front))]
-pub(crate) fn behind_front<'a>(front: &[u8], text: &'a [u8]) -> Option<&'a [u8]>
-    ensures { option_map (λ rest. rest.now) result ≡ behind_front front.now text.now }
-{
-    text.strip_prefix(front)
-}
+ghost use Rattle.pec_top.specs.Reading.{is_space, last_word, word_at};
 
 /// The text up to its first space, and what stands behind that.
 #[tactic(auto, unfolding(crate::specs::Reading::word_at))]

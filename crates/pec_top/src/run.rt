@@ -3,6 +3,7 @@ ghost use Rattle.pec_outside.specs.Flow.{behind, followed_by, HasRisen, WrotePar
 ghost use Rattle.pec_top.specs.Directory.{opened_of};
 ghost use Rattle.pec_top.specs.Input.{IsAtEnd};
 ghost use Rattle.pec_top.specs.Lines.{raw_lines};
+ghost use Rattle.pec_top.specs.Run.{BlamesDevices};
 ghost use Rattle.pec_top.specs.Status.{EndsAs};
 ghost use Rattle.pec_top.specs.Transcript.{is_run, opened_outcome, parts_of, parts_outcome, transcript};
 ghost use Rattle.pec_top.specs.declared.ending.End.TheVariants.{Done, Usage};
@@ -28,11 +29,9 @@ pub(crate) fn run_words<S: Source, W: Sink>(
     ensures err { OnErr result ((text : List ℕ) → S.left input.old ≡ Some text → WrotePart (W.held out.old) (W.held out.new) (transcript (map string_bytes words.now) text).text) }
     ensures usage { IfOk result (λ end. end ≡ Usage → is_run (map string_bytes words.now) ≡ false) }
     ensures words { is_run (map string_bytes words.now) ≡ false → MatchResult result (λ end. end ≡ Usage) (λ stop. stop ≡ Stop.WriteFault) }
+    ensures unread { is_run (map string_bytes words.now) ≡ false → input.new ≡ input.old }
     ensures all_read { IfOk result (λ end. end ≡ Done → IsAtEnd (S.left input.new)) }
-    ensures read_fault { IsErrOf result Stop.ReadFault → HasRisen (S.faults input.old) (S.faults input.new) }
-    ensures write_fault { IsErrOf result Stop.WriteFault → HasRisen (W.faults out.old) (W.faults out.new) }
-    ensures source_later { S.faults input.old ≤ S.faults input.new }
-    ensures sink_later { W.faults out.old ≤ W.faults out.new }
+    ensures blame { BlamesDevices result (S.faults input.old) (S.faults input.new) (W.faults out.old) (W.faults out.new) }
 {
     if !is_run(words) {
         let end = write_last(out, b"usage\n", End::Usage)?;
@@ -55,10 +54,7 @@ fn run_input<S: Source, W: Sink>(
     ensures err { OnErr result ((text : List ℕ) → behind buffer.old (S.left source.old) ≡ Some text → WrotePart (W.held out.old) (W.held out.new) (parts_outcome (parts_of (raw_lines text))).text) }
     ensures not_usage { IfOk result (λ end. end ≢ Usage) }
     ensures all_read { IfOk result (λ end. end ≡ Done → IsAtEnd (behind buffer.new (S.left source.new))) }
-    ensures read_fault { IsErrOf result Stop.ReadFault → HasRisen (S.faults source.old) (S.faults source.new) }
-    ensures write_fault { IsErrOf result Stop.WriteFault → HasRisen (W.faults out.old) (W.faults out.new) }
-    ensures source_later { S.faults source.old ≤ S.faults source.new }
-    ensures sink_later { W.faults out.old ≤ W.faults out.new }
+    ensures blame { BlamesDevices result (S.faults source.old) (S.faults source.new) (W.faults out.old) (W.faults out.new) }
 {
     match read_directory(alloc, source, buffer)? {
         Opening::TooLong => {
@@ -89,10 +85,7 @@ fn run_opened<S: Source, W: Sink>(
     ensures err { OnErr result ((text : List ℕ) → behind buffer.old (S.left source.old) ≡ Some text → WrotePart (W.held out.old) (W.held out.new) (opened_outcome (raw_lines text) (opened_of directory.now)).text) }
     ensures not_usage { IfOk result (λ end. end ≢ Usage) }
     ensures all_read { IfOk result (λ end. end ≡ Done → IsAtEnd (behind buffer.new (S.left source.new))) }
-    ensures read_fault { IsErrOf result Stop.ReadFault → HasRisen (S.faults source.old) (S.faults source.new) }
-    ensures write_fault { IsErrOf result Stop.WriteFault → HasRisen (W.faults out.old) (W.faults out.new) }
-    ensures source_later { S.faults source.old ≤ S.faults source.new }
-    ensures sink_later { W.faults out.old ≤ W.faults out.new }
+    ensures blame { BlamesDevices result (S.faults source.old) (S.faults source.new) (W.faults out.old) (W.faults out.new) }
 {
     match open_directory(alloc, directory)? {
         Opened::Refused(fault) => {

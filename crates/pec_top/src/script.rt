@@ -1,9 +1,9 @@
-ghost use Rattle.std.specs.Prelude.{◌≡◌, ◌≢◌, ◌≤◌, ℕ, List, Some, None, IfOk, OnErr, IsErrOf};
+ghost use Rattle.std.specs.Prelude.{◌≡◌, ◌≢◌, ◌≤◌, ℕ, List, Some, None, IfOk, OnErr};
 ghost use Rattle.pec_directory.specs.Directory.{Provider, providers_of};
-ghost use Rattle.pec_outside.specs.Flow.{behind, HasRisen};
+ghost use Rattle.pec_outside.specs.Flow.{behind};
 ghost use Rattle.pec_top.specs.Input.{IsAtEnd};
 ghost use Rattle.pec_top.specs.Ledger.{no_entries};
-ghost use Rattle.pec_top.specs.Run.{Finishes, Stops, found_turn, script_left};
+ghost use Rattle.pec_top.specs.Run.{BlamesDevices, Finishes, Stops, found_turn, script_left};
 ghost use Rattle.pec_top.specs.Script.{PlaysScript};
 ghost use Rattle.pec_top.specs.Transcript.{script_from, script_lines};
 ghost use Rattle.pec_top.specs.Views.{turn_shown};
@@ -31,10 +31,7 @@ pub(crate) fn play_script<S: Source, W: Sink>(
     ensures err { OnErr result (Stops (script_left (providers_of directory.now) (no_entries (providers_of directory.now)) 1 (behind buffer.old (S.left source.old))) (W.held out.old) (W.held out.new)) }
     ensures not_usage { IfOk result (λ end. end ≢ Usage) }
     ensures all_read { IfOk result (λ end. end ≡ Done → IsAtEnd (behind buffer.new (S.left source.new))) }
-    ensures read_fault { IsErrOf result Stop.ReadFault → HasRisen (S.faults source.old) (S.faults source.new) }
-    ensures write_fault { IsErrOf result Stop.WriteFault → HasRisen (W.faults out.old) (W.faults out.new) }
-    ensures source_later { S.faults source.old ≤ S.faults source.new }
-    ensures sink_later { W.faults out.old ≤ W.faults out.new }
+    ensures blame { BlamesDevices result (S.faults source.old) (S.faults source.new) (W.faults out.old) (W.faults out.new) }
 {
     let mut ledgers = Ledgers::new(alloc, directory)?;
     let mut line = Vec::new(alloc);

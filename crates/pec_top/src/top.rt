@@ -25,6 +25,8 @@ pub fn run_pec<S: Source, W: Sink>(
     // Status 2 is for other words than `run`, and for nothing else, whatever the devices tell.
     ensures usage { result ≡ Status.Usage → is_run (map string_bytes words.now) ≡ false }
     ensures words { is_run (map string_bytes words.now) ≡ false → (result ≡ Status.Usage) ⊎ (result ≡ Status.WriteFault) }
+    // For other words no byte of the input is read.
+    ensures unread { is_run (map string_bytes words.now) ≡ false → input.new ≡ input.old }
     // A fault's status comes only where that device's count of faults rose in this call.
     ensures read_fault { result ≡ Status.ReadFault → HasRisen (S.faults input.old) (S.faults input.new) }
     ensures write_fault { result ≡ Status.WriteFault → HasRisen (W.faults out.old) (W.faults out.new) }

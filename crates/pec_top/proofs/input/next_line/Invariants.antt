@@ -9,7 +9,7 @@ invariant-pieces g l =
     record {
       read : behind l.fn.buffer (port.left l.fn.source) ≡ behind l.line.items (behind l.buffer (port.left l.source));
       none : HasNoEnd l.line.items;
-      later : port.faults l.fn.source ≤ port.faults l.source;
+      later : g.S.Counted.faults l.fn.source ≤ g.S.Counted.faults l.source;
     }
 
 abbrev pub decreases-pieces : goal.decreases-pieces

@@ -9,7 +9,7 @@ invariant-lines g l =
     let port = g.S.Source in
     record {
       parts : parts_left (behind l.fn.buffer (port.left l.fn.source)) ≡ option_map (λ parts. onto_directory l.directory.items parts) (parts_left (behind l.buffer (port.left l.source)));
-      later : port.faults l.fn.source ≤ port.faults l.source;
+      later : g.S.Counted.faults l.fn.source ≤ g.S.Counted.faults l.source;
     }
 
 abbrev pub decreases-lines : goal.decreases-lines

@@ -14,8 +14,8 @@ invariant-lines g l =
       goes : Goes (script_left (providers_of l.directory) (no_entries (providers_of l.directory)) 1 (behind l.fn.buffer (port.left l.fn.source))) (script_left (providers_of l.directory) l.ledgers l.number (behind l.buffer (port.left l.source)))
           (sink.held l.fn.out) (sink.held l.out);
       number : l.number ≤ script_lines + 1;
-      source_later : port.faults l.fn.source ≤ port.faults l.source;
-      sink_later : sink.faults l.fn.out ≤ sink.faults l.out;
+      source_later : g.S.Counted.faults l.fn.source ≤ g.S.Counted.faults l.source;
+      sink_later : g.W.Counted.faults l.fn.out ≤ g.W.Counted.faults l.out;
     }
 
 abbrev pub decreases-lines : goal.decreases-lines
