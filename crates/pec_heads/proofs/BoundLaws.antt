@@ -77,7 +77,7 @@ short_is_short value =
       ends = t.ends;
     })
 
-first_short : (found : Option Bytes) → IfSome (option_and_then short_text found) IsShortText
+pub first_short : (found : Option Bytes) → IfSome (option_and_then short_text found) IsShortText
 first_short None = tt
 first_short (Some value) = short_is_short value
 

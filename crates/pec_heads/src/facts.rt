@@ -97,7 +97,7 @@ fn wish(fields: &Fields) -> Wish
 }
 
 /// A subject or a reference: the text of the first field of a name.
-fn text(alloc: Global, fields: &Fields, name: &[u8]) -> Result<Option<Text>, NoMemory>
+pub(crate) fn text(alloc: Global, fields: &Fields, name: &[u8]) -> Result<Option<Text>, NoMemory>
     ensures { IfOk result (λ found. found ≡ text_of name.now (fields_shown fields.now)) }
 {
     let Some(value) = value(fields, name, 0) else {

@@ -1,10 +1,10 @@
 ghost use Rattle.std.specs.Prelude.{◌≡◌, ◌++◌, ◌≤◌, ◌⊎◌, ◌↔◌, ℕ, List, Option, codes, length, not, slice_get, IfOk};
 ghost use Rattle.std.specs.List.{list_any};
-ghost use Rattle.std.specs.Option.{option_map};
+ghost use Rattle.std.specs.Option.{IfSome, option_map};
 ghost use Rattle.pec_types.specs.declared.messages.Facts.{Facts as FactsShown};
 ghost use Rattle.pec_types.specs.Bytes.{Bytes, Path};
-ghost use Rattle.pec_heads.specs.BoundedFacts.{AreBounded, AreRecipients, addresses_of};
-ghost use Rattle.pec_heads.specs.FactsOfHeads.{AreCopies, AreFacts, IsFacts, has_address, recipients_of};
+ghost use Rattle.pec_heads.specs.BoundedFacts.{AreBounded, AreRecipients, IsShortText, addresses_of};
+ghost use Rattle.pec_heads.specs.FactsOfHeads.{AreCopies, AreFacts, IsFacts, has_address, recipients_of, text_of};
 ghost use Rattle.pec_heads.specs.FactsReading.{facts_of};
 ghost use Rattle.pec_types.specs.Answers.{Gives, OrNoMemory, ReadsExactly, TellsExactly, seen_as};
 ghost use Rattle.pec_heads.specs.Heads.{HasHead, HasHeadFault, IsFaulty, IsHead, IsRead, NamedValue, joined_values, values_of};
@@ -14,13 +14,13 @@ ghost use Rattle.pec_heads.specs.ListReading.{list_of};
 ghost use Rattle.pec_heads.specs.declared.faults.HeadFault.TheVariants as faults;
 ghost use Rattle.pec_heads.specs.declared.faults.ListFault.TheVariants as wrong;
 
-use crate::facts::read_facts;
+use crate::facts::{read_facts, text};
 use crate::faults::{HeadFault, ListFault};
 use crate::fields::Fields;
 use crate::lists::list_named;
 use crate::lookups::{count, is_filled, value};
 use crate::reading::read_fields;
-use pec_types::{Address, Facts, NoMemory, an_address_is_told_exactly};
+use pec_types::{Address, Facts, NoMemory, Text, an_address_is_told_exactly};
 use std::alloc::Global;
 use std::marker::Model;
 
@@ -74,6 +74,8 @@ pub fn facts_are_bounded()
     ensures recipients { (fields : List NamedValue) (facts : FactsShown) (to copies : Path) → IsFacts fields facts
         → IsList (joined_values (codes "To") fields) to → AreCopies fields copies
         → AreRecipients to copies facts.recipients }
+    // A subject or a reference, also of a head without facts.
+    ensures short { (name : Bytes) (fields : List NamedValue) → IfSome (text_of name fields) IsShortText }
 {
     an_address_is_told_exactly();
 }
@@ -160,6 +162,23 @@ impl Head {
     {
         an_address_is_told_exactly();
         read_facts(alloc, &self.fields)
+    }
+
+    /// The subject that letters about the message repeat, also where the head has no facts: the first `Subject`, printable,
+    /// cut to 900 bytes and trimmed. `None` where there is no such field or nothing is left. This project's profile.
+    pub fn subject(&self, alloc: Global) -> Result<Option<Text>, NoMemory>
+        ensures { IfOk result (λ found. found ≡ text_of (codes "Subject") self.now) }
+    {
+        let subject = text(alloc, &self.fields, b"Subject")?;
+        Ok(subject)
+    }
+
+    /// As `subject`, for the first `Message-ID`: the name that the sender gave the message.
+    pub fn reference(&self, alloc: Global) -> Result<Option<Text>, NoMemory>
+        ensures { IfOk result (λ found. found ≡ text_of (codes "Message-ID") self.now) }
+    {
+        let reference = text(alloc, &self.fields, b"Message-ID")?;
+        Ok(reference)
     }
 }
 

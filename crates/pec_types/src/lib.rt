@@ -9,11 +9,14 @@ mod frames;
 mod letters;
 mod limits;
 mod lists;
+mod mailboxes;
 mod messages;
 mod moments;
 mod places;
+mod receipts;
 mod scanning;
 mod texts;
+mod turns;
 mod words;
 
 pub use addresses::{Address, AddressFault, an_address_is_told_exactly};
@@ -23,11 +26,14 @@ pub use frames::Frame;
 pub use letters::Letter;
 pub use limits::{Due, LATE_AFTER, NOTICE_AFTER, WARNING_AFTER, a_pair_has_one_due, timed};
 pub use lists::Items;
+pub use mailboxes::{ItemKind, ItemLine, Mark};
 pub use messages::{
     BookLine, Cause, Class, Decision, Facts, MESSAGES, MsgId, Recipient, Refusal, Wish,
 };
 pub use moments::{END_OF_TIME, Moment};
 pub use places::Place;
+pub use receipts::Kind;
 pub use scanning::{Stand, lower_addresses_pass};
 pub use texts::{Text, Text8, TextFault, first_unprintable, printable_is_said_of_each_byte};
+pub use turns::{Event, ProviderFault, Submitted, Turn};
 pub use words::{id_text, seven_digits_are_read_back};
