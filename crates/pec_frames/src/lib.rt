@@ -7,7 +7,7 @@ mod frames;
 mod paths;
 
 pub use faults::{FrameFault, FrameMade};
-pub use frames::{frame_of, read_frame};
+pub use frames::{a_frame_is_read_as_it_was_made, a_text_is_one_frame, frame_of, read_frame};
 
 /// The most bytes of a frame. This project's profile.
 pub const FRAME_LIMIT: usize = 50_331_648;

@@ -1,4 +1,5 @@
-use pec_frames::{FrameFault, read_frame};
+use pec_frames::{FRAME_LIMIT, FrameFault, FrameMade, frame_of, read_frame};
+use pec_types::Address;
 use std::test::Fail;
 
 /// Texts that are no frames, each with its fault.
@@ -41,5 +42,30 @@ fn a_path_is_read_in_lower_case(rt: HostRuntime) -> Result<(), Fail> {
         assert_eq!(rt; path[0].bytes(), address);
         assert_eq!(rt; begin, place);
     }
+    Ok(())
+}
+
+#[test]
+fn a_frame_is_made_and_read_again(rt: HostRuntime) -> Result<(), Fail> {
+    let alloc = rt.alloc();
+    let bob = Address::read(alloc, b"bob@beta.example")?;
+    let eva = Address::read(alloc, b"eva@gamma.example")?;
+    let path = [bob, eva];
+    let frame = frame_of(alloc, &path, b"ciao")?;
+    assert_eq!(rt;
+        frame.bytes(),
+        b"Per: bob@beta.example,eva@gamma.example\r\nciao".as_slice()
+    );
+    let (read, begin) = read_frame(alloc, frame.bytes())?;
+    assert_eq!(rt; (read.as_slice() == path.as_slice(), begin), (true, 41));
+
+    // The line takes 41 bytes.
+    let mut message = vec![in alloc; b'x'; FRAME_LIMIT - 41]?;
+    assert!(rt; frame_of(alloc, &path, &message).is_ok());
+    message.push(b'x')?;
+    assert_eq!(rt;
+        frame_of(alloc, &path, &message).err(),
+        Some(FrameMade::TooLong)
+    );
     Ok(())
 }
