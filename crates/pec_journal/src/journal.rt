@@ -1,6 +1,6 @@
 ghost use Rattle.std.specs.Prelude.{◌≡◌, ◌≢◌, ℕ, ◌+◌, ◌<◌, ◌≤◌, ◌^◌, ◌↔◌, Bool, true, false, List, [], ◌∷◌, ◌++◌, length, take, drop, IsErrOf, IfOk, OnOk, IfErr, OnErr};
 ghost use Rattle.pec_outside.specs.Flow.{HasRisen};
-ghost use Rattle.pec_outside.specs.DiskModel.{LeavesOnly, Rests, written};
+ghost use Rattle.pec_outside.specs.DiskModel.{LeavesOnly, Only, Rests, Torn, written};
 ghost use Rattle.pec_journal.specs.JournalFile.{IsFile, IsBeforeOrAfter, IsShort, StandsAt, appended, framed, framing, open_gate, closed_gate, header};
 ghost use Rattle.pec_journal.specs.JournalState.{JournalState, Keeps};
 ghost use Rattle.pec_journal.specs.declared.faults.AppendFault.TheVariants as append;
@@ -217,6 +217,21 @@ fn put_entry<D: Disk>(disk: &mut D, end: u64, piece: &[u8]) -> Result<(), Failed
     ensures cause { OnErr result (HasRisen (D.faults disk.old) (D.faults disk.new)) }
 {
     write_through(disk, end + 1, piece)?;
+    open_at(disk, end)?;
+    Ok(())
+}
+
+// Opens the gate at a place: one byte, which a crash leaves as it was, or any other.
+fn open_at<D: Disk>(disk: &mut D, end: u64) -> Result<(), Failed>
+    ensures any_moment { D.tells → end ≤ length (D.sight disk.old).seen → Only (D.sight disk.old).seen (D.sight disk.old).may_leave →
+        LeavesOnly (D.sight disk.old) (D.sight disk.new) (Torn end 1 (D.sight disk.old).seen) }
+    ensures written { D.tells → end ≤ length (D.sight disk.old).seen →
+        OnOk result ((D.sight disk.new).seen ≡ written (D.sight disk.old).seen end (open_gate ∷ [])) }
+    ensures durable { D.tells → end ≤ length (D.sight disk.old).seen →
+        OnOk result (Only (D.sight disk.new).seen (D.sight disk.new).may_leave) }
+    ensures later { D.faults disk.old ≤ D.faults disk.new }
+    ensures cause { OnErr result (HasRisen (D.faults disk.old) (D.faults disk.new)) }
+{
     write_through(disk, end, &[OPEN_GATE])?;
     Ok(())
 }

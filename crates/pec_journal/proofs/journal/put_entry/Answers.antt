@@ -12,16 +12,16 @@ returns-in_err-write_through-clause-any_moment g c tells entries entry keeps sho
     first_leaves entries entry c.args.end (sight c.args.disk.now) (sight c.write_through.new.disk) (length c.args.piece.now) keeps
     (c.write_through.ensures.any_moment tells (file_size entries _ _ keeps.ends keeps.file) keeps.durable)
 
-pub returns-in_err-write_through-2-clause-any_moment : goal.returns-in_err-write_through-2-clause-any_moment
-returns-in_err-write_through-2-clause-any_moment g c tells entries entry keeps short is =
+pub returns-in_err-open_at-clause-any_moment : goal.returns-in_err-open_at-clause-any_moment
+returns-in_err-open_at-clause-any_moment g c tells entries entry keeps short is =
     let sight = g.D.Disk.sight in
     let within = file_size entries _ _ keeps.ends keeps.file in
     let first = first_leaves entries entry c.args.end (sight c.args.disk.now) (sight c.write_through.new.disk) (length c.args.piece.now) keeps (c.write_through.ensures.any_moment tells within keeps.durable) in
     let stage = first_stages entries entry c.args.end (sight c.args.disk.now) (sight c.write_through.new.disk) c.args.piece.now keeps short is (c.in_ok-write_through.ensures.written tells within) in
     let room = staged_size entries _ _ keeps.ends entry stage in
     let durable = c.in_ok-write_through.ensures.durable tells within in
-    and_then (sight c.args.disk.now) (sight c.write_through.new.disk) (sight c.write_through-2.new.disk) (IsBeforeOrAfter entries entry) first
-    (second_leaves entries entry c.args.end (sight c.write_through.new.disk) (sight c.write_through-2.new.disk) keeps.ends keeps.file.short stage (c.write_through-2.ensures.any_moment tells room durable))
+    and_then (sight c.args.disk.now) (sight c.write_through.new.disk) (sight c.open_at.new.disk) (IsBeforeOrAfter entries entry) first
+    (second_leaves entries entry c.args.end (sight c.write_through.new.disk) (sight c.open_at.new.disk) keeps.ends keeps.file.short stage (c.open_at.ensures.any_moment tells room durable))
 
 pub returns-clause-any_moment : goal.returns-clause-any_moment
 returns-clause-any_moment g c tells entries entry keeps short is =
@@ -31,8 +31,8 @@ returns-clause-any_moment g c tells entries entry keeps short is =
     let stage = first_stages entries entry c.args.end (sight c.args.disk.now) (sight c.write_through.new.disk) c.args.piece.now keeps short is (c.in_ok-write_through.ensures.written tells within) in
     let room = staged_size entries _ _ keeps.ends entry stage in
     let durable = c.in_ok-write_through.ensures.durable tells within in
-    and_then (sight c.args.disk.now) (sight c.write_through.new.disk) (sight c.write_through-2.new.disk) (IsBeforeOrAfter entries entry) first
-    (second_leaves entries entry c.args.end (sight c.write_through.new.disk) (sight c.write_through-2.new.disk) keeps.ends keeps.file.short stage (c.write_through-2.ensures.any_moment tells room durable))
+    and_then (sight c.args.disk.now) (sight c.write_through.new.disk) (sight c.open_at.new.disk) (IsBeforeOrAfter entries entry) first
+    (second_leaves entries entry c.args.end (sight c.write_through.new.disk) (sight c.open_at.new.disk) keeps.ends keeps.file.short stage (c.open_at.ensures.any_moment tells room durable))
 
 pub returns-clause-ok : goal.returns-clause-ok
 returns-clause-ok g c tells entries entry keeps short is =
@@ -40,11 +40,11 @@ returns-clause-ok g c tells entries entry keeps short is =
     let within = file_size entries _ _ keeps.ends keeps.file in
     let stage = first_stages entries entry c.args.end (sight c.args.disk.now) (sight c.write_through.new.disk) c.args.piece.now keeps short is (c.in_ok-write_through.ensures.written tells within) in
     let room = staged_size entries _ _ keeps.ends entry stage in
-    second_keeps entries entry c.args.end (sight c.write_through.new.disk) (sight c.write_through-2.new.disk) keeps.ends stage (c.in_ok-write_through-2.ensures.written tells room) (c.in_ok-write_through-2.ensures.durable tells room)
+    second_keeps entries entry c.args.end (sight c.write_through.new.disk) (sight c.open_at.new.disk) keeps.ends stage (c.in_ok-open_at.ensures.written tells room) (c.in_ok-open_at.ensures.durable tells room)
 
 pub returns-clause-bytes : goal.returns-clause-bytes
 returns-clause-bytes g c tells within =
     let sight = g.D.Disk.sight in
     let first = c.in_ok-write_through.ensures.written tells (omega (arith, within)) in
     let room = subst (λ (s : List ℕ). c.args.end ≤ length s) (sym first) (still_there (sight c.args.disk.now).seen c.args.piece.now c.args.end within) in
-    c.in_ok-write_through-2.ensures.written tells room ∙ ap (λ (s : List ℕ). written s c.args.end (open_gate ∷ [])) first
+    c.in_ok-open_at.ensures.written tells room ∙ ap (λ (s : List ℕ). written s c.args.end (open_gate ∷ [])) first
