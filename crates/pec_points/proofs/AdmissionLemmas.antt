@@ -80,12 +80,12 @@ module _ (ties : Ties) where
           copies = i.copies;
           to_is = i.to_is;
           copies_are = i.copies_are;
-          same = λ x. path_is_set path recipients t x ∙ (ap (λ (rs : List Recipient). has_recipient rs x) i.recipients_are ∙ recipients_set i.to i.copies x);
+          same = λ x. path_is_set path recipients t x ∙ (ap (λ (rs : List Recipient). has_recipient rs x) i.recipients_are ∙ recipients_set ties i.to i.copies x);
         },
     λ h.
         let again = recipients_again ties head h.to h.copies h.to_is h.copies_are
         in let same = some_is recipients _ (sym e ∙ again)
-        in set_is_path path recipients (λ x. h.same x ∙ sym (ap (λ (rs : List Recipient). has_recipient rs x) same ∙ recipients_set h.to h.copies x)),
+        in set_is_path path recipients (λ x. h.same x ∙ sym (ap (λ (rs : List Recipient). has_recipient rs x) same ∙ recipients_set ties h.to h.copies x)),
   )
 
   size_row : (case : Case) (head : Fields) (facts : Option Facts) → facts_of head ≡ facts → Decides (outgrows case facts) (IsTooLarge case head)

@@ -14,10 +14,10 @@ use Rattle.pec_heads.specs.Heads.{IsHead, HasHeadFault, values_of, joined_values
 use Rattle.pec_heads.specs.HeadReading.{read_of}
 use Rattle.pec_heads.specs.Lists.{IsList, HasList}
 use Rattle.pec_heads.specs.ListReading.{list_of}
+use Rattle.pec_heads.specs.BoundedFacts.{addresses_of}
 use Rattle.pec_heads.specs.FactsOfHeads.{AreCopies, has_address, fresh, recipient, recipients_of}
 use Rattle.pec_heads.specs.FactsReading.{copies_of, facts_from, facts_of, listed, only_one, sender_of}
 use Rattle.pec_heads.specs.declared.faults.HeadFault.{HeadFault}
-use Rattle.pec_heads.proofs.RecipientLaws.{fresh_set}
 use Rattle.pec_types.specs.Bytes.{Bytes, Path}
 use Rattle.pec_points.specs.Admission.{Fields, IsFrom, WithHead}
 use Rattle.pec_points.specs.AdmissionReading.{has_recipient, head_in, in_head, recipients_in}
@@ -38,19 +38,12 @@ ok_of (Err y) x e = absurd cc
 
 -- ---- recipients, as a set
 
-of_class : (class : Class) (xs : Path) (x : Bytes) → has_recipient (map (recipient class) xs) x ≡ has_address xs x
-of_class class [] x = refl
-of_class class (y ∷ xs) x = ap (λ t. bytes_eq y x || t) (of_class class xs x)
+by_addresses : (recipients : List Recipient) (x : Bytes) → has_recipient recipients x ≡ has_address (addresses_of recipients) x
+by_addresses [] x = refl
+by_addresses (r ∷ recipients) x = ap (λ t. bytes_eq r.address x || t) (by_addresses recipients x)
 
-or_both : (a b c d : Bool) → a ≡ c → b ≡ d → (a || b) ≡ (c || d)
-or_both a b c d e f = rw (e, f) refl
-
-pub recipients_set : (to copies : Path) (x : Bytes) → has_recipient (recipients_of to copies) x ≡ has_address (to ++ copies) x
-unfolding recipients_of
-recipients_set to copies x =
-    list_any-append (λ (r : Recipient). bytes_eq r.address x) (map (recipient Primary) (fresh [] to)) (map (recipient Copy) (fresh to copies))
-    ∙ or_both _ _ (has_address to x) (has_address (fresh to copies) x) (of_class Primary (fresh [] to) x ∙ fresh_set [] to x) (of_class Copy (fresh to copies) x)
-    ∙ sym (list_any-append (λ o. bytes_eq o x) to (fresh to copies)) ∙ fresh_set to copies x
+pub recipients_set : (ties : Ties) (to copies : Path) (x : Bytes) → has_recipient (recipients_of to copies) x ≡ has_address (to ++ copies) x
+recipients_set ties to copies x = by_addresses (recipients_of to copies) x ∙ ties.gathered to copies x
 
 -- ---- recipients and facts
 

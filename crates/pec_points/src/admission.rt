@@ -14,7 +14,7 @@ ghost use Rattle.pec_points.specs.declared.admission.Admission.TheVariants as an
 use pec_directory::Directory;
 use pec_heads::{
     Head, HeadFault, ListFault, a_head_has_one_account, a_list_has_one_reading,
-    a_text_has_one_reading,
+    a_text_has_one_reading, facts_are_bounded,
 };
 use pec_types::{Address, Cause, Facts, NoMemory, Recipient};
 use std::alloc::Global;
@@ -47,6 +47,7 @@ pub fn a_message_has_one_answer()
     a_text_has_one_reading();
     a_list_has_one_reading();
     a_head_has_one_account();
+    facts_are_bounded();
 }
 
 /// The admission of a message that an account submits for a forward path, at the provider of a number of the directory,

@@ -9,6 +9,7 @@ returns c =
       heads = c.a_text_has_one_reading.ensures.told;
       lists = c.a_list_has_one_reading.ensures.told;
       facts = c.a_head_has_one_account.ensures.told;
+      gathered = c.facts_are_bounded.ensures.gathered;
     } in
     record {
       some = some_answer ties;
