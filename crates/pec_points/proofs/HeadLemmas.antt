@@ -1,13 +1,10 @@
 -- What the functions of heads, lists and facts say of a message's head, by the ties of pec_heads.
-use Rattle.std.proofs.Common.{◌≡◌, ℕ, ◌==◌, List, [], ◌∷◌, ◌++◌, Bool, true, false, ◌||◌, cond, map, inl, inr, length, codes, Option, Some, None, Result, Ok, Err, Decides, refl, ap, sym, subst, ◌∙◌}
+use Rattle.std.proofs.Common.{◌≡◌, ℕ, ◌==◌, List, [], ◌∷◌, ◌++◌, Bool, true, false, ◌||◌, cond, inl, inr, length, codes, Option, Some, None, Result, Ok, Err, Decides, refl, ap, sym, subst, ◌∙◌}
 use Rattle.std.proofs.Math.Dec.{eqb-suc-zero}
 use Rattle.std.proofs.lemmas.Bool.{both_ways, eqb-true}
-use Rattle.std.proofs.lemmas.List.Folds.{list_any-append}
 use Rattle.std.specs.Option.{option_and_then, option_map}
 use Rattle.std.specs.Result.{result_ok}
 use Rattle.std.specs.Str.{bytes_eq}
-use Rattle.pec_types.specs.declared.messages.Class.{Class}
-use Rattle.pec_types.specs.declared.messages.Class.TheVariants.{Primary, Copy}
 use Rattle.pec_types.specs.declared.messages.Facts.{Facts}
 use Rattle.pec_types.specs.declared.messages.Recipient.{Recipient}
 use Rattle.pec_heads.specs.Heads.{IsHead, HasHeadFault, values_of, joined_values}
@@ -15,7 +12,7 @@ use Rattle.pec_heads.specs.HeadReading.{read_of}
 use Rattle.pec_heads.specs.Lists.{IsList, HasList}
 use Rattle.pec_heads.specs.ListReading.{list_of}
 use Rattle.pec_heads.specs.BoundedFacts.{addresses_of}
-use Rattle.pec_heads.specs.FactsOfHeads.{AreCopies, has_address, fresh, recipient, recipients_of}
+use Rattle.pec_heads.specs.FactsOfHeads.{AreCopies, has_address, recipients_of}
 use Rattle.pec_heads.specs.FactsReading.{copies_of, facts_from, facts_of, listed, only_one, sender_of}
 use Rattle.pec_heads.specs.declared.faults.HeadFault.{HeadFault}
 use Rattle.pec_types.specs.Bytes.{Bytes, Path}
