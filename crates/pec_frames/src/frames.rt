@@ -1,7 +1,7 @@
 ghost use Rattle.std.specs.Prelude.{◌≡◌, ◌≤◌, ◌<◌, ◌++◌, ℕ, drop, length, IfOk, IsErrOf, OnOk};
 ghost use Rattle.std.specs.List.{AllByRecursion};
 ghost use Rattle.pec_types.specs.Address.{IsLowerAddress};
-ghost use Rattle.pec_types.specs.Answers.{Gives, OrNoMemory, ReadsExactly, TellsExactly, seen_as};
+ghost use Rattle.pec_types.specs.Answers.{Gives, ReadsExactly, TellsExactly, seen_as};
 ghost use Rattle.pec_types.specs.Bytes.{Bytes, Path};
 ghost use Rattle.pec_frames.specs.Entries.{behind_address};
 ghost use Rattle.pec_frames.specs.Frames.{HasFrame, IsFrame, IsFrameFault, frame_text, message_at, path_line, with_path};
