@@ -1,5 +1,3 @@
-ghost use Rattle.std.specs.Prelude.{◌≤◌, length, IfOk};
-
 use crate::dealt::Dealt;
 use pec_journal::{AppendFault, CreateFault, ENTRY_LIMIT, JOURNAL_LIMIT, Journal};
 use pec_outside::{Depot, Disk, MemDepot, MemDisk};
