@@ -1,0 +1,4 @@
+mod BriefLemmas
+mod OutsideLemmas
+mod PutLemmas
+mod ShorteningLemmas

@@ -1,0 +1,3 @@
+pub mod Attachments
+pub mod BriefForm
+pub mod BriefReading
