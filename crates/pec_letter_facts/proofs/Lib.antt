@@ -1,0 +1,6 @@
+mod LineLemmas
+mod LookupLemmas
+mod ReadBackLemmas
+mod CertLemmas
+mod QuestionLemmas
+mod MadeLemmas
