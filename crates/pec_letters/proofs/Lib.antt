@@ -1,0 +1,7 @@
+mod ToldLemmas
+mod TextLemmas
+mod HeadingLemmas
+mod SeenLemmas
+mod PlaceLemmas
+mod RowLemmas
+mod AnomalyLemmas

@@ -1,0 +1,11 @@
+-- What is left of both is alike where all of both is.
+use Rattle.std.proofs.Common.{◌≡◌, length}
+use Rattle.pec_heads.specs.BoundedFacts.{addresses_of}
+use Rattle.pec_letters.specs.Seen.{is_path}
+use Rattle.pec_letters.proofs.asking.is_path.Given as goal
+
+abbrev pub invariant-loop-rest : goal.invariant-loop-rest
+invariant-loop-rest l = is_path l.rest (addresses_of l.others) ≡ is_path l.addresses (addresses_of l.recipients)
+
+abbrev pub decreases-loop-rest : goal.decreases-loop-rest
+decreases-loop-rest l = length l.rest

@@ -1,0 +1,6 @@
+pub mod Fitting
+pub mod Envelopes
+pub mod Anomalies
+pub mod Seen
+pub mod SeenReading
+pub mod Views

@@ -1,0 +1,123 @@
+ghost use Rattle.std.specs.Prelude.{◌≡◌};
+ghost use Rattle.pec_types.specs.Answers.{Gives, ReadsExactly, seen_as};
+ghost use Rattle.pec_types.specs.declared.disputes.LetterFault.TheVariants as faults;
+ghost use Rattle.pec_directory.specs.Directory.{providers_of};
+ghost use Rattle.pec_letter_parts.specs.LettersReading.{letter_of};
+ghost use Rattle.pec_letter_parts.specs.Views.{letter_shown};
+ghost use Rattle.pec_letters.specs.Seen.{IsSeen, IsUnseen, seen_of};
+ghost use Rattle.pec_letters.specs.SeenReading.{view};
+ghost use Rattle.pec_letters.specs.Views.{view_shown};
+
+use crate::asking::{are_recipients, facts_in, is_envelope, is_sealed_at_home, is_wished};
+use crate::laws::a_text_is_one_envelope;
+use pec_directory::Directory;
+use pec_letter_facts::{id_named, is_dated, is_from_home};
+use pec_letter_parts::{Headed, Letter, body_of};
+use pec_seal::Sealer;
+use pec_types::{Disputed, Facts, LetterFault, Moment, MsgId};
+use std::alloc::Global;
+
+/// What is seen of an envelope: the message, when it was accepted, the facts of its head, and the message as it was handed in, a
+/// slice of the envelope.
+#[derive(Drop)]
+pub struct EnvelopeView<'a> {
+    pub id: MsgId,
+    pub moment: Moment,
+    pub facts: Facts,
+    pub original: &'a [u8],
+}
+
+/// What is seen of a text that is an envelope, or the first row that applies of why it is none: no provider sealed it, or what was
+/// sealed has no head, no parts, or no certification text; it is a letter of another kind; or what it says disagrees, on the
+/// message, the provider that sealed it, the sender, the recipients, the wish or the moment (RFC 6109, section 2.1.2, within this
+/// project's profile).
+pub fn read_envelope<'a, S: Sealer>(
+    alloc: Global,
+    sealer: &S,
+    directory: &Directory,
+    message: &'a [u8],
+) -> Result<EnvelopeView<'a>, LetterFault>
+    ensures reads { ReadsExactly (IsSeen (S.seals sealer.now) (providers_of directory.now) message.now) (IsUnseen (S.seals sealer.now) (providers_of directory.now) message.now) faults.NoMemory (seen_as view_shown result) }
+    // The same answer as a function of the bytes, for definitions that build on it.
+    ensures exact { Gives faults.NoMemory view_shown result (view (S.seals sealer.now) (providers_of directory.now) message.now) }
+{
+    a_text_is_one_envelope::<S>();
+    view_text(alloc, sealer, directory, message)
+}
+
+#[tactic(auto, unfolding(crate::specs::SeenReading::view))]
+fn view_text<'a, S: Sealer>(
+    alloc: Global,
+    sealer: &S,
+    directory: &Directory,
+    message: &'a [u8],
+) -> Result<EnvelopeView<'a>, LetterFault>
+    ensures { Gives faults.NoMemory view_shown result (view (S.seals sealer.now) (providers_of directory.now) message.now) }
+{
+    let letter = read_letter(alloc, sealer, message)?;
+    see(alloc, directory, &letter)
+}
+
+/// The letter that a text is.
+#[tactic(auto, unfolding(pec_letter_parts::specs::LettersReading::letter_of))]
+fn read_letter<'a, S: Sealer>(
+    alloc: Global,
+    sealer: &S,
+    message: &'a [u8],
+) -> Result<Letter<'a>, LetterFault>
+    ensures { Gives faults.NoMemory letter_shown result (letter_of (S.seals sealer.now) message.now) }
+{
+    let headed = Headed::read(alloc, sealer, message)?;
+    headed.letter(alloc)
+}
+
+/// What is seen of a letter that was read: the rows in their order.
+#[tactic(auto, unfolding(crate::specs::Seen::seen_of))]
+fn see<'a>(
+    alloc: Global,
+    directory: &Directory,
+    letter: &Letter<'a>,
+) -> Result<EnvelopeView<'a>, LetterFault>
+    ensures { Gives faults.NoMemory view_shown result (seen_of (providers_of directory.now) (letter_shown letter.now)) }
+{
+    if !is_envelope(letter) {
+        return Err(LetterFault::NotThis);
+    }
+    let Some(original) = body_of(&letter.parts, b"postacert.eml") else {
+        return Err(LetterFault::NotThis);
+    };
+    let Some(id) = id_named(alloc, directory, b"Message-ID", letter)? else {
+        return Err(LetterFault::Disagree(Disputed::Identifier));
+    };
+    if !is_sealed_at_home(directory, id, letter) {
+        return Err(LetterFault::Disagree(Disputed::Sealer));
+    }
+    if !is_from_home(directory, id, letter) {
+        return Err(LetterFault::Disagree(Disputed::Sender));
+    }
+    let Some(facts) = facts_in(alloc, original, letter)? else {
+        return Err(LetterFault::Disagree(Disputed::Sender));
+    };
+    if !are_recipients(alloc, directory, &facts, letter)? {
+        return Err(LetterFault::Disagree(Disputed::Recipient));
+    }
+    if !is_wished(&facts, letter) {
+        return Err(LetterFault::Disagree(Disputed::Wish));
+    }
+    if !is_dated(alloc, letter)? {
+        return Err(LetterFault::Disagree(Disputed::Moment));
+    }
+    Ok(EnvelopeView {
+        id,
+        moment: moment_of(letter),
+        facts,
+        original,
+    })
+}
+
+/// The certified moment.
+fn moment_of(letter: &Letter<'_>) -> Moment
+    ensures { result ≡ letter.now.cert.stamp.moment }
+{
+    letter.cert.stamp.moment
+}
