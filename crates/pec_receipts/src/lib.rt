@@ -1,0 +1,20 @@
+//! Receipts, notices and acknowledgements of certified mail: composed, and read (RFC 6109, sections 3.1 to 3.3, within this project's
+//! profile).
+#![tactic(auto)]
+
+mod asking;
+mod composing;
+mod headings;
+mod kinds;
+mod laws;
+mod messages;
+mod reading;
+mod receipts;
+mod reporting;
+
+pub use composing::{a_receipt_has_one_text, compose};
+pub use laws::what_is_certified_is_seen;
+pub use pec_brief::brief;
+pub use pec_types::Kind;
+pub use reading::{ReceiptView, a_text_is_one_receipt, read};
+pub use receipts::Receipt;
