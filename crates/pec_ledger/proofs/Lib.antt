@@ -1,0 +1,16 @@
+pub mod AlongLemmas
+pub mod ListLemmas
+pub mod Growth
+pub mod Images
+pub mod ItemTexts
+pub mod PairLemmas
+pub mod OneProvider
+pub mod MarkLemmas
+pub mod Places
+pub mod GuaranteeLemmas
+pub mod Beginning
+pub mod Backing
+pub mod Arrivals
+pub mod TableLemmas
+pub mod SmallWorldLemmas
+pub mod DecisionLemmas

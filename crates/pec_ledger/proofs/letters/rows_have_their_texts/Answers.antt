@@ -1,0 +1,16 @@
+-- What stands behind rows: from the lemmas.
+use Rattle.pec_ledger.proofs.Arrivals.{ack_licensed, charge_licensed, decided_at_home, envelope_licensed, has_original, items_have_texts, one_text, outcome_licensed, taken_envelope}
+use Rattle.pec_ledger.proofs.letters.rows_have_their_texts.Goals as goal
+
+pub returns : goal.returns
+returns c = record {
+  originals = has_original;
+  envelopes = envelope_licensed;
+  takings = taken_envelope;
+  charges = charge_licensed;
+  outcomes = outcome_licensed;
+  homes = decided_at_home;
+  acks = ack_licensed;
+  one = one_text;
+  items = items_have_texts;
+}

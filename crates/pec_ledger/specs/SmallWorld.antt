@@ -1,0 +1,169 @@
+-- A small world, `small`: two providers, plain texts, and letters that can be told apart. It shows that there is a world
+-- that meets all laws of `IsTrade`, and the examples are computed in it. An address is the number of its provider and a
+-- name; names from 9 on are no accounts, and the name 2 has room for one item. A message is its sender's address and
+-- its recipients, each a class (0 for primary), a provider and a name.
+use Rattle.std.specs.Prelude.{ℕ, ◌==◌, nat_lt, nat_le, Bool, true, false, not, ◌&&◌, List, [], ◌∷◌, ◌++◌, length, take, drop, if◌then◌else◌, Option, Some, None, is_some}
+use Rattle.std.specs.List.{list_any}
+use Rattle.std.specs.Str.{bytes_eq}
+use Rattle.pec_types.specs.Bytes.{Bytes, Path}
+use Rattle.pec_types.specs.declared.messages.Cause.{Cause}
+use Rattle.pec_types.specs.declared.messages.Cause.TheVariants as causes
+use Rattle.pec_types.specs.declared.messages.Class.TheVariants.{Primary, Copy}
+use Rattle.pec_types.specs.declared.messages.Facts.{Facts}
+use Rattle.pec_types.specs.declared.messages.Recipient.{Recipient}
+use Rattle.pec_types.specs.declared.messages.Refusal.TheVariants as refusals
+use Rattle.pec_types.specs.declared.messages.Wish.TheVariants.{Full}
+use Rattle.pec_types.specs.declared.receipts.Kind.{Kind}
+use Rattle.pec_types.specs.declared.receipts.Kind.TheVariants as kinds
+use Rattle.pec_ledger.specs.Lookups.{addresses_of}
+use Rattle.pec_ledger.specs.Pairs.{id_of}
+use Rattle.pec_ledger.specs.Trade.{Framed, Seen, SeenEnvelope, SeenReceipt, Trade}
+
+-- ---- addresses
+
+abbrev pub address : ℕ → ℕ → Bytes
+address provider name = provider ∷ name ∷ []
+
+abbrev pub home_in : Bytes → Option ℕ
+home_in [] = None
+home_in (provider ∷ name) = if nat_lt provider 2 then Some provider else None
+
+abbrev pub has_account : ℕ → Bytes → Bool
+has_account number (provider ∷ name ∷ []) = (provider == number) && (nat_lt provider 2 && nat_lt name 9)
+has_account number _ = false
+
+abbrev pub quota_in : Bytes → ℕ
+quota_in (provider ∷ name ∷ []) = if name == 2 then 1 else 100
+quota_in _ = 0
+
+-- ---- messages
+
+abbrev pub recipients_in : Bytes → List Recipient
+recipients_in (class ∷ provider ∷ name ∷ rest) =
+    record { address = address provider name; class = if class == 0 then Primary else Copy } ∷ recipients_in rest
+recipients_in _ = []
+
+abbrev pub all_differ : Path → Bool
+all_differ [] = true
+all_differ (one ∷ others) = not (list_any (bytes_eq one) others) && all_differ others
+
+abbrev pub unless_twice : Bool → Facts → Option Facts
+unless_twice true facts = Some facts
+unless_twice false facts = None
+
+abbrev pub facts_from : Bytes → Bytes → Facts
+facts_from sender rest = record {
+  sender = sender;
+  recipients = recipients_in rest;
+  wish = Full;
+  subject = None;
+  reference = None;
+  reply = sender;
+}
+
+abbrev pub facts_in : Bytes → Option Facts
+facts_in (provider ∷ name ∷ rest) =
+    unless_twice (all_differ (addresses_of (facts_from (address provider name) rest))) (facts_from (address provider name) rest)
+facts_in _ = None
+
+abbrev pub path_in : Option Facts → Path
+path_in None = []
+path_in (Some facts) = addresses_of facts
+
+abbrev pub cause_in : Option Facts → Bytes → Path → Option Cause
+cause_in None sender path = Some causes.Head
+cause_in (Some facts) sender path =
+    if bytes_eq facts.sender sender then (if nat_le (length facts.recipients) (length path) then None else Some causes.ForwardPath)
+    else Some causes.ReversePath
+
+-- ---- receipts
+
+abbrev pub kind_code : Kind → ℕ
+kind_code kinds.Acceptance = 0
+kind_code (kinds.NonAcceptance cause) = 1
+kind_code kinds.Charge = 2
+kind_code kinds.Delivery = 3
+kind_code (kinds.DeliveryError refusals.NoMailbox) = 4
+kind_code (kinds.DeliveryError refusals.MailboxFull) = 5
+kind_code (kinds.DeliveryError refusals.Virus) = 6
+kind_code kinds.Warning = 7
+kind_code kinds.Notice = 8
+kind_code kinds.LateNotice = 9
+kind_code kinds.Ack = 10
+
+abbrev pub kind_at : ℕ → Kind
+kind_at code =
+    if code == 0 then kinds.Acceptance
+    else (if code == 2 then kinds.Charge
+    else (if code == 3 then kinds.Delivery
+    else (if code == 4 then kinds.DeliveryError refusals.NoMailbox
+    else (if code == 5 then kinds.DeliveryError refusals.MailboxFull
+    else (if code == 6 then kinds.DeliveryError refusals.Virus
+    else (if code == 7 then kinds.Warning
+    else (if code == 8 then kinds.Notice
+    else (if code == 9 then kinds.LateNotice
+    else (if code == 10 then kinds.Ack else kinds.NonAcceptance causes.Head)))))))))
+
+abbrev pub recipient_text : Option Bytes → Bytes
+recipient_text None = []
+recipient_text (Some recipient) = 0 ∷ recipient
+
+abbrev pub recipient_at : Bytes → Option Bytes
+recipient_at [] = None
+recipient_at (mark ∷ recipient) = Some recipient
+
+-- ---- sealed texts: a number for what it is, and its fields
+
+abbrev pub envelope_in : Bytes → Option Seen
+envelope_in (provider ∷ number ∷ moment ∷ original) =
+    if nat_lt provider 2 then Some (SeenEnvelope (id_of provider number) moment original) else None
+envelope_in _ = None
+
+abbrev pub receipt_in : Bytes → Option Seen
+receipt_in (code ∷ provider ∷ number ∷ by ∷ moment ∷ recipient) = Some (SeenReceipt (record {
+  kind = kind_at code;
+  id = id_of provider number;
+  by = by;
+  moment = moment;
+  recipient = recipient_at recipient;
+}))
+receipt_in _ = None
+
+abbrev pub seen_in : Bytes → Option Seen
+seen_in [] = None
+seen_in (what ∷ rest) = if what == 1 then envelope_in rest else (if what == 2 then receipt_in rest else None)
+
+-- ---- frames: along a path of one address alone
+
+abbrev pub frame_along : Path → Bytes → Option Bytes
+frame_along (one ∷ []) message = Some (length one ∷ one ++ message)
+frame_along _ message = None
+
+abbrev pub framed_in : Bytes → Option Framed
+framed_in [] = None
+framed_in (size ∷ rest) = Some (record { path = take size rest ∷ []; message = drop size rest })
+
+-- ---- the world
+
+abbrev pub small : Trade
+small = record {
+  providers = 2;
+  digest = [];
+  home = home_in;
+  is_account = has_account;
+  quota = quota_in;
+  receipts = λ provider. address provider 99;
+  facts = facts_in;
+  envelope_recipients = λ message. path_in (facts_in (drop 4 message));
+  cause = λ provider sender path message. cause_in (facts_in message) sender path;
+  unframed = framed_in;
+  framed = frame_along;
+  opens = λ message. is_some (seen_in message);
+  view = seen_in;
+  envelope_text = λ id moment original. 1 ∷ id.provider ∷ id.number ∷ moment ∷ original;
+  receipt_text = λ receipt original.
+      2 ∷ kind_code receipt.kind ∷ receipt.id.provider ∷ receipt.id.number ∷ receipt.by ∷ receipt.moment
+      ∷ recipient_text receipt.recipient;
+  refusal_text = λ id moment sender cause path message. 3 ∷ id.provider ∷ id.number ∷ moment ∷ message;
+  anomaly_text = λ provider entry moment message. 4 ∷ provider ∷ entry ∷ moment ∷ message;
+}

@@ -1,0 +1,20 @@
+//! The ledger of the network: what providers' journals come to, which entry may follow which, what letters and mailbox
+//! items are made of, and what follows for the users of certified mail. There is no code here: each function is a law,
+//! whose contract is the statement.
+#![tactic(auto)]
+
+mod crashes;
+mod examples;
+mod guarantees;
+mod letters;
+mod licences;
+mod tables;
+
+pub use crashes::{any_images, soundness};
+pub use examples::{a_world_is_there, books_of_the_examples, marks_of_the_examples};
+pub use guarantees::the_guarantees;
+pub use letters::{arrivals_are_true, rows_have_their_texts, texts_are_seen};
+pub use licences::licences_stand;
+pub use tables::{
+    the_books, the_decisions, the_due_letters, the_time_table, what_an_entry_changes,
+};
