@@ -1,0 +1,208 @@
+-- Each command but a round keeps a state Sound.
+use Rattle.std.proofs.Common.{◌≡◌, ℕ, zero, suc, ◌+◌, ◌<◌, ◌≤◌, List, [], ◌∷◌, ◌++◌, Bool, true, false, inl, inr, length, take, drop, refl, ap, sym, subst, ◌∙◌, arith, nat_lt, Option, Some, None}
+use Rattle.std.specs.Prelude.{All, IsSome, slice_index_or, slice_set, slice_get, if◌then◌else◌}
+use Rattle.std.proofs.lemmas.Bool.{cases_eq, cases_lt, ltb-false, ltb-true}
+use Rattle.std.proofs.lemmas.List.{append-nil, get_or-set_other, get_or-set_same, set_past}
+use Rattle.std.proofs.lemmas.List.Elements.{All-append, All-drop, All-push, All-take}
+use Rattle.std.proofs.lemmas.Option.{none-some, same_Some}
+use Rattle.pec_types.specs.Bytes.{Bytes, Path}
+use Rattle.pec_types.specs.declared.messages.Cause.{Cause}
+use Rattle.pec_types.specs.declared.messages.TheConstants.{MESSAGES}
+use Rattle.pec_records.specs.Entry.{most_addresses}
+use Rattle.pec_records.specs.declared.entries.Entry.{Entry}
+use Rattle.pec_records.specs.declared.entries.Entry.TheVariants as entries
+use Rattle.pec_ledger.specs.Half.{Half}
+use Rattle.pec_ledger.specs.Ledger.{Follows, Journals, Meets}
+use Rattle.pec_ledger.specs.Network.{AreGenuine, IsGenuine, Site, Sound, frames_between, journal_at, journals_of, site_at, Stays, Appends, Fails, Restarts}
+use Rattle.pec_ledger.specs.Steps.{half}
+use Rattle.pec_ledger.specs.Trade.{Trade}
+use Rattle.pec_ledger.specs.TradeLaws.{IsTrade}
+use Rattle.pec_plays.specs.Commands.{Answer, Luck, Played, append, appended, asked, at_work, entry_by, injected, lost, messages_at, put_again, restarted, restarted_site, stopped_site, submitted, swapped, swapped_at, ticked, with_entry, with_frames, with_site}
+use Rattle.pec_plays.specs.Rounds.{link_size, with_waiting}
+use Rattle.pec_plays.specs.Steps.{has_no_room}
+use Rattle.pec_plays.specs.Turns.{broken, last_of}
+use Rattle.pec_plays.proofs.SiteLemmas.{StateLaws, none_interrupted, sound_with}
+
+module _ (trade : Trade) (world : IsTrade trade) (laws : StateLaws trade) where
+  -- ---- appends
+
+  one_follows : (sites : List Site) (p : ℕ) (entry : Entry) → Meets trade (journals_of sites) p (half trade p (journal_at sites p)) entry
+      → Follows trade (journals_of sites) p (half trade p (journal_at sites p)) (entry ∷ [])
+  one_follows sites p entry meets = (meets, tt)
+
+  sound_appended : (fails : Bool) (sites : List Site) (p : ℕ) (entry : Entry) (answer : Answer) → Sound trade sites → (site_at sites p).up ≡ true
+      → Meets trade (journals_of sites) p (half trade p (journal_at sites p)) entry → Sound trade (appended fails sites p entry answer).after
+  sound_appended true sites p entry answer sound up meets =
+      sound_with trade laws sites p (broken (site_at sites p) (Some entry)) sound
+      (λ new e.
+      Fails [] entry (none_interrupted trade laws sites p sound up) (ap (λ (s : Site). s.interrupted) e) (ap (λ (s : Site). s.up) e)
+      (ap (λ (s : Site). s.journal) e ∙ sym (append-nil (journal_at sites p))) (one_follows sites p entry meets))
+      (λ from. sound.genuine from p)
+  sound_appended false sites p entry answer sound up meets =
+      sound_with trade laws sites p (with_entry (site_at sites p) entry) sound
+      (λ new e.
+      Appends (entry ∷ []) (none_interrupted trade laws sites p sound up)
+      (ap (λ (s : Site). s.interrupted) e ∙ none_interrupted trade laws sites p sound up)
+      (ap (λ (s : Site). s.journal) e) (one_follows sites p entry meets))
+      (λ from. sound.genuine from p)
+
+  by_test : (b : Bool) (x y : Played) → (b ≡ true → Sound trade x.after) → (b ≡ false → Sound trade y.after) → Sound trade (if b then x else y).after
+  by_test true x y taken passed = taken refl
+  by_test false x y taken passed = passed refl
+
+  sound_append : (luck : Luck) (sites : List Site) (p : ℕ) (entry : Entry) (answer : Answer) → Sound trade sites → (site_at sites p).up ≡ true
+      → Meets trade (journals_of sites) p (half trade p (journal_at sites p)) entry → Sound trade (append trade luck sites p entry answer).after
+  sound_append luck sites p entry answer sound up meets =
+      by_test (has_no_room trade p (journal_at sites p) entry) _ (appended luck.fails sites p entry answer) (λ e. sound)
+      (λ e. sound_appended luck.fails sites p entry answer sound up meets)
+
+  sound_at_work : (sites : List Site) (p now : ℕ) (done : Played) → Sound trade sites
+      → ((site_at sites p).up ≡ true → last_of trade p (journal_at sites p) ≤ now → Sound trade done.after) → Sound trade (at_work trade sites p now done).after
+  sound_at_work sites p now done sound more =
+      by_test (site_at sites p).up _ _
+      (λ up. by_test (nat_lt now (last_of trade p (journal_at sites p))) _ done (λ e. sound)
+      (λ e. more up (ltb-false now (last_of trade p (journal_at sites p)) e)))
+      (λ e. sound)
+
+  -- ---- submissions
+
+  entry_meets : (sites : List Site) (p now : ℕ) (sender : Bytes) (path : Path) (message : Bytes) (cause : Option Cause) → trade.cause p sender path message ≡ cause
+      → trade.is_account p sender ≡ true → messages_at trade sites p < MESSAGES → 0 < length path → length path ≤ most_addresses
+      → last_of trade p (journal_at sites p) ≤ now
+      → Meets trade (journals_of sites) p (half trade p (journal_at sites p)) (entry_by cause now sender path message)
+  entry_meets sites p now sender path message None e account room some few time =
+      let admitted = world.admitted p sender path message e
+      in record {
+        own = (room, account, record { facts = admitted.0; are = admitted.1; sent = admitted.2; few = let l = admitted.4 in omega arith });
+        in_time = time;
+        joint = record { facts = admitted.0; are = admitted.1; none = admitted.3 };
+      }
+  entry_meets sites p now sender path message (Some cause) e account room some few time =
+      record { own = (room, account, some, few); in_time = time; joint = inl e }
+
+  pub sound_submitted : (luck : Luck) (sites : List Site) (p now : ℕ) (sender : Bytes) (path : Path) (message : Bytes) → Sound trade sites
+      → 0 < length path → length path ≤ most_addresses → Sound trade (submitted trade luck sites p now sender path message).after
+  sound_submitted luck sites p now sender path message sound some few =
+      by_test (trade.is_account p sender) _ _
+      (λ account. sound_at_work sites p now _ sound
+      (λ up time. by_test (nat_lt (messages_at trade sites p) MESSAGES) _ _
+      (λ room. sound_append luck sites p (entry_by (trade.cause p sender path message) now sender path message) _ sound up
+      (entry_meets sites p now sender path message (trade.cause p sender path message) refl account
+      (ltb-true (messages_at trade sites p) MESSAGES room) some few time))
+      (λ e. sound)))
+      (λ e. sound)
+
+  -- ---- clock calls
+
+  pub sound_ticked : (luck : Luck) (sites : List Site) (p now : ℕ) → Sound trade sites → Sound trade (ticked trade luck sites p now).after
+  sound_ticked luck sites p now sound =
+      sound_at_work sites p now _ sound
+      (λ up time. sound_append luck sites p (entries.Ticked now) _ sound up (record { own = tt; in_time = time; joint = tt }))
+
+  -- ---- links
+
+  put_genuine : (J : Journals) (links : List (List Bytes)) (from k : ℕ) (frames : List Bytes) → AreGenuine trade J frames
+      → AreGenuine trade J (slice_index_or links k []) → AreGenuine trade J (slice_index_or (slice_set links from frames) k [])
+  put_genuine J links from k frames good old =
+      elim (cases_lt from (length links)) [
+        | inl within ↦ elim (cases_eq k from) [
+          | inl same ↦ subst (AreGenuine trade J) (sym (ap (λ (n : ℕ). slice_index_or (slice_set links from frames) n []) same ∙ get_or-set_same links from frames [] within)) good
+          | inr other ↦ subst (AreGenuine trade J) (sym (get_or-set_other links from k frames [] other)) old
+        ]
+        | inr past ↦ subst (AreGenuine trade J) (sym (ap (λ (l : List (List Bytes)). slice_index_or l k []) (set_past links from frames past))) old
+      ]
+
+  -- other frames on one link
+  sound_frames : (sites : List Site) (from to : ℕ) (frames : List Bytes) → Sound trade sites → AreGenuine trade (journals_of sites) frames
+      → Sound trade (with_frames sites from to frames)
+  sound_frames sites from to frames sound good =
+      sound_with trade laws sites to (with_waiting (site_at sites to) (slice_set (site_at sites to).waiting from frames)) sound
+      (λ new e.
+      Stays (ap (λ (s : Site). s.journal) e) (ap (λ (s : Site). s.interrupted) e)
+      (λ some. ap (λ (s : Site). s.up) e ∙ sound.down to (subst (λ (i : Option Entry). IsSome i) (ap (λ (s : Site). s.interrupted) e) some)))
+      (λ k. put_genuine (journals_of sites) (site_at sites to).waiting from k frames good (sound.genuine k to))
+
+  pub sound_lost : (sites : List Site) (from to place : ℕ) → Sound trade sites → Sound trade (lost sites from to place).after
+  sound_lost sites from to place sound =
+      let frames = frames_between sites from to
+      in by_test (nat_lt place (length frames)) _ _
+      (λ e. sound_frames sites from to (take place frames ++ drop (place + 1) frames) sound
+      (All-append (IsGenuine trade (journals_of sites)) (take place frames) (drop (place + 1) frames)
+      (All-take (IsGenuine trade (journals_of sites)) place frames (sound.genuine from to))
+      (All-drop (IsGenuine trade (journals_of sites)) (place + 1) frames (sound.genuine from to))))
+      (λ e. sound)
+
+  at_place : {X : Type 0} (P : X → Type 0) (xs : List X) (n : ℕ) (x : X) → All P xs → slice_get xs n ≡ Some x → P x
+  at_place P [] n x all e = absurd (none-some x e)
+  at_place P (y ∷ xs) zero x all e = subst P (same_Some y x e) (all 0 y (omega arith))
+  at_place P (y ∷ xs) (suc n) x all e = at_place P xs n x (λ k d l. all (suc k) d (omega arith)) e
+
+  sound_one_more : (sites : List Site) (from to : ℕ) (frame : Bytes) (answer : Answer) → Sound trade sites → IsGenuine trade (journals_of sites) frame
+      → Sound trade (with_frames sites from to (frames_between sites from to ++ frame ∷ []))
+  sound_one_more sites from to frame answer sound good =
+      sound_frames sites from to (frames_between sites from to ++ frame ∷ []) sound
+      (All-push (IsGenuine trade (journals_of sites)) (frames_between sites from to) frame (sound.genuine from to) good)
+
+  pub sound_put_again : (sites : List Site) (from to place : ℕ) (found : Option Bytes) → slice_get (frames_between sites from to) place ≡ found
+      → Sound trade sites → Sound trade (put_again sites from to found).after
+  sound_put_again sites from to place None e sound = sound
+  sound_put_again sites from to place (Some frame) e sound =
+      by_test (nat_lt (length (frames_between sites from to)) link_size) _ _
+      (λ room. sound_frames sites from to (frames_between sites from to ++ frame ∷ []) sound
+      (All-push (IsGenuine trade (journals_of sites)) (frames_between sites from to) frame (sound.genuine from to)
+      (at_place (IsGenuine trade (journals_of sites)) (frames_between sites from to) place frame (sound.genuine from to) e)))
+      (λ full. sound)
+
+  swapped_genuine : (J : Journals) (place : ℕ) (frames : List Bytes) (b : Bool) (after : List Bytes)
+      → (if b then Some (take place frames ++ take 1 (drop (place + 1) frames) ++ take 1 (drop place frames) ++ drop (place + 2) frames) else None) ≡ Some after
+      → AreGenuine trade J frames → AreGenuine trade J after
+  swapped_genuine J place frames true after e good =
+      let P = IsGenuine trade J
+      in subst (AreGenuine trade J) (same_Some _ after e)
+      (All-append P (take place frames ++ take 1 (drop (place + 1) frames) ++ take 1 (drop place frames)) (drop (place + 2) frames)
+      (All-append P (take place frames ++ take 1 (drop (place + 1) frames)) (take 1 (drop place frames))
+      (All-append P (take place frames) (take 1 (drop (place + 1) frames)) (All-take P place frames good)
+      (All-take P 1 (drop (place + 1) frames) (All-drop P (place + 1) frames good)))
+      (All-take P 1 (drop place frames) (All-drop P place frames good)))
+      (All-drop P (place + 2) frames good))
+  swapped_genuine J place frames false after e good = absurd (none-some after e)
+
+  pub sound_swapped : (sites : List Site) (from to place : ℕ) (found : Option (List Bytes)) → swapped_at place (frames_between sites from to) ≡ found
+      → Sound trade sites → Sound trade (swapped sites from to found).after
+  sound_swapped sites from to place None e sound = sound
+  sound_swapped sites from to place (Some frames) e sound =
+      sound_frames sites from to frames sound
+      (swapped_genuine (journals_of sites) place (frames_between sites from to) (nat_lt (place + 1) (length (frames_between sites from to))) frames e (sound.genuine from to))
+
+  pub sound_injected : (sites : List Site) (from to : ℕ) (frame : Bytes) → Sound trade sites → IsGenuine trade (journals_of sites) frame
+      → Sound trade (injected sites from to frame).after
+  sound_injected sites from to frame sound good =
+      by_test (nat_lt (length (frames_between sites from to)) link_size) _ _
+      (λ room. sound_frames sites from to (frames_between sites from to ++ frame ∷ []) sound
+      (All-push (IsGenuine trade (journals_of sites)) (frames_between sites from to) frame (sound.genuine from to) good))
+      (λ full. sound)
+
+  -- ---- crashes
+
+  pub sound_crashed : (sites : List Site) (p : ℕ) → Sound trade sites → Sound trade (with_site sites p (stopped_site (site_at sites p)))
+  sound_crashed sites p sound =
+      sound_with trade laws sites p (stopped_site (site_at sites p)) sound
+      (λ new e.
+      Stays (ap (λ (s : Site). s.journal) e) (ap (λ (s : Site). s.interrupted) e) (λ some. ap (λ (s : Site). s.up) e))
+      (λ from. sound.genuine from p)
+
+  pub sound_restarted : (luck : Luck) (sites : List Site) (p : ℕ) → Sound trade sites → Sound trade (restarted luck sites p (site_at sites p)).after
+  sound_restarted luck sites p sound =
+      by_test (site_at sites p).up _ _ (λ e. sound)
+      (λ down. by_test luck.fails _ _ (λ e. sound)
+      (λ e. sound_with trade laws sites p (restarted_site luck.found (site_at sites p)) sound
+      (λ new f. Restarts luck.found (ap (λ (s : Site). s.journal) f) (ap (λ (s : Site). s.interrupted) f))
+      (λ from. sound.genuine from p)))
+
+  -- ---- what accounts are shown
+
+  pub sound_asked : (sites : List Site) (show : ℕ → Half → Played) (found : Option ℕ) → Sound trade sites
+      → ((provider : ℕ) (half : Half) → (show provider half).after ≡ sites) → Sound trade (asked sites show trade found).after
+  sound_asked sites show None sound same = sound
+  sound_asked sites show (Some p) sound same =
+      by_test (site_at sites p).up _ _ (λ up. subst (Sound trade) (sym (same p (half trade p (journal_at sites p)))) sound) (λ down. sound)

@@ -1,0 +1,11 @@
+pub mod CommandLemmas
+pub mod SiteLemmas
+pub mod StepLemmas
+pub mod PlanLemmas
+pub mod FrameLemmas
+pub mod RoundLemmas
+pub mod SoundLemmas
+pub mod KeptLemmas
+pub mod OpenLemmas
+pub mod LinkLemmas
+pub mod ShortLemmas

@@ -1,0 +1,371 @@
+-- A round keeps a state Sound and links short, however its turns are cut.
+use Rattle.std.proofs.Common.{◌≡◌, ℕ, zero, suc, ◌+◌, ◌-◌, ◌<◌, ◌≤◌, List, [], ◌∷◌, ◌++◌, Bool, true, false, inl, inr, length, take, refl, ap, sym, subst, ◌∙◌, arith, nat_lt, Option, Some, None}
+use Rattle.std.specs.Prelude.{IsSome, slice_get, slice_index_or, if◌then◌else◌}
+use Rattle.std.specs.Option.{option_to_list}
+use Rattle.std.proofs.lemmas.Bool.{cases_lt, ltb-false}
+use Rattle.std.proofs.lemmas.List.{append-nil, get_or_past, length-append, length-drop}
+use Rattle.std.proofs.lemmas.List.Elements.{All-append, All-drop, All-nil}
+use Rattle.std.proofs.lemmas.Option.{none-some, same_Some}
+use Rattle.pec_types.specs.Bytes.{Bytes}
+use Rattle.pec_types.specs.declared.letters.Letter.{Letter}
+use Rattle.pec_types.specs.declared.turns.ProviderFault.{ProviderFault}
+use Rattle.pec_types.specs.declared.turns.ProviderFault.TheVariants as faults
+use Rattle.pec_records.specs.declared.entries.Entry.{Entry}
+use Rattle.pec_ledger.specs.Ledger.{Fit, Follows, Journals}
+use Rattle.pec_ledger.specs.Network.{AreGenuine, FollowsState, Happens, IsGenuine, Site, Sound, empty_site, frames_between, interrupted_at, is_up, journal_at, journals_of, site_at, Stays, Appends, Fails}
+use Rattle.pec_ledger.specs.Steps.{half}
+use Rattle.pec_ledger.specs.Trade.{Trade}
+use Rattle.pec_ledger.specs.TradeLaws.{IsTrade}
+use Rattle.pec_plays.specs.Rounds.{delivered, delivered_to, link_size, outs_of, rooms_of, rounded, turns_from, turns_of, with_waiting}
+use Rattle.pec_plays.specs.Steps.{Step}
+use Rattle.pec_plays.specs.Turns.{Cut, Turned, Whole, Fails as FailsAt, Full, Stops, cut_turn, entries_of, entry_at, frames_in, last_of, not_begun, owed_of, plan, puts_from, turned, without_first}
+use Rattle.pec_plays.proofs.FrameLemmas.{TextLaws, due_genuine}
+use Rattle.pec_plays.specs.Frames.{due_frames}
+use Rattle.pec_plays.specs.Scripts.{LinksAreShort}
+use Rattle.pec_plays.proofs.LinkLemmas.{due_fit}
+use Rattle.pec_plays.proofs.PlanLemmas.{front_follows, next_follows, plan_follows}
+use Rattle.pec_plays.proofs.SiteLemmas.{StateLaws, none_interrupted, stays_as_it_was, goes_on}
+use Rattle.pec_plays.proofs.StepLemmas.{ArrivalLaws}
+
+module _ (trade : Trade) (world : IsTrade trade) (laws : StateLaws trade) (sites : List Site) (sound : Sound trade sites)
+    (arrivals : ArrivalLaws trade (journals_of sites)) where
+  -- ---- frames that wait
+
+  all_waiting : (J : Journals) (links : List (List Bytes)) → ((k : ℕ) → AreGenuine trade J (slice_index_or links k [])) → AreGenuine trade J (frames_in links)
+  all_waiting J [] each = All-nil (IsGenuine trade J)
+  all_waiting J (link ∷ links) each =
+      All-append (IsGenuine trade J) link (frames_in links) (each 0) (all_waiting J links (λ k. each (suc k)))
+
+  left_genuine : (J : Journals) (n : ℕ) (links : List (List Bytes)) → ((k : ℕ) → AreGenuine trade J (slice_index_or links k []))
+      → (k : ℕ) → AreGenuine trade J (slice_index_or (without_first n links) k [])
+  left_genuine J n [] each k = each k
+  left_genuine J n (link ∷ links) each zero = All-drop (IsGenuine trade J) n link (each 0)
+  left_genuine J n (link ∷ links) each (suc k) = left_genuine J (n - length link) links (λ i. each (suc i)) k
+
+  -- ---- a turn
+
+  abbrev Became : ℕ → Turned → Type 0
+  Became p turn = (new : List Site) → journal_at new p ≡ turn.site.journal → interrupted_at new p ≡ turn.site.interrupted → is_up new p ≡ turn.site.up
+      → Happens trade sites new p
+
+  as_it_was : (p : ℕ) (fault : ProviderFault) → Became p (not_begun (site_at sites p) fault)
+  as_it_was p fault new j i u = Stays j i (λ some. u ∙ sound.down p (subst (λ (o : Option Entry). IsSome o) i some))
+
+  appends : (p : ℕ) (up : (site_at sites p).up ≡ true) (more : List Entry) → Follows trade (journals_of sites) p (half trade p (journal_at sites p)) more
+      → (new : List Site) → journal_at new p ≡ journal_at sites p ++ more → interrupted_at new p ≡ interrupted_at sites p → Happens trade sites new p
+  appends p up more follows new j i =
+      Appends more (none_interrupted trade laws sites p sound up) (i ∙ none_interrupted trade laws sites p sound up) j follows
+
+  broken_at : (p : ℕ) (up : (site_at sites p).up ≡ true) (steps : List Step) (n : ℕ)
+      → Follows trade (journals_of sites) p (half trade p (journal_at sites p)) (entries_of steps)
+      → (found : Option Entry) → entry_at steps n ≡ found
+      → (new : List Site) → journal_at new p ≡ journal_at sites p ++ entries_of (take n steps) → interrupted_at new p ≡ found → is_up new p ≡ false
+      → Happens trade sites new p
+  broken_at p up steps n follows None e new j i u =
+      Appends (entries_of (take n steps)) (none_interrupted trade laws sites p sound up) i j
+      (front_follows trade world (journals_of sites) arrivals p 0 (half trade p (journal_at sites p)) n steps follows)
+  broken_at p up steps n follows (Some entry) e new j i u =
+      Fails (entries_of (take n steps)) entry (none_interrupted trade laws sites p sound up) i u j
+      (subst (λ (o : Option Entry). Follows trade (journals_of sites) p (half trade p (journal_at sites p)) (entries_of (take n steps) ++ option_to_list o)) e
+      (next_follows trade world (journals_of sites) arrivals p 0 (half trade p (journal_at sites p)) n steps follows))
+
+  cut_became : (p : ℕ) (rooms : ℕ → ℕ) (steps : List Step) → (site_at sites p).up ≡ true
+      → Follows trade (journals_of sites) p (half trade p (journal_at sites p)) (entries_of steps)
+      → (cut : Cut) → Became p (cut_turn trade p rooms (site_at sites p) steps cut)
+  cut_became p rooms steps up follows Whole new j i u = appends p up (entries_of steps) follows new j i
+  cut_became p rooms steps up follows (FailsAt n) new j i u = broken_at p up steps n follows (entry_at steps n) refl new j i u
+  cut_became p rooms steps up follows (Full n) new j i u =
+      appends p up (entries_of (take n steps)) (front_follows trade world (journals_of sites) arrivals p 0 (half trade p (journal_at sites p)) n steps follows) new j i
+  cut_became p rooms steps up follows (Stops n) new j i u =
+      appends p up (entries_of (take n steps)) (front_follows trade world (journals_of sites) arrivals p 0 (half trade p (journal_at sites p)) n steps follows) new j i
+
+  by_test : (p : ℕ) (b : Bool) (x y : Turned) → (b ≡ true → Became p x) → (b ≡ false → Became p y) → Became p (if b then x else y)
+  by_test p true x y taken passed = taken refl
+  by_test p false x y taken passed = passed refl
+
+  turn_became : (p now : ℕ) (rooms : ℕ → ℕ) (cut : Cut) → Became p (turned trade p now rooms cut (site_at sites p))
+  unfolding turned
+  turn_became p now rooms cut =
+      by_test p (site_at sites p).up _ _
+      (λ up. by_test p (nat_lt now (last_of trade p (journal_at sites p))) _ _ (λ late. as_it_was p (faults.ClockBack (last_of trade p (journal_at sites p))))
+      (λ time. cut_became p rooms (plan trade p now (journal_at sites p) (frames_in (site_at sites p).waiting)) up
+      (plan_follows trade world (journals_of sites) arrivals p now (journal_at sites p) (frames_in (site_at sites p).waiting)
+      (all_waiting (journals_of sites) (site_at sites p).waiting (λ k. sound.genuine k p))
+      (ltb-false now (last_of trade p (journal_at sites p)) time))
+      cut))
+      (λ down. as_it_was p faults.Down)
+
+  -- ---- what waits behind a turn
+
+  abbrev LeavesGenuine : Turned → Type 0
+  LeavesGenuine turn = (k : ℕ) → AreGenuine trade (journals_of sites) (slice_index_or turn.site.waiting k [])
+
+  cut_leaves : (p : ℕ) (rooms : ℕ → ℕ) (steps : List Step) (cut : Cut) → LeavesGenuine (cut_turn trade p rooms (site_at sites p) steps cut)
+  cut_leaves p rooms steps Whole = left_genuine (journals_of sites) (length steps) (site_at sites p).waiting (λ k. sound.genuine k p)
+  cut_leaves p rooms steps (FailsAt n) = left_genuine (journals_of sites) (n + 1) (site_at sites p).waiting (λ k. sound.genuine k p)
+  cut_leaves p rooms steps (Full n) = left_genuine (journals_of sites) (n + 1) (site_at sites p).waiting (λ k. sound.genuine k p)
+  cut_leaves p rooms steps (Stops n) = left_genuine (journals_of sites) (n + 1) (site_at sites p).waiting (λ k. sound.genuine k p)
+
+  leaves_by : (b : Bool) (x y : Turned) → LeavesGenuine x → LeavesGenuine y → LeavesGenuine (if b then x else y)
+  leaves_by true x y a b = a
+  leaves_by false x y a b = b
+
+  turn_leaves : (p now : ℕ) (rooms : ℕ → ℕ) (cut : Cut) → LeavesGenuine (turned trade p now rooms cut (site_at sites p))
+  unfolding turned
+  turn_leaves p now rooms cut =
+      leaves_by (site_at sites p).up _ _
+      (leaves_by (nat_lt now (last_of trade p (journal_at sites p))) _ _ (λ k. sound.genuine k p)
+      (cut_leaves p rooms (plan trade p now (journal_at sites p) (frames_in (site_at sites p).waiting)) cut))
+      (λ k. sound.genuine k p)
+
+  -- ---- what a turn puts, in journals in which its own is that behind the turn
+
+  puts_genuine : (J : Journals) → TextLaws trade J → (p : ℕ) (rooms : ℕ → ℕ) (owed : List Letter) (to count k : ℕ)
+      → AreGenuine trade J (slice_index_or (puts_from trade p (J p) rooms owed to count) k [])
+  puts_genuine J texts p rooms owed to zero k = All-nil (IsGenuine trade J)
+  puts_genuine J texts p rooms owed to (suc count) zero = due_genuine trade world J texts p to (rooms to) owed
+  puts_genuine J texts p rooms owed to (suc count) (suc k) = puts_genuine J texts p rooms owed (to + 1) count k
+
+  abbrev PutsGenuine : ℕ → Turned → Type 0
+  PutsGenuine p turn = (J : Journals) → TextLaws trade J → J p ≡ turn.site.journal → (k : ℕ) → AreGenuine trade J (slice_index_or turn.out k [])
+
+  cut_puts : (p : ℕ) (rooms : ℕ → ℕ) (steps : List Step) (cut : Cut) → PutsGenuine p (cut_turn trade p rooms (site_at sites p) steps cut)
+  cut_puts p rooms steps Whole J texts e k =
+      subst (λ (es : List Entry). AreGenuine trade J (slice_index_or (puts_from trade p es rooms (owed_of steps) 0 trade.providers) k [])) e
+      (puts_genuine J texts p rooms (owed_of steps) 0 trade.providers k)
+  cut_puts p rooms steps (FailsAt n) J texts e k = All-nil (IsGenuine trade J)
+  cut_puts p rooms steps (Full n) J texts e k = All-nil (IsGenuine trade J)
+  cut_puts p rooms steps (Stops n) J texts e k = All-nil (IsGenuine trade J)
+
+  puts_by : (p : ℕ) (b : Bool) (x y : Turned) → PutsGenuine p x → PutsGenuine p y → PutsGenuine p (if b then x else y)
+  puts_by p true x y a b = a
+  puts_by p false x y a b = b
+
+  turn_puts : (p now : ℕ) (rooms : ℕ → ℕ) (cut : Cut) → PutsGenuine p (turned trade p now rooms cut (site_at sites p))
+  unfolding turned
+  turn_puts p now rooms cut =
+      puts_by p (site_at sites p).up _ _
+      (puts_by p (nat_lt now (last_of trade p (journal_at sites p))) _ _ (λ J texts e k. All-nil (IsGenuine trade J))
+      (cut_puts p rooms (plan trade p now (journal_at sites p) (frames_in (site_at sites p).waiting)) cut))
+      (λ J texts e k. All-nil (IsGenuine trade J))
+
+  -- ---- turns and deliveries by number
+
+  later : (number place : ℕ) → (number + 1) + place ≡ number + suc place
+  later number place = omega arith
+
+  turn_at : (now : ℕ) (all : List Site) (cuts : ℕ → Cut) (number : ℕ) (ss : List Site) (k : ℕ) → k < length ss
+      → slice_get (turns_from trade now all cuts number ss) k ≡ Some (turned trade (number + k) now (rooms_of all (number + k)) (cuts (number + k)) (slice_index_or ss k empty_site))
+  turn_at now all cuts number [] k l = absurd (omega arith)
+  turn_at now all cuts number (s ∷ ss) zero l =
+      ap (λ (q : ℕ). Some (turned trade q now (rooms_of all q) (cuts q) s)) (let z : number ≡ number + 0 = omega arith in z)
+  turn_at now all cuts number (s ∷ ss) (suc k) l =
+      turn_at now all cuts (number + 1) ss k (omega arith)
+      ∙ ap (λ (q : ℕ). Some (turned trade q now (rooms_of all q) (cuts q) (slice_index_or ss k empty_site))) (later number k)
+
+  turns_length : (now : ℕ) (all : List Site) (cuts : ℕ → Cut) (number : ℕ) (ss : List Site) → length (turns_from trade now all cuts number ss) ≡ length ss
+  turns_length now all cuts number [] = refl
+  turns_length now all cuts number (s ∷ ss) = ap suc (turns_length now all cuts (number + 1) ss)
+
+  delivered_length : (outs : List (List (List Bytes))) (to : ℕ) (turns : List Turned) → length (delivered outs to turns) ≡ length turns
+  delivered_length outs to [] = refl
+  delivered_length outs to (t ∷ turns) = ap suc (delivered_length outs (to + 1) turns)
+
+  delivered_at : (outs : List (List (List Bytes))) (to : ℕ) (turns : List Turned) (k : ℕ) (turn : Turned) → slice_get turns k ≡ Some turn
+      → site_at (delivered outs to turns) k ≡ with_waiting turn.site (delivered_to (to + k) outs turn.site.waiting)
+  delivered_at outs to [] k turn e = absurd (none-some turn e)
+  delivered_at outs to (t ∷ turns) zero turn e =
+      let same = same_Some t turn e
+      in ap (λ (x : Turned). with_waiting x.site (delivered_to to outs x.site.waiting)) same
+      ∙ ap (λ (q : ℕ). with_waiting turn.site (delivered_to q outs turn.site.waiting)) (let z : to ≡ to + 0 = omega arith in z)
+  delivered_at outs to (t ∷ turns) (suc k) turn e =
+      delivered_at outs (to + 1) turns k turn e ∙ ap (λ (q : ℕ). with_waiting turn.site (delivered_to q outs turn.site.waiting)) (later to k)
+
+  out_at : (turns : List Turned) (k : ℕ) (turn : Turned) → slice_get turns k ≡ Some turn → slice_index_or (outs_of turns) k [] ≡ turn.out
+  out_at [] k turn e = absurd (none-some turn e)
+  out_at (t ∷ turns) zero turn e = ap (λ (x : Turned). x.out) (same_Some t turn e)
+  out_at (t ∷ turns) (suc k) turn e = out_at turns k turn e
+
+  outs_length : (turns : List Turned) → length (outs_of turns) ≡ length turns
+  outs_length [] = refl
+  outs_length (t ∷ turns) = ap suc (outs_length turns)
+
+  delivery_genuine : (J : Journals) (to : ℕ) (outs : List (List (List Bytes))) (links : List (List Bytes))
+      → ((k : ℕ) → AreGenuine trade J (slice_index_or (slice_index_or outs k []) to [])) → ((k : ℕ) → AreGenuine trade J (slice_index_or links k []))
+      → (k : ℕ) → AreGenuine trade J (slice_index_or (delivered_to to outs links) k [])
+  delivery_genuine J to [] links puts waits k = waits k
+  delivery_genuine J to (out ∷ outs) [] puts waits zero = puts 0
+  delivery_genuine J to (out ∷ outs) [] puts waits (suc k) = delivery_genuine J to outs [] (λ i. puts (suc i)) (λ i. All-nil (IsGenuine trade J)) k
+  delivery_genuine J to (out ∷ outs) (link ∷ links) puts waits zero = All-append (IsGenuine trade J) link (slice_index_or out to []) (waits 0) (puts 0)
+  delivery_genuine J to (out ∷ outs) (link ∷ links) puts waits (suc k) = delivery_genuine J to outs links (λ i. puts (suc i)) (λ i. waits (suc i)) k
+
+  -- ---- how long links are
+
+  left_fewer : (n : ℕ) (links : List (List Bytes)) (k : ℕ) → length (slice_index_or (without_first n links) k []) ≤ length (slice_index_or links k [])
+  left_fewer n [] k = omega arith
+  left_fewer n (link ∷ links) zero = let e = length-drop n link in omega (arith, e)
+  left_fewer n (link ∷ links) (suc k) = left_fewer (n - length link) links k
+
+  abbrev LeavesFewer : ℕ → Turned → Type 0
+  LeavesFewer p turn = (k : ℕ) → length (slice_index_or turn.site.waiting k []) ≤ length (slice_index_or (site_at sites p).waiting k [])
+
+  cut_leaves_fewer : (p : ℕ) (rooms : ℕ → ℕ) (steps : List Step) (cut : Cut) → LeavesFewer p (cut_turn trade p rooms (site_at sites p) steps cut)
+  cut_leaves_fewer p rooms steps Whole k = left_fewer (length steps) (site_at sites p).waiting k
+  cut_leaves_fewer p rooms steps (FailsAt n) k = left_fewer (n + 1) (site_at sites p).waiting k
+  cut_leaves_fewer p rooms steps (Full n) k = left_fewer (n + 1) (site_at sites p).waiting k
+  cut_leaves_fewer p rooms steps (Stops n) k = left_fewer (n + 1) (site_at sites p).waiting k
+
+  fewer_by : (p : ℕ) (b : Bool) (x y : Turned) → LeavesFewer p x → LeavesFewer p y → LeavesFewer p (if b then x else y)
+  fewer_by p true x y a b = a
+  fewer_by p false x y a b = b
+
+  turn_leaves_fewer : (p now : ℕ) (rooms : ℕ → ℕ) (cut : Cut) → LeavesFewer p (turned trade p now rooms cut (site_at sites p))
+  unfolding turned
+  turn_leaves_fewer p now rooms cut =
+      fewer_by p (site_at sites p).up _ _
+      (fewer_by p (nat_lt now (last_of trade p (journal_at sites p))) _ _ (λ k. omega arith)
+      (cut_leaves_fewer p rooms (plan trade p now (journal_at sites p) (frames_in (site_at sites p).waiting)) cut))
+      (λ k. omega arith)
+
+  abbrev PutsFit : (ℕ → ℕ) → Turned → Type 0
+  PutsFit rooms turn = (k : ℕ) → length (slice_index_or turn.out k []) ≤ rooms k
+
+  puts_fit : (p : ℕ) (es : List Entry) (rooms : ℕ → ℕ) (owed : List Letter) (to count k : ℕ)
+      → length (slice_index_or (puts_from trade p es rooms owed to count) k []) ≤ rooms (to + k)
+  puts_fit p es rooms owed to zero k = omega arith
+  puts_fit p es rooms owed to (suc count) zero =
+      subst (λ (n : ℕ). length (due_frames trade p es to (rooms to) owed) ≤ rooms n) (let z : to ≡ to + 0 = omega arith in z) (due_fit trade p es to (rooms to) owed)
+  puts_fit p es rooms owed to (suc count) (suc k) =
+      subst (λ (n : ℕ). length (slice_index_or (puts_from trade p es rooms owed (to + 1) count) k []) ≤ rooms n) (let z : (to + 1) + k ≡ to + suc k = omega arith in z)
+      (puts_fit p es rooms owed (to + 1) count k)
+
+  cut_puts_fit : (p : ℕ) (rooms : ℕ → ℕ) (steps : List Step) (cut : Cut) → PutsFit rooms (cut_turn trade p rooms (site_at sites p) steps cut)
+  cut_puts_fit p rooms steps Whole k =
+      subst (λ (n : ℕ). length (slice_index_or (puts_from trade p (journal_at sites p ++ entries_of steps) rooms (owed_of steps) 0 trade.providers) k []) ≤ rooms n)
+      (let z : 0 + k ≡ k = omega arith in z) (puts_fit p (journal_at sites p ++ entries_of steps) rooms (owed_of steps) 0 trade.providers k)
+  cut_puts_fit p rooms steps (FailsAt n) k = omega arith
+  cut_puts_fit p rooms steps (Full n) k = omega arith
+  cut_puts_fit p rooms steps (Stops n) k = omega arith
+
+  fit_by : (rooms : ℕ → ℕ) (b : Bool) (x y : Turned) → PutsFit rooms x → PutsFit rooms y → PutsFit rooms (if b then x else y)
+  fit_by rooms true x y a b = a
+  fit_by rooms false x y a b = b
+
+  turn_puts_fit : (p now : ℕ) (rooms : ℕ → ℕ) (cut : Cut) → PutsFit rooms (turned trade p now rooms cut (site_at sites p))
+  unfolding turned
+  turn_puts_fit p now rooms cut =
+      fit_by rooms (site_at sites p).up _ _
+      (fit_by rooms (nat_lt now (last_of trade p (journal_at sites p))) _ _ (λ k. omega arith)
+      (cut_puts_fit p rooms (plan trade p now (journal_at sites p) (frames_in (site_at sites p).waiting)) cut))
+      (λ k. omega arith)
+
+  longer_by : (to : ℕ) (outs : List (List (List Bytes))) (links : List (List Bytes)) (k : ℕ)
+      → length (slice_index_or (delivered_to to outs links) k [])
+      ≤ length (slice_index_or links k []) + length (slice_index_or (slice_index_or outs k []) to [])
+  longer_by to [] links k = omega arith
+  longer_by to (out ∷ outs) [] zero = omega arith
+  longer_by to (out ∷ outs) [] (suc k) = longer_by to outs [] k
+  longer_by to (out ∷ outs) (link ∷ links) zero = let e = length-append link (slice_index_or out to []) in omega (arith, e)
+  longer_by to (out ∷ outs) (link ∷ links) (suc k) = longer_by to outs links k
+
+  -- ---- rounds
+
+  module _ (images : (new : Journals) → ((p : ℕ) → FollowsState trade sites p (new p)) → Fit trade new)
+      (texts : (J : Journals) → Fit trade J → TextLaws trade J) (now : ℕ) (cuts : ℕ → Cut) where
+    abbrev turns : List Turned
+    turns = turns_from trade now sites cuts 0 sites
+
+    abbrev after : List Site
+    after = delivered (outs_of turns) 0 turns
+
+    abbrev turn_of : ℕ → Turned
+    turn_of p = turned trade p now (rooms_of sites p) (cuts p) (site_at sites p)
+
+    turn_is : (p : ℕ) → p < length sites → slice_get turns p ≡ Some (turn_of p)
+    turn_is p l =
+        turn_at now sites cuts 0 sites p l
+        ∙ ap (λ (q : ℕ). Some (turned trade q now (rooms_of sites q) (cuts q) (site_at sites p))) (let z : 0 + p ≡ p = omega arith in z)
+
+    after_is : (p : ℕ) → p < length sites → site_at after p ≡ with_waiting (turn_of p).site (delivered_to p (outs_of turns) (turn_of p).site.waiting)
+    after_is p l =
+        delivered_at (outs_of turns) 0 turns p (turn_of p) (turn_is p l)
+        ∙ ap (λ (q : ℕ). with_waiting (turn_of p).site (delivered_to q (outs_of turns) (turn_of p).site.waiting)) (let z : 0 + p ≡ p = omega arith in z)
+
+    after_length : length after ≡ length sites
+    after_length = delivered_length (outs_of turns) 0 turns ∙ turns_length now sites cuts 0 sites
+
+    past_the_end : (p : ℕ) → length sites ≤ p → site_at after p ≡ site_at sites p
+    past_the_end p l =
+        get_or_past after p empty_site (let e = after_length in omega (arith, e)) ∙ sym (get_or_past sites p empty_site l)
+
+    each_happens : (p : ℕ) → Happens trade sites after p
+    each_happens p =
+        elim (cases_lt p (length sites)) [
+          | inl l ↦
+              let e = after_is p l
+              in turn_became p now (rooms_of sites p) (cuts p) after (ap (λ (s : Site). s.journal) e) (ap (λ (s : Site). s.interrupted) e) (ap (λ (s : Site). s.up) e)
+          | inr l ↦ stays_as_it_was trade laws sites after p sound (past_the_end p l)
+        ]
+
+    fit_after : Fit trade (journals_of after)
+    fit_after =
+        images (journals_of after)
+        (λ p. subst (λ (es : List Entry). FollowsState trade sites p es) (append-nil (journal_at after p)) ((laws.each sites after p (each_happens p)).journal false))
+
+    waits_on : (p : ℕ) → (frames : List Bytes) → AreGenuine trade (journals_of sites) frames → AreGenuine trade (journals_of after) frames
+    waits_on p frames good =
+        laws.frames (journals_of sites) (journals_of after) (λ q. goes_on trade laws sites after q (each_happens q)) frames good
+
+    puts_are : (to k : ℕ) → AreGenuine trade (journals_of after) (slice_index_or (slice_index_or (outs_of turns) k []) to [])
+    puts_are to k =
+        elim (cases_lt k (length sites)) [
+          | inl l ↦ subst (λ (out : List (List Bytes)). AreGenuine trade (journals_of after) (slice_index_or out to [])) (sym (out_at turns k (turn_of k) (turn_is k l)))
+              (turn_puts k now (rooms_of sites k) (cuts k) (journals_of after) (texts (journals_of after) fit_after) (ap (λ (s : Site). s.journal) (after_is k l)) to)
+          | inr l ↦ subst (λ (out : List (List Bytes)). AreGenuine trade (journals_of after) (slice_index_or out to []))
+              (sym (get_or_past (outs_of turns) k [] (let e = outs_length turns ∙ turns_length now sites cuts 0 sites in omega (arith, e))))
+              (All-nil (IsGenuine trade (journals_of after)))
+        ]
+
+    frames_after : (from to : ℕ) → AreGenuine trade (journals_of after) (frames_between after from to)
+    frames_after from to =
+        elim (cases_lt to (length sites)) [
+          | inl l ↦ subst (λ (s : Site). AreGenuine trade (journals_of after) (slice_index_or s.waiting from [])) (sym (after_is to l))
+              (delivery_genuine (journals_of after) to (outs_of turns) (turn_of to).site.waiting (puts_are to)
+              (λ k. waits_on to (slice_index_or (turn_of to).site.waiting k []) (turn_leaves to now (rooms_of sites to) (cuts to) k)) from)
+          | inr l ↦ subst (λ (s : Site). AreGenuine trade (journals_of after) (slice_index_or s.waiting from [])) (sym (past_the_end to l))
+              (waits_on to (frames_between sites from to) (sound.genuine from to))
+        ]
+
+    pub sound_rounded : Sound trade (rounded trade now cuts sites).sites
+    unfolding rounded turns_of
+    sound_rounded = laws.next sites after sound (record {
+      count = after_length;
+      each = λ p. laws.each sites after p (each_happens p);
+      genuine = frames_after;
+    })
+
+    put_for : (from to : ℕ) → length (slice_index_or (slice_index_or (outs_of turns) from []) to []) ≤ rooms_of sites from to
+    put_for from to =
+        elim (cases_lt from (length sites)) [
+          | inl l ↦ subst (λ (out : List (List Bytes)). length (slice_index_or out to []) ≤ rooms_of sites from to) (sym (out_at turns from (turn_of from) (turn_is from l)))
+              (turn_puts_fit from now (rooms_of sites from) (cuts from) to)
+          | inr l ↦ subst (λ (out : List (List Bytes)). length (slice_index_or out to []) ≤ rooms_of sites from to)
+              (sym (get_or_past (outs_of turns) from [] (let e = outs_length turns ∙ turns_length now sites cuts 0 sites in omega (arith, e))))
+              (omega arith)
+        ]
+
+    short_after : LinksAreShort sites → LinksAreShort after
+    short_after short from to =
+        elim (cases_lt to (length sites)) [
+          | inl l ↦
+              let waits = turn_leaves_fewer to now (rooms_of sites to) (cuts to) from
+              in let put = put_for from to
+              in let all = longer_by to (outs_of turns) (turn_of to).site.waiting from
+              in let old = short from to
+              in subst (λ (s : Site). length (slice_index_or s.waiting from []) ≤ link_size) (sym (after_is to l)) (omega (arith, waits, put, all, old))
+          | inr l ↦ subst (λ (s : Site). length (slice_index_or s.waiting from []) ≤ link_size) (sym (past_the_end to l)) (short from to)
+        ]
+
+    pub short_rounded : LinksAreShort sites → LinksAreShort (rounded trade now cuts sites).sites
+    unfolding rounded turns_of
+    short_rounded short = short_after short

@@ -1,0 +1,136 @@
+-- Each command keeps a state Sound, and so does each script.
+use Rattle.std.proofs.Common.{◌≡◌, ℕ, List, [], ◌∷◌, ◌++◌, take, drop, refl, ap, sym, ◌∙◌, Option, Some, None}
+use Rattle.std.specs.Prelude.{slice_get}
+use Rattle.std.specs.Option.{option_to_list}
+use Rattle.std.proofs.lemmas.List.{append-nil, append_assoc, map-append, take-append-drop}
+use Rattle.pec_types.specs.Bytes.{Bytes}
+use Rattle.pec_records.specs.declared.entries.Entry.{Entry}
+use Rattle.pec_ledger.specs.Along.{GoesOnAs}
+use Rattle.pec_ledger.specs.Books.{book, mailbox_lines}
+use Rattle.pec_ledger.specs.Half.{Half, Posted}
+use Rattle.pec_ledger.specs.Items.{item_text}
+use Rattle.pec_ledger.specs.Ledger.{Fit, Journals}
+use Rattle.pec_ledger.specs.Lookups.{mailbox}
+use Rattle.pec_ledger.specs.Network.{FollowsState, Site, Sound, frames_between, journal_at, journals_of}
+use Rattle.pec_ledger.specs.Trade.{Trade}
+use Rattle.pec_ledger.specs.TradeLaws.{IsTrade}
+use Rattle.pec_plays.specs.Commands.{Command, Luck, Submit, Tick, Round, Lose, Repeat, Swap, Inject, Crash, Restart, Book, Mailbox, Show, Lines, Items, account_home, answers, played, shown, shown_bytes, swapped_at}
+use Rattle.pec_plays.specs.Scripts.{AllUnforged, IsUnforged, LinksAreShort, ShortAlong, SoundAlong}
+use Rattle.pec_plays.specs.Steps.{Step}
+use Rattle.pec_plays.specs.Turns.{Cut, Whole, Fails, Full, Stops, cut_turn, entries_of, entry_at, events_of}
+use Rattle.pec_plays.proofs.CommandLemmas.{sound_asked, sound_crashed, sound_injected, sound_lost, sound_put_again, sound_restarted, sound_submitted, sound_swapped, sound_ticked}
+use Rattle.pec_plays.proofs.FrameLemmas.{TextLaws}
+use Rattle.pec_plays.proofs.PlanLemmas.{parted}
+use Rattle.pec_plays.proofs.RoundLemmas.{short_rounded, sound_rounded}
+use Rattle.pec_plays.proofs.ShortLemmas.{short_asked, short_crashed, short_injected, short_lost, short_put_again, short_restarted, short_submitted, short_swapped, short_ticked}
+use Rattle.pec_plays.proofs.SiteLemmas.{StateLaws}
+use Rattle.pec_plays.proofs.StepLemmas.{ArrivalLaws}
+
+-- what the ledger's laws say
+pub record LedgerLaws (trade : Trade) : Type 0 where
+  pub states : StateLaws trade
+  pub images : (sites : List Site) → Sound trade sites → (images : Journals) → ((p : ℕ) → FollowsState trade sites p (images p)) → Fit trade images
+  pub arrivals : (J : Journals) → Fit trade J → ArrivalLaws trade J
+  pub texts : (J : Journals) → Fit trade J → TextLaws trade J
+
+module _ (trade : Trade) (world : IsTrade trade) (laws : LedgerLaws trade) where
+  bytes_show_nothing_new : (sites : List Site) (text : Option Bytes) → (shown_bytes sites text).after ≡ sites
+  bytes_show_nothing_new sites None = refl
+  bytes_show_nothing_new sites (Some bytes) = refl
+
+  shows_nothing_new : (sites : List Site) (p : ℕ) (found : Option Posted) → (shown trade sites p found).after ≡ sites
+  shows_nothing_new sites p None = refl
+  shows_nothing_new sites p (Some posted) = bytes_show_nothing_new sites (item_text trade p (journal_at sites p) posted)
+
+  pub sound_played : (luck : Luck) (sites : List Site) (command : Command) → Sound trade sites → IsUnforged trade sites command
+      → Sound trade (played trade luck sites command).after
+  unfolding played
+  sound_played luck sites (Submit p now sender path message) sound given =
+      sound_submitted trade world laws.states luck sites p now sender path message sound given.0 given.1
+  sound_played luck sites (Tick p now) sound given = sound_ticked trade world laws.states luck sites p now sound
+  sound_played luck sites (Round now) sound given =
+      sound_rounded trade world laws.states sites sound (laws.arrivals (journals_of sites) sound.fit) (laws.images sites sound) laws.texts now luck.cuts
+  sound_played luck sites (Lose from to place) sound given = sound_lost trade world laws.states sites from to place sound
+  sound_played luck sites (Repeat from to place) sound given =
+      sound_put_again trade world laws.states sites from to place (slice_get (frames_between sites from to) place) refl sound
+  sound_played luck sites (Swap from to place) sound given =
+      sound_swapped trade world laws.states sites from to place (swapped_at place (frames_between sites from to)) refl sound
+  sound_played luck sites (Inject from to frame) sound given = sound_injected trade world laws.states sites from to frame sound given
+  sound_played luck sites (Crash p) sound given = sound_crashed trade world laws.states sites p sound
+  sound_played luck sites (Restart p) sound given = sound_restarted trade world laws.states luck sites p sound
+  sound_played luck sites (Book address) sound given =
+      sound_asked trade world laws.states sites (λ (p : ℕ) (h : Half). answers sites (Lines (book trade p h address))) (account_home trade address (trade.home address)) sound (λ p h. refl)
+  sound_played luck sites (Mailbox address) sound given =
+      sound_asked trade world laws.states sites (λ (p : ℕ) (h : Half). answers sites (Items (mailbox_lines h address))) (account_home trade address (trade.home address)) sound (λ p h. refl)
+  sound_played luck sites (Show address place) sound given =
+      sound_asked trade world laws.states sites (λ (p : ℕ) (h : Half). shown trade sites p (slice_get (mailbox h address) place)) (account_home trade address (trade.home address)) sound
+      (λ p h. shows_nothing_new sites p (slice_get (mailbox h address) place))
+
+  pub sound_along : (lucks : List Luck) (sites : List Site) (commands : List Command) → Sound trade sites → AllUnforged trade lucks sites commands
+      → SoundAlong trade lucks sites commands
+  sound_along [] sites commands sound given = sound
+  sound_along (luck ∷ lucks) sites [] sound given = sound
+  sound_along (luck ∷ lucks) sites (command ∷ commands) sound given =
+      (sound, sound_along lucks (played trade luck sites command).after commands (sound_played luck sites command sound given.0) given.1)
+
+-- ---- links
+
+module _ (trade : Trade) (world : IsTrade trade) (laws : LedgerLaws trade) where
+  pub short_played : (luck : Luck) (sites : List Site) (command : Command) → Sound trade sites → LinksAreShort sites
+      → LinksAreShort (played trade luck sites command).after
+  unfolding played
+  short_played luck sites (Submit p now sender path message) sound short = short_submitted trade sites short luck p now sender path message
+  short_played luck sites (Tick p now) sound short = short_ticked trade sites short luck p now
+  short_played luck sites (Round now) sound short =
+      short_rounded trade world laws.states sites sound (laws.arrivals (journals_of sites) sound.fit) (laws.images sites sound) laws.texts now luck.cuts short
+  short_played luck sites (Lose from to place) sound short = short_lost trade sites short from to place
+  short_played luck sites (Repeat from to place) sound short = short_put_again trade sites short from to (slice_get (frames_between sites from to) place)
+  short_played luck sites (Swap from to place) sound short = short_swapped trade sites short from to place (swapped_at place (frames_between sites from to)) refl
+  short_played luck sites (Inject from to frame) sound short = short_injected trade sites short from to frame
+  short_played luck sites (Crash p) sound short = short_crashed trade sites short p
+  short_played luck sites (Restart p) sound short = short_restarted trade sites short luck p
+  short_played luck sites (Book address) sound short =
+      short_asked trade sites short (λ (p : ℕ) (h : Half). answers sites (Lines (book trade p h address))) (account_home trade address (trade.home address)) (λ p h. refl)
+  short_played luck sites (Mailbox address) sound short =
+      short_asked trade sites short (λ (p : ℕ) (h : Half). answers sites (Items (mailbox_lines h address))) (account_home trade address (trade.home address)) (λ p h. refl)
+  short_played luck sites (Show address place) sound short =
+      short_asked trade sites short (λ (p : ℕ) (h : Half). shown trade sites p (slice_get (mailbox h address) place)) (account_home trade address (trade.home address))
+      (λ p h. shows_nothing_new trade world laws sites p (slice_get (mailbox h address) place))
+
+  pub short_along : (lucks : List Luck) (sites : List Site) (commands : List Command) → Sound trade sites → AllUnforged trade lucks sites commands → LinksAreShort sites
+      → ShortAlong trade lucks sites commands
+  short_along [] sites commands sound given short = short
+  short_along (luck ∷ lucks) sites [] sound given short = short
+  short_along (luck ∷ lucks) sites (command ∷ commands) sound given short = (
+    short,
+    short_along lucks (played trade luck sites command).after commands (sound_played trade world laws luck sites command sound given.0) given.1
+        (short_played luck sites command sound short),
+  )
+
+-- ---- fronts
+
+front_events : (n : ℕ) (steps : List Step) → GoesOnAs (events_of (take n steps)) (events_of steps)
+front_events n steps =
+    (events_of (drop n steps), ap events_of (sym (take-append-drop n steps)) ∙ map-append (λ (s : Step). s.event) (take n steps) (drop n steps))
+
+pub cut_is_front : (trade : Trade) (p : ℕ) (rooms : ℕ → ℕ) (site : Site) (steps : List Step) (cut : Cut)
+    → GoesOnAs (cut_turn trade p rooms site steps cut).events (cut_turn trade p rooms site steps Whole).events
+cut_is_front trade p rooms site steps Whole = ([], sym (append-nil (events_of steps)))
+cut_is_front trade p rooms site steps (Fails n) = front_events n steps
+cut_is_front trade p rooms site steps (Full n) = front_events n steps
+cut_is_front trade p rooms site steps (Stops n) = front_events n steps
+
+front_entries : (es : List Entry) (n : ℕ) (steps : List Step) → GoesOnAs (es ++ entries_of (take n steps)) (es ++ entries_of steps)
+front_entries es n steps =
+    let cut = parted n steps
+    in (
+      option_to_list (entry_at steps n) ++ cut.0,
+      ap (λ (l : List Entry). es ++ l) cut.1 ∙ sym (append_assoc es (entries_of (take n steps)) (option_to_list (entry_at steps n) ++ cut.0)),
+    )
+
+pub cut_has_front : (trade : Trade) (p : ℕ) (rooms : ℕ → ℕ) (site : Site) (steps : List Step) (cut : Cut)
+    → GoesOnAs (cut_turn trade p rooms site steps cut).site.journal (cut_turn trade p rooms site steps Whole).site.journal
+cut_has_front trade p rooms site steps Whole = ([], sym (append-nil (site.journal ++ entries_of steps)))
+cut_has_front trade p rooms site steps (Fails n) = front_entries site.journal n steps
+cut_has_front trade p rooms site steps (Full n) = front_entries site.journal n steps
+cut_has_front trade p rooms site steps (Stops n) = front_entries site.journal n steps

@@ -1,0 +1,247 @@
+-- The commands of a script, what they answer, and what they do: `played`. Where a device may fail, a luck says whether it
+-- did; for a given answer there is at most one state. Each answer is a value; lines are made of it elsewhere. This
+-- project's profile.
+use Rattle.std.specs.Prelude.{ℕ, ◌+◌, nat_lt, Bool, true, false, List, [], ◌∷◌, ◌++◌, length, map, take, drop, slice_get, slice_set, if◌then◌else◌, Option, Some, None}
+use Rattle.pec_types.specs.Bytes.{Bytes, Path}
+use Rattle.pec_types.specs.Message.{Id}
+use Rattle.pec_types.specs.declared.mailboxes.ItemLine.{ItemLine}
+use Rattle.pec_types.specs.declared.mailboxes.Mark.{Mark as ToldMark}
+use Rattle.pec_types.specs.declared.messages.BookLine.{BookLine}
+use Rattle.pec_types.specs.declared.messages.Cause.{Cause}
+use Rattle.pec_types.specs.declared.messages.TheConstants.{MESSAGES}
+use Rattle.pec_types.specs.declared.turns.ProviderFault.{ProviderFault}
+use Rattle.pec_types.specs.declared.turns.ProviderFault.TheVariants as faults
+use Rattle.pec_types.specs.declared.turns.Submitted.{Submitted}
+use Rattle.pec_types.specs.declared.turns.Submitted.TheVariants as submissions
+use Rattle.pec_types.specs.declared.turns.Turn.{Turn}
+use Rattle.pec_records.specs.declared.entries.Entry.{Entry}
+use Rattle.pec_records.specs.declared.entries.Entry.TheVariants as entries
+use Rattle.pec_ledger.specs.Books.{book, mailbox_lines}
+use Rattle.pec_ledger.specs.Half.{Half, Mark, Posted}
+use Rattle.pec_ledger.specs.Items.{item_text}
+use Rattle.pec_ledger.specs.Lookups.{mailbox}
+use Rattle.pec_ledger.specs.Network.{Site, chosen, frames_between, journal_at, site_at}
+use Rattle.pec_ledger.specs.Pairs.{id_of}
+use Rattle.pec_ledger.specs.Steps.{half, marks_by}
+use Rattle.pec_ledger.specs.Trade.{Trade}
+use Rattle.pec_plays.specs.Rounds.{link_size, rounded, with_waiting}
+use Rattle.pec_plays.specs.Steps.{has_no_room}
+use Rattle.pec_plays.specs.Turns.{Cut, broken, last_of}
+
+pub data Command : Type 0 where
+  Submit : (provider moment : ℕ) (sender : Bytes) (path : Path) (message : Bytes) → Command
+  Tick : (provider moment : ℕ) → Command
+  Round : (moment : ℕ) → Command
+  Lose : (from to place : ℕ) → Command
+  Repeat : (from to place : ℕ) → Command
+  Swap : (from to place : ℕ) → Command
+  Inject : (from to : ℕ) (frame : Bytes) → Command
+  Crash : (provider : ℕ) → Command
+  Restart : (provider : ℕ) → Command
+  Book : (address : Bytes) → Command
+  Mailbox : (address : Bytes) → Command
+  Show : (address : Bytes) (place : ℕ) → Command
+
+pub data Answer : Type 0 where
+  Submits : (submitted : Submitted) → Answer
+  Marks : (marks : List ToldMark) → Answer
+  Turns : (turns : List Turn) → Answer
+  Lost : Answer
+  Repeated : Answer
+  Swapped : Answer
+  Injected : Answer
+  Crashed : Answer
+  Restarted : (entries : ℕ) → Answer
+  Lines : (lines : List BookLine) → Answer
+  Items : (items : List ItemLine) → Answer
+  Shown : (bytes : Bytes) → Answer
+  Refuses : (fault : ProviderFault) → Answer
+  NoFrame : Answer
+  LinkFull : Answer
+  IsUp : Answer
+
+-- What devices do in a command: how each provider's turn is cut, whether the append or the restart fails, and whether a
+-- restart finds the interrupted entry.
+pub record Luck : Type 0 where
+  pub cuts : ℕ → Cut
+  pub fails : Bool
+  pub found : Bool
+
+-- What a command answers, and the state behind it.
+pub record Played : Type 0 where
+  pub answer : Answer
+  pub after : List Site
+
+-- an answer that changes nothing
+abbrev pub answers : List Site → Answer → Played
+answers sites answer = record { answer = answer; after = sites }
+
+-- a site in the place of the provider's
+abbrev pub with_site : List Site → ℕ → Site → List Site
+with_site sites provider site = slice_set sites provider site
+
+-- ---- entries
+
+abbrev pub with_entry : Site → Entry → Site
+with_entry site entry =
+    record { journal = site.journal ++ entry ∷ []; up = site.up; interrupted = site.interrupted; waiting = site.waiting }
+
+-- an entry is appended, or its append fails and the provider is down
+abbrev pub appended : Bool → List Site → ℕ → Entry → Answer → Played
+appended true sites provider entry answer =
+    record { answer = Refuses faults.DiskFault; after = with_site sites provider (broken (site_at sites provider) (Some entry)) }
+appended false sites provider entry answer =
+    record { answer = answer; after = with_site sites provider (with_entry (site_at sites provider) entry) }
+
+abbrev pub append : Trade → Luck → List Site → ℕ → Entry → Answer → Played
+append trade luck sites provider entry answer =
+    if has_no_room trade provider (journal_at sites provider) entry then answers sites (Refuses faults.JournalFull)
+    else appended luck.fails sites provider entry answer
+
+-- what may be refused before a command looks at its own: the provider is down, or the clock is behind its journal
+abbrev pub at_work : Trade → List Site → ℕ → ℕ → Played → Played
+at_work trade sites provider now done =
+    if (site_at sites provider).up
+    then (if nat_lt now (last_of trade provider (journal_at sites provider))
+    then answers sites (Refuses (faults.ClockBack (last_of trade provider (journal_at sites provider))))
+    else done)
+    else answers sites (Refuses faults.Down)
+
+-- ---- submissions
+
+-- the entry of a submission, by what speaks against it
+abbrev pub entry_by : Option Cause → ℕ → Bytes → Path → Bytes → Entry
+entry_by None moment sender path message = entries.Accepted moment sender message
+entry_by (Some cause) moment sender path message = entries.NotAccepted moment sender cause path message
+
+abbrev pub told_by : Option Cause → Id → Submitted
+told_by None id = submissions.Accepted id
+told_by (Some cause) id = submissions.NotAccepted id cause
+
+abbrev pub messages_at : Trade → List Site → ℕ → ℕ
+messages_at trade sites provider = length (half trade provider (journal_at sites provider)).messages
+
+abbrev pub submitted : Trade → Luck → List Site → ℕ → ℕ → Bytes → Path → Bytes → Played
+submitted trade luck sites provider moment sender path message =
+    if trade.is_account provider sender
+    then at_work trade sites provider moment
+    (if nat_lt (messages_at trade sites provider) MESSAGES
+    then append trade luck sites provider (entry_by (trade.cause provider sender path message) moment sender path message)
+    (Submits (told_by (trade.cause provider sender path message) (id_of provider (messages_at trade sites provider))))
+    else answers sites (Refuses faults.Full))
+    else answers sites (Refuses faults.NoAccount)
+
+-- ---- clock calls
+
+abbrev pub told_mark : Mark → ToldMark
+told_mark mark = record { id = mark.pair.id; recipient = mark.pair.recipient; due = mark.due }
+
+abbrev pub ticked : Trade → Luck → List Site → ℕ → ℕ → Played
+ticked trade luck sites provider moment =
+    at_work trade sites provider moment
+    (append trade luck sites provider (entries.Ticked moment)
+    (Marks (map told_mark (marks_by trade provider (half trade provider (journal_at sites provider)) (entries.Ticked moment)))))
+
+-- ---- links
+
+-- the frames of one link, put in the place of those that wait
+abbrev pub with_frames : List Site → ℕ → ℕ → List Bytes → List Site
+with_frames sites from to frames =
+    with_site sites to (with_waiting (site_at sites to) (slice_set (site_at sites to).waiting from frames))
+
+abbrev pub lost : List Site → ℕ → ℕ → ℕ → Played
+lost sites from to place =
+    if nat_lt place (length (frames_between sites from to))
+    then record {
+      answer = Lost;
+      after = with_frames sites from to (take place (frames_between sites from to) ++ drop (place + 1) (frames_between sites from to));
+    }
+    else answers sites NoFrame
+
+-- a copy behind all others
+abbrev pub put_again : List Site → ℕ → ℕ → Option Bytes → Played
+put_again sites from to None = answers sites NoFrame
+put_again sites from to (Some frame) =
+    if nat_lt (length (frames_between sites from to)) link_size
+    then record { answer = Repeated; after = with_frames sites from to (frames_between sites from to ++ frame ∷ []) }
+    else answers sites LinkFull
+
+-- two frames that follow each other
+abbrev pub swapped_at : ℕ → List Bytes → Option (List Bytes)
+swapped_at place frames =
+    if nat_lt (place + 1) (length frames)
+    then Some (take place frames ++ take 1 (drop (place + 1) frames) ++ take 1 (drop place frames) ++ drop (place + 2) frames)
+    else None
+
+abbrev pub swapped : List Site → ℕ → ℕ → Option (List Bytes) → Played
+swapped sites from to None = answers sites NoFrame
+swapped sites from to (Some frames) = record { answer = Swapped; after = with_frames sites from to frames }
+
+abbrev pub injected : List Site → ℕ → ℕ → Bytes → Played
+injected sites from to frame =
+    if nat_lt (length (frames_between sites from to)) link_size
+    then record { answer = Injected; after = with_frames sites from to (frames_between sites from to ++ frame ∷ []) }
+    else answers sites LinkFull
+
+-- ---- crashes
+
+abbrev pub stopped_site : Site → Site
+stopped_site site = record { journal = site.journal; up = false; interrupted = site.interrupted; waiting = site.waiting }
+
+-- a provider that is up again, its interrupted entry found or forgotten
+abbrev pub restarted_site : Bool → Site → Site
+restarted_site found site =
+    record { journal = site.journal ++ chosen found site.interrupted; up = true; interrupted = None; waiting = site.waiting }
+
+abbrev pub restarted : Luck → List Site → ℕ → Site → Played
+restarted luck sites provider site =
+    if site.up then answers sites IsUp
+    else (if luck.fails then answers sites (Refuses faults.DiskFault)
+    else record {
+      answer = Restarted (length (restarted_site luck.found site).journal);
+      after = with_site sites provider (restarted_site luck.found site);
+    })
+
+-- ---- what accounts are shown
+
+-- the provider of an account, asked by its address alone
+abbrev pub account_home : Trade → Bytes → Option ℕ → Option ℕ
+account_home trade address None = None
+account_home trade address (Some provider) = if trade.is_account provider address then Some provider else None
+
+abbrev pub asked : List Site → (ℕ → Half → Played) → Trade → Option ℕ → Played
+asked sites show trade None = answers sites (Refuses faults.NoAccount)
+asked sites show trade (Some provider) =
+    if (site_at sites provider).up then show provider (half trade provider (journal_at sites provider))
+    else answers sites (Refuses faults.Down)
+
+abbrev pub shown_bytes : List Site → Option Bytes → Played
+shown_bytes sites None = answers sites (Refuses faults.NoItem)
+shown_bytes sites (Some bytes) = answers sites (Shown bytes)
+
+abbrev pub shown : Trade → List Site → ℕ → Option Posted → Played
+shown trade sites provider None = answers sites (Refuses faults.NoItem)
+shown trade sites provider (Some posted) = shown_bytes sites (item_text trade provider (journal_at sites provider) posted)
+
+-- ---- all commands
+
+-- What a command does.
+unfoldable pub played : Trade → Luck → List Site → Command → Played
+played trade luck sites (Submit provider moment sender path message) = submitted trade luck sites provider moment sender path message
+played trade luck sites (Tick provider moment) = ticked trade luck sites provider moment
+played trade luck sites (Round moment) =
+    record { answer = Turns (rounded trade moment luck.cuts sites).turns; after = (rounded trade moment luck.cuts sites).sites }
+played trade luck sites (Lose from to place) = lost sites from to place
+played trade luck sites (Repeat from to place) = put_again sites from to (slice_get (frames_between sites from to) place)
+played trade luck sites (Swap from to place) = swapped sites from to (swapped_at place (frames_between sites from to))
+played trade luck sites (Inject from to frame) = injected sites from to frame
+played trade luck sites (Crash provider) =
+    record { answer = Crashed; after = with_site sites provider (stopped_site (site_at sites provider)) }
+played trade luck sites (Restart provider) = restarted luck sites provider (site_at sites provider)
+played trade luck sites (Book address) =
+    asked sites (λ provider half. answers sites (Lines (book trade provider half address))) trade (account_home trade address (trade.home address))
+played trade luck sites (Mailbox address) =
+    asked sites (λ provider half. answers sites (Items (mailbox_lines half address))) trade (account_home trade address (trade.home address))
+played trade luck sites (Show address place) =
+    asked sites (λ provider half. shown trade sites provider (slice_get (mailbox half address) place)) trade
+    (account_home trade address (trade.home address))

@@ -1,0 +1,42 @@
+-- Which taken pairs a provider has to decide, `undecided`, and what it does with one, `decide`. RFC 6109, section 3.3,
+-- within this project's profile.
+use Rattle.std.specs.Prelude.{ℕ, Bool, false, ◌&&◌, List, [], map, filter, Option, Some, None, is_none}
+use Rattle.std.specs.List.{flat_map, list_any}
+use Rattle.std.specs.Str.{bytes_eq}
+use Rattle.pec_types.specs.Bytes.{Bytes}
+use Rattle.pec_types.specs.declared.turns.Event.TheVariants as events
+use Rattle.pec_records.specs.declared.entries.Entry.{Entry}
+use Rattle.pec_records.specs.declared.entries.Entry.TheVariants as entries
+use Rattle.pec_ledger.specs.Half.{Half, Taken}
+use Rattle.pec_ledger.specs.Lookups.{decided_of, taken_of}
+use Rattle.pec_ledger.specs.Own.{decision_at}
+use Rattle.pec_ledger.specs.Pairs.{Pair, pair_of, same_pair}
+use Rattle.pec_ledger.specs.Steps.{half}
+use Rattle.pec_ledger.specs.Trade.{Trade}
+use Rattle.pec_plays.specs.Reception.{each_once}
+use Rattle.pec_plays.specs.Steps.{Step, enters}
+
+-- the pairs of what was taken, in order of taking and of recipients
+abbrev pub pairs_taken : List Taken → List Pair
+pairs_taken rows = flat_map (λ (row : Taken). map (pair_of row.id) row.recipients) rows
+
+abbrev pub is_recipient_of : Bytes → Option Taken → Bool
+is_recipient_of recipient None = false
+is_recipient_of recipient (Some row) = list_any (bytes_eq recipient) row.recipients
+
+-- A pair that was taken is not decided yet.
+abbrev pub is_open : Half → Pair → Bool
+is_open half pair = is_recipient_of pair.recipient (taken_of half pair.id) && is_none (decided_of half pair)
+
+module _ (trade : Trade) (provider : ℕ) where
+  -- The taken pairs that are not decided, each once, in order of taking and of recipients.
+  unfoldable pub undecided : List Entry → List Pair
+  undecided journal =
+      filter (is_open (half trade provider journal)) (each_once same_pair (pairs_taken (half trade provider journal).taken))
+
+  -- What the provider does with a pair: it decides it.
+  unfoldable pub decide : ℕ → List Entry → Pair → Step
+  decide now journal pair =
+      enters trade provider journal
+      (entries.Decided now pair.id pair.recipient (decision_at trade provider (half trade provider journal) pair.recipient))
+      (events.Decided pair.id pair.recipient (decision_at trade provider (half trade provider journal) pair.recipient)) []

@@ -1,0 +1,69 @@
+-- Worked scripts in the small world of the ledger, with their lucks: what they answer. The provider 0 is alfa, with alice
+-- (0) and anna (1); the provider 1 is beta, with bob (1).
+use Rattle.std.specs.Prelude.{ℕ, zero, suc, false, true, List, [], ◌∷◌, Option, None}
+use Rattle.pec_types.specs.Bytes.{Bytes}
+use Rattle.pec_types.specs.declared.turns.Event.{Event}
+use Rattle.pec_types.specs.declared.turns.ProviderFault.{ProviderFault}
+use Rattle.pec_types.specs.declared.turns.Turn.{Turn}
+use Rattle.pec_ledger.specs.Examples.{alice, anna, bob, morning, to_one}
+use Rattle.pec_ledger.specs.Network.{at_start}
+use Rattle.pec_ledger.specs.SmallWorld.{small}
+use Rattle.pec_plays.specs.Commands.{Answer, Book, Command, Luck, Mailbox, Restart, Round, Submit, Swap, Turns}
+use Rattle.pec_plays.specs.Scripts.{script}
+use Rattle.pec_plays.specs.Turns.{Cut, Fails, Whole}
+
+-- no device fails
+abbrev pub calm : Luck
+calm = record { cuts = λ provider. Whole; fails = false; found = false }
+
+-- in a round the append of a step of alfa fails
+abbrev pub cut_at : ℕ → ℕ → Cut
+cut_at number zero = Fails number
+cut_at number (suc provider) = Whole
+
+abbrev pub failing : ℕ → Luck
+failing number = record { cuts = cut_at number; fails = false; found = false }
+
+-- a restart finds the interrupted entry
+abbrev pub finding : Luck
+finding = record { cuts = λ provider. Whole; fails = false; found = true }
+
+-- what alice writes, to this address
+abbrev pub writes_to : Bytes → Command
+writes_to recipient = Submit 0 morning alice (recipient ∷ []) (to_one recipient)
+
+abbrev pub turn_of : ℕ → List Event → List (ℕ × ℕ) → Option ProviderFault → Turn
+turn_of provider events sent ended = record { provider = provider; events = events; sent = sent; ended = ended }
+
+-- a turn in which nothing came and nothing was put
+abbrev pub idle : ℕ → Turn
+idle provider = turn_of provider [] [] None
+
+-- a round in which alfa alone did something
+abbrev pub alfa_turn : List Event → List (ℕ × ℕ) → Answer
+alfa_turn events sent = Turns (turn_of 0 events sent None ∷ idle 1 ∷ [])
+
+-- ---- one provider, to the end
+
+abbrev pub to_the_end : List Command
+to_the_end =
+    writes_to anna ∷ Round 1704186001 ∷ Round 1704186002 ∷ Round 1704186003 ∷ Round 1704186004 ∷ Round 1704186005
+    ∷ Book alice ∷ Mailbox alice ∷ Mailbox anna ∷ []
+
+-- ---- two providers, and two letters that change places
+
+abbrev pub out_of_order : List Command
+out_of_order = writes_to bob ∷ Round 1704186001 ∷ Round 1704186002 ∷ Swap 1 0 0 ∷ Round 1704186003 ∷ Round 1704186004 ∷ []
+
+-- ---- the append of a decision fails, and alfa is restarted
+
+abbrev pub with_a_fault : List Command
+with_a_fault = writes_to anna ∷ Round 1704186001 ∷ Round 1704186002 ∷ Book alice ∷ Restart 0 ∷ Restart 0 ∷ []
+
+-- what a script of this length answers where no device fails
+abbrev pub calmly : List Command → List Luck
+calmly [] = []
+calmly (command ∷ commands) = calm ∷ calmly commands
+
+abbrev pub answers_of : List Luck → List Command → List Answer
+answers_of lucks commands = (script small lucks (at_start small) commands).answers

@@ -1,0 +1,9 @@
+pub mod Commands
+pub mod Decisions
+pub mod Examples
+pub mod Frames
+pub mod Reception
+pub mod Rounds
+pub mod Scripts
+pub mod Steps
+pub mod Turns

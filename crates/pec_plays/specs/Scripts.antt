@@ -1,0 +1,70 @@
+-- Scripts: commands one after another, each with its luck (`script`), and which of them may come (`IsUnforged`). This project's profile.
+use Rattle.std.specs.Prelude.{ℕ, ◌<◌, ◌≤◌, List, [], ◌∷◌, length}
+use Rattle.pec_records.specs.Entry.{most_addresses}
+use Rattle.pec_ledger.specs.Guarantees.{NoReceiptMissing, NoticeByTheDay, OneDelivery, OneOutcome}
+use Rattle.pec_ledger.specs.Network.{frames_between, IsGenuine, Site, Sound, journals_of}
+use Rattle.pec_ledger.specs.Trade.{Trade}
+use Rattle.pec_plays.specs.Commands.{Answer, Command, Inject, Luck, Submit, played}
+use Rattle.pec_plays.specs.Rounds.{link_size}
+
+-- What a script answers, and the state behind it.
+pub record Told : Type 0 where
+  pub answers : List Answer
+  pub after : List Site
+
+abbrev pub onto : Answer → Told → Told
+onto answer told = record { answers = answer ∷ told.answers; after = told.after }
+
+-- The commands with their lucks; where there are no more lucks it stops.
+abbrev pub script : Trade → List Luck → List Site → List Command → Told
+script trade [] sites commands = record { answers = []; after = sites }
+script trade (luck ∷ lucks) sites [] = record { answers = []; after = sites }
+script trade (luck ∷ lucks) sites (command ∷ commands) =
+    onto (played trade luck sites command).answer (script trade lucks (played trade luck sites command).after commands)
+
+-- A command may come: a path has 1 to 1,000 addresses, and no forged frame is injected. Where a message stands in an
+-- injected frame and opens, that is the text of a licensed letter or of an item, as the command begins; all other frames
+-- are free.
+abbrev pub IsUnforged : Trade → List Site → Command → Type 0
+IsUnforged trade sites (Submit provider moment sender path message) = (0 < length path) × (length path ≤ most_addresses)
+IsUnforged trade sites (Inject from to frame) = IsGenuine trade (journals_of sites) frame
+IsUnforged trade sites _ = Unit {0}
+
+-- Each command along a script may come.
+abbrev pub AllUnforged : Trade → List Luck → List Site → List Command → Type 0
+AllUnforged trade [] sites commands = Unit {0}
+AllUnforged trade (luck ∷ lucks) sites [] = Unit {0}
+AllUnforged trade (luck ∷ lucks) sites (command ∷ commands) =
+    IsUnforged trade sites command × AllUnforged trade lucks (played trade luck sites command).after commands
+
+-- The state is Sound before each command, and at the end.
+abbrev pub SoundAlong : Trade → List Luck → List Site → List Command → Type 0
+SoundAlong trade [] sites commands = Sound trade sites
+SoundAlong trade (luck ∷ lucks) sites [] = Sound trade sites
+SoundAlong trade (luck ∷ lucks) sites (command ∷ commands) =
+    Sound trade sites × SoundAlong trade lucks (played trade luck sites command).after commands
+
+-- What users get, in the journals of a state.
+pub record Kept (trade : Trade) (sites : List Site) : Type 0 where
+  pub one_outcome : OneOutcome trade (journals_of sites)
+  pub one_delivery : OneDelivery trade (journals_of sites)
+  pub no_receipt_missing : NoReceiptMissing trade (journals_of sites)
+  pub notice_by_the_day : NoticeByTheDay trade (journals_of sites)
+
+-- Users have it before each command of a script, so at each book that is shown, and at the end.
+abbrev pub KeptAlong : Trade → List Luck → List Site → List Command → Type 0
+KeptAlong trade [] sites commands = Kept trade sites
+KeptAlong trade (luck ∷ lucks) sites [] = Kept trade sites
+KeptAlong trade (luck ∷ lucks) sites (command ∷ commands) =
+    Kept trade sites × KeptAlong trade lucks (played trade luck sites command).after commands
+
+-- No link holds more than 64 frames.
+abbrev pub LinksAreShort : List Site → Type 0
+LinksAreShort sites = (from to : ℕ) → length (frames_between sites from to) ≤ link_size
+
+-- No link does, before each command of a script and at the end.
+abbrev pub ShortAlong : Trade → List Luck → List Site → List Command → Type 0
+ShortAlong trade [] sites commands = LinksAreShort sites
+ShortAlong trade (luck ∷ lucks) sites [] = LinksAreShort sites
+ShortAlong trade (luck ∷ lucks) sites (command ∷ commands) =
+    LinksAreShort sites × ShortAlong trade lucks (played trade luck sites command).after commands

@@ -1,0 +1,72 @@
+ghost use Rattle.std.specs.Prelude.{◌≡◌, [], ◌∷◌, Some, None};
+ghost use Rattle.pec_types.specs.declared.letters.Letter.TheVariants as letters;
+ghost use Rattle.pec_types.specs.declared.mailboxes.ItemKind.TheVariants as item_kinds;
+ghost use Rattle.pec_types.specs.declared.messages.Class.TheVariants as classes;
+ghost use Rattle.pec_types.specs.declared.messages.Decision.TheVariants as decisions;
+ghost use Rattle.pec_types.specs.declared.receipts.Kind.TheVariants as kinds;
+ghost use Rattle.pec_types.specs.declared.turns.Event.TheVariants as events;
+ghost use Rattle.pec_types.specs.declared.turns.ProviderFault.TheVariants as faults;
+ghost use Rattle.pec_types.specs.declared.turns.Submitted.TheVariants as submissions;
+ghost use Rattle.pec_ledger.specs.Examples.{anna, bob, first, open_line, receipt_line, receipt_line_on};
+ghost use Rattle.pec_plays.specs.Commands.{IsUp, Items, Lines, Refuses, Restarted, Submits, Swapped, Turns};
+ghost use Rattle.pec_plays.specs.Examples.{alfa_turn, answers_of, calm, calmly, failing, finding, idle, out_of_order, to_the_end, turn_of, with_a_fault};
+
+/// The worked scripts, computed. A message goes from submission to delivery, and its letters are repeated until each is
+/// answered; letters that change places do no harm; an append that fails is the end of a turn, and a restart goes on from
+/// what the disk has.
+pub fn answers_of_the_examples()
+    ensures to_the_end { answers_of (calmly to_the_end) to_the_end
+        ≡ Submits (submissions.Accepted first)
+        ∷ alfa_turn [] ((0, 1) ∷ [])
+        ∷ alfa_turn (events.Took first ∷ events.Decided first anna decisions.Placed ∷ []) ((0, 3) ∷ [])
+        ∷ alfa_turn
+        (events.Charged first 0 ∷ events.Learned first anna decisions.Placed ∷ events.Repeat (letters.Envelope first 0) ∷ [])
+        ((0, 3) ∷ [])
+        ∷ alfa_turn
+        (events.Acked first anna ∷ events.Repeat (letters.Charge first 0) ∷ events.Repeat (letters.Outcome first anna) ∷ [])
+        ((0, 1) ∷ [])
+        ∷ alfa_turn (events.Repeat (letters.Ack first anna) ∷ []) []
+        ∷ Lines (record (open_line anna classes.Primary) {
+          charged = Some 1704186003;
+          outcome = Some (decisions.Placed, 1704186002);
+        } ∷ [])
+        ∷ Items (receipt_line kinds.Acceptance ∷ receipt_line_on kinds.Delivery anna ∷ [])
+        ∷ Items (record { kind = item_kinds.Envelope; id = Some first; recipient = None } ∷ [])
+        ∷ [] }
+    // The outcome comes before the charge.
+    ensures out_of_order { answers_of (calmly out_of_order) out_of_order
+        ≡ Submits (submissions.Accepted first)
+        ∷ Turns (turn_of 0 [] ((1, 1) ∷ []) None ∷ idle 1 ∷ [])
+        ∷ Turns
+        (turn_of 0 [] ((1, 1) ∷ []) None
+        ∷ turn_of 1 (events.Took first ∷ events.Decided first bob decisions.Placed ∷ []) ((0, 2) ∷ []) None
+        ∷ [])
+        ∷ Swapped
+        ∷ Turns
+        (turn_of 0 (events.Learned first bob decisions.Placed ∷ events.Charged first 1 ∷ []) ((1, 1) ∷ []) None
+        ∷ turn_of 1 (events.Repeat (letters.Envelope first 1) ∷ []) ((0, 2) ∷ []) None
+        ∷ [])
+        ∷ Turns
+        (turn_of 0 (events.Repeat (letters.Charge first 1) ∷ events.Repeat (letters.Outcome first bob) ∷ []) ((1, 1) ∷ []) None
+        ∷ turn_of 1 (events.Acked first bob ∷ []) [] None
+        ∷ [])
+        ∷ [] }
+    // The decision's append fails: nothing is put, alfa is down, and the restart forgets the entry ..
+    ensures fault_forgotten { answers_of (calm ∷ calm ∷ failing 1 ∷ calm ∷ calm ∷ calm ∷ []) with_a_fault
+        ≡ Submits (submissions.Accepted first)
+        ∷ alfa_turn [] ((0, 1) ∷ [])
+        ∷ Turns (turn_of 0 (events.Took first ∷ []) [] (Some faults.DiskFault) ∷ idle 1 ∷ [])
+        ∷ Refuses faults.Down
+        ∷ Restarted 3
+        ∷ IsUp
+        ∷ [] }
+    // .. or finds it.
+    ensures fault_found { answers_of (calm ∷ calm ∷ failing 1 ∷ calm ∷ finding ∷ calm ∷ []) with_a_fault
+        ≡ Submits (submissions.Accepted first)
+        ∷ alfa_turn [] ((0, 1) ∷ [])
+        ∷ Turns (turn_of 0 (events.Took first ∷ []) [] (Some faults.DiskFault) ∷ idle 1 ∷ [])
+        ∷ Refuses faults.Down
+        ∷ Restarted 4
+        ∷ IsUp
+        ∷ [] }
+{}

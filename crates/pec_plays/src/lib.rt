@@ -1,0 +1,10 @@
+//! How a network plays: what a provider does on a frame, a pair, a submission or a clock call, by the tables of the trade;
+//! turns and rounds; the commands of a script, crashes and restarts too. There is no code here: each function is a law,
+//! whose contract is the statement.
+#![tactic(auto)]
+
+mod examples;
+mod soundness;
+
+pub use examples::answers_of_the_examples;
+pub use soundness::{a_cut_turn_is_a_front, a_network_stays_sound, undecided_pairs};

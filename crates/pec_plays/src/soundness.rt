@@ -1,0 +1,61 @@
+ghost use Rattle.std.specs.Prelude.{◌≡◌, ◌↔◌, ℕ, List, Contains, None};
+ghost use Rattle.pec_records.specs.declared.entries.Entry.{Entry};
+ghost use Rattle.pec_ledger.specs.Along.{GoesOnAs};
+ghost use Rattle.pec_ledger.specs.Lookups.{decided_of};
+ghost use Rattle.pec_ledger.specs.Network.{Site, Sound};
+ghost use Rattle.pec_ledger.specs.Own.{IsTakenPair};
+ghost use Rattle.pec_ledger.specs.Pairs.{Pair};
+ghost use Rattle.pec_ledger.specs.Steps.{half};
+ghost use Rattle.pec_ledger.specs.Trade.{Trade};
+ghost use Rattle.pec_ledger.specs.TradeLaws.{IsTrade};
+ghost use Rattle.pec_plays.specs.Commands.{Command, Luck, played};
+ghost use Rattle.pec_plays.specs.Decisions.{undecided};
+ghost use Rattle.pec_plays.specs.Scripts.{AllUnforged, IsUnforged, KeptAlong, LinksAreShort, ShortAlong, SoundAlong};
+ghost use Rattle.pec_plays.specs.Steps.{Step};
+ghost use Rattle.pec_plays.specs.Turns.{Cut, Whole, cut_turn};
+
+use pec_ledger::{
+    any_images, arrivals_are_true, licences_stand, rows_have_their_texts, soundness,
+    texts_are_seen, the_guarantees,
+};
+
+/// Whatever devices do, each command keeps a state Sound where no forged frame is injected, and so does each script:
+/// its state is Sound before each command and at the end. So all that follows from journals that are Fit holds there.
+pub fn a_network_stays_sound()
+    ensures commands { (trade : Trade) → IsTrade trade → (luck : Luck) (sites : List Site) (command : Command)
+        → Sound trade sites → IsUnforged trade sites command → Sound trade (played trade luck sites command).after }
+    ensures scripts { (trade : Trade) → IsTrade trade → (lucks : List Luck) (sites : List Site) (commands : List Command)
+        → Sound trade sites → AllUnforged trade lucks sites commands → SoundAlong trade lucks sites commands }
+    // what users get, at each book that is shown
+    ensures guarantees { (trade : Trade) → IsTrade trade → (lucks : List Luck) (sites : List Site) (commands : List Command)
+        → Sound trade sites → AllUnforged trade lucks sites commands → KeptAlong trade lucks sites commands }
+    // no link ever holds more than 64 frames
+    ensures links { (trade : Trade) → IsTrade trade → (lucks : List Luck) (sites : List Site) (commands : List Command)
+        → Sound trade sites → AllUnforged trade lucks sites commands → LinksAreShort sites
+        → ShortAlong trade lucks sites commands }
+{
+    any_images();
+    soundness();
+    licences_stand();
+    arrivals_are_true();
+    rows_have_their_texts();
+    texts_are_seen();
+    the_guarantees();
+}
+
+/// A turn that was cut is a front of the whole one: what it told and what it appended come first there.
+pub fn a_cut_turn_is_a_front()
+    ensures events { (trade : Trade) (provider : ℕ) (rooms : ℕ → ℕ) (site : Site) (steps : List Step) (cut : Cut)
+        → GoesOnAs (cut_turn trade provider rooms site steps cut).events (cut_turn trade provider rooms site steps Whole).events }
+    ensures journals { (trade : Trade) (provider : ℕ) (rooms : ℕ → ℕ) (site : Site) (steps : List Step) (cut : Cut)
+        → GoesOnAs (cut_turn trade provider rooms site steps cut).site.journal
+        (cut_turn trade provider rooms site steps Whole).site.journal }
+{}
+
+/// A provider has to decide exactly the pairs that it took and on which nothing is decided.
+pub fn undecided_pairs()
+    ensures { (trade : Trade) (provider : ℕ) (journal : List Entry) (pair : Pair)
+        → Contains (undecided trade provider journal) pair
+        ↔ (IsTakenPair trade provider (half trade provider journal) pair
+        × (decided_of (half trade provider journal) pair ≡ None)) }
+{}
