@@ -1,0 +1,87 @@
+ghost use Rattle.std.specs.Prelude.{◌≡◌, length, IfOk};
+ghost use Rattle.pec_directory.specs.Directory.{providers_of};
+ghost use Rattle.pec_script.specs.Known.{ItemsKnown};
+ghost use Rattle.pec_script.specs.Pages.{line_after};
+ghost use Rattle.pec_script.specs.Texts.{item_row, item_text, items_text, kind_word, receipt_word};
+
+use crate::pages::Page;
+use base64::engine::general_purpose::STANDARD;
+use pec_directory::Directory;
+use pec_types::{ItemKind, ItemLine, Kind, NoMemory};
+use std::alloc::Global;
+
+/// The lines of a mailbox: for each item `PLACE KIND ID RECIPIENT`, with places from 0, and `mailbox COUNT`. This project's profile.
+#[tactic(auto, unfolding(crate::specs::Texts::items_text))]
+pub fn items_text(
+    alloc: Global,
+    directory: &Directory,
+    lines: &[ItemLine],
+) -> Result<Vec<u8>, NoMemory>
+    requires { ItemsKnown (length directory.now) lines.now }
+    ensures { IfOk result (λ text. text.items ≡ items_text (providers_of directory.now) lines.now) }
+{
+    let mut page = Page::new(alloc);
+    for (place, line) in lines.iter().enumerate() {
+        page = add_line(alloc, directory, page, place as u64, line)?;
+    }
+    let page = page.count_line(b"mailbox", lines.len())?;
+    Ok(page.text)
+}
+
+/// An item's bytes, in base64 on one line (RFC 4648, section 4).
+#[tactic(auto, unfolding(crate::specs::Texts::item_text))]
+pub fn item_text(alloc: Global, bytes: &[u8]) -> Result<Vec<u8>, NoMemory>
+    ensures { IfOk result (λ text. text.items ≡ item_text bytes.now) }
+{
+    let encoded = STANDARD.encode(alloc, bytes)?;
+    let page = Page::new(alloc).word_line(encoded.as_bytes())?;
+    Ok(page.text)
+}
+
+#[tactic(auto, unfolding(crate::specs::Texts::item_row))]
+fn add_line(
+    alloc: Global,
+    directory: &Directory,
+    page: Page,
+    place: u64,
+    line: &ItemLine,
+) -> Result<Page, NoMemory>
+    ensures { IfOk result (λ new. new.text.items ≡ line_after page.text.items (item_row (providers_of directory.now) place line.now)) }
+{
+    let mut buffer = itoa::Buffer::new();
+    let page = page
+        .begin(buffer.format(place).as_bytes())?
+        .word(kind_word(line.kind))?;
+    let page = page
+        .id_or_hyphen(alloc, directory, line.id)?
+        .recipient(&line.recipient)?
+        .end()?;
+    Ok(page)
+}
+
+fn kind_word(kind: ItemKind) -> &'static [u8]
+    ensures { result.now ≡ kind_word kind }
+{
+    match kind {
+        ItemKind::Envelope => b"envelope",
+        ItemKind::Anomaly => b"anomaly",
+        ItemKind::Receipt(kind) => receipt_word(kind),
+    }
+}
+
+/// A receipt's word. A take-charge receipt and an acknowledgement are in no mailbox.
+fn receipt_word(kind: Kind) -> &'static [u8]
+    ensures { result.now ≡ receipt_word kind }
+{
+    match kind {
+        Kind::Acceptance => b"acceptance",
+        Kind::NonAcceptance(_) => b"non-acceptance",
+        Kind::Charge => b"charge",
+        Kind::Delivery => b"delivery",
+        Kind::DeliveryError(_) => b"delivery-error",
+        Kind::Warning => b"warning",
+        Kind::Notice => b"notice",
+        Kind::LateNotice => b"late-notice",
+        Kind::Ack => b"ack",
+    }
+}

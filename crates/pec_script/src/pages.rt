@@ -1,0 +1,72 @@
+ghost use Rattle.std.specs.Prelude.{◌≡◌, [], ◌∷◌, ◌++◌, codes, IfOk};
+ghost use Rattle.std.specs.Fmt.{decimal};
+ghost use Rattle.pec_script.specs.Pages.{line_after};
+
+use pec_types::NoMemory;
+use std::alloc::Global;
+
+/// Text that grows at its end, line by line: a line is begun with its first word, and ended behind its last.
+#[derive(Drop)]
+pub(crate) struct Page {
+    pub(crate) text: Vec<u8>,
+}
+
+impl Page {
+    pub(crate) fn new(alloc: Global) -> Page
+        ensures { result.text.items ≡ [] }
+    {
+        Page {
+            text: Vec::new(alloc),
+        }
+    }
+
+    /// Adds the first word of a line.
+    pub(crate) fn begin(mut self, word: &[u8]) -> Result<Page, NoMemory>
+        ensures { IfOk result (λ page. page.text.items ≡ self.text.items ++ word.now) }
+    {
+        self.text.extend_from_slice(word)?;
+        Ok(self)
+    }
+
+    /// Adds a space and a further word.
+    pub(crate) fn word(self, word: &[u8]) -> Result<Page, NoMemory>
+        ensures { IfOk result (λ page. page.text.items ≡ self.text.items ++ codes " " ++ word.now) }
+    {
+        let page = self.begin(b" ")?.begin(word)?;
+        Ok(page)
+    }
+
+    /// Adds a space and a number in decimal.
+    pub(crate) fn number(self, number: u64) -> Result<Page, NoMemory>
+        ensures { IfOk result (λ page. page.text.items ≡ self.text.items ++ codes " " ++ decimal number) }
+    {
+        let mut buffer = itoa::Buffer::new();
+        let digits = buffer.format(number);
+        let page = self.word(digits.as_bytes())?;
+        Ok(page)
+    }
+
+    /// Ends the line.
+    pub(crate) fn end(self) -> Result<Page, NoMemory>
+        ensures { IfOk result (λ page. page.text.items ≡ self.text.items ++ codes "\n") }
+    {
+        let page = self.begin(b"\n")?;
+        Ok(page)
+    }
+
+    /// Adds a line of this word alone.
+    pub(crate) fn word_line(self, word: &[u8]) -> Result<Page, NoMemory>
+        ensures { IfOk result (λ page. page.text.items ≡ line_after self.text.items (word.now ∷ [])) }
+    {
+        let page = self.begin(word)?.end()?;
+        Ok(page)
+    }
+
+    /// Adds a line of this word and a number.
+    pub(crate) fn count_line(self, word: &[u8], count: usize) -> Result<Page, NoMemory>
+        ensures { IfOk result (λ page. page.text.items ≡ line_after self.text.items (word.now ∷ decimal count ∷ [])) }
+    {
+        let page = self.begin(word)?.number(count as u64)?.end()?;
+        Ok(page)
+    }
+}
