@@ -1,0 +1,5 @@
+pub mod InputLemmas
+pub mod PhraseLemmas
+pub mod ReplyLemmas
+pub mod RowLemmas
+pub mod ServingLemmas

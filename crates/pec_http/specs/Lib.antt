@@ -1,0 +1,9 @@
+pub mod Asking
+pub mod Desks
+pub mod Input
+pub mod Replies
+pub mod Rows
+pub mod RowTests
+pub mod Serving
+pub mod Statuses
+pub mod Writing

@@ -1,0 +1,103 @@
+-- What a request comes to at a desk: `IsAnswer`, the answer of HTTP over a desk's answers; and `Serves`, what a call of
+-- `serve_one` did. This project's profile.
+use Rattle.std.specs.Prelude.{◌≡◌, ◌≢◌, ◌⊎◌, ℕ, Option, Result, Ok, Err}
+use Rattle.pec_outside.specs.Flow.{HasRisen, WrotePart, followed_by}
+use Rattle.pec_types.specs.Bytes.{Bytes, Path}
+use Rattle.pec_types.specs.declared.turns.ProviderFault.{ProviderFault}
+use Rattle.pec_types.specs.declared.turns.ProviderFault.TheVariants as faults
+use Rattle.pec_types.specs.declared.turns.Submitted.{Submitted}
+use Rattle.pec_http.specs.Asking.{Asks, Question, Submit, See}
+use Rattle.pec_http.specs.Desks.{Answers}
+use Rattle.pec_http.specs.Input.{IsInput}
+use Rattle.pec_http.specs.Replies.{Reply, memory_reply, reply_text, shown_reply, stop_reply, submitted_reply}
+use Rattle.pec_http.specs.Statuses.{number_of}
+use Rattle.pec_http.specs.declared.demands.Look.{Look}
+use Rattle.pec_http.specs.declared.demands.Look.TheVariants as looks
+use Rattle.pec_http.specs.declared.passes.Pass.{Pass}
+use Rattle.pec_http.specs.declared.serving.Served.{Served}
+use Rattle.pec_http.specs.declared.serving.Served.TheVariants.{Answered, ReadFault, WriteFault}
+use Rattle.pec_http.specs.declared.statuses.Kind.{Kind}
+use Rattle.pec_http.specs.declared.statuses.Kind.TheVariants.{Plain, Message}
+use Rattle.pec_http.specs.declared.statuses.Status.{Status}
+use Rattle.pec_http.specs.declared.stops.Stop.{Stop}
+use Rattle.pec_http.specs.declared.stops.Stop.TheVariants as stops
+
+-- ---- the desk's part
+
+-- The desk was asked once to take a submission, and this is answered. The status of a failed disk is answered only where
+-- the address's count of faults has risen.
+pub record Submits {Desk : Type 0} (answers : Answers Desk) (before : Desk) (address : Bytes) (path : Path) (message : Bytes) (after : Desk) (reply : Reply) : Type 0 where
+  pub said : Result Submitted ProviderFault
+  pub may_say : answers.submit before address path message said after
+  pub cause : said ≡ Err faults.DiskFault → HasRisen (answers.faults before address) (answers.faults after address)
+  pub answer : reply ≡ submitted_reply (answers.domain before address) said
+
+-- The desk may show this to an account that looks.
+abbrev pub MayShow : {Desk : Type 0} → Answers Desk → Desk → Bytes → Look → Result Bytes ProviderFault → Type 0
+MayShow answers desk address looks.Book said = answers.book desk address said
+MayShow answers desk address looks.Items said = answers.items desk address said
+MayShow answers desk address (looks.Item place) said = answers.item desk address place said
+
+abbrev pub kind_of : Look → Kind
+kind_of looks.Book = Plain
+kind_of looks.Items = Plain
+kind_of (looks.Item place) = Message
+
+-- The desk was asked to show something, stays as it is, and this is answered.
+pub record Shows {Desk : Type 0} (answers : Answers Desk) (before : Desk) (address : Bytes) (look : Look) (after : Desk) (reply : Reply) : Type 0 where
+  pub said : Result Bytes ProviderFault
+  pub may_say : MayShow answers before address look said
+  pub same : after ≡ before
+  pub answer : reply ≡ shown_reply (kind_of look) said
+
+-- The desk wasn't asked to do anything, and this is answered.
+pub record Stays {Desk : Type 0} (before after : Desk) (reply answer : Reply) : Type 0 where
+  pub same : after ≡ before
+  pub is : reply ≡ answer
+
+-- ---- the answer
+
+-- What is asked is answered so.
+abbrev pub IsAnswered : {Desk : Type 0} → Answers Desk → Desk → Result Question Stop → Desk → Reply → Type 0
+IsAnswered answers before (Ok (Submit address path message)) after reply = Submits answers before address path message after reply
+IsAnswered answers before (Ok (See address look)) after reply = Shows answers before address look after reply
+IsAnswered answers before (Err stop) after reply = Stays before after reply (stop_reply stop)
+
+-- The answer to these bytes at a desk in a state, and the state that it leaves the desk in.
+pub record IsAnswer {Desk : Type 0} (answers : Answers Desk) (before : Desk) (input : Bytes) (after : Desk) (reply : Reply) : Type 0 where
+  pub asked : Result Question Stop
+  pub asks : Asks (answers.pass before) input asked
+  pub answered : IsAnswered answers before asked after reply
+
+-- The same, where memory may have run out before the desk was asked.
+abbrev pub IsAnswerOrLack : {Desk : Type 0} → Answers Desk → Desk → Bytes → Desk → Reply → Type 0
+IsAnswerOrLack answers before input after reply = IsAnswer answers before input after reply ⊎ Stays before after reply memory_reply
+
+-- Over a connection with this to come a request isn't put to the desk, for this reason. Want of memory and a fault of the
+-- connection say nothing of it.
+abbrev pub StopsFor : (Bytes → Bytes → Pass) → Option Bytes → Stop → Type 0
+StopsFor pass left stop = stop ≢ stops.NoMemory → stop ≢ stops.ReadFault → (input : Bytes) × IsInput left input × Asks pass input (Err stop)
+
+-- ---- a call
+
+-- An answer of this status and these bytes was written to the end, or a front of it.
+abbrev pub Sends : Option Bytes → Option Bytes → Served → Status → Bytes → Type 0
+Sends held held_then (Answered code) status text = (code ≡ number_of status) × (held_then ≡ followed_by held text)
+Sends held held_then WriteFault status text = WrotePart held held_then text
+Sends held held_then ReadFault status text = ⊥
+
+-- A connection that had this to come was answered: by the answer to its bytes, behind what it held when these were read.
+pub record Replies {Desk : Type 0} (answers : Answers Desk) (left : Option Bytes) (before after : Desk) (held_then : Option Bytes) (served : Served) : Type 0 where
+  pub input : Bytes
+  pub is_input : IsInput left input
+  pub reply : Reply
+  pub is_answer : IsAnswerOrLack answers before input after reply
+  pub held : Option Bytes
+  pub sends : Sends held held_then served reply.status (reply_text reply)
+
+-- What a call did to a desk and to a connection that had this to come and holds that now. After a fault of reading
+-- nothing was asked of the desk.
+abbrev pub Serves : {Desk : Type 0} → Answers Desk → Option Bytes → Desk → Desk → Option Bytes → Served → Type 0
+Serves answers left before after held_then ReadFault = after ≡ before
+Serves answers left before after held_then (Answered code) = Replies answers left before after held_then (Answered code)
+Serves answers left before after held_then WriteFault = Replies answers left before after held_then WriteFault

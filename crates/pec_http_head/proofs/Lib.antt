@@ -1,0 +1,3 @@
+pub mod BlankLemmas
+pub mod PathLemmas
+pub mod SeenLemmas

@@ -1,0 +1,7 @@
+pub mod Cuts
+pub mod Fields
+pub mod Numbers
+pub mod Paths
+pub mod Requests
+pub mod Routes
+pub mod Views
