@@ -1,0 +1,3 @@
+mod OccurrenceLemmas
+mod RuleLemmas
+mod VerdictLemmas

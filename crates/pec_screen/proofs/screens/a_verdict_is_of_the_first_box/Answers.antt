@@ -1,0 +1,9 @@
+-- The laws of verdicts, from the lemmas.
+use Rattle.pec_screen.proofs.VerdictLemmas.{verdict_is, is_verdict, no_verdict_is, is_no_verdict}
+use Rattle.pec_screen.proofs.screens.a_verdict_is_of_the_first_box.Goals as goal
+
+pub returns-clause-verdict : goal.returns-clause-verdict
+returns-clause-verdict c = λ boxes message place rule. (verdict_is boxes message place rule, is_verdict boxes message place rule)
+
+pub returns-clause-none : goal.returns-clause-none
+returns-clause-none c = λ boxes message. (no_verdict_is boxes message, is_no_verdict boxes message)

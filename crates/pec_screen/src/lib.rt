@@ -1,0 +1,11 @@
+//! Screens: what a provider doesn't accept, by the patterns that occur in a message (RFC 6109, section 3.1). A screen
+//! is boxed, so that a provider takes any of them and changes them one by one.
+#![tactic(auto)]
+
+mod looking;
+mod patterns;
+mod screens;
+
+pub use looking::Screen;
+pub use patterns::{PatternScreen, a_rule_is_the_least_pattern};
+pub use screens::{ReplaceFault, Screens, a_verdict_is_of_the_first_box};
