@@ -120,7 +120,7 @@ module _ (trade : Trade) (J : Journals) (fit : Fit trade J) where
       let envelope = (envelope_of by id row e).1
       in (_, record { message = envelope.message; original = envelope.original; is = envelope.is; row = row; taken = e; text = refl })
 
-  taken_pair : (q : ℕ) (pair : Pair) (fate : Fate) → decided_of (ledger trade J q) pair ≡ Some fate → IsTakenPair trade q (ledger trade J q) pair
+  pub taken_pair : (q : ℕ) (pair : Pair) (fate : Fate) → decided_of (ledger trade J q) pair ≡ Some fate → IsTakenPair trade q (ledger trade J q) pair
   taken_pair q pair fate e =
       let there = found_there (λ (f : Fate). same_pair pair f.pair) (ledger trade J q).decided fate e
       in subst (IsTakenPair trade q (ledger trade J q)) (sym (same_pairs pair fate.pair there.1))

@@ -10,12 +10,13 @@ ghost use Rattle.pec_ledger.specs.Items.{IsItemText, item_text};
 ghost use Rattle.pec_ledger.specs.Ledger.{accepted_in, body_at, Fit, HasOriginal, IsAckText, IsChargeText, IsDecidedSo, IsEnvelopeText, IsLicensed, IsLicensedText, IsOutcomeText, Journals, ledger};
 ghost use Rattle.pec_ledger.specs.Lookups.{Accepted, addresses_of, decided_of, HasPairsAt, known_of, outcome_kind, taken_of};
 ghost use Rattle.pec_ledger.specs.Network.{IsGenuineText};
+ghost use Rattle.pec_ledger.specs.Own.{IsTakenPair};
 ghost use Rattle.pec_ledger.specs.Pairs.{Pair, pair_of};
 ghost use Rattle.pec_ledger.specs.Trade.{Receipt, SeenEnvelope, SeenReceipt, Trade};
 ghost use Rattle.pec_ledger.specs.TradeLaws.{IsTrade, letter_in};
 
 /// In journals that are Fit each accepted message has its original at its entry, each taken one its envelope, each row licenses its letter, each
-/// licensed letter has one text, a pair is decided at its recipient's home alone, and each item has its bytes.
+/// licensed letter has one text, a pair is decided at its recipient's home alone, where it was taken, and each item has its bytes.
 pub fn rows_have_their_texts()
     ensures originals { (trade : Trade) (journals : Journals) → Fit trade journals → (id : Id) (message : Accepted)
         → accepted_in trade journals id ≡ Some message → (original : Bytes) × HasOriginal trade journals id message original }
@@ -28,6 +29,9 @@ pub fn rows_have_their_texts()
         → taken_of (ledger trade journals by) id ≡ Some row → IsLicensed trade journals (letters.Charge id by) }
     ensures outcomes { (trade : Trade) (journals : Journals) → Fit trade journals → (provider : ℕ) (pair : Pair) (fate : Fate)
         → decided_of (ledger trade journals provider) pair ≡ Some fate → IsLicensed trade journals (letters.Outcome pair.id pair.recipient) }
+    ensures decisions { (trade : Trade) (journals : Journals) → Fit trade journals → (provider : ℕ) (pair : Pair) (fate : Fate)
+        → decided_of (ledger trade journals provider) pair ≡ Some fate
+        → IsTakenPair trade provider (ledger trade journals provider) pair }
     ensures homes { (trade : Trade) (journals : Journals) → Fit trade journals → (provider : ℕ) (pair : Pair) (fate : Fate)
         → decided_of (ledger trade journals provider) pair ≡ Some fate → trade.home pair.recipient ≡ Some provider }
     ensures acks { (trade : Trade) (journals : Journals) → Fit trade journals → (pair : Pair) (row : Known)

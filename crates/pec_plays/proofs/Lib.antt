@@ -9,3 +9,4 @@ pub mod KeptLemmas
 pub mod OpenLemmas
 pub mod LinkLemmas
 pub mod ShortLemmas
+pub mod ComposedLemmas

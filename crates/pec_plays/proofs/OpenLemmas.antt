@@ -35,7 +35,7 @@ kept_so y xs x false (inl (same, e)) = absurd (false≢true e)
 kept_so y xs x true (inr c) = contains_there y xs x c
 kept_so y xs x false (inr c) = c
 
-into_filter : {X : Type 0} (p : X → Bool) (xs : List X) (x : X) → Contains xs x → p x ≡ true → Contains (filter p xs) x
+pub into_filter : {X : Type 0} (p : X → Bool) (xs : List X) (x : X) → Contains xs x → p x ≡ true → Contains (filter p xs) x
 into_filter p [] x c e = absurd (contains_none x c)
 into_filter p (y ∷ xs) x c e =
     kept_so y (filter p xs) x (p y)
@@ -142,3 +142,16 @@ module _ (trade : Trade) (p : ℕ) where
             (ap (is_recipient_of pair.recipient) is.0.taken ∙ address_there is.0.row.recipients pair.recipient is.0.recipient)
             (ap is_none is.1))),
       )
+
+looked_for : {X : Type 0} (p : X → Bool) (y : X) (xs : List X) (x : X) (b : Bool) → p y ≡ b → p x ≡ true
+    → (Contains xs x → (z : X) × (find p xs ≡ Some z)) → Contains (y ∷ xs) x → (z : X) × (cond b (Some y) (find p xs) ≡ Some z)
+looked_for p y xs x true t e more c = (y, refl)
+looked_for p y xs x false t e more c =
+    elim (contains_cases y xs x c) [
+      | inl same ↦ absurd (false≢true (sym t ∙ ap p same ∙ e))
+      | inr there ↦ more there
+    ]
+
+pub some_found : {X : Type 0} (p : X → Bool) (xs : List X) (x : X) → Contains xs x → p x ≡ true → (y : X) × (find p xs ≡ Some y)
+some_found p [] x c e = absurd (contains_none x c)
+some_found p (y ∷ xs) x c e = looked_for p y xs x (p y) refl e (λ there. some_found p xs x there e) c

@@ -7,4 +7,6 @@ mod examples;
 mod soundness;
 
 pub use examples::answers_of_the_examples;
-pub use soundness::{a_cut_turn_is_a_front, a_network_stays_sound, undecided_pairs};
+pub use soundness::{
+    a_cut_turn_is_a_front, a_network_stays_sound, due_letters_are_composed, undecided_pairs,
+};

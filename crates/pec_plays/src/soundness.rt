@@ -1,7 +1,14 @@
-ghost use Rattle.std.specs.Prelude.{◌≡◌, ◌↔◌, ℕ, List, Contains, None};
+ghost use Rattle.std.specs.Prelude.{◌≡◌, ◌↔◌, ℕ, List, Contains, IsSome, Some, None};
+ghost use Rattle.pec_types.specs.Message.{Id};
+ghost use Rattle.pec_types.specs.declared.letters.Letter.{Letter as SomeLetter};
+ghost use Rattle.pec_types.specs.declared.letters.Letter.TheVariants as letters;
 ghost use Rattle.pec_records.specs.declared.entries.Entry.{Entry};
 ghost use Rattle.pec_ledger.specs.Along.{GoesOnAs};
-ghost use Rattle.pec_ledger.specs.Lookups.{decided_of};
+ghost use Rattle.pec_ledger.specs.Half.{Taken};
+ghost use Rattle.pec_ledger.specs.Ledger.{Fit, Journals, ledger};
+ghost use Rattle.pec_ledger.specs.Lookups.{decided_of, taken_of};
+ghost use Rattle.pec_ledger.specs.Tables.{IsOwedEnvelope, IsOwedOutcome};
+ghost use Rattle.pec_plays.specs.Frames.{composed};
 ghost use Rattle.pec_ledger.specs.Network.{Site, Sound};
 ghost use Rattle.pec_ledger.specs.Own.{IsTakenPair};
 ghost use Rattle.pec_ledger.specs.Pairs.{Pair};
@@ -59,3 +66,20 @@ pub fn undecided_pairs()
         ↔ (IsTakenPair trade provider (half trade provider journal) pair
         × (decided_of (half trade provider journal) pair ≡ None)) }
 {}
+
+/// In journals that are Fit a provider composes every envelope and every outcome that it owes, and the charge of each
+/// message that it took: none is left out for want of its text.
+pub fn due_letters_are_composed()
+    ensures envelopes { (trade : Trade) → IsTrade trade → (journals : Journals) → Fit trade journals
+        → (provider to : ℕ) (letter : SomeLetter) → IsOwedEnvelope trade provider (ledger trade journals provider) to letter
+        → IsSome (composed trade provider (journals provider) letter) }
+    ensures outcomes { (trade : Trade) → IsTrade trade → (journals : Journals) → Fit trade journals
+        → (provider to : ℕ) (letter : SomeLetter) → IsOwedOutcome trade provider (ledger trade journals provider) to letter
+        → IsSome (composed trade provider (journals provider) letter) }
+    ensures charges { (trade : Trade) → IsTrade trade → (journals : Journals) → Fit trade journals
+        → (provider : ℕ) (id : Id) (row : Taken) → taken_of (ledger trade journals provider) id ≡ Some row
+        → IsSome (composed trade provider (journals provider) (letters.Charge id provider)) }
+{
+    rows_have_their_texts();
+    texts_are_seen();
+}

@@ -1,5 +1,5 @@
 -- What stands behind rows: from the lemmas.
-use Rattle.pec_ledger.proofs.Arrivals.{ack_licensed, charge_licensed, decided_at_home, envelope_licensed, has_original, items_have_texts, one_text, outcome_licensed, taken_envelope}
+use Rattle.pec_ledger.proofs.Arrivals.{ack_licensed, charge_licensed, decided_at_home, envelope_licensed, has_original, items_have_texts, one_text, outcome_licensed, taken_envelope, taken_pair}
 use Rattle.pec_ledger.proofs.letters.rows_have_their_texts.Goals as goal
 
 pub returns : goal.returns
@@ -9,6 +9,7 @@ returns c = record {
   takings = taken_envelope;
   charges = charge_licensed;
   outcomes = outcome_licensed;
+  decisions = taken_pair;
   homes = decided_at_home;
   acks = ack_licensed;
   one = one_text;

@@ -1,0 +1,22 @@
+-- Due letters are composed: from the lemmas and the laws of the ledger.
+use Rattle.pec_ledger.specs.Ledger.{Fit, Journals}
+use Rattle.pec_ledger.specs.Trade.{Trade}
+use Rattle.pec_ledger.specs.TradeLaws.{IsTrade}
+use Rattle.pec_plays.proofs.ComposedLemmas.{charge_composed, envelope_composed, outcome_composed}
+use Rattle.pec_plays.proofs.FrameLemmas.{TextLaws}
+use Rattle.pec_plays.proofs.soundness.due_letters_are_composed.Goals as goal
+
+pub returns : goal.returns
+returns c =
+    let texts : (trade : Trade) → IsTrade trade → (J : Journals) → Fit trade J → TextLaws trade J = λ trade world J fit. record {
+      originals = c.rows_have_their_texts.ensures.originals trade J fit;
+      takings = c.rows_have_their_texts.ensures.takings trade J fit;
+      outcomes = c.rows_have_their_texts.ensures.outcomes trade J fit;
+      homes = c.rows_have_their_texts.ensures.homes trade J fit;
+      envelopes = c.texts_are_seen.ensures.envelopes trade J fit world;
+    }
+    in record {
+      envelopes = λ trade world J fit p to letter is. envelope_composed trade J (texts trade world J fit) (c.rows_have_their_texts.ensures.decisions trade J fit) p to letter is;
+      outcomes = λ trade world J fit p to letter is. outcome_composed trade J (texts trade world J fit) (c.rows_have_their_texts.ensures.decisions trade J fit) p to letter is;
+      charges = λ trade world J fit p id row e. charge_composed trade J (texts trade world J fit) (c.rows_have_their_texts.ensures.decisions trade J fit) p id row e;
+    }
