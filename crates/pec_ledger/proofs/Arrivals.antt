@@ -13,6 +13,7 @@ use Rattle.pec_types.specs.declared.letters.Letter.TheVariants as letters
 use Rattle.pec_types.specs.declared.messages.Decision.{Decision}
 use Rattle.pec_types.specs.declared.messages.Decision.TheVariants.{Placed, Refused}
 use Rattle.pec_types.specs.declared.messages.Facts.{Facts}
+use Rattle.pec_types.specs.declared.moments.TheConstants.{END_OF_TIME}
 use Rattle.pec_types.specs.declared.receipts.Kind.{Kind}
 use Rattle.pec_types.specs.declared.receipts.Kind.TheVariants as kinds
 use Rattle.pec_records.specs.declared.entries.Entry.{Entry}
@@ -30,6 +31,7 @@ use Rattle.pec_ledger.proofs.Backing.{AcceptedItem, AnomalyRow, IsSentRow, ItemR
 use Rattle.pec_ledger.proofs.Growth.{is_some_by}
 use Rattle.pec_ledger.proofs.GuaranteeLemmas.{known_own}
 use Rattle.pec_ledger.proofs.ListLemmas.{both_found, bound, found_there, from_filter, mapped}
+use Rattle.pec_ledger.proofs.Moments.{ItemInRange, fate_in_range, item_in_range, known_in_range, message_in_range, taken_in_range}
 use Rattle.pec_ledger.proofs.PairLemmas.{same_ids, same_pairs}
 
 contains_at : {X : Type 0} (xs : List X) (n : ℕ) (x : X) → slice_get xs n ≡ Some x → Contains xs x
@@ -76,6 +78,13 @@ module _ (trade : Trade) (J : Journals) (fit : Fit trade J) where
   sent_row id m row there facts =
       All-contains (SentRow trade J id.provider (J id.provider)) (ledger trade J id.provider).messages row (backed trade J id.provider fit).sent
       (contains_at (ledger trade J id.provider).messages id.number row there) m.facts facts
+
+  accepted_in_range : (id : Id) (m : Accepted) → accepted_in trade J id ≡ Some m → m.moment < END_OF_TIME
+  accepted_in_range id m e =
+      let row = row_of id m e
+      in let made = mapped (λ (facts : Facts). record { moment = row.0.moment; sender = row.0.sender; facts = facts; entry = row.0.entry }) row.0.facts m row.2
+      in subst (λ (a : Accepted). a.moment < END_OF_TIME) made.2
+      (message_in_range trade J fit id.provider row.0 (contains_at (ledger trade J id.provider).messages id.number row.0 row.1))
 
   pub has_original : (id : Id) (m : Accepted) → accepted_in trade J id ≡ Some m → (original : Bytes) × HasOriginal trade J id m original
   has_original id m e =
@@ -190,11 +199,13 @@ module _ (trade : Trade) (J : Journals) (fit : Fit trade J) where
     pub envelope_is_seen : (id : Id) (to : ℕ) (bytes : Bytes) (is : IsEnvelopeText trade J id to bytes) → trade.view bytes ≡ Some (SeenEnvelope id is.message.moment is.original)
     envelope_is_seen id to bytes is =
         ap trade.view is.text ∙ laws.envelope_seen id is.message.moment is.original (is_sent id is.message is.original is.is)
+        (accepted_in_range id is.message is.is.accepted)
 
     pub envelope_names : (id : Id) (to : ℕ) (bytes : Bytes) (is : IsEnvelopeText trade J id to bytes) → trade.envelope_recipients bytes ≡ addresses_of is.message.facts
     unfolding is_sent
     envelope_names id to bytes is =
         ap trade.envelope_recipients is.text ∙ laws.envelope_names id is.message.moment is.original (is_sent id is.message is.original is.is)
+        (accepted_in_range id is.message is.is.accepted)
 
     pub charge_is_seen : (id : Id) (by : ℕ) (bytes : Bytes) (is : IsChargeText trade J id by bytes)
         → trade.view bytes ≡ Some (SeenReceipt (record { kind = kinds.Charge; id = id; by = by; moment = is.row.moment; recipient = None }))
@@ -204,6 +215,7 @@ module _ (trade : Trade) (J : Journals) (fit : Fit trade J) where
         (record {
           sent = is_sent id is.message is.original is.is;
           by = let pairs = (envelope_of by id is.row is.taken).1.pairs in laws.homes pairs.0 by pairs.2;
+          in_range = taken_in_range trade J fit by id is.row is.taken;
           kind = refl;
         })
 
@@ -232,6 +244,7 @@ module _ (trade : Trade) (J : Journals) (fit : Fit trade J) where
         (record {
           sent = is_sent pair.id is.message is.original is.is;
           by = laws.homes pair.recipient is.home is.at_home;
+          in_range = fate_in_range trade J fit is.home pair is.fate is.decided;
           kind = outcome_of_kind is.message.facts is.fate.decision pair.id is.home is.fate.moment pair.recipient
               (decided_among is.home pair is.message is.original is.is is.fate is.decided) (is_some_by (trade.home pair.recipient) is.home is.at_home);
         })
@@ -248,6 +261,7 @@ module _ (trade : Trade) (J : Journals) (fit : Fit trade J) where
         (record {
           sent = sent;
           by = sent.provider;
+          in_range = known_in_range trade J fit pair.id.provider pair is.row is.known;
           kind = record {
             address = pair.recipient;
             is = refl;
@@ -286,12 +300,12 @@ module _ (trade : Trade) (J : Journals) (fit : Fit trade J) where
             in let same : has.0 ≡ original = same_bytes (body_at (J id.provider) found.0.entry) has.0 original has.1.bytes found.2
             in (found.0, subst (λ (o : Bytes). HasOriginal trade J id found.0 o) same has.1)
 
-    notice_is_none : (p : ℕ) (kind : Kind) (id : Id) (recipient : Bytes) (moment : ℕ) (bytes : Bytes) → IsOwnPair trade p (ledger trade J p) (pair_of id recipient)
+    notice_is_none : (p : ℕ) (kind : Kind) (id : Id) (recipient : Bytes) (moment : ℕ) (bytes : Bytes) → moment < END_OF_TIME → IsOwnPair trade p (ledger trade J p) (pair_of id recipient)
         → option_map (composed trade kind id p moment (Some recipient)) (original_at trade p (J p) id.number) ≡ Some bytes
         → ((facts : Facts) → (id.provider ≡ p) → Names trade facts (Some recipient) → IsOfKind trade facts kind (record { kind = kind; id = id; by = p; moment = moment; recipient = Some recipient }))
         → letter_on kind id p (Some recipient) ≡ None → IsLetterOrNone bytes
     unfolding is_sent
-    notice_is_none p kind id recipient moment bytes own e of_kind none =
+    notice_is_none p kind id recipient moment bytes range own e of_kind none =
         let made = mapped (composed trade kind id p moment (Some recipient)) (original_at trade p (J p) id.number) bytes e
         in let has = original_is p id made.0 own.ours made.1
         in let sent = is_sent id has.0 made.0 has.1
@@ -301,6 +315,7 @@ module _ (trade : Trade) (J : Journals) (fit : Fit trade J) where
         (record {
           sent = sent;
           by = subst (λ (q : ℕ). q < trade.providers) own.ours sent.provider;
+          in_range = range;
           kind = of_kind has.0.facts own.ours (record {
             address = recipient;
             is = refl;
@@ -310,14 +325,14 @@ module _ (trade : Trade) (J : Journals) (fit : Fit trade J) where
         })
         made.2 (λ me. none)
 
-    acceptance_is_none : (p : ℕ) (id : Id) (moment : ℕ) (bytes : Bytes) → AcceptedItem trade J p (ledger trade J p) id
+    acceptance_is_none : (p : ℕ) (id : Id) (moment : ℕ) (bytes : Bytes) → moment < END_OF_TIME → AcceptedItem trade J p (ledger trade J p) id
         → option_map (composed trade kinds.Acceptance id p moment None) (original_at trade p (J p) id.number) ≡ Some bytes → IsLetterOrNone bytes
-    acceptance_is_none p id moment bytes item e =
+    acceptance_is_none p id moment bytes range item e =
         let made = mapped (composed trade kinds.Acceptance id p moment None) (original_at trade p (J p) id.number) bytes e
         in let has = original_is p id made.0 item.ours made.1
         in let sent = is_sent id has.0 made.0 has.1
         in seen_as_none (record { kind = kinds.Acceptance; id = id; by = p; moment = moment; recipient = None }) made.0 bytes
-        (record { sent = sent; by = subst (λ (q : ℕ). q < trade.providers) item.ours sent.provider; kind = (sym item.ours, refl) }) made.2 (λ me. refl)
+        (record { sent = sent; by = subst (λ (q : ℕ). q < trade.providers) item.ours sent.provider; in_range = range; kind = (sym item.ours, refl) }) made.2 (λ me. refl)
 
     envelope_item : (p : ℕ) (id : Id) (bytes : Bytes) → option_and_then (taken_body (J p)) (taken_of (ledger trade J p) id) ≡ Some bytes → IsLetterOrNone bytes
     envelope_item p id bytes e =
@@ -338,43 +353,44 @@ module _ (trade : Trade) (J : Journals) (fit : Fit trade J) where
         in let account : IsTrue (trade.is_account id.provider item.sender) = subst (λ (q : ℕ). IsTrue (trade.is_account q item.sender)) (sym item.ours) item.account
         in inr (λ me. subst (λ (b : Bytes). letter_in trade me b ≡ None) same
         (laws.refusal_seen id item.moment item.sender item.cause item.path item.message me (laws.homes item.sender id.provider (laws.accounts id.provider item.sender account))
-        item.number account item.some item.few))
+        item.number account item.some item.few item.in_range))
 
-    anomaly_item : (p entry moment : ℕ) (bytes : Bytes) → AnomalyRow trade J p (J p) entry → option_map (trade.anomaly_text p entry moment) (body_at (J p) entry) ≡ Some bytes → IsLetterOrNone bytes
-    anomaly_item p entry moment bytes row e =
+    anomaly_item : (p entry moment : ℕ) (bytes : Bytes) → moment < END_OF_TIME → AnomalyRow trade J p (J p) entry → option_map (trade.anomaly_text p entry moment) (body_at (J p) entry) ≡ Some bytes → IsLetterOrNone bytes
+    anomaly_item p entry moment bytes range row e =
         let made = mapped (trade.anomaly_text p entry moment) (body_at (J p) entry) bytes e
         in inr (λ me. subst (λ (b : Bytes). letter_in trade me b ≡ None) made.2
-        (laws.anomaly_seen p entry moment made.0 me (laws.homes row.account p (laws.accounts p row.account row.is))))
+        (laws.anomaly_seen p entry moment made.0 me (laws.homes row.account p (laws.accounts p row.account row.is)) range))
 
-    of_item : (p entry : ℕ) (item : Item) (bytes : Bytes) → ItemRow trade J p (J p) (ledger trade J p) entry item → text_by trade p (J p) entry item ≡ Some bytes → IsLetterOrNone bytes
+    of_item : (p entry : ℕ) (item : Item) (bytes : Bytes) → ItemInRange item → ItemRow trade J p (J p) (ledger trade J p) entry item → text_by trade p (J p) entry item ≡ Some bytes → IsLetterOrNone bytes
     unfolding ledger
-    of_item p entry (EnvelopeItem id) bytes row e = envelope_item p id bytes e
-    of_item p entry (ReceiptItem kinds.Acceptance id None moment) bytes row e = acceptance_is_none p id moment bytes row e
-    of_item p entry (ReceiptItem kinds.Acceptance id (Some recipient) moment) bytes row e = absurd row
-    of_item p entry (ReceiptItem (kinds.NonAcceptance cause) id None moment) bytes row e = refused_item p entry id bytes row e
-    of_item p entry (ReceiptItem (kinds.NonAcceptance cause) id (Some recipient) moment) bytes row e = absurd row
-    of_item p entry (ReceiptItem kinds.Delivery id (Some recipient) moment) bytes row e = learned_item p entry id recipient bytes row e
-    of_item p entry (ReceiptItem kinds.Delivery id None moment) bytes row e = absurd row
-    of_item p entry (ReceiptItem (kinds.DeliveryError refusal) id (Some recipient) moment) bytes row e = learned_item p entry id recipient bytes row e
-    of_item p entry (ReceiptItem (kinds.DeliveryError refusal) id None moment) bytes row e = absurd row
-    of_item p entry (ReceiptItem kinds.Warning id (Some recipient) moment) bytes row e =
-        notice_is_none p kinds.Warning id recipient moment bytes row e (λ facts ours names. (sym ours, names)) refl
-    of_item p entry (ReceiptItem kinds.Warning id None moment) bytes row e = absurd row
-    of_item p entry (ReceiptItem kinds.Notice id (Some recipient) moment) bytes row e =
-        notice_is_none p kinds.Notice id recipient moment bytes row e (λ facts ours names. (sym ours, names)) refl
-    of_item p entry (ReceiptItem kinds.Notice id None moment) bytes row e = absurd row
-    of_item p entry (ReceiptItem kinds.LateNotice id (Some recipient) moment) bytes row e =
-        notice_is_none p kinds.LateNotice id recipient moment bytes row e (λ facts ours names. (sym ours, names)) refl
-    of_item p entry (ReceiptItem kinds.LateNotice id None moment) bytes row e = absurd row
-    of_item p entry (ReceiptItem kinds.Charge id recipient moment) bytes row e = absurd row
-    of_item p entry (ReceiptItem kinds.Ack id recipient moment) bytes row e = absurd row
-    of_item p entry (AnomalyItem moment) bytes row e = anomaly_item p entry moment bytes row e
+    of_item p entry (EnvelopeItem id) bytes range row e = envelope_item p id bytes e
+    of_item p entry (ReceiptItem kinds.Acceptance id None moment) bytes range row e = acceptance_is_none p id moment bytes range row e
+    of_item p entry (ReceiptItem kinds.Acceptance id (Some recipient) moment) bytes range row e = absurd row
+    of_item p entry (ReceiptItem (kinds.NonAcceptance cause) id None moment) bytes range row e = refused_item p entry id bytes row e
+    of_item p entry (ReceiptItem (kinds.NonAcceptance cause) id (Some recipient) moment) bytes range row e = absurd row
+    of_item p entry (ReceiptItem kinds.Delivery id (Some recipient) moment) bytes range row e = learned_item p entry id recipient bytes row e
+    of_item p entry (ReceiptItem kinds.Delivery id None moment) bytes range row e = absurd row
+    of_item p entry (ReceiptItem (kinds.DeliveryError refusal) id (Some recipient) moment) bytes range row e = learned_item p entry id recipient bytes row e
+    of_item p entry (ReceiptItem (kinds.DeliveryError refusal) id None moment) bytes range row e = absurd row
+    of_item p entry (ReceiptItem kinds.Warning id (Some recipient) moment) bytes range row e =
+        notice_is_none p kinds.Warning id recipient moment bytes range row e (λ facts ours names. (sym ours, names)) refl
+    of_item p entry (ReceiptItem kinds.Warning id None moment) bytes range row e = absurd row
+    of_item p entry (ReceiptItem kinds.Notice id (Some recipient) moment) bytes range row e =
+        notice_is_none p kinds.Notice id recipient moment bytes range row e (λ facts ours names. (sym ours, names)) refl
+    of_item p entry (ReceiptItem kinds.Notice id None moment) bytes range row e = absurd row
+    of_item p entry (ReceiptItem kinds.LateNotice id (Some recipient) moment) bytes range row e =
+        notice_is_none p kinds.LateNotice id recipient moment bytes range row e (λ facts ours names. (sym ours, names)) refl
+    of_item p entry (ReceiptItem kinds.LateNotice id None moment) bytes range row e = absurd row
+    of_item p entry (ReceiptItem kinds.Charge id recipient moment) bytes range row e = absurd row
+    of_item p entry (ReceiptItem kinds.Ack id recipient moment) bytes range row e = absurd row
+    of_item p entry (AnomalyItem moment) bytes range row e = anomaly_item p entry moment bytes range row e
 
     -- the text of an item is a letter's, or is seen as none
     pub item_is_letter_or_none : (bytes : Bytes) → IsItemText trade J bytes → IsLetterOrNone bytes
     unfolding item_text
     item_is_letter_or_none bytes is =
         of_item is.provider is.posted.entry is.posted.item bytes
+        (item_in_range trade J fit is.provider is.posted is.placed)
         (All-contains (λ (posted : Posted). ItemRow trade J is.provider (J is.provider) (ledger trade J is.provider) posted.entry posted.item)
         (ledger trade J is.provider).items is.posted (backed trade J is.provider fit).items is.placed)
         is.text

@@ -17,6 +17,7 @@ use Rattle.pec_types.specs.declared.messages.Cause.{Cause}
 use Rattle.pec_types.specs.declared.messages.Decision.{Decision}
 use Rattle.pec_types.specs.declared.messages.Decision.TheVariants.{Placed, Refused}
 use Rattle.pec_types.specs.declared.messages.Facts.{Facts}
+use Rattle.pec_types.specs.declared.moments.TheConstants.{END_OF_TIME}
 use Rattle.pec_types.specs.declared.receipts.Kind.TheVariants as kinds
 use Rattle.pec_records.specs.Entry.{most_addresses}
 use Rattle.pec_records.specs.declared.entries.Entry.{Entry}
@@ -84,6 +85,7 @@ module _ (trade : Trade) (J : Journals) (p : ℕ) where
     pub account : IsTrue (trade.is_account p sender)
     pub some : 0 < length path
     pub few : length path ≤ most_addresses
+    pub in_range : moment < END_OF_TIME
 
   -- an acceptance: its message
   pub record AcceptedItem (h : Half) (id : Id) : Type 0 where
@@ -168,6 +170,7 @@ module _ (trade : Trade) (J : Journals) (p : ℕ) where
     account = is.account;
     some = is.some;
     few = is.few;
+    in_range = is.in_range;
   }
 
   accepted_item_stays : (h k : Half) → Longer h k → (id : Id) → AcceptedItem h id → AcceptedItem k id
@@ -340,6 +343,7 @@ module _ (trade : Trade) (J : Journals) (p : ℕ) where
         account = meets.own.1;
         some = meets.own.2;
         few = meets.own.3;
+        in_range = meets.in_range;
       })
   items_rows_by es h n (entries.Decided moment id recipient decision) meets =
       let e = entries.Decided moment id recipient decision

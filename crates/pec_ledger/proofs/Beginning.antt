@@ -41,7 +41,7 @@ module _ (trade : Trade) where
   follows_start : (J : Journals) (p : ℕ) (site : Site) → IsStarted p site → Follows trade J p empty site.journal
   follows_start J p site (inl e) =
       subst (λ (s : Site). Follows trade J p empty s.journal) (sym e)
-      (record { own = (refl, refl, refl); in_time = omega arith; joint = tt }, tt)
+      (record { own = (refl, refl, refl); in_time = omega arith; in_range = omega arith; joint = tt }, tt)
   follows_start J p site (inr e) = subst (λ (s : Site). Follows trade J p empty s.journal) (sym e) tt
 
   starts : (p : ℕ) → p < trade.providers → Begins (journal_at (at_start trade) p)

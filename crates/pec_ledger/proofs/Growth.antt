@@ -205,4 +205,4 @@ module _ (trade : Trade) where
   joint_stays J K g p (entries.Anomaly moment accounts message) j = tt
 
   pub meets_stays : (J K : Journals) → GoOnAs J K → (p : ℕ) (h : Half) (e : Entry) → Meets trade J p h e → Meets trade K p h e
-  meets_stays J K g p h e m = record { own = m.own; in_time = m.in_time; joint = joint_stays J K g p e m.joint }
+  meets_stays J K g p h e m = record { own = m.own; in_time = m.in_time; in_range = m.in_range; joint = joint_stays J K g p e m.joint }

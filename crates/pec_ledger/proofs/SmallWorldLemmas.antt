@@ -192,12 +192,12 @@ small_is_trade = record {
   accounts = accounts;
   recipients_differ = differ;
   admitted = λ p sender path message e. admitted (facts_in message) sender path e;
-  envelope_seen = λ id moment original sent. seen_so id.provider id.number moment original sent.provider;
-  envelope_names = λ id moment original sent. ap path_in sent.are;
+  envelope_seen = λ id moment original sent range. seen_so id.provider id.number moment original sent.provider;
+  envelope_names = λ id moment original sent range. ap path_in sent.are;
   envelope_of = envelope_of;
   receipt_seen = receipt_seen;
-  refusal_seen = λ id moment sender cause path message me l n a s f. refl;
-  anomaly_seen = λ p entry moment message me l. refl;
+  refusal_seen = λ id moment sender cause path message me l n a s f range. refl;
+  anomaly_seen = λ p entry moment message me l range. refl;
   seen_opens = λ message seen e. ap is_some e;
   frames = frames_back;
 }

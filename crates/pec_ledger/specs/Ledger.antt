@@ -10,6 +10,7 @@ use Rattle.pec_types.specs.declared.letters.Letter.TheVariants as letters
 use Rattle.pec_types.specs.declared.messages.Cause.TheVariants as causes
 use Rattle.pec_types.specs.declared.messages.Facts.{Facts}
 use Rattle.pec_types.specs.declared.messages.Decision.{Decision}
+use Rattle.pec_types.specs.declared.moments.TheConstants.{END_OF_TIME}
 use Rattle.pec_types.specs.declared.receipts.Kind.TheVariants as kinds
 use Rattle.pec_records.specs.declared.entries.Entry.{Entry}
 use Rattle.pec_records.specs.declared.entries.Entry.TheVariants as entries
@@ -170,10 +171,11 @@ module _ (trade : Trade) where
   Joint journals provider (entries.Anomaly moment accounts message) = Unit {0}
 
   -- An entry may follow a half of this provider, in these journals: its own condition, a moment that isn't before the
-  -- greatest, and its joint condition.
+  -- greatest and is one that a clock tells, below END_OF_TIME, and its joint condition.
   pub record Meets (journals : Journals) (provider : ℕ) (half : Half) (entry : Entry) : Type 0 where
     pub own : Own trade provider half entry
     pub in_time : half.last ≤ moment_of entry
+    pub in_range : moment_of entry < END_OF_TIME
     pub joint : Joint journals provider entry
 
   -- Each of the entries may follow what stood before it.

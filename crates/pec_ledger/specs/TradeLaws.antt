@@ -10,6 +10,7 @@ use Rattle.pec_types.specs.declared.letters.Letter.TheVariants as letters
 use Rattle.pec_types.specs.declared.messages.Cause.{Cause}
 use Rattle.pec_types.specs.declared.messages.Facts.{Facts}
 use Rattle.pec_types.specs.declared.messages.TheConstants.{MESSAGES}
+use Rattle.pec_types.specs.declared.moments.TheConstants.{END_OF_TIME}
 use Rattle.pec_types.specs.declared.receipts.Kind.{Kind}
 use Rattle.pec_types.specs.declared.receipts.Kind.TheVariants as kinds
 use Rattle.pec_records.specs.Entry.{most_addresses}
@@ -67,10 +68,11 @@ IsOfKind trade facts kinds.Notice receipt = (receipt.by ≡ receipt.id.provider)
 IsOfKind trade facts kinds.LateNotice receipt = (receipt.by ≡ receipt.id.provider) × Names trade facts receipt.recipient
 IsOfKind trade facts kinds.Ack receipt = Names trade facts receipt.recipient
 
--- A receipt that a provider of the directory composes of a message that was accepted.
+-- A receipt that a provider of the directory composes of a message that was accepted, at a moment that has a date.
 pub record CanBeComposed (trade : Trade) (receipt : Receipt) (original : Bytes) : Type 0 where
   pub sent : IsSent trade receipt.id original
   pub by : receipt.by < trade.providers
+  pub in_range : receipt.moment < END_OF_TIME
   pub kind : IsOfKind trade sent.facts receipt.kind receipt
 
 -- ---- the laws
@@ -87,10 +89,10 @@ pub record IsTrade (trade : Trade) : Type 0 where
       → (facts : Facts) × (trade.facts message ≡ Some facts) × (facts.sender ≡ sender)
       × (trade.cause provider sender (addresses_of facts) message ≡ None) × (length facts.recipients ≤ length path)
   -- Letters: an envelope is seen as what it was composed of, its head names the message's recipients, and what is seen
-  -- as an envelope is one of a provider's.
-  pub envelope_seen : (id : Id) (moment : ℕ) (original : Bytes) → IsSent trade id original
+  -- as an envelope is one of a provider's. Texts state dates, which moments below END_OF_TIME have.
+  pub envelope_seen : (id : Id) (moment : ℕ) (original : Bytes) → IsSent trade id original → moment < END_OF_TIME
       → trade.view (trade.envelope_text id moment original) ≡ Some (SeenEnvelope id moment original)
-  pub envelope_names : (id : Id) (moment : ℕ) (original : Bytes) (sent : IsSent trade id original)
+  pub envelope_names : (id : Id) (moment : ℕ) (original : Bytes) (sent : IsSent trade id original) → moment < END_OF_TIME
       → trade.envelope_recipients (trade.envelope_text id moment original) ≡ addresses_of sent.facts
   pub envelope_of : (message : Bytes) (id : Id) (moment : ℕ) (original : Bytes) → trade.view message ≡ Some (SeenEnvelope id moment original)
       → id.provider < trade.providers
@@ -100,10 +102,10 @@ pub record IsTrade (trade : Trade) : Type 0 where
   -- Notices of non-acceptance and anomalies are seen as no letter.
   pub refusal_seen : (id : Id) (moment : ℕ) (sender : Bytes) (cause : Cause) (path : Path) (message : Bytes) (me : ℕ)
       → id.provider < trade.providers → id.number < MESSAGES → IsTrue (trade.is_account id.provider sender)
-      → 0 < length path → length path ≤ most_addresses
+      → 0 < length path → length path ≤ most_addresses → moment < END_OF_TIME
       → letter_in trade me (trade.refusal_text id moment sender cause path message) ≡ None
   pub anomaly_seen : (provider entry moment : ℕ) (message : Bytes) (me : ℕ) → provider < trade.providers
-      → letter_in trade me (trade.anomaly_text provider entry moment message) ≡ None
+      → moment < END_OF_TIME → letter_in trade me (trade.anomaly_text provider entry moment message) ≡ None
   -- Seals: what is seen opens.
   pub seen_opens : (message : Bytes) (seen : Seen) → trade.view message ≡ Some seen → trade.opens message ≡ true
   -- Frames: what was framed stands in the frame.

@@ -8,6 +8,7 @@ use Rattle.std.proofs.lemmas.Option.{none-some, same_Some}
 use Rattle.pec_types.specs.Bytes.{Bytes, Path}
 use Rattle.pec_types.specs.declared.messages.Cause.{Cause}
 use Rattle.pec_types.specs.declared.messages.TheConstants.{MESSAGES}
+use Rattle.pec_types.specs.declared.moments.TheConstants.{END_OF_TIME}
 use Rattle.pec_records.specs.Entry.{most_addresses}
 use Rattle.pec_records.specs.declared.entries.Entry.{Entry}
 use Rattle.pec_records.specs.declared.entries.Entry.TheVariants as entries
@@ -68,36 +69,37 @@ module _ (trade : Trade) (world : IsTrade trade) (laws : StateLaws trade) where
 
   entry_meets : (sites : List Site) (p now : ℕ) (sender : Bytes) (path : Path) (message : Bytes) (cause : Option Cause) → trade.cause p sender path message ≡ cause
       → trade.is_account p sender ≡ true → messages_at trade sites p < MESSAGES → 0 < length path → length path ≤ most_addresses
-      → last_of trade p (journal_at sites p) ≤ now
+      → last_of trade p (journal_at sites p) ≤ now → now < END_OF_TIME
       → Meets trade (journals_of sites) p (half trade p (journal_at sites p)) (entry_by cause now sender path message)
-  entry_meets sites p now sender path message None e account room some few time =
+  entry_meets sites p now sender path message None e account room some few time range =
       let admitted = world.admitted p sender path message e
       in record {
         own = (room, account, record { facts = admitted.0; are = admitted.1; sent = admitted.2; few = let l = admitted.4 in omega arith });
         in_time = time;
+        in_range = range;
         joint = record { facts = admitted.0; are = admitted.1; none = admitted.3 };
       }
-  entry_meets sites p now sender path message (Some cause) e account room some few time =
-      record { own = (room, account, some, few); in_time = time; joint = inl e }
+  entry_meets sites p now sender path message (Some cause) e account room some few time range =
+      record { own = (room, account, some, few); in_time = time; in_range = range; joint = inl e }
 
   pub sound_submitted : (luck : Luck) (sites : List Site) (p now : ℕ) (sender : Bytes) (path : Path) (message : Bytes) → Sound trade sites
-      → 0 < length path → length path ≤ most_addresses → Sound trade (submitted trade luck sites p now sender path message).after
-  sound_submitted luck sites p now sender path message sound some few =
+      → 0 < length path → length path ≤ most_addresses → now < END_OF_TIME → Sound trade (submitted trade luck sites p now sender path message).after
+  sound_submitted luck sites p now sender path message sound some few range =
       by_test (trade.is_account p sender) _ _
       (λ account. sound_at_work sites p now _ sound
       (λ up time. by_test (nat_lt (messages_at trade sites p) MESSAGES) _ _
       (λ room. sound_append luck sites p (entry_by (trade.cause p sender path message) now sender path message) _ sound up
       (entry_meets sites p now sender path message (trade.cause p sender path message) refl account
-      (ltb-true (messages_at trade sites p) MESSAGES room) some few time))
+      (ltb-true (messages_at trade sites p) MESSAGES room) some few time range))
       (λ e. sound)))
       (λ e. sound)
 
   -- ---- clock calls
 
-  pub sound_ticked : (luck : Luck) (sites : List Site) (p now : ℕ) → Sound trade sites → Sound trade (ticked trade luck sites p now).after
-  sound_ticked luck sites p now sound =
+  pub sound_ticked : (luck : Luck) (sites : List Site) (p now : ℕ) → Sound trade sites → now < END_OF_TIME → Sound trade (ticked trade luck sites p now).after
+  sound_ticked luck sites p now sound range =
       sound_at_work sites p now _ sound
-      (λ up time. sound_append luck sites p (entries.Ticked now) _ sound up (record { own = tt; in_time = time; joint = tt }))
+      (λ up time. sound_append luck sites p (entries.Ticked now) _ sound up (record { own = tt; in_time = time; in_range = range; joint = tt }))
 
   -- ---- links
 

@@ -1,5 +1,5 @@
 -- The entries of a planned turn follow, and so does every front of it.
-use Rattle.std.proofs.Common.{◌≡◌, ℕ, zero, suc, ◌≤◌, List, [], ◌∷◌, ◌++◌, Bool, true, false, ◌&&◌, cond, inl, inr, take, refl, ap, sym, subst, ◌∙◌, arith, Option, Some, None}
+use Rattle.std.proofs.Common.{◌≡◌, ℕ, zero, suc, ◌<◌, ◌≤◌, List, [], ◌∷◌, ◌++◌, Bool, true, false, ◌&&◌, cond, inl, inr, take, refl, ap, sym, subst, ◌∙◌, arith, Option, Some, None}
 use Rattle.std.specs.Prelude.{filter, is_none}
 use Rattle.std.specs.List.{find}
 use Rattle.std.specs.Option.{option_or, option_to_list}
@@ -10,6 +10,7 @@ use Rattle.std.proofs.lemmas.List.Folds.{find-append}
 use Rattle.std.proofs.lemmas.List.Sums.{fold-append}
 use Rattle.pec_types.specs.Bytes.{Bytes}
 use Rattle.pec_types.specs.declared.messages.Decision.{Decision}
+use Rattle.pec_types.specs.declared.moments.TheConstants.{END_OF_TIME}
 use Rattle.pec_records.specs.declared.entries.Entry.{Entry}
 use Rattle.pec_records.specs.declared.entries.Entry.TheVariants as entries
 use Rattle.pec_ledger.specs.Along.{AllAlong, AllDiffer, StandsNotIn}
@@ -115,13 +116,13 @@ module _ (trade : Trade) (world : IsTrade trade) (J : Journals) (laws : ArrivalL
     all_stay_open es pair pairs n.1 all.1,
   )
 
-  decisions_follow : (es : List Entry) (pairs : List Pair) → AllDiffer pairs → AllOpen es pairs → (half trade p es).last ≤ now
+  decisions_follow : (es : List Entry) (pairs : List Pair) → AllDiffer pairs → AllOpen es pairs → (half trade p es).last ≤ now → now < END_OF_TIME
       → Follows trade J p (half trade p es) (entries_of (decisions trade p now es pairs))
-  decisions_follow es [] differ all time = tt
-  decisions_follow es (pair ∷ pairs) differ all time =
+  decisions_follow es [] differ all time range = tt
+  decisions_follow es (pair ∷ pairs) differ all time range =
       one_step es (decide trade p now es pair).entry (entries_of (decisions trade p now (journal_after es (decide trade p now es pair)) pairs))
-      (decide_good trade world J laws p now es time pair all.0) time
-      (λ later. decisions_follow (journal_after es (decide trade p now es pair)) pairs differ.1 (all_stay_open es pair pairs differ.0 all.1) later)
+      (decide_good trade world J laws p now es time range pair all.0) time
+      (λ later. decisions_follow (journal_after es (decide trade p now es pair)) pairs differ.1 (all_stay_open es pair pairs differ.0 all.1) later range)
 
   passing : (es : List Entry) (pairs : List Pair) → AllOpen es (filter (is_open (half trade p es)) pairs)
   passing es [] = tt
@@ -132,22 +133,23 @@ module _ (trade : Trade) (world : IsTrade trade) (J : Journals) (laws : ArrivalL
       by_test true e rest = (e, rest)
       by_test false e rest = rest
 
-  undecided_follow : (es : List Entry) → (half trade p es).last ≤ now → Follows trade J p (half trade p es) (entries_of (decisions trade p now es (undecided trade p es)))
+  undecided_follow : (es : List Entry) → (half trade p es).last ≤ now → now < END_OF_TIME
+      → Follows trade J p (half trade p es) (entries_of (decisions trade p now es (undecided trade p es)))
   unfolding undecided
-  undecided_follow es time =
+  undecided_follow es time range =
       let all = each_once same_pair (pairs_taken (half trade p es).taken)
       in decisions_follow es (filter (is_open (half trade p es)) all)
-      (differ_filter (is_open (half trade p es)) all (once_differ same_pair pair_again (pairs_taken (half trade p es).taken))) (passing es all) time
+      (differ_filter (is_open (half trade p es)) all (once_differ same_pair pair_again (pairs_taken (half trade p es).taken))) (passing es all) time range
 
   -- ---- plans
 
-  pub plan_follows : (es : List Entry) (frames : List Bytes) → AreGenuine trade J frames → (half trade p es).last ≤ now
+  pub plan_follows : (es : List Entry) (frames : List Bytes) → AreGenuine trade J frames → (half trade p es).last ≤ now → now < END_OF_TIME
       → Follows trade J p (half trade p es) (entries_of (plan trade p now es frames))
-  plan_follows es [] good time = undecided_follow es time
-  plan_follows es (frame ∷ frames) good time =
+  plan_follows es [] good time range = undecided_follow es time range
+  plan_follows es (frame ∷ frames) good time range =
       one_step es (arrive trade p now es frame).entry (entries_of (plan trade p now (journal_after es (arrive trade p now es frame)) frames))
-      (arrive_good trade world J laws p now es time frame (All-head (IsGenuine trade J) frame frames good)) time
-      (λ later. plan_follows (journal_after es (arrive trade p now es frame)) frames (All-tail (IsGenuine trade J) frame frames good) later)
+      (arrive_good trade world J laws p now es time range frame (All-head (IsGenuine trade J) frame frames good)) time
+      (λ later. plan_follows (journal_after es (arrive trade p now es frame)) frames (All-tail (IsGenuine trade J) frame frames good) later range)
 
   -- a front of it, and that front with the next entry
   pub front_follows : (h : Half) (n : ℕ) (steps : List Step) → Follows trade J p h (entries_of steps) → Follows trade J p h (entries_of (take n steps))

@@ -10,6 +10,7 @@ use Rattle.pec_types.specs.Bytes.{Bytes}
 use Rattle.pec_types.specs.declared.letters.Letter.{Letter}
 use Rattle.pec_types.specs.declared.turns.ProviderFault.{ProviderFault}
 use Rattle.pec_types.specs.declared.turns.ProviderFault.TheVariants as faults
+use Rattle.pec_types.specs.declared.moments.TheConstants.{END_OF_TIME}
 use Rattle.pec_records.specs.declared.entries.Entry.{Entry}
 use Rattle.pec_ledger.specs.Ledger.{Fit, Follows, Journals}
 use Rattle.pec_ledger.specs.Network.{AreGenuine, FollowsState, Happens, IsGenuine, Site, Sound, empty_site, frames_between, interrupted_at, is_up, journal_at, journals_of, site_at, Stays, Appends, Fails}
@@ -83,15 +84,15 @@ module _ (trade : Trade) (world : IsTrade trade) (laws : StateLaws trade) (sites
   by_test p true x y taken passed = taken refl
   by_test p false x y taken passed = passed refl
 
-  turn_became : (p now : ℕ) (rooms : ℕ → ℕ) (cut : Cut) → Became p (turned trade p now rooms cut (site_at sites p))
+  turn_became : (p now : ℕ) → now < END_OF_TIME → (rooms : ℕ → ℕ) (cut : Cut) → Became p (turned trade p now rooms cut (site_at sites p))
   unfolding turned
-  turn_became p now rooms cut =
+  turn_became p now range rooms cut =
       by_test p (site_at sites p).up _ _
       (λ up. by_test p (nat_lt now (last_of trade p (journal_at sites p))) _ _ (λ late. as_it_was p (faults.ClockBack (last_of trade p (journal_at sites p))))
       (λ time. cut_became p rooms (plan trade p now (journal_at sites p) (frames_in (site_at sites p).waiting)) up
       (plan_follows trade world (journals_of sites) arrivals p now (journal_at sites p) (frames_in (site_at sites p).waiting)
       (all_waiting (journals_of sites) (site_at sites p).waiting (λ k. sound.genuine k p))
-      (ltb-false now (last_of trade p (journal_at sites p)) time))
+      (ltb-false now (last_of trade p (journal_at sites p)) time) range)
       cut))
       (λ down. as_it_was p faults.Down)
 
@@ -271,7 +272,7 @@ module _ (trade : Trade) (world : IsTrade trade) (laws : StateLaws trade) (sites
   -- ---- rounds
 
   module _ (images : (new : Journals) → ((p : ℕ) → FollowsState trade sites p (new p)) → Fit trade new)
-      (texts : (J : Journals) → Fit trade J → TextLaws trade J) (now : ℕ) (cuts : ℕ → Cut) where
+      (texts : (J : Journals) → Fit trade J → TextLaws trade J) (now : ℕ) (range : now < END_OF_TIME) (cuts : ℕ → Cut) where
     abbrev turns : List Turned
     turns = turns_from trade now sites cuts 0 sites
 
@@ -303,7 +304,7 @@ module _ (trade : Trade) (world : IsTrade trade) (laws : StateLaws trade) (sites
         elim (cases_lt p (length sites)) [
           | inl l ↦
               let e = after_is p l
-              in turn_became p now (rooms_of sites p) (cuts p) after (ap (λ (s : Site). s.journal) e) (ap (λ (s : Site). s.interrupted) e) (ap (λ (s : Site). s.up) e)
+              in turn_became p now range (rooms_of sites p) (cuts p) after (ap (λ (s : Site). s.journal) e) (ap (λ (s : Site). s.interrupted) e) (ap (λ (s : Site). s.up) e)
           | inr l ↦ stays_as_it_was trade laws sites after p sound (past_the_end p l)
         ]
 

@@ -46,10 +46,10 @@ module _ (trade : Trade) (world : IsTrade trade) (laws : LedgerLaws trade) where
       → Sound trade (played trade luck sites command).after
   unfolding played
   sound_played luck sites (Submit p now sender path message) sound given =
-      sound_submitted trade world laws.states luck sites p now sender path message sound given.0 given.1
-  sound_played luck sites (Tick p now) sound given = sound_ticked trade world laws.states luck sites p now sound
+      sound_submitted trade world laws.states luck sites p now sender path message sound given.0 given.1 given.2
+  sound_played luck sites (Tick p now) sound given = sound_ticked trade world laws.states luck sites p now sound given
   sound_played luck sites (Round now) sound given =
-      sound_rounded trade world laws.states sites sound (laws.arrivals (journals_of sites) sound.fit) (laws.images sites sound) laws.texts now luck.cuts
+      sound_rounded trade world laws.states sites sound (laws.arrivals (journals_of sites) sound.fit) (laws.images sites sound) laws.texts now given luck.cuts
   sound_played luck sites (Lose from to place) sound given = sound_lost trade world laws.states sites from to place sound
   sound_played luck sites (Repeat from to place) sound given =
       sound_put_again trade world laws.states sites from to place (slice_get (frames_between sites from to) place) refl sound
@@ -76,24 +76,24 @@ module _ (trade : Trade) (world : IsTrade trade) (laws : LedgerLaws trade) where
 -- ---- links
 
 module _ (trade : Trade) (world : IsTrade trade) (laws : LedgerLaws trade) where
-  pub short_played : (luck : Luck) (sites : List Site) (command : Command) → Sound trade sites → LinksAreShort sites
+  pub short_played : (luck : Luck) (sites : List Site) (command : Command) → Sound trade sites → IsUnforged trade sites command → LinksAreShort sites
       → LinksAreShort (played trade luck sites command).after
   unfolding played
-  short_played luck sites (Submit p now sender path message) sound short = short_submitted trade sites short luck p now sender path message
-  short_played luck sites (Tick p now) sound short = short_ticked trade sites short luck p now
-  short_played luck sites (Round now) sound short =
-      short_rounded trade world laws.states sites sound (laws.arrivals (journals_of sites) sound.fit) (laws.images sites sound) laws.texts now luck.cuts short
-  short_played luck sites (Lose from to place) sound short = short_lost trade sites short from to place
-  short_played luck sites (Repeat from to place) sound short = short_put_again trade sites short from to (slice_get (frames_between sites from to) place)
-  short_played luck sites (Swap from to place) sound short = short_swapped trade sites short from to place (swapped_at place (frames_between sites from to)) refl
-  short_played luck sites (Inject from to frame) sound short = short_injected trade sites short from to frame
-  short_played luck sites (Crash p) sound short = short_crashed trade sites short p
-  short_played luck sites (Restart p) sound short = short_restarted trade sites short luck p
-  short_played luck sites (Book address) sound short =
+  short_played luck sites (Submit p now sender path message) sound given short = short_submitted trade sites short luck p now sender path message
+  short_played luck sites (Tick p now) sound given short = short_ticked trade sites short luck p now
+  short_played luck sites (Round now) sound given short =
+      short_rounded trade world laws.states sites sound (laws.arrivals (journals_of sites) sound.fit) (laws.images sites sound) laws.texts now given luck.cuts short
+  short_played luck sites (Lose from to place) sound given short = short_lost trade sites short from to place
+  short_played luck sites (Repeat from to place) sound given short = short_put_again trade sites short from to (slice_get (frames_between sites from to) place)
+  short_played luck sites (Swap from to place) sound given short = short_swapped trade sites short from to place (swapped_at place (frames_between sites from to)) refl
+  short_played luck sites (Inject from to frame) sound given short = short_injected trade sites short from to frame
+  short_played luck sites (Crash p) sound given short = short_crashed trade sites short p
+  short_played luck sites (Restart p) sound given short = short_restarted trade sites short luck p
+  short_played luck sites (Book address) sound given short =
       short_asked trade sites short (λ (p : ℕ) (h : Half). answers sites (Lines (book trade p h address))) (account_home trade address (trade.home address)) (λ p h. refl)
-  short_played luck sites (Mailbox address) sound short =
+  short_played luck sites (Mailbox address) sound given short =
       short_asked trade sites short (λ (p : ℕ) (h : Half). answers sites (Items (mailbox_lines h address))) (account_home trade address (trade.home address)) (λ p h. refl)
-  short_played luck sites (Show address place) sound short =
+  short_played luck sites (Show address place) sound given short =
       short_asked trade sites short (λ (p : ℕ) (h : Half). shown trade sites p (slice_get (mailbox h address) place)) (account_home trade address (trade.home address))
       (λ p h. shows_nothing_new trade world laws sites p (slice_get (mailbox h address) place))
 
@@ -104,7 +104,7 @@ module _ (trade : Trade) (world : IsTrade trade) (laws : LedgerLaws trade) where
   short_along (luck ∷ lucks) sites (command ∷ commands) sound given short = (
     short,
     short_along lucks (played trade luck sites command).after commands (sound_played trade world laws luck sites command sound given.0) given.1
-        (short_played luck sites command sound short),
+        (short_played luck sites command sound given.0 short),
   )
 
 -- ---- fronts

@@ -13,6 +13,7 @@ use Rattle.pec_types.specs.declared.messages.Decision.{Decision}
 use Rattle.pec_types.specs.declared.messages.Decision.TheVariants.{Placed, Refused}
 use Rattle.pec_types.specs.declared.receipts.Kind.{Kind}
 use Rattle.pec_types.specs.declared.receipts.Kind.TheVariants as kinds
+use Rattle.pec_types.specs.declared.moments.TheConstants.{END_OF_TIME}
 use Rattle.pec_records.specs.declared.entries.Entry.{Entry}
 use Rattle.pec_records.specs.declared.entries.Entry.TheVariants as entries
 use Rattle.pec_ledger.specs.Along.{AllDiffer, StandsNotIn}
@@ -146,7 +147,7 @@ found_none (Some x) e = absurd (false≢true e)
 -- ---- reception
 
 module _ (trade : Trade) (world : IsTrade trade) (J : Journals) (laws : ArrivalLaws trade J) (p now : ℕ) (es : List Entry)
-    (time : (half trade p es).last ≤ now) where
+    (time : (half trade p es).last ≤ now) (range : now < END_OF_TIME) where
   -- what a step appends meets its conditions, at this moment
   abbrev pub Good : Step → Type 0
   Good s = (e : Entry) → s.entry ≡ Some e → Meets trade J p (half trade p es) e × (moment_of e ≡ now)
@@ -165,7 +166,7 @@ module _ (trade : Trade) (world : IsTrade trade) (J : Journals) (laws : ArrivalL
   anomaly_good message [] differ room = nothing_appended
   anomaly_good message (a ∷ accounts) differ room =
       appended_so (entries.Anomaly now (a ∷ accounts) message)
-      (record { own = (omega arith, differ, room); in_time = time; joint = tt }) refl
+      (record { own = (omega arith, differ, room); in_time = time; in_range = range; joint = tt }) refl
 
   otherwise_good : (f : Framed) → Good (otherwise trade p now es f)
   otherwise_good f =
@@ -186,6 +187,7 @@ module _ (trade : Trade) (world : IsTrade trade) (J : Journals) (laws : ArrivalL
       (record {
         own = (world.envelope_of f.message id moment original seen, t, there);
         in_time = time;
+        in_range = range;
         joint = laws.took p f.message id moment original genuine seen some.0 in_head.0 (home_is p (trade.home some.0) in_head.1);
       })
       refl
@@ -208,6 +210,7 @@ module _ (trade : Trade) (world : IsTrade trade) (J : Journals) (laws : ArrivalL
       (record {
         own = (eqb-true r.id.provider p parts.0, c, pairs_at r.by (accepted_at (half trade p es) r.id.number) more.0);
         in_time = time;
+        in_range = range;
         joint = laws.charged f.message genuine r seen kind;
       })
       refl
@@ -233,6 +236,7 @@ module _ (trade : Trade) (world : IsTrade trade) (J : Journals) (laws : ArrivalL
       (record {
         own = (record { ours = eqb-true r.id.provider p parts.0; message = pair.0; accepted = pair.1; recipient = (pair.2, pair.3) }, k);
         in_time = time;
+        in_range = range;
         joint = laws.learned f.message genuine r seen decision kind recipient names;
       })
       refl
@@ -247,7 +251,7 @@ module _ (trade : Trade) (world : IsTrade trade) (J : Journals) (laws : ArrivalL
       in let more = and_parts (is_home p (trade.home recipient)) _ parts.1
       in let last = and_parts (is_some (decided_of (half trade p es) (pair_of r.id recipient))) _ more.1
       in appended_so (entries.Acked now r.id recipient)
-      (record { own = (last.0, a); in_time = time; joint = laws.acked f.message genuine r seen kind recipient names }) refl
+      (record { own = (last.0, a); in_time = time; in_range = range; joint = laws.acked f.message genuine r seen kind recipient names }) refl
 
   by_outcome_good : (f : Framed) (r : Receipt) (decision : Decision) → IsGenuineText trade J f.message → trade.view f.message ≡ Some (SeenReceipt r)
       → r.kind ≡ outcome_kind decision → (recipient : Option Bytes) → r.recipient ≡ recipient → Good (by_outcome trade p now es f r decision recipient)
@@ -307,6 +311,7 @@ module _ (trade : Trade) (world : IsTrade trade) (J : Journals) (laws : ArrivalL
       (record {
         own = (taken_pair pair (taken_of (half trade p es) pair.id) refl parts.0, found_none (decided_of (half trade p es) pair) parts.1, inl refl);
         in_time = time;
+        in_range = range;
         joint = tt;
       })
       refl

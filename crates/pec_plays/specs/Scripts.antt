@@ -1,10 +1,11 @@
 -- Scripts: commands one after another, each with its luck (`script`), and which of them may come (`IsUnforged`). This project's profile.
 use Rattle.std.specs.Prelude.{ℕ, ◌<◌, ◌≤◌, List, [], ◌∷◌, length}
+use Rattle.pec_types.specs.declared.moments.TheConstants.{END_OF_TIME}
 use Rattle.pec_records.specs.Entry.{most_addresses}
 use Rattle.pec_ledger.specs.Guarantees.{NoReceiptMissing, NoticeByTheDay, OneDelivery, OneOutcome}
 use Rattle.pec_ledger.specs.Network.{frames_between, IsGenuine, Site, Sound, journals_of}
 use Rattle.pec_ledger.specs.Trade.{Trade}
-use Rattle.pec_plays.specs.Commands.{Answer, Command, Inject, Luck, Submit, played}
+use Rattle.pec_plays.specs.Commands.{Answer, Command, Inject, Luck, Round, Submit, Tick, played}
 use Rattle.pec_plays.specs.Rounds.{link_size}
 
 -- What a script answers, and the state behind it.
@@ -22,11 +23,14 @@ script trade (luck ∷ lucks) sites [] = record { answers = []; after = sites }
 script trade (luck ∷ lucks) sites (command ∷ commands) =
     onto (played trade luck sites command).answer (script trade lucks (played trade luck sites command).after commands)
 
--- A command may come: a path has 1 to 1,000 addresses, and no forged frame is injected. Where a message stands in an
--- injected frame and opens, that is the text of a licensed letter or of an item, as the command begins; all other frames
--- are free.
+-- A command may come: a moment is one that a clock tells, below END_OF_TIME, a path has 1 to 1,000 addresses, and no
+-- forged frame is injected. Where a message stands in an injected frame and opens, that is the text of a licensed letter
+-- or of an item, as the command begins; all other frames are free.
 abbrev pub IsUnforged : Trade → List Site → Command → Type 0
-IsUnforged trade sites (Submit provider moment sender path message) = (0 < length path) × (length path ≤ most_addresses)
+IsUnforged trade sites (Submit provider moment sender path message) =
+    (0 < length path) × (length path ≤ most_addresses) × (moment < END_OF_TIME)
+IsUnforged trade sites (Tick provider moment) = moment < END_OF_TIME
+IsUnforged trade sites (Round moment) = moment < END_OF_TIME
 IsUnforged trade sites (Inject from to frame) = IsGenuine trade (journals_of sites) frame
 IsUnforged trade sites _ = Unit {0}
 

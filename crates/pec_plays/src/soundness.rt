@@ -26,8 +26,9 @@ use pec_ledger::{
     texts_are_seen, the_guarantees,
 };
 
-/// Whatever devices do, each command keeps a state Sound where no forged frame is injected, and so does each script:
-/// its state is Sound before each command and at the end. So all that follows from journals that are Fit holds there.
+/// Whatever devices do, each command keeps a state Sound where its moment is one that a clock tells (in seconds, below
+/// END_OF_TIME) and no forged frame is injected, and so does each script: its state is Sound before each command and at
+/// the end. So all that follows from journals that are Fit holds there.
 pub fn a_network_stays_sound()
     ensures commands { (trade : Trade) → IsTrade trade → (luck : Luck) (sites : List Site) (command : Command)
         → Sound trade sites → IsUnforged trade sites command → Sound trade (played trade luck sites command).after }
