@@ -1,5 +1,5 @@
 -- What was composed is seen again: each row of the table is passed.
-use Rattle.std.proofs.Common.{◌≡◌, ℕ, zero, suc, ◌<◌, ◌==◌, Bool, true, false, ◌&&◌, ◌||◌, cond, List, [], ◌∷◌, map, find, position, length, get_or, arith, slice_get, Option, None, Some, option_map, Ok, codes, eq-eqb, refl, ap, sym, ◌∙◌, subst}
+use Rattle.std.proofs.Common.{◌≡◌, ℕ, zero, suc, ◌<◌, ◌==◌, Bool, true, false, ◌&&◌, ◌||◌, cond, List, [], ◌∷◌, map, find, position, length, get_or, arith, slice_get, Option, None, Some, option_map, Ok, Err, codes, eq-eqb, refl, ap, sym, ◌∙◌, subst}
 use Rattle.std.proofs.lemmas.Bool.{and_from}
 use Rattle.std.proofs.lemmas.List.Quantifiers.{position-Some}
 use Rattle.std.proofs.lemmas.Option.{same_Some}
@@ -9,6 +9,7 @@ use Rattle.std.specs.Str.{bytes_eq}
 use Rattle.pec_types.specs.Bytes.{Bytes}
 use Rattle.pec_types.specs.Message.{Id}
 use Rattle.pec_types.specs.Words.{wish_word}
+use Rattle.pec_types.specs.declared.disputes.LetterFault.TheVariants.{NotThis}
 use Rattle.pec_types.specs.declared.messages.Cause.TheVariants as causes
 use Rattle.pec_types.specs.declared.messages.Recipient.{Recipient}
 use Rattle.pec_types.specs.declared.messages.Refusal.TheVariants as refusals
@@ -33,7 +34,7 @@ use Rattle.pec_letter_facts.specs.Questions.{are_typed, id_named, is_dated, is_f
 use Rattle.pec_letter_facts.specs.ReadBack.{IsReadBack}
 use Rattle.pec_receipts.specs.Kinds.{Row, Said, all_kinds, row_of}
 use Rattle.pec_receipts.specs.Receipts.{IsNamed, delivered_to, has_address, marked_wish, place_among, receipt_certificate, receipt_heading, report_of}
-use Rattle.pec_receipts.specs.Seen.{are_recipients, error_number, is_certified_one, is_delivered, is_detail, is_marked, is_receipted, is_sealed, is_wished, kind_number, kind_of, says, seen_again, seen_of}
+use Rattle.pec_receipts.specs.Seen.{are_recipients, error_number, is_certified_one, is_delivered, is_detail, is_marked, is_sealed, is_wished, kind_number, kind_of, says, seen_again, seen_of}
 use Rattle.pec_receipts.specs.declared.kinds.About.{About}
 use Rattle.pec_receipts.specs.declared.kinds.About.TheVariants as about
 use Rattle.pec_receipts.specs.declared.receipts.Receipt.{Receipt}
@@ -238,16 +239,47 @@ seen_back providers r issuer stamp said message letter passing known says stampe
 
 -- ---- no reply
 
-no_reply : (head : List NamedValue) (word : Bytes) (reply : Option Bytes) (later : Option (Marking × Bytes))
-    → marked_or markings.Reply reply later ≡ Some (markings.Receipt, word) → reply ≡ None
-no_reply head word None later e = refl
-no_reply head word (Some value) later e =
-    let same : markings.Reply ≡ markings.Receipt = ap (λ (x : Marking × Bytes). x.0) (same_Some (markings.Reply, value) (markings.Receipt, word) e)
-    in let never : false ≡ true = ap is_receipted same
+abbrev pub is_reply : Marking → Bool
+is_reply markings.Transport = false
+is_reply markings.Receipt = false
+is_reply markings.Reply = true
+
+no_reply : (marking : Marking) (word : Bytes) (reply : Option Bytes) (later : Option (Marking × Bytes)) → is_reply marking ≡ false
+    → marked_or markings.Reply reply later ≡ Some (marking, word) → reply ≡ None
+no_reply marking word None later other e = refl
+no_reply marking word (Some value) later other e =
+    let same : markings.Reply ≡ marking = ap (λ (x : Marking × Bytes). x.0) (same_Some (markings.Reply, value) (marking, word) e)
+    in let never : true ≡ false = ap is_reply same ∙ other
     in absurd cc
 
--- the head of a receipt has no field of an acknowledgement
-pub none_acknowledged : (head : List NamedValue) (word : Bytes) → marking_of head ≡ Some (markings.Receipt, word)
+-- the head of another letter has no field of an acknowledgement
+pub none_acknowledged : (head : List NamedValue) (marking : Marking) (word : Bytes) → is_reply marking ≡ false → marking_of head ≡ Some (marking, word)
     → first_value (marking_name markings.Reply) head ≡ None
 unfolding marking_of
-none_acknowledged head word e = no_reply head word (first_value (marking_name markings.Reply) head) _ e
+none_acknowledged head marking word other e = no_reply marking word (first_value (marking_name markings.Reply) head) _ other e
+
+-- ---- no kind
+
+-- what is asked of a head that doesn't say that it is a receipt's has no kind
+pub no_kind : (letter : Letter) (word : Bytes) → marking_of letter.head ≡ Some (markings.Transport, word) → kind_of letter ≡ None
+unfolding kind_of says row_of
+no_kind letter word e = ap (λ x. first_of x letter.cert.kind letter.cert.error letter.cert.detail) e
+
+pub unseen : (providers : List Provider) (letter : Letter) → kind_of letter ≡ None → seen_of providers letter ≡ Err NotThis
+unfolding seen_of
+unseen providers letter e = rw e refl
+
+-- ---- each kind
+
+-- what certifies nothing is an acknowledgement
+pub none_said : (kind : Kind) → (row_of kind).said ≡ None → kind ≡ kinds.Ack
+unfolding row_of
+none_said kinds.Acceptance e = absurd cc
+none_said (kinds.NonAcceptance cause) e = absurd cc
+none_said kinds.Charge e = absurd cc
+none_said kinds.Delivery e = absurd cc
+none_said (kinds.DeliveryError refusal) e = absurd cc
+none_said kinds.Warning e = absurd cc
+none_said kinds.Notice e = absurd cc
+none_said kinds.LateNotice e = absurd cc
+none_said kinds.Ack e = refl

@@ -64,14 +64,14 @@ place_below address [] few (Some k) e = absurd cc
 place_below address (r ∷ all) few (Some k) e =
     let below : k < length (r ∷ all) = (position-Some (has_address address) (r ∷ all) k r e).0 in omega arith
 
-place_small : (all : List Recipient) (recipient : Option Bytes) → length all < 2 ^ 64 → IfSome (option_and_then (place_among all) recipient) (λ k. k < 2 ^ 64)
+pub place_small : (all : List Recipient) (recipient : Option Bytes) → length all < 2 ^ 64 → IfSome (option_and_then (place_among all) recipient) (λ k. k < 2 ^ 64)
 unfolding place_among
 place_small all None few = tt
 place_small all (Some address) few = place_below address all few (position (has_address address) all) refl
 
 -- ---- subjects
 
-subject_right : (subject : Option Bytes) → IfSome subject AllPrintable → IfSome subject (λ s. length s ≤ 900) → IfSome subject IsSubject
+pub subject_right : (subject : Option Bytes) → IfSome subject AllPrintable → IfSome subject (λ s. length s ≤ 900) → IfSome subject IsSubject
 subject_right None p s = tt
 subject_right (Some subject) p s = record { printable = p; short = s }
 
@@ -90,13 +90,13 @@ seen_through : (seals : Seals) → Laws seals → (providers : List Provider) (t
 unfolding view seen_in
 seen_through seals laws providers text letter word seen is marked e =
     let read = is.0
-    in let head : first_value (marking_name markings.Reply) letter.head ≡ None = none_acknowledged letter.head word marked
+    in let head : first_value (marking_name markings.Reply) letter.head ≡ None = none_acknowledged letter.head markings.Receipt word refl marked
     in let reply : reply_of read ≡ None = ap (first_value (marking_name markings.Reply)) (sym is.1.1.head_is) ∙ head
     in ap (λ (r : Result Headed LetterFault). r >>= seen_in providers) (((laws.heads text).value read).1 is.1.0)
     ∙ ap (seen_by providers read) reply
     ∙ ap (λ (r : Result Letter LetterFault). r >>= seen_of providers) (((laws.letters read).value letter).1 is.1.1) ∙ e
 
-moment_same : (issuer : Kept) (moment : ℕ) → (stamp_of issuer.zone moment).moment ≡ moment
+pub moment_same : (issuer : Kept) (moment : ℕ) → (stamp_of issuer.zone moment).moment ≡ moment
 unfolding stamp_of
 moment_same issuer moment = refl
 

@@ -1,7 +1,9 @@
+mod AckLemmas
 mod AgainLemmas
 mod ComposeLemmas
 mod LawLemmas
 mod NameLemmas
+mod OtherLemmas
 mod SeenLemmas
 mod StandLemmas
 mod TextLemmas
