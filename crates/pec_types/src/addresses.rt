@@ -50,6 +50,11 @@ pub fn an_address_is_told_exactly()
     ensures { (text : Bytes) → TellsExactly (IsReadAs text) (IsAddressFault text) (address_of text) }
 {}
 
+/// What is read as an address is one, in lower case.
+pub fn what_is_read_is_in_lower_case()
+    ensures { (text address : Bytes) → IsReadAs text address → IsLowerAddress address }
+{}
+
 impl Model for Address {
     ghost Value = { List ℕ };
 

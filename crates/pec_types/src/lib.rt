@@ -19,7 +19,7 @@ mod texts;
 mod turns;
 mod words;
 
-pub use addresses::{Address, AddressFault, an_address_is_told_exactly};
+pub use addresses::{Address, AddressFault, an_address_is_told_exactly, what_is_read_is_in_lower_case};
 pub use disputes::{Disputed, LetterFault};
 pub use faults::NoMemory;
 pub use frames::Frame;
@@ -36,4 +36,4 @@ pub use receipts::Kind;
 pub use scanning::{Stand, lower_addresses_pass};
 pub use texts::{Text, Text8, TextFault, first_unprintable, printable_is_said_of_each_byte};
 pub use turns::{Event, ProviderFault, Submitted, Turn};
-pub use words::{id_text, seven_digits_are_read_back};
+pub use words::{id_text, seven_digits, seven_digits_are_read_back};

@@ -27,8 +27,9 @@ pub fn seven_digits_are_read_back()
     ensures seven { (number : ℕ) → length (seven_digits number) ≡ 7 }
 {}
 
+/// A number in seven decimal digits, with zeros in front: its last seven where it has more. It takes no memory.
 #[tactic(auto, unfolding(crate::specs::Words::seven_digits))]
-fn seven_digits(number: u64) -> [u8; 7]
+pub fn seven_digits(number: u64) -> [u8; 7]
     ensures { result ≡ seven_digits number }
 {
     [
