@@ -10,6 +10,7 @@ pub mod Ledger
 pub mod Lookups
 pub mod Marks
 pub mod Network
+pub mod OfDirectory
 pub mod Own
 pub mod Pairs
 pub mod SmallWorld
