@@ -7,8 +7,7 @@ use Rattle.std.proofs.lemmas.Slice.Eq.{bytes_eq-Decides}
 use Rattle.std.specs.List.{AllByRecursion, concat, slice_get}
 use Rattle.std.specs.Option.{IfSome, option_and_then}
 use Rattle.std.specs.Str.{bytes_eq}
-use Rattle.pec_types.proofs.LowerCase.{kept_address}
-use Rattle.pec_types.specs.Address.{IsLowerAddress}
+use Rattle.pec_types.specs.Address.{IsLowerAddress, IsReadAs}
 use Rattle.pec_types.specs.Bytes.{Bytes, Path}
 use Rattle.pec_types.specs.Text.{is_unprintable}
 use Rattle.pec_types.specs.declared.messages.Class.TheVariants.{Primary, Copy}
@@ -30,24 +29,28 @@ use Rattle.pec_heads.proofs.RecipientLaws.{fresh_set, same_addresses}
 
 -- ---- addresses of a list
 
-entry_lower : (entry address : Bytes) → IsEntry entry address → IsLowerAddress address
-entry_lower entry address h =
+-- what pec_types says of addresses that are read
+abbrev pub ReadInLower : Type 0
+ReadInLower = (text address : Bytes) → IsReadAs text address → IsLowerAddress address
+
+entry_lower : ReadInLower → (entry address : Bytes) → IsEntry entry address → IsLowerAddress address
+entry_lower reads entry address h =
     elim ((forms entry address).0 h) [
-      | inl bare ↦ kept_address (trimmed entry) address bare.address_is bare.lower
-      | inr angled ↦ kept_address (trimmed angled.inside) address angled.address_is angled.lower
+      | inl bare ↦ reads (trimmed entry) address (bare.address_is, bare.lower)
+      | inr angled ↦ reads (trimmed angled.inside) address (angled.address_is, angled.lower)
     ]
 
-lower_case : (t : Bool) (entry : Bytes) (entries addresses : Path) → MatchBool t (AllRead entries addresses) (ReadsFirst entry (AllRead entries) addresses)
+lower_case : ReadInLower → (t : Bool) (entry : Bytes) (entries addresses : Path) → MatchBool t (AllRead entries addresses) (ReadsFirst entry (AllRead entries) addresses)
     → ((others : Path) → AllRead entries others → AllByRecursion IsLowerAddress others) → AllByRecursion IsLowerAddress addresses
-lower_case true entry entries addresses h all = all addresses h
-lower_case false entry entries addresses h all = subst (AllByRecursion IsLowerAddress) (sym h.parts) (entry_lower entry h.address h.entry_is, all h.others h.others_are)
+lower_case reads true entry entries addresses h all = all addresses h
+lower_case reads false entry entries addresses h all = subst (AllByRecursion IsLowerAddress) (sym h.parts) (entry_lower reads entry h.address h.entry_is, all h.others h.others_are)
 
-all_lower : (entries addresses : Path) → AllRead entries addresses → AllByRecursion IsLowerAddress addresses
-all_lower [] addresses h = subst (AllByRecursion IsLowerAddress) (sym h) tt
-all_lower (entry ∷ entries) addresses h = lower_case (is_all_blank entry) entry entries addresses h (λ others. all_lower entries others)
+all_lower : ReadInLower → (entries addresses : Path) → AllRead entries addresses → AllByRecursion IsLowerAddress addresses
+all_lower reads [] addresses h = subst (AllByRecursion IsLowerAddress) (sym h) tt
+all_lower reads (entry ∷ entries) addresses h = lower_case reads (is_all_blank entry) entry entries addresses h (λ others. all_lower reads entries others)
 
-list_lower : (text : Bytes) (addresses : Path) → IsList text addresses → AllByRecursion IsLowerAddress addresses
-list_lower text addresses h = all_lower h.entries addresses h.read
+list_lower : ReadInLower → (text : Bytes) (addresses : Path) → IsList text addresses → AllByRecursion IsLowerAddress addresses
+list_lower reads text addresses h = all_lower reads h.entries addresses h.read
 
 -- ---- short texts
 
@@ -170,8 +173,8 @@ made_lower : (make : Bytes → Recipient) → ((x : Bytes) → (make x).address 
 made_lower make same [] more h k = k
 made_lower make same (x ∷ xs) more h k = (subst IsLowerAddress (sym (same x)) h.0, made_lower make same xs more h.1 k)
 
-copies_lower : (fields : List NamedValue) (copies : Path) → AreCopies fields copies → AllByRecursion IsLowerAddress copies
-copies_lower fields copies h = elim h [ inl none ↦ subst (AllByRecursion IsLowerAddress) (sym none.1) tt | inr some ↦ list_lower (joined_values (codes "Cc") fields) copies some.1 ]
+copies_lower : ReadInLower → (fields : List NamedValue) (copies : Path) → AreCopies fields copies → AllByRecursion IsLowerAddress copies
+copies_lower reads fields copies h = elim h [ inl none ↦ subst (AllByRecursion IsLowerAddress) (sym none.1) tt | inr some ↦ list_lower reads (joined_values (codes "Cc") fields) copies some.1 ]
 
 map_lower : (make : Bytes → Recipient) → ((x : Bytes) → (make x).address ≡ x) → (xs : Path) → AllByRecursion IsLowerAddress xs → AllByRecursion HasLower (map make xs)
 map_lower make same [] h = tt
@@ -183,13 +186,13 @@ recipients_lower to copies h k =
     made_lower (recipient Primary) (λ x. refl) (fresh [] to) (map (recipient Copy) (fresh to copies)) (fresh_lower [] to h)
     (map_lower (recipient Copy) (λ x. refl) (fresh to copies) (fresh_lower to copies k))
 
-pub bounded : (text : Bytes) (fields : List NamedValue) (place : ℕ) (facts : Facts) → IsHead text fields place → IsFacts fields facts → AreBounded facts
-bounded text fields place facts h f =
-    let sender = (list_lower f.from (facts.sender ∷ []) f.one_sender).0
+pub bounded : ReadInLower → (text : Bytes) (fields : List NamedValue) (place : ℕ) (facts : Facts) → IsHead text fields place → IsFacts fields facts → AreBounded facts
+bounded reads text fields place facts h f =
+    let sender = (list_lower reads f.from (facts.sender ∷ []) f.one_sender).0
     in record {
       sender = sender;
       recipients = subst (AllByRecursion HasLower) (sym f.recipients_are)
-          (recipients_lower f.to f.copies (list_lower (joined_values (codes "To") fields) f.to f.to_is) (copies_lower fields f.copies f.copies_are));
+          (recipients_lower f.to f.copies (list_lower reads (joined_values (codes "To") fields) f.to f.to_is) (copies_lower reads fields f.copies f.copies_are));
       subject = subst (λ t. IfSome t IsShortText) (sym f.subject_is) (first_short (first_value (codes "Subject") fields));
       reference = subst (λ t. IfSome t IsShortText) (sym f.reference_is) (first_short (first_value (codes "Message-ID") fields));
       reply = subst IsShortText (sym f.reply_is) (reply_short facts.sender (first_value (codes "Reply-To") fields) sender (head_trim (codes "Reply-To") text fields place h));

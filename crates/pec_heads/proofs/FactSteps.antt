@@ -12,7 +12,7 @@ use Rattle.pec_heads.specs.Bytes.{NonePass, trimmed}
 use Rattle.pec_heads.specs.FactsOfHeads.{front_of, printed_byte, printed, short_text}
 use Rattle.pec_heads.specs.declared.TheConstants.{TEXT_LIMIT}
 use Rattle.pec_heads.proofs.Places.{none_of, no_place}
-use Rattle.pec_types.proofs.AddressBytes.{Avoids, none_in}
+use Rattle.pec_heads.proofs.AddressBytes.{Avoids, none_in}
 use Rattle.pec_heads.proofs.BlankLemmas.{trimmed_is}
 
 -- ---- printed values

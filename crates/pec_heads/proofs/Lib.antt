@@ -1,3 +1,4 @@
+pub mod AddressBytes
 pub mod Tools
 pub mod Places
 pub mod LineLemmas

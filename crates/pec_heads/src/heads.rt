@@ -20,7 +20,9 @@ use crate::fields::Fields;
 use crate::lists::list_named;
 use crate::lookups::{count, is_filled, value};
 use crate::reading::read_fields;
-use pec_types::{Address, Facts, NoMemory, Text, an_address_is_told_exactly};
+use pec_types::{
+    Address, Facts, NoMemory, Text, an_address_is_told_exactly, what_is_read_is_in_lower_case,
+};
 use std::alloc::Global;
 use std::marker::Model;
 
@@ -78,6 +80,7 @@ pub fn facts_are_bounded()
     ensures short { (name : Bytes) (fields : List NamedValue) → IfSome (text_of name fields) IsShortText }
 {
     an_address_is_told_exactly();
+    what_is_read_is_in_lower_case();
 }
 
 /// The head of a message (RFC 5322, section 2.2): its fields in their order. Contracts see of each its name as it
