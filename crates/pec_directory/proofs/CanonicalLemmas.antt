@@ -13,11 +13,11 @@ use Rattle.hex.proofs.HexLemmas.{decode_of-encode_lower}
 use Rattle.hex.specs.declared.error.FromHexError.{FromHexError}
 use Rattle.hex.specs.Hex.{IsBytes, decode_of, encode_lower, encode_with, lower_digits}
 use Rattle.pec_types.specs.Text.{is_unprintable, AllPrintable}
-use Rattle.pec_types.proofs.TextLaws.{all_printable, printable_address}
 use Rattle.pec_directory.specs.Canonical.{account_line, account_value, back_of, canonical, domain_line, front_of, line_of, provider_text}
 use Rattle.pec_directory.specs.Directory.{Account, Provider}
 use Rattle.pec_directory.specs.Fields.{has_length, is_visible, is_visible_byte}
-use Rattle.pec_directory.specs.Lawful.{AreNext, AreNextAccounts, IsLawful, IsOwnDomain}
+use Rattle.pec_directory.specs.Lawful.{AreNext, AreNextAccounts, IsLawful, IsOwnDomain, provider_with}
+use Rattle.pec_directory.proofs.AddressLaws.{PrintableByByte, PrintableLaws}
 use Rattle.pec_directory.proofs.FormLemmas.{name_printable, own_printable, visible_printable}
 
 -- ---- cutting at a byte
@@ -70,8 +70,8 @@ lacking c P each (b ∷ bs) all = ap (λ x. x && lacks c bs) (each b all.0) ∙ 
 no_feed : (b : ℕ) → is_unprintable b ≡ false → not (eqb b 10) ≡ true
 no_feed b e = grind (arith, nat_tests)
 
-printed : (text : List ℕ) → AllPrintable text → lacks 10 text ≡ true
-printed text all = lacking 10 (λ b. is_unprintable b ≡ false) no_feed text (all_printable text all)
+printed : PrintableByByte → (text : List ℕ) → AllPrintable text → lacks 10 text ≡ true
+printed each text all = lacking 10 (λ b. is_unprintable b ≡ false) no_feed text ((each text).0 all)
 
 no_byte : (c : ℕ) (t : List ℕ) → lacks c t ≡ true → not (eqb 0 c) ≡ true → (k : ℕ) → not (eqb (slice_index t k) c) ≡ true
 no_byte c [] p zero_is k = zero_is
@@ -210,9 +210,9 @@ clean-append : (es fs : List Entry) → AreClean es → AreClean fs → AreClean
 clean-append [] fs p q = q
 clean-append (e ∷ es) fs p q = (p.0, p.1, clean-append es fs p.2 q)
 
-clean_domains : (ds : List (List ℕ)) → AllByRecursion IsOwnDomain ds → AreClean (domain_entries ds)
-clean_domains [] all = tt
-clean_domains (d ∷ ds) all = (refl, printed d (own_printable d all.0), clean_domains ds all.1)
+clean_domains : PrintableLaws → (ds : List (List ℕ)) → AllByRecursion IsOwnDomain ds → AreClean (domain_entries ds)
+clean_domains laws [] all = tt
+clean_domains laws (d ∷ ds) all = (refl, printed laws.each d (own_printable laws d all.0), clean_domains laws ds all.1)
 
 small : (n most : ℕ) → n ≤ most → most < 2 ^ 64 → n < 2 ^ 64
 small n most a b = omega arith
@@ -223,31 +223,31 @@ quota_fits n a = omega arith
 limit_fits : (n : ℕ) → n ≤ 31457280 → n < 2 ^ 64
 limit_fits n a = omega arith
 
-clean_value : (a : Account) → AllPrintable a.address → a.quota ≤ 1000000 → AllPrintable a.key → lacks 10 (account_value a) ≡ true
-clean_value a address quota key =
+clean_value : PrintableByByte → (a : Account) → AllPrintable a.address → a.quota ≤ 1000000 → AllPrintable a.key → lacks 10 (account_value a) ≡ true
+clean_value each a address quota key =
     lacks-append 10 (((a.address ++ codes " ") ++ decimal a.quota) ++ codes " ") a.key
     (lacks-append 10 ((a.address ++ codes " ") ++ decimal a.quota) (codes " ")
-    (lacks-append 10 (a.address ++ codes " ") (decimal a.quota) (lacks-append 10 a.address (codes " ") (printed a.address address) refl) (decimal_lacks 10 a.quota (omega arith) (quota_fits a.quota quota)))
+    (lacks-append 10 (a.address ++ codes " ") (decimal a.quota) (lacks-append 10 a.address (codes " ") (printed each a.address address) refl) (decimal_lacks 10 a.quota (omega arith) (quota_fits a.quota quota)))
     refl)
-    (printed a.key key)
+    (printed each a.key key)
 
-clean_accounts : (earlier : List Provider) (receipts : List ℕ) (domains : List (List ℕ)) (before xs : List Account) → AreNextAccounts earlier receipts domains before xs → AreClean (account_entries xs)
-clean_accounts earlier receipts domains before [] all = tt
-clean_accounts earlier receipts domains before (a ∷ xs) all =
-    (refl, clean_value a (printable_address a.address all.0.address) all.0.quota (visible_printable 64 a.key all.0.key), clean_accounts earlier receipts domains (before ++ a ∷ []) xs all.1)
+clean_accounts : PrintableLaws → (earlier : List Provider) (p : Provider) (xs : List Account) → AreNextAccounts earlier p xs → AreClean (account_entries xs)
+clean_accounts laws earlier p [] all = tt
+clean_accounts laws earlier p (a ∷ xs) all =
+    (refl, clean_value laws.each a (laws.address a.address all.0.address) all.0.quota (visible_printable laws.each 64 a.key all.0.key), clean_accounts laws earlier (provider_with p (p.accounts ++ a ∷ [])) xs all.1)
 
-clean_providers : (earlier ps : List Provider) → AreNext earlier ps → AreClean (entries_of ps)
-clean_providers earlier [] all = tt
-clean_providers earlier (p ∷ ps) all =
-    let accounts = clean_accounts earlier p.receipts p.domains [] p.accounts all.0.accounts in
-    let rest = clean_providers (earlier ++ p ∷ []) ps all.1 in (
+clean_providers : PrintableLaws → (earlier ps : List Provider) → AreNext earlier ps → AreClean (entries_of ps)
+clean_providers laws earlier [] all = tt
+clean_providers laws earlier (p ∷ ps) all =
+    let accounts = clean_accounts laws earlier (provider_with p []) p.accounts all.0.accounts in
+    let rest = clean_providers laws (earlier ++ p ∷ []) ps all.1 in (
       refl,
-      printed p.name (name_printable p.name all.0.name),
+      printed laws.each p.name (name_printable laws.each p.name all.0.name),
       (
         refl,
-        printed p.receipts (printable_address p.receipts all.0.receipts),
-        clean-append (domain_entries p.domains) _ (clean_domains p.domains all.0.domains_are)
-            (refl, hexed p.key, (refl, printed p.rule (visible_printable 128 p.rule all.0.rule), (refl, decimal_lacks 10 p.limit (omega arith) (limit_fits p.limit all.0.limit.1), clean-append (account_entries p.accounts) (entries_of ps) accounts rest))),
+        printed laws.each p.receipts (laws.address p.receipts all.0.receipts),
+        clean-append (domain_entries p.domains) _ (clean_domains laws p.domains all.0.domains_are)
+            (refl, hexed p.key, (refl, printed laws.each p.rule (visible_printable laws.each 128 p.rule all.0.rule), (refl, decimal_lacks 10 p.limit (omega arith) (limit_fits p.limit all.0.limit.1), clean-append (account_entries p.accounts) (entries_of ps) accounts rest))),
       ),
     )
 
@@ -304,24 +304,24 @@ account_same a b small other seen_key other_key e =
     made : (a b : List ℕ) (m n : ℕ) (k l : List ℕ) → a ≡ b → m ≡ n → k ≡ l → account_of a m k ≡ account_of b n l
     made a b m n k l p q r = cc
 
-module _ (e1 e2 : List Provider) (r1 r2 : List ℕ) (d1 d2 : List (List ℕ)) where
-  accounts_same : (b1 b2 xs ys : List Account) (ps qs : List Provider) → AreNextAccounts e1 r1 d1 b1 xs → AreNextAccounts e2 r2 d2 b2 ys
+module _ (e1 e2 : List Provider) where
+  accounts_same : (p1 p2 : Provider) (xs ys : List Account) (ps qs : List Provider) → AreNextAccounts e1 p1 xs → AreNextAccounts e2 p2 ys
       → account_entries xs ++ entries_of ps ≡ account_entries ys ++ entries_of qs → (xs ≡ ys) × (entries_of ps ≡ entries_of qs)
-  accounts_same b1 b2 [] [] ps qs p q e = (refl, e)
-  accounts_same b1 b2 [] (y ∷ ys) [] qs p q e = let no : ⊥ = cc in absurd no
-  accounts_same b1 b2 [] (y ∷ ys) (one ∷ ps) qs p q e =
+  accounts_same p1 p2 [] [] ps qs p q e = (refl, e)
+  accounts_same p1 p2 [] (y ∷ ys) [] qs p q e = let no : ⊥ = cc in absurd no
+  accounts_same p1 p2 [] (y ∷ ys) (one ∷ ps) qs p q e =
       let heads = cons_same _ _ _ (account_entries ys ++ entries_of qs) e in
       let bytes : 112 ≡ 97 = first_byte (codes "provider") (codes "account") (pair_same (codes "provider", one.name) (codes "account", account_value y) heads.0).0 in
       absurd (omega (arith, bytes))
-  accounts_same b1 b2 (x ∷ xs) [] ps [] p q e = let no : ⊥ = cc in absurd no
-  accounts_same b1 b2 (x ∷ xs) [] ps (one ∷ qs) p q e =
+  accounts_same p1 p2 (x ∷ xs) [] ps [] p q e = let no : ⊥ = cc in absurd no
+  accounts_same p1 p2 (x ∷ xs) [] ps (one ∷ qs) p q e =
       let heads = cons_same _ _ (account_entries xs ++ entries_of ps) _ e in
       let bytes : 97 ≡ 112 = first_byte (codes "account") (codes "provider") (pair_same (codes "account", account_value x) (codes "provider", one.name) heads.0).0 in
       absurd (omega (arith, bytes))
-  accounts_same b1 b2 (x ∷ xs) (y ∷ ys) ps qs p q e =
+  accounts_same p1 p2 (x ∷ xs) (y ∷ ys) ps qs p q e =
       let heads = cons_same _ _ (account_entries xs ++ entries_of ps) (account_entries ys ++ entries_of qs) e in
       let first = account_same x y p.0.quota q.0.quota p.0.key q.0.key (pair_same (codes "account", account_value x) (codes "account", account_value y) heads.0).1 in
-      let others = accounts_same (b1 ++ x ∷ []) (b2 ++ y ∷ []) xs ys ps qs p.1 q.1 heads.1 in
+      let others = accounts_same (provider_with p1 (p1.accounts ++ x ∷ [])) (provider_with p2 (p2.accounts ++ y ∷ [])) xs ys ps qs p.1 q.1 heads.1 in
       (ap (λ a. a ∷ xs) first ∙ ap (λ l. y ∷ l) others.0, others.1)
 
 hex_same : (xs ys : List ℕ) → IsBytes xs → IsBytes ys → encode_lower xs ≡ encode_lower ys → xs ≡ ys
@@ -340,7 +340,7 @@ providers_same e1 e2 (a ∷ ps) (b ∷ qs) p q e =
     let domains = domains_same a.domains b.domains (encode_lower a.key) (encode_lower b.key) _ _ receipts.1 in
     let rule = cons_same _ _ _ _ domains.2 in
     let limit = cons_same _ _ _ _ rule.1 in
-    let accounts = accounts_same e1 e2 a.receipts b.receipts a.domains b.domains [] [] a.accounts b.accounts ps qs p.0.accounts q.0.accounts limit.1 in
+    let accounts = accounts_same e1 e2 (provider_with a []) (provider_with b []) a.accounts b.accounts ps qs p.0.accounts q.0.accounts limit.1 in
     let rest = providers_same (e1 ++ a ∷ []) (e2 ++ b ∷ []) ps qs p.1 q.1 accounts.1 in
     let key = hex_same a.key b.key p.0.key.2 q.0.key.2 domains.1 in
     let number =
@@ -354,7 +354,7 @@ providers_same e1 e2 (a ∷ ps) (b ∷ qs) p q e =
         → provider_of n1 r1 d1 k1 z1 l1 a1 ≡ provider_of n2 r2 d2 k2 z2 l2 a2
     made n1 n2 r1 r2 d1 d2 k1 k2 z1 z2 l1 l2 a1 a2 e1 e2 e3 e4 e5 e6 e7 = cc
 
-pub one_directory : (ps qs : List Provider) → IsLawful ps → IsLawful qs → canonical ps ≡ canonical qs → ps ≡ qs
-one_directory ps qs p q e =
+pub one_directory : PrintableLaws → (ps qs : List Provider) → IsLawful ps → IsLawful qs → canonical ps ≡ canonical qs → ps ≡ qs
+one_directory laws ps qs p q e =
     providers_same [] [] ps qs p.each q.each
-    (lines_same (entries_of ps) (entries_of qs) (clean_providers [] ps p.each) (clean_providers [] qs q.each) (sym (canonical_lines ps) ∙ e ∙ canonical_lines qs))
+    (lines_same (entries_of ps) (entries_of qs) (clean_providers laws [] ps p.each) (clean_providers laws [] qs q.each) (sym (canonical_lines ps) ∙ e ∙ canonical_lines qs))

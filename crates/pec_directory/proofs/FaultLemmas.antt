@@ -13,6 +13,7 @@ use Rattle.pec_directory.specs.Walk.{Fields, account_in, accounts_from, count_of
 use Rattle.pec_directory.specs.declared.faults.DirectoryFault.{DirectoryFault}
 use Rattle.pec_directory.specs.declared.faults.DirectoryFault.TheVariants.{AccountOutside, AccountTwice, BadAddress, BadField, BadKey, BadZone, DomainTwice, NameTwice, NoProvider, NotToml, TooMany}
 use Rattle.pec_directory.specs.declared.faults.Field.TheVariants as field
+use Rattle.pec_directory.proofs.AddressLaws.{AddressLaws}
 use Rattle.pec_directory.proofs.LawfulLemmas.{account_so, provider_so}
 use Rattle.pec_directory.proofs.TableLemmas.{account_again, provider_again}
 
@@ -115,18 +116,18 @@ account_told earlier fields before entry fault =
     let rows = account_rows earlier fields before entry in
     (λ e. stop_so rows fault (steps.0 e), λ first. steps.1 (stop_again rows fault first))
 
-accounts_told : (earlier : List Provider) (fields : Fields) (before : List Account) (tables : Items) (fault : DirectoryFault)
+accounts_told : AddressLaws → (earlier : List Provider) (fields : Fields) (before : List Account) (tables : Items) (fault : DirectoryFault)
     → (accounts_from earlier fields before tables ≡ Err fault) ↔ AccountsStop earlier fields before tables fault
-accounts_told earlier fields before no_items fault = (λ e. absurd (never fault e), λ stops. absurd stops)
-accounts_told earlier fields before (item entry tables) fault =
-    let further = λ (account : Account). accounts_told earlier fields (before ++ account ∷ []) tables fault in
+accounts_told laws earlier fields before no_items fault = (λ e. absurd (never fault e), λ stops. absurd stops)
+accounts_told laws earlier fields before (item entry tables) fault =
+    let further = λ (account : Account). accounts_told laws earlier fields (before ++ account ∷ []) tables fault in
     (by_first further (account_in earlier fields before entry) refl, again further)
   where
     by_first : ((account : Account) → (accounts_from earlier fields (before ++ account ∷ []) tables ≡ Err fault) ↔ AccountsStop earlier fields (before ++ account ∷ []) tables fault)
         → (r : Result Account DirectoryFault) → account_in earlier fields before entry ≡ r → (r >>= λ next. accounts_from earlier fields (before ++ next ∷ []) tables) ≡ Err fault
         → AccountsStop earlier fields before (item entry tables) fault
     by_first further (Ok account) is e =
-        let so = account_so earlier fields before entry account is in
+        let so = account_so laws earlier fields before entry account is in
         inr (account, (so.1, so.0), (further account).0 e)
     by_first further (Err first) is e = inl ((account_told earlier fields before entry fault).0 (is ∙ ap wrong (err_same first fault e)))
 
@@ -317,8 +318,8 @@ not_ok (Err y) f fault e = cc
 apart : (r : Result (Unit {0}) DirectoryFault) (fault : DirectoryFault) → r ≡ no_fault → r ≡ Err fault → ⊥
 apart r fault e f = cc
 
-provider_told : (earlier : List Provider) (entry : Data) (fault : DirectoryFault) → (provider_in earlier entry ≡ Err fault) ↔ IsProviderFault earlier entry fault
-provider_told earlier entry fault = (there, back)
+provider_told : AddressLaws → (earlier : List Provider) (entry : Data) (fault : DirectoryFault) → (provider_in earlier entry ≡ Err fault) ↔ IsProviderFault earlier entry fault
+provider_told laws earlier entry fault = (there, back)
   where
     rows : List Row
     rows = provider_rows earlier entry
@@ -333,7 +334,7 @@ provider_told earlier entry fault = (there, back)
           good.1,
           good.2.said,
           good.2.there,
-          (accounts_told earlier good.0 [] good.1 fault).0 (not_ok (accounts_from earlier good.0 [] good.1) (with_accounts good.0) fault (sym good.2.walk ∙ e)),
+          (accounts_told laws earlier good.0 [] good.1 fault).0 (not_ok (accounts_from earlier good.0 [] good.1) (with_accounts good.0) fault (sym good.2.walk ∙ e)),
         ),
       )
     ]
@@ -350,27 +351,27 @@ provider_told earlier entry fault = (there, back)
             good.2.walk
             ∙ ap (λ f. rest_of earlier f good.1) (fields_same entry good.0 rest.1.0 good.2.said rest.1.2)
             ∙ ap (rest_of earlier rest.1.0) (some_same good.1 rest.1.1 (sym good.2.there ∙ rest.1.3))
-            ∙ ap (λ r. r >>= (λ all. Ok (with_accounts rest.1.0 all))) ((accounts_told earlier rest.1.0 [] rest.1.1 fault).1 rest.1.4)
+            ∙ ap (λ r. r >>= (λ all. Ok (with_accounts rest.1.0 all))) ((accounts_told laws earlier rest.1.0 [] rest.1.1 fault).1 rest.1.4)
       ]
     ]
 
-providers_told : (earlier : List Provider) (tables : Items) (fault : DirectoryFault) → (providers_from earlier tables ≡ Err fault) ↔ ProvidersStop earlier tables fault
-providers_told earlier no_items fault = (λ e. absurd (never fault e), λ stops. absurd stops)
-providers_told earlier (item entry tables) fault =
-    let further = λ (provider : Provider). providers_told (earlier ++ provider ∷ []) tables fault in
+providers_told : AddressLaws → (earlier : List Provider) (tables : Items) (fault : DirectoryFault) → (providers_from earlier tables ≡ Err fault) ↔ ProvidersStop earlier tables fault
+providers_told laws earlier no_items fault = (λ e. absurd (never fault e), λ stops. absurd stops)
+providers_told laws earlier (item entry tables) fault =
+    let further = λ (provider : Provider). providers_told laws (earlier ++ provider ∷ []) tables fault in
     (by_first further (provider_in earlier entry) refl, again further)
   where
     by_first : ((provider : Provider) → (providers_from (earlier ++ provider ∷ []) tables ≡ Err fault) ↔ ProvidersStop (earlier ++ provider ∷ []) tables fault)
         → (r : Result Provider DirectoryFault) → provider_in earlier entry ≡ r → (r >>= λ next. providers_from (earlier ++ next ∷ []) tables) ≡ Err fault → ProvidersStop earlier (item entry tables) fault
     by_first further (Ok provider) is e =
-        let so = provider_so earlier entry provider is in
+        let so = provider_so laws earlier entry provider is in
         inr (provider, (so.1, so.0), (further provider).0 e)
-    by_first further (Err first) is e = inl ((provider_told earlier entry fault).0 (is ∙ ap wrong (err_same first fault e)))
+    by_first further (Err first) is e = inl ((provider_told laws earlier entry fault).0 (is ∙ ap wrong (err_same first fault e)))
 
     again : ((provider : Provider) → (providers_from (earlier ++ provider ∷ []) tables ≡ Err fault) ↔ ProvidersStop (earlier ++ provider ∷ []) tables fault)
         → ProvidersStop earlier (item entry tables) fault → providers_from earlier (item entry tables) ≡ Err fault
     again further stops = elim stops [
-      | inl first ↦ ap (λ r. r >>= (λ next. providers_from (earlier ++ next ∷ []) tables)) ((provider_told earlier entry fault).1 first)
+      | inl first ↦ ap (λ r. r >>= (λ next. providers_from (earlier ++ next ∷ []) tables)) ((provider_told laws earlier entry fault).1 first)
       | inr rest ↦ ap (λ r. r >>= (λ next. providers_from (earlier ++ next ∷ []) tables)) (provider_again earlier entry rest.0 rest.1.1 rest.1.0)
           ∙ (further rest.0).1 rest.2
     ]
@@ -393,16 +394,16 @@ tables_walk o = or_fault NoProvider o >>= λ tables. fault_if (eqb (count_of tab
 abbrev tables_rows : Option Items → List Row
 tables_rows o = (is_none o, NoProvider) ∷ (meets (λ tables. eqb (count_of tables) 0) o, NoProvider) ∷ (meets (λ tables. ltb most_providers (count_of tables)) o, TooMany) ∷ []
 
-tables_told : (o : Option Items) (fault : DirectoryFault)
+tables_told : AddressLaws → (o : Option Items) (fault : DirectoryFault)
     → (tables_walk o ≡ Err fault) ↔ (IsFirstFault (tables_rows o) fault ⊎ (NoneMet (tables_rows o) × ((tables : Items) × (o ≡ Some tables) × ProvidersStop [] tables fault)))
-tables_told None fault = (
+tables_told laws None fault = (
   λ e. inl (stop_so (tables_rows None) fault cc),
   λ stops. elim stops [
     | inl first ↦ ap wrong (err_same NoProvider fault (stop_again (tables_rows None) fault first))
     | inr rest ↦ absurd (rest.0.0 refl)
   ],
 )
-tables_told (Some tables) fault = elim (count_case (eqb (count_of tables) 0) (ltb most_providers (count_of tables)) (providers_from [] tables)) [
+tables_told laws (Some tables) fault = elim (count_case (eqb (count_of tables) 0) (ltb most_providers (count_of tables)) (providers_from [] tables)) [
   | inl bad ↦ (
     λ e. inl (stop_so (tables_rows (Some tables)) fault (bad.2 ∙ ap wrong (err_same bad.0 fault (sym bad.1 ∙ e)))),
     λ stops. elim stops [
@@ -411,21 +412,21 @@ tables_told (Some tables) fault = elim (count_case (eqb (count_of tables) 0) (lt
     ],
   )
   | inr good ↦ (
-    λ e. inr (none_so (tables_rows (Some tables)) good.1, (tables, refl, (providers_told [] tables fault).0 (sym good.0 ∙ e))),
+    λ e. inr (none_so (tables_rows (Some tables)) good.1, (tables, refl, (providers_told laws [] tables fault).0 (sym good.0 ∙ e))),
     λ stops. elim stops [
       | inl first ↦ absurd (apart (stop (tables_rows (Some tables))) fault good.1 (stop_again (tables_rows (Some tables)) fault first))
-      | inr rest ↦ good.0 ∙ (providers_told [] tables fault).1 (subst (λ t. ProvidersStop [] t fault) (sym (some_same tables rest.1.0 rest.1.1)) rest.1.2)
+      | inr rest ↦ good.0 ∙ (providers_told laws [] tables fault).1 (subst (λ t. ProvidersStop [] t fault) (sym (some_same tables rest.1.0 rest.1.1)) rest.1.2)
     ],
   )
 ]
 
-table_told : (whole : Data) (fault : DirectoryFault) → (directory_in whole ≡ Err fault) ↔ IsTableFault whole fault
+table_told : AddressLaws → (whole : Data) (fault : DirectoryFault) → (directory_in whole ≡ Err fault) ↔ IsTableFault whole fault
 unfolding directory_in
-table_told whole fault = tables_told (providers_in whole) fault
+table_told laws whole fault = tables_told laws (providers_in whole) fault
 
-pub fault_told : (text : Bytes) (fault : DirectoryFault) → (directory_of text ≡ Err fault) ↔ IsDirectoryFault text fault
+pub fault_told : AddressLaws → (text : Bytes) (fault : DirectoryFault) → (directory_of text ≡ Err fault) ↔ IsDirectoryFault text fault
 unfolding directory_of
-fault_told text fault = by_document (document_of text) refl
+fault_told laws text fault = by_document (document_of text) refl
   where
     by_document : (o : Option Data) → document_of text ≡ o → ((or_fault NotToml o >>= directory_in) ≡ Err fault) ↔ (((o ≡ None) × (fault ≡ NotToml)) ⊎ ((whole : Data) × (o ≡ Some whole) × IsTableFault whole fault))
     by_document None is = (
@@ -436,9 +437,9 @@ fault_told text fault = by_document (document_of text) refl
       ],
     )
     by_document (Some whole) is = (
-      λ e. inr (whole, refl, (table_told whole fault).0 e),
+      λ e. inr (whole, refl, (table_told laws whole fault).0 e),
       λ stops. elim stops [
         | inl none ↦ let no : ⊥ = cc in absurd no
-        | inr rest ↦ (table_told whole fault).1 (subst (λ w. IsTableFault w fault) (sym (some_same whole rest.0 rest.1)) rest.2)
+        | inr rest ↦ (table_told laws whole fault).1 (subst (λ w. IsTableFault w fault) (sym (some_same whole rest.0 rest.1)) rest.2)
       ],
     )

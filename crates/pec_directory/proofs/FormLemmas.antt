@@ -9,9 +9,9 @@ use Rattle.toml.specs.View.{items_view, view}
 use Rattle.toml.specs.declared.value.Value.{Value}
 use Rattle.pec_types.specs.Address.{IsLowerAddress, HasDomain}
 use Rattle.pec_types.specs.Text.{is_unprintable, AllPrintable}
-use Rattle.pec_types.proofs.TextLaws.{all_printable, printable_address, printable_all}
 use Rattle.pec_directory.specs.Fields.{are_tables, domain_of_item, domains_of, has_length, is_name, is_name_byte, is_visible, is_visible_byte, service_at}
 use Rattle.pec_directory.specs.Lawful.{IsOwnDomain}
+use Rattle.pec_directory.proofs.AddressLaws.{PrintableByByte, PrintableLaws}
 
 both : (x y : Bool) → (x && y) ≡ true → (x ≡ true) × (y ≡ true)
 both true y e = (refl, e)
@@ -27,24 +27,27 @@ name_byte b e = grind (arith, nat_tests)
 visible_byte : (b : ℕ) → is_visible_byte b ≡ true → is_unprintable b ≡ false
 visible_byte b e = grind (arith, nat_tests)
 
-pub name_printable : (text : List ℕ) → is_name text ≡ true → AllPrintable text
+pub name_printable : PrintableByByte → (text : List ℕ) → is_name text ≡ true → AllPrintable text
 unfolding is_name
-name_printable text e = printable_all text (all_of is_name_byte name_byte text (both _ (has_length 1 32 text) e).0)
+name_printable each text e = (each text).1 (all_of is_name_byte name_byte text (both _ (has_length 1 32 text) e).0)
 
-pub visible_printable : (most : ℕ) (text : List ℕ) → is_visible most text ≡ true → AllPrintable text
+pub visible_printable : PrintableByByte → (most : ℕ) (text : List ℕ) → is_visible most text ≡ true → AllPrintable text
 unfolding is_visible
-visible_printable most text e = printable_all text (all_of is_visible_byte visible_byte text (both _ (has_length 1 most text) e).0)
+visible_printable each most text e = (each text).1 (all_of is_visible_byte visible_byte text (both _ (has_length 1 most text) e).0)
 
 behind : (front back : List ℕ) → AllByRecursion (λ c. is_unprintable c ≡ false) (front ++ back) → AllByRecursion (λ c. is_unprintable c ≡ false) back
 behind [] back all = all
 behind (b ∷ front) back all = behind front back all.1
 
-pub domain_printable : (address domain : List ℕ) → IsLowerAddress address → HasDomain address domain → AllPrintable domain
-domain_printable address domain lower parts =
-    printable_all domain (behind parts.local (64 ∷ domain) (rw parts.parts at (all_printable address (printable_address address lower)))).1
+-- each byte of an address is printable
+address_bytes : PrintableLaws → (address : List ℕ) → IsLowerAddress address → AllByRecursion (λ c. is_unprintable c ≡ false) address
+address_bytes laws address lower = (laws.each address).0 (laws.address address lower)
 
-pub own_printable : (domain : List ℕ) → IsOwnDomain domain → AllPrintable domain
-own_printable domain own = printable_all domain (behind (service_at []) domain (all_printable (service_at domain) (printable_address (service_at domain) own)))
+pub domain_printable : PrintableLaws → (address domain : List ℕ) → IsLowerAddress address → HasDomain address domain → AllPrintable domain
+domain_printable laws address domain lower parts = (laws.each domain).1 (behind parts.local (64 ∷ domain) (rw parts.parts at (address_bytes laws address lower))).1
+
+pub own_printable : PrintableLaws → (domain : List ℕ) → IsOwnDomain domain → AllPrintable domain
+own_printable laws domain own = (laws.each domain).1 (behind (service_at []) domain (address_bytes laws (service_at domain) own))
 
 pub are_tables_view : (values : List Value) → are_tables (items_view values) ≡ list_all (λ value. is_some (as_table (view value))) values
 are_tables_view [] = refl

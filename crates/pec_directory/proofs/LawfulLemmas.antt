@@ -14,8 +14,6 @@ use Rattle.pec_types.specs.AddressReading.{address_of, behind_sign, domain_of, i
 use Rattle.pec_types.specs.Bytes.{Bytes}
 use Rattle.pec_types.specs.Results.{◌>>=◌}
 use Rattle.pec_types.specs.declared.addresses.AddressFault.{AddressFault}
-use Rattle.pec_types.proofs.AddressLaws.{told_exactly}
-use Rattle.pec_types.proofs.LowerCase.{kept_address}
 use Rattle.pec_directory.specs.Directory.{Account, Provider, accounts_of}
 use Rattle.pec_directory.specs.Fields.{accounts_at, address_at, address_in, domain_in, domain_of_item, domains_at, domains_of, greatest_limit, has_length, is_hex, is_hex_byte, is_name, is_some_list, is_visible, key_at, key_of, limit_at, limit_of, name_at, number_in, number_of, quota_at, receipts_at, rule_at, seal_key_at, service_at, text_at, where_true}
 use Rattle.pec_directory.specs.Lawful.{AreNext, AreNextAccounts, IsLawful, IsNext, IsNextAccount, IsOwnDomain}
@@ -25,6 +23,7 @@ use Rattle.pec_directory.specs.Walk.{Fields, account_in, accounts_from, count_of
 use Rattle.pec_directory.specs.declared.faults.DirectoryFault.{DirectoryFault}
 use Rattle.pec_directory.specs.declared.faults.DirectoryFault.TheVariants.{NotToml, BadField, NameTwice, DomainTwice, BadAddress, AccountOutside, AccountTwice, BadKey, BadZone, TooMany, NoProvider}
 use Rattle.pec_directory.specs.declared.faults.Field.TheVariants as field
+use Rattle.pec_directory.proofs.AddressLaws.{AddressLaws}
 
 -- ---- steps that were taken
 
@@ -71,12 +70,12 @@ both false y e = absurd (false≢true e)
 
 -- ---- fields
 
-read_so : (text a : Bytes) (r : Result Bytes AddressFault) → address_of text ≡ r → result_ok r ≡ Some a → IsReadAs text a
-read_so text a (Ok b) is e = let read = ((told_exactly text).value b).0 is in (read.0, sym (same b a e) ∙ read.1)
-read_so text a (Err fault) is e = let h : ⊥ = cc in absurd h
+read_so : AddressLaws → (text a : Bytes) (r : Result Bytes AddressFault) → address_of text ≡ r → result_ok r ≡ Some a → IsReadAs text a
+read_so laws text a (Ok b) is e = let read = ((laws.told text).value b).0 is in (read.0, sym (same b a e) ∙ read.1)
+read_so laws text a (Err fault) is e = let h : ⊥ = cc in absurd h
 
-address_lower : (text a : Bytes) → address_in text ≡ Some a → IsLowerAddress a
-address_lower text a e = let read = read_so text a (address_of text) refl e in kept_address text a read.0 read.1
+address_lower : AddressLaws → (text a : Bytes) → address_in text ≡ Some a → IsLowerAddress a
+address_lower laws text a e = let read = read_so laws text a (address_of text) refl e in laws.lower text a read
 
 pub named_so : (entry : Data) (name : Bytes) → name_at entry ≡ Some name → is_name name ≡ true
 unfolding name_at
@@ -85,12 +84,12 @@ named_so entry name e =
     let fits = where_some (is_name text.0) (Some text.0) name text.2 in
     subst (λ t. is_name t ≡ true) (same text.0 name fits.1) fits.0
 
-pub receipts_so : (number : ℕ) (entry : Data) (address : Bytes) → receipts_in number entry ≡ Ok address → (receipts_at entry ≡ Some address) × IsLowerAddress address
+pub receipts_so : AddressLaws → (number : ℕ) (entry : Data) (address : Bytes) → receipts_in number entry ≡ Ok address → (receipts_at entry ≡ Some address) × IsLowerAddress address
 unfolding receipts_in receipts_at
-receipts_so number entry address e =
+receipts_so laws number entry address e =
     let text = or_ok (BadField number field.MailReceipt) (text_at (codes "mailReceipt") entry) (λ t. or_fault (BadAddress number 0) (address_in t)) address e in
     let read = or_last (BadAddress number 0) (address_in text.0) address text.2 in
-    (ap (option_and_then address_in) text.1 ∙ read, address_lower text.0 address read)
+    (ap (option_and_then address_in) text.1 ∙ read, address_lower laws text.0 address read)
 
 -- a text behind the service's name, in lower case
 service_lower : (text : Bytes) → lowered (service_at text) ≡ service_at (lowered text)
@@ -103,36 +102,36 @@ service_domain : (domain : Bytes) → domain_of (service_at domain) ≡ domain
 unfolding domain_of
 service_domain domain = ap (behind_sign (service_at domain)) (service_sign domain)
 
-domain_own : (text domain : Bytes) → domain_in text ≡ Some domain → IsOwnDomain domain
+domain_own : AddressLaws → (text domain : Bytes) → domain_in text ≡ Some domain → IsOwnDomain domain
 unfolding domain_in
-domain_own text domain e =
+domain_own laws text domain e =
     let address = then_some (address_in (service_at text)) (λ a. Some (domain_of a)) domain e in
-    let read = read_so (service_at text) address.0 (address_of (service_at text)) refl address.1 in
+    let read = read_so laws (service_at text) address.0 (address_of (service_at text)) refl address.1 in
     let whole : address.0 ≡ service_at (lowered text) = read.1 ∙ service_lower text in
     let is : domain ≡ lowered text = sym (same (domain_of address.0) domain address.2) ∙ ap domain_of whole ∙ service_domain (lowered text) in
-    subst IsLowerAddress (whole ∙ ap service_at (sym is)) (address_lower (service_at text) address.0 address.1)
+    subst IsLowerAddress (whole ∙ ap service_at (sym is)) (address_lower laws (service_at text) address.0 address.1)
 
-item_own : (value : Data) (domain : Bytes) → domain_of_item value ≡ Some domain → IsOwnDomain domain
+item_own : AddressLaws → (value : Data) (domain : Bytes) → domain_of_item value ≡ Some domain → IsOwnDomain domain
 unfolding domain_of_item
-item_own value domain e = let text = then_some (as_str value) domain_in domain e in domain_own text.0 domain text.2
+item_own laws value domain e = let text = then_some (as_str value) domain_in domain e in domain_own laws text.0 domain text.2
 
-all_own : (values : Items) (domains : List Bytes) → domains_of values ≡ Some domains → AllByRecursion IsOwnDomain domains
-all_own no_items domains e = subst (AllByRecursion IsOwnDomain) (same [] domains e) tt
-all_own (item value values) domains e =
+all_own : AddressLaws → (values : Items) (domains : List Bytes) → domains_of values ≡ Some domains → AllByRecursion IsOwnDomain domains
+all_own laws no_items domains e = subst (AllByRecursion IsOwnDomain) (same [] domains e) tt
+all_own laws (item value values) domains e =
     let first = then_some (domain_of_item value) (λ d. option_map (λ rest. d ∷ rest) (domains_of values)) domains e in
     let rest = map_some (λ r. first.0 ∷ r) (domains_of values) domains first.2 in
-    subst (AllByRecursion IsOwnDomain) rest.2 (item_own value first.0 first.1, all_own values rest.0 rest.1)
+    subst (AllByRecursion IsOwnDomain) rest.2 (item_own laws value first.0 first.1, all_own laws values rest.0 rest.1)
 
-pub domains_so : (entry : Data) (domains : List Bytes) → domains_at entry ≡ Some domains → (is_some_list domains ≡ true) × AllByRecursion IsOwnDomain domains
+pub domains_so : AddressLaws → (entry : Data) (domains : List Bytes) → domains_at entry ≡ Some domains → (is_some_list domains ≡ true) × AllByRecursion IsOwnDomain domains
 unfolding domains_at
-domains_so entry domains e =
+domains_so laws entry domains e =
     let checked : List Bytes → Option (List Bytes) = λ d. where_true (is_some_list d) (Some d) in
     let list = then_some (get (codes "managedDomains") entry) (λ l. option_and_then (λ i. option_and_then checked (domains_of i)) (as_array l)) domains e in
     let items = then_some (as_array list.0) (λ i. option_and_then checked (domains_of i)) domains list.2 in
     let read = then_some (domains_of items.0) checked domains items.2 in
     let some = where_some (is_some_list read.0) (Some read.0) domains read.2 in
     let is = same read.0 domains some.1 in
-    (subst (λ d. is_some_list d ≡ true) is some.0, subst (AllByRecursion IsOwnDomain) is (all_own items.0 read.0 read.1))
+    (subst (λ d. is_some_list d ≡ true) is some.0, subst (AllByRecursion IsOwnDomain) is (all_own laws items.0 read.0 read.1))
 
 key_bytes : (text key : Bytes) (r : Result Bytes FromHexError) → decode_of text ≡ r → result_ok r ≡ Some key → has_length 32 128 text ≡ true → (16 ≤ length key) × (length key ≤ 64) × IsBytes key
 key_bytes text key (Ok bytes) is e fits =
@@ -221,10 +220,10 @@ four fa fb fc fd (Some x) (Some z) (Some w) d f y e =
     let last = or_ok fd (d x) (f z w) y e in
     (x, z, w, last.0, refl, refl, refl, last.1, last.2)
 
-pub account_so : (earlier : List Provider) (fields : Fields) (before : List Account) (value : Data) (account : Account) → account_in earlier fields before value ≡ Ok account
-    → IsNextAccount earlier fields.receipts fields.domains before account × SaysAccount value account
+pub account_so : AddressLaws → (earlier : List Provider) (fields : Fields) (before : List Account) (value : Data) (account : Account) → account_in earlier fields before value ≡ Ok account
+    → IsNextAccount earlier (with_accounts fields before) account × SaysAccount value account
 unfolding account_in address_at
-account_so earlier fields before value account e =
+account_so laws earlier fields before value account e =
     let number = length earlier in
     let at = length before + 1 in
     let checked : ℕ → Bytes → Bytes → Result Account DirectoryFault =
@@ -238,9 +237,9 @@ account_so earlier fields before value account e =
     let free = unless_ok (is_taken earlier fields.receipts before said.3) (AccountTwice number at) _ account inside.1 in
     let room = unless_ok (leb most_accounts (length (accounts_of earlier) + length before)) TooMany _ account free.1 in
     let is = ok_same (record { address = said.3; quota = said.1; key = said.2 }) account room.1 in
-    subst (λ a. IsNextAccount earlier fields.receipts fields.domains before a × SaysAccount value a) is (
+    subst (λ a. IsNextAccount earlier (with_accounts fields before) a × SaysAccount value a) is (
       record {
-        address = address_lower said.0 said.3 said.7;
+        address = address_lower laws said.0 said.3 said.7;
         inside = inside.0;
         free = free.0;
         room = leb-false most_accounts (length (accounts_of earlier) + length before) room.0;
@@ -250,13 +249,13 @@ account_so earlier fields before value account e =
       record { address = ap (option_and_then address_in) said.4 ∙ said.7; quota = said.5; key = said.6 },
     )
 
-accounts_so : (earlier : List Provider) (fields : Fields) (before : List Account) (values : Items) (all : List Account) → accounts_from earlier fields before values ≡ Ok all
-    → (accounts : List Account) × (all ≡ before ++ accounts) × (AreNextAccounts earlier fields.receipts fields.domains before accounts × SayAccounts values accounts)
-accounts_so earlier fields before no_items all e = ([], sym (ok_same before all e) ∙ sym (append-nil before), (tt, tt))
-accounts_so earlier fields before (item value values) all e =
+accounts_so : AddressLaws → (earlier : List Provider) (fields : Fields) (before : List Account) (values : Items) (all : List Account) → accounts_from earlier fields before values ≡ Ok all
+    → (accounts : List Account) × (all ≡ before ++ accounts) × (AreNextAccounts earlier (with_accounts fields before) accounts × SayAccounts values accounts)
+accounts_so laws earlier fields before no_items all e = ([], sym (ok_same before all e) ∙ sym (append-nil before), (tt, tt))
+accounts_so laws earlier fields before (item value values) all e =
     let first = bind_ok (account_in earlier fields before value) (λ next. accounts_from earlier fields (before ++ next ∷ []) values) all e in
-    let rest = accounts_so earlier fields (before ++ first.0 ∷ []) values all first.2 in
-    let one = account_so earlier fields before value first.0 first.1 in
+    let rest = accounts_so laws earlier fields (before ++ first.0 ∷ []) values all first.2 in
+    let one = account_so laws earlier fields before value first.0 first.1 in
     (first.0 ∷ rest.0, rest.1 ∙ append_assoc before (first.0 ∷ []) rest.0, ((one.0, rest.2.0), (one.1, rest.2.1)))
 
 -- ---- providers
@@ -286,9 +285,9 @@ record OwnFields (entry : Data) (f : Fields) : Type 0 where
   limit_said : limit_at entry ≡ Some f.limit
   limit : (1 ≤ f.limit) × (f.limit ≤ greatest_limit)
 
-fields_so : (number : ℕ) (value : Data) (fields : Fields) → fields_of number value ≡ Ok fields → OwnFields value fields
+fields_so : AddressLaws → (number : ℕ) (value : Data) (fields : Fields) → fields_of number value ≡ Ok fields → OwnFields value fields
 unfolding fields_of
-fields_so number value fields e =
+fields_so laws number value fields e =
     let made : Bytes → Bytes → List Bytes → Bytes → Bytes → ℕ → Fields =
     λ n r d k z l. record { name = n; receipts = r; domains = d; key = k; rule = z; limit = l } in
     let said =
@@ -300,9 +299,9 @@ fields_so number value fields e =
     subst (OwnFields value) said.12
     record {
       name = (name, named_so value said.0 name);
-      receipts = receipts_so number value said.1 said.7;
+      receipts = receipts_so laws number value said.1 said.7;
       domains_said = domains;
-      domains = domains_so value said.2 domains;
+      domains = domains_so laws value said.2 domains;
       key_said = seal_key_so number value said.3 said.9;
       key = key_so number value said.3 said.9;
       rule_said = rule_said number value said.4 said.10;
@@ -311,16 +310,16 @@ fields_so number value fields e =
       limit = limit_so value said.5 limit;
     }
 
-settled_so : (earlier : List Provider) (entry : Data) (fields : Fields) (values : Items) (provider : Provider) → OwnFields entry fields → accounts_at entry ≡ Some values
+settled_so : AddressLaws → (earlier : List Provider) (entry : Data) (fields : Fields) (values : Items) (provider : Provider) → OwnFields entry fields → accounts_at entry ≡ Some values
     → settled earlier fields values ≡ Ok provider → IsNext earlier provider × SaysProvider entry provider
 unfolding settled
-settled_so earlier entry fields values provider own there e =
+settled_so laws earlier entry fields values provider own there e =
     let number = length earlier in
     let name = unless_ok (is_named fields.name earlier) (NameTwice number) _ provider e in
     let once = unless_ok (stands_twice (walk.domains_of earlier) fields.domains) (DomainTwice number) _ provider name.1 in
     let inside = unless_ok (is_outside fields.domains fields.receipts) (AccountOutside number 0) _ provider once.1 in
     let read = bind_ok (accounts_from earlier fields [] values) (λ all. Ok (with_accounts fields all)) provider inside.1 in
-    let accounts = accounts_so earlier fields [] values read.0 read.1 in
+    let accounts = accounts_so laws earlier fields [] values read.0 read.1 in
     subst (λ p. IsNext earlier p × SaysProvider entry p) (ok_same (with_accounts fields read.0) provider read.2) (
       record {
         name = own.name.1;
@@ -334,7 +333,7 @@ settled_so earlier entry fields values provider own there e =
         rule = own.rule.0;
         zone = own.rule.1;
         limit = own.limit;
-        accounts = subst (AreNextAccounts earlier fields.receipts fields.domains []) (sym accounts.1) accounts.2.0;
+        accounts = subst (AreNextAccounts earlier (with_accounts fields [])) (sym accounts.1) accounts.2.0;
       },
       record {
         fields = record { name = own.name.0; receipts = own.receipts.0; domains = own.domains_said; key = own.key_said; rule = own.rule_said; limit = own.limit_said };
@@ -344,43 +343,43 @@ settled_so earlier entry fields values provider own there e =
       },
     )
 
-pub provider_so : (earlier : List Provider) (value : Data) (provider : Provider) → provider_in earlier value ≡ Ok provider → IsNext earlier provider × SaysProvider value provider
+pub provider_so : AddressLaws → (earlier : List Provider) (value : Data) (provider : Provider) → provider_in earlier value ≡ Ok provider → IsNext earlier provider × SaysProvider value provider
 unfolding provider_in
-provider_so earlier value provider e =
+provider_so laws earlier value provider e =
     let fields = bind_ok (fields_of (length earlier) value) (λ f. or_fault (BadField (length earlier) field.Account) (accounts_at value) >>= (λ a. settled earlier f a)) provider e in
     let accounts = or_ok (BadField (length earlier) field.Account) (accounts_at value) (settled earlier fields.0) provider fields.2 in
-    settled_so earlier value fields.0 accounts.0 provider (fields_so (length earlier) value fields.0 fields.1) accounts.1 accounts.2
+    settled_so laws earlier value fields.0 accounts.0 provider (fields_so laws (length earlier) value fields.0 fields.1) accounts.1 accounts.2
 
-providers_so : (earlier : List Provider) (values : Items) (all : List Provider) → providers_from earlier values ≡ Ok all
+providers_so : AddressLaws → (earlier : List Provider) (values : Items) (all : List Provider) → providers_from earlier values ≡ Ok all
     → (providers : List Provider) × (all ≡ earlier ++ providers) × (AreNext earlier providers × SayProviders values providers) × (length providers ≡ count_of values)
-providers_so earlier no_items all e = ([], sym (ok_same earlier all e) ∙ sym (append-nil earlier), (tt, tt), refl)
-providers_so earlier (item value values) all e =
+providers_so laws earlier no_items all e = ([], sym (ok_same earlier all e) ∙ sym (append-nil earlier), (tt, tt), refl)
+providers_so laws earlier (item value values) all e =
     let first = bind_ok (provider_in earlier value) (λ next. providers_from (earlier ++ next ∷ []) values) all e in
-    let rest = providers_so (earlier ++ first.0 ∷ []) values all first.2 in
-    let one = provider_so earlier value first.0 first.1 in
+    let rest = providers_so laws (earlier ++ first.0 ∷ []) values all first.2 in
+    let one = provider_so laws earlier value first.0 first.1 in
     (first.0 ∷ rest.0, rest.1 ∙ append_assoc earlier (first.0 ∷ []) rest.0, ((one.0, rest.2.0), (one.1, rest.2.1)), omega (arith, rest.3))
 
-said_from : (values : Items) (providers : List Provider) → 0 < count_of values → count_of values ≤ most_providers → providers_from [] values ≡ Ok providers
+said_from : AddressLaws → (values : Items) (providers : List Provider) → 0 < count_of values → count_of values ≤ most_providers → providers_from [] values ≡ Ok providers
     → IsLawful providers × SayProviders values providers
-said_from values providers some few e =
-    let all = providers_so [] values providers e in
+said_from laws values providers some few e =
+    let all = providers_so laws [] values providers e in
     subst (λ ps. IsLawful ps × SayProviders values ps) (sym all.1) (record { some = omega (arith, all.3); few = omega (arith, all.3); each = all.2.0 }, all.2.1)
 
-pub lawful_from : (values : Items) (providers : List Provider) → 0 < count_of values → count_of values ≤ most_providers → providers_from [] values ≡ Ok providers → IsLawful providers
-lawful_from values providers some few e = (said_from values providers some few e).0
+pub lawful_from : AddressLaws → (values : Items) (providers : List Provider) → 0 < count_of values → count_of values ≤ most_providers → providers_from [] values ≡ Ok providers → IsLawful providers
+lawful_from laws values providers some few e = (said_from laws values providers some few e).0
 
-said_in : (whole : Data) (providers : List Provider) → directory_in whole ≡ Ok providers → (values : Items) × (providers_in whole ≡ Some values) × (IsLawful providers × SayProviders values providers)
+said_in : AddressLaws → (whole : Data) (providers : List Provider) → directory_in whole ≡ Ok providers → (values : Items) × (providers_in whole ≡ Some values) × (IsLawful providers × SayProviders values providers)
 unfolding directory_in
-said_in whole providers e =
+said_in laws whole providers e =
     let values = or_ok NoProvider (providers_in whole) _ providers e in
     let some = unless_ok (eqb (count_of values.0) 0) NoProvider _ providers values.2 in
     let few = unless_ok (ltb most_providers (count_of values.0)) TooMany _ providers some.1 in
     let apart = eqb-false (count_of values.0) 0 some.0 in
-    (values.0, values.1, said_from values.0 providers (omega arith) (ltb-false most_providers (count_of values.0) few.0) few.1)
+    (values.0, values.1, said_from laws values.0 providers (omega arith) (ltb-false most_providers (count_of values.0) few.0) few.1)
 
-pub directory_so : (text : Bytes) (providers : List Provider) → directory_of text ≡ Ok providers → IsDirectory text providers
+pub directory_so : AddressLaws → (text : Bytes) (providers : List Provider) → directory_of text ≡ Ok providers → IsDirectory text providers
 unfolding directory_of
-directory_so text providers e =
+directory_so laws text providers e =
     let whole = or_ok NotToml (document_of text) directory_in providers e in
-    let said = said_in whole.0 providers whole.2 in
+    let said = said_in laws whole.0 providers whole.2 in
     record { whole = whole.0; is_toml = whole.1; tables = said.0; are_tables = said.1; say = said.2.1; lawful = said.2.0 }

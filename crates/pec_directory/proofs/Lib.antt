@@ -1,3 +1,4 @@
+mod AddressLaws
 mod CanonicalLemmas
 mod EnteringLemmas
 mod FaultLemmas

@@ -12,7 +12,7 @@ use Rattle.pec_directory.specs.Directory.{Account, Provider, accounts_of}
 use Rattle.pec_directory.specs.Fields.{address_at, address_in, key_of, receipts_at, rule_at, seal_key_at, text_at}
 use Rattle.pec_directory.specs.Lawful.{AreNext, AreNextAccounts, IsNext, IsNextAccount}
 use Rattle.pec_directory.specs.Tables.{IsDirectory, SayAccounts, SayProviders, SaysAccount, SaysFields, SaysProvider, fields_in}
-use Rattle.pec_directory.specs.Walk.{Fields, account_in, accounts_from, count_of, directory_in, directory_of, fields_of, key_in, most_accounts, most_providers, or_fault, provider_in, providers_from, receipts_in, rule_in, settled}
+use Rattle.pec_directory.specs.Walk.{Fields, account_in, accounts_from, count_of, directory_in, directory_of, fields_of, key_in, most_accounts, most_providers, or_fault, provider_in, providers_from, receipts_in, rule_in, settled, with_accounts}
 use Rattle.pec_directory.specs.declared.faults.DirectoryFault.{DirectoryFault}
 use Rattle.pec_directory.specs.declared.faults.DirectoryFault.TheVariants.{BadAddress, BadField, BadKey}
 use Rattle.pec_directory.specs.declared.faults.Field.TheVariants as field
@@ -46,7 +46,7 @@ unfolding fields_of
 fields_again number entry f said zone =
     rw (said.name, receipts_again number entry f.receipts said.receipts, said.domains, key_again number entry f.key said.key, rule_again number entry f.rule said.rule zone, said.limit) refl
 
-pub account_again : (earlier : List Provider) (fields : Fields) (before : List Account) (entry : Data) (account : Account) → IsNextAccount earlier fields.receipts fields.domains before account → SaysAccount entry account
+pub account_again : (earlier : List Provider) (fields : Fields) (before : List Account) (entry : Data) (account : Account) → IsNextAccount earlier (with_accounts fields before) account → SaysAccount entry account
     → account_in earlier fields before entry ≡ Ok account
 unfolding account_in address_at
 account_again earlier fields before entry account next said = by_text (text_at (codes "address") entry) refl said.address
@@ -56,7 +56,7 @@ account_again earlier fields before entry account next said = by_text (text_at (
     by_text (Some text) there e =
         rw (there, said.quota, said.key, e, next.inside, next.free, lt-leb most_accounts (length (accounts_of earlier) + length before) next.room) refl
 
-accounts_again : (earlier : List Provider) (fields : Fields) (before : List Account) (tables : Items) (accounts : List Account) → AreNextAccounts earlier fields.receipts fields.domains before accounts
+accounts_again : (earlier : List Provider) (fields : Fields) (before : List Account) (tables : Items) (accounts : List Account) → AreNextAccounts earlier (with_accounts fields before) accounts
     → SayAccounts tables accounts → accounts_from earlier fields before tables ≡ Ok (before ++ accounts)
 accounts_again earlier fields before no_items [] next said = ap found (sym (append-nil before))
 accounts_again earlier fields before no_items (account ∷ accounts) next said = absurd said

@@ -10,7 +10,7 @@ use Rattle.pec_directory.specs.Directory.{Account, Provider, accounts_of}
 use Rattle.pec_directory.specs.Fields.{accounts_at, address_at, domains_at, key_at, limit_at, name_at, quota_at, receipts_at, rule_at, seal_key_at, text_at}
 use Rattle.pec_directory.specs.Lawful.{IsNext, IsNextAccount}
 use Rattle.pec_directory.specs.Tables.{SaysAccount, SaysFields, SaysProvider}
-use Rattle.pec_directory.specs.Walk.{Fields, count_of, document_of, domains_of, is_named, is_outside, is_taken, most_accounts, most_providers, providers_in, stands_twice}
+use Rattle.pec_directory.specs.Walk.{Fields, count_of, document_of, domains_of, is_named, is_outside, is_taken, most_accounts, most_providers, providers_in, stands_twice, with_accounts}
 use Rattle.pec_directory.specs.declared.faults.DirectoryFault.{DirectoryFault}
 use Rattle.pec_directory.specs.declared.faults.DirectoryFault.TheVariants.{NotToml, BadField, NameTwice, DomainTwice, BadAddress, AccountOutside, AccountTwice, BadKey, BadZone, TooMany, NoProvider}
 use Rattle.pec_directory.specs.declared.faults.Field.TheVariants as field
@@ -58,7 +58,7 @@ AccountsStop earlier fields before no_items fault = ⊥
 AccountsStop earlier fields before (item entry tables) fault =
     IsFirstFault (account_rows earlier fields before entry) fault
     ⊎ ((account : Account)
-    × (SaysAccount entry account × IsNextAccount earlier fields.receipts fields.domains before account)
+    × (SaysAccount entry account × IsNextAccount earlier (with_accounts fields before) account)
     × AccountsStop earlier fields (before ++ account ∷ []) tables fault)
 
 -- ---- providers

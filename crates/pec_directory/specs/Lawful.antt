@@ -14,23 +14,35 @@ use Rattle.pec_directory.specs.Walk.{domains_of, is_named, is_outside, is_taken,
 abbrev pub IsOwnDomain : Bytes → Type 0
 IsOwnDomain domain = IsLowerAddress (service_at domain)
 
--- An account stands rightly behind these of its provider and those of earlier providers: its address is in its
--- provider's domains, and nobody before it has it, no receipts go to it, and no provider writes from it.
-pub record IsNextAccount (earlier : List Provider) (receipts : Bytes) (domains : List Bytes) (before : List Account)
-    (account : Account) : Type 0 where
+-- the provider, with these accounts in place of its own
+abbrev pub provider_with : Provider → List Account → Provider
+provider_with provider accounts =
+    record {
+      name = provider.name;
+      receipts = provider.receipts;
+      domains = provider.domains;
+      key = provider.key;
+      rule = provider.rule;
+      limit = provider.limit;
+      accounts = accounts;
+    }
+
+-- An account stands rightly behind those that its provider has so far and those of earlier providers: its address is in
+-- its provider's domains, and nobody before it has it, no receipts go to it, and no provider writes from it.
+pub record IsNextAccount (earlier : List Provider) (provider : Provider) (account : Account) : Type 0 where
   pub address : IsLowerAddress account.address
-  pub inside : is_outside domains account.address ≡ false
-  pub free : is_taken earlier receipts before account.address ≡ false
-  pub room : length (accounts_of earlier) + length before < most_accounts
+  pub inside : is_outside provider.domains account.address ≡ false
+  pub free : is_taken earlier provider.receipts provider.accounts account.address ≡ false
+  pub room : length (accounts_of earlier) + length provider.accounts < most_accounts
   pub quota : account.quota ≤ greatest_quota
   pub key : is_visible longest_key account.key ≡ true
 
 -- each account stands rightly behind those before it
-abbrev pub AreNextAccounts : List Provider → Bytes → List Bytes → List Account → List Account → Type 0
-AreNextAccounts earlier receipts domains before [] = Unit {0}
-AreNextAccounts earlier receipts domains before (account ∷ accounts) =
-    IsNextAccount earlier receipts domains before account
-    × AreNextAccounts earlier receipts domains (before ++ account ∷ []) accounts
+abbrev pub AreNextAccounts : List Provider → Provider → List Account → Type 0
+AreNextAccounts earlier provider [] = Unit {0}
+AreNextAccounts earlier provider (account ∷ accounts) =
+    IsNextAccount earlier provider account
+    × AreNextAccounts earlier (provider_with provider (provider.accounts ++ account ∷ [])) accounts
 
 -- A provider stands rightly behind these: its name and its domains are its own, its receipts go to an address in one of
 -- its domains, and each of its accounts stands rightly.
@@ -46,7 +58,7 @@ pub record IsNext (earlier : List Provider) (provider : Provider) : Type 0 where
   pub rule : is_visible longest_rule provider.rule ≡ true
   pub zone : IsSome (read_whole provider.rule)
   pub limit : (1 ≤ provider.limit) × (provider.limit ≤ greatest_limit)
-  pub accounts : AreNextAccounts earlier provider.receipts provider.domains [] provider.accounts
+  pub accounts : AreNextAccounts earlier (provider_with provider []) provider.accounts
 
 -- each provider stands rightly behind those before it
 abbrev pub AreNext : List Provider → List Provider → Type 0

@@ -7,6 +7,7 @@ use crate::accounts::Account;
 use crate::digesting::digest;
 use crate::faults::DirectoryFault;
 use crate::ids::id_of;
+use crate::laws::a_directory_is_told_exactly;
 use crate::places::Place;
 use crate::providers::Provider;
 use crate::reading::read_text;
@@ -80,6 +81,7 @@ impl Directory {
         // The same answer as a function of the text, for definitions that build on it.
         ensures exact { Gives faults.NoMemory providers_of result (directory_of text.now) }
     {
+        a_directory_is_told_exactly();
         read_text(alloc, text)
     }
 

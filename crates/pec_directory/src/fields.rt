@@ -2,10 +2,11 @@ ghost use Rattle.std.specs.Prelude.{◌≡◌, ◌++◌, Some, codes, is_some, o
 ghost use Rattle.std.specs.List.{list_all};
 ghost use Rattle.toml.specs.Data.{as_table};
 ghost use Rattle.toml.specs.View.{items_view, view};
+ghost use Rattle.pec_types.specs.AddressReading.{domain_of};
 ghost use Rattle.pec_directory.specs.Fields.{accounts_at, are_tables, domain_in, domain_of_item, domains_at, domains_of, has_length, is_hex, is_hex_byte, is_name, is_name_byte, is_some_list, is_visible, is_visible_byte, key_at, key_of, limit_at, name_at, number_in, number_of, quota_at, rule_at, tables_of, text_at, where_true};
 
 use hex::FromHexError;
-use pec_types::{Address, NoMemory, Text};
+use pec_types::{Address, NoMemory, Text, printable_is_said_of_each_byte};
 use std::alloc::{AllocError, Global};
 use toml::Value;
 
@@ -34,6 +35,7 @@ fn has_length(least: usize, most: usize, text: &[u8]) -> bool
 pub(crate) fn name_at(alloc: Global, provider: &Value) -> Result<Option<Text>, NoMemory>
     ensures { IfOk result (λ found. found ≡ name_at (view provider.now)) }
 {
+    printable_is_said_of_each_byte();
     let Some(text) = text_at("name", provider) else {
         return Ok(None);
     };
@@ -120,8 +122,17 @@ fn domain_in(alloc: Global, text: &[u8]) -> Result<Option<Text>, NoMemory>
     let Some(address) = Address::find(alloc, service.as_slice())? else {
         return Ok(None);
     };
-    let domain = Text::of_printable(alloc, address.domain())?;
+    let domain = domain_of(alloc, address)?;
     Ok(Some(domain))
+}
+
+/// The domain of an address.
+fn domain_of(alloc: Global, address: Address) -> Result<Text, NoMemory>
+    ensures { IfOk result (λ domain. domain ≡ domain_of address) }
+{
+    printable_is_said_of_each_byte();
+    let domain = Text::of_printable(alloc, address.domain())?;
+    Ok(domain)
 }
 
 /// The address that a provider of this domain writes from.
@@ -191,6 +202,7 @@ pub(crate) fn key_at(alloc: Global, account: &Value) -> Result<Option<Text>, NoM
 fn visible_text(alloc: Global, most: usize, text: &[u8]) -> Result<Option<Text>, NoMemory>
     ensures { IfOk result (λ found. found ≡ where_true (is_visible most text.now) (Some text.now)) }
 {
+    printable_is_said_of_each_byte();
     if !is_visible(most, text) {
         return Ok(None);
     }

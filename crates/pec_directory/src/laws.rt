@@ -14,18 +14,27 @@ ghost use Rattle.pec_directory.specs.Lawful.{IsLawful};
 ghost use Rattle.pec_directory.specs.Tables.{IsDirectory};
 ghost use Rattle.pec_directory.specs.Walk.{directory_of, domains_of, is_among};
 
+use pec_types::{
+    an_address_is_told_exactly, printable_is_said_of_each_byte, what_is_read_is_in_lower_case,
+};
+
 /// The law of directories: names differ, each domain is one provider's, receipts go to an address in their provider's
 /// domains, no two accounts have one address and each is in its provider's domains; and what else docs/formats.md asks
 /// of a directory.
 pub fn a_directory_is_lawful()
     ensures { (text : Bytes) (providers : List Provider) → directory_of text ≡ Ok providers → IsLawful providers }
-{}
+{
+    a_directory_is_told_exactly();
+}
 
 /// The walk over a text is one with what the text's tables say: it answers providers exactly where the tables say them,
 /// field by field, and they are lawful, and a fault exactly where its test is the first that is met.
 pub fn a_directory_is_told_exactly()
     ensures { (text : Bytes) → TellsExactly (IsDirectory text) (IsDirectoryFault text) (directory_of text) }
-{}
+{
+    an_address_is_told_exactly();
+    what_is_read_is_in_lower_case();
+}
 
 /// The law of domains: a provider can write from each, as `posta-certificata@` and the domain are an address, for which
 /// the domain has at most 236 bytes; and the first domains of two providers differ, so that one names a provider.
@@ -57,4 +66,6 @@ pub fn a_text_names_one_message()
 pub fn a_canonical_text_is_one_directory()
     ensures { (providers others : List Provider) → IsLawful providers → IsLawful others
         → canonical providers ≡ canonical others → providers ≡ others }
-{}
+{
+    printable_is_said_of_each_byte();
+}

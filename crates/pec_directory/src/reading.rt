@@ -11,6 +11,7 @@ use crate::faults::DirectoryFault;
 use crate::fields::tables_of;
 use crate::settling::read_provider;
 use pec_index::Index;
+use pec_types::{an_address_is_told_exactly, what_is_read_is_in_lower_case};
 use std::alloc::Global;
 use toml::Value;
 
@@ -81,6 +82,8 @@ fn read_providers(alloc: Global, values: &[Value]) -> Result<Directory, Director
     requires few { length values.now ≤ most_providers }
     ensures { Gives faults.NoMemory providers_of result (providers_from [] (items_view values.now)) }
 {
+    an_address_is_told_exactly();
+    what_is_read_is_in_lower_case();
     let mut draft = Draft {
         providers: Vec::new(alloc),
         homes: Index::new(alloc),

@@ -1,6 +1,5 @@
--- The law, from the lemmas.
-use Rattle.pec_directory.proofs.LawfulLemmas.{directory_so}
+-- The law, from the tie of tables and walk.
 use Rattle.pec_directory.proofs.laws.a_directory_is_lawful.Goals as goal
 
 pub returns : goal.returns
-returns c = λ text providers is. (directory_so text providers is).lawful
+returns c = λ text providers is. (((c.a_directory_is_told_exactly.ensures text).value providers).0 is).lawful
