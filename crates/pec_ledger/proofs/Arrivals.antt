@@ -162,7 +162,7 @@ module _ (trade : Trade) (J : Journals) (fit : Fit trade J) where
         },
       )
 
-  own_known : (p : ℕ) (pair : Pair) (row : Known) → known_of (ledger trade J p) pair ≡ Some row → IsOwnPair trade p (ledger trade J p) pair
+  pub own_known : (p : ℕ) (pair : Pair) (row : Known) → known_of (ledger trade J p) pair ≡ Some row → IsOwnPair trade p (ledger trade J p) pair
   own_known p pair row e =
       let there = found_there (λ (k : Known). same_pair pair k.pair) (ledger trade J p).known row e
       in subst (IsOwnPair trade p (ledger trade J p)) (sym (same_pairs pair row.pair there.1))

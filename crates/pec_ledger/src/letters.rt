@@ -10,13 +10,14 @@ ghost use Rattle.pec_ledger.specs.Items.{IsItemText, item_text};
 ghost use Rattle.pec_ledger.specs.Ledger.{accepted_in, body_at, Fit, HasOriginal, IsAckText, IsChargeText, IsDecidedSo, IsEnvelopeText, IsLicensed, IsLicensedText, IsOutcomeText, Journals, ledger};
 ghost use Rattle.pec_ledger.specs.Lookups.{Accepted, addresses_of, decided_of, HasPairsAt, known_of, outcome_kind, taken_of};
 ghost use Rattle.pec_ledger.specs.Network.{IsGenuineText};
-ghost use Rattle.pec_ledger.specs.Own.{IsTakenPair};
+ghost use Rattle.pec_ledger.specs.Own.{IsOwnPair, IsTakenPair};
 ghost use Rattle.pec_ledger.specs.Pairs.{Pair, pair_of};
 ghost use Rattle.pec_ledger.specs.Trade.{Receipt, SeenEnvelope, SeenReceipt, Trade};
 ghost use Rattle.pec_ledger.specs.TradeLaws.{IsTrade, letter_in};
 
-/// In journals that are Fit each accepted message has its original at its entry, each taken one its envelope, each row licenses its letter, each
-/// licensed letter has one text, a pair is decided at its recipient's home alone, where it was taken, and each item has its bytes.
+/// In journals that are Fit each accepted message has its original at its entry, each taken one its envelope, each row
+/// licenses its letter, each licensed letter has one text, a pair is decided at its recipient's home alone, where it was
+/// taken, a pair is known at its message's provider alone, and each item has its bytes.
 pub fn rows_have_their_texts()
     ensures originals { (trade : Trade) (journals : Journals) → Fit trade journals → (id : Id) (message : Accepted)
         → accepted_in trade journals id ≡ Some message → (original : Bytes) × HasOriginal trade journals id message original }
@@ -34,6 +35,9 @@ pub fn rows_have_their_texts()
         → IsTakenPair trade provider (ledger trade journals provider) pair }
     ensures homes { (trade : Trade) (journals : Journals) → Fit trade journals → (provider : ℕ) (pair : Pair) (fate : Fate)
         → decided_of (ledger trade journals provider) pair ≡ Some fate → trade.home pair.recipient ≡ Some provider }
+    ensures knowns { (trade : Trade) (journals : Journals) → Fit trade journals → (provider : ℕ) (pair : Pair) (row : Known)
+        → known_of (ledger trade journals provider) pair ≡ Some row
+        → IsOwnPair trade provider (ledger trade journals provider) pair }
     ensures acks { (trade : Trade) (journals : Journals) → Fit trade journals → (pair : Pair) (row : Known)
         → known_of (ledger trade journals pair.id.provider) pair ≡ Some row → IsLicensed trade journals (letters.Ack pair.id pair.recipient) }
     ensures one { (trade : Trade) (journals : Journals) → Fit trade journals → (letter : SomeLetter) (a b : Bytes)

@@ -1,5 +1,5 @@
 -- What stands behind rows: from the lemmas.
-use Rattle.pec_ledger.proofs.Arrivals.{ack_licensed, charge_licensed, decided_at_home, envelope_licensed, has_original, items_have_texts, one_text, outcome_licensed, taken_envelope, taken_pair}
+use Rattle.pec_ledger.proofs.Arrivals.{ack_licensed, charge_licensed, decided_at_home, envelope_licensed, has_original, items_have_texts, one_text, outcome_licensed, own_known, taken_envelope, taken_pair}
 use Rattle.pec_ledger.proofs.letters.rows_have_their_texts.Goals as goal
 
 pub returns : goal.returns
@@ -11,6 +11,7 @@ returns c = record {
   outcomes = outcome_licensed;
   decisions = taken_pair;
   homes = decided_at_home;
+  knowns = own_known;
   acks = ack_licensed;
   one = one_text;
   items = items_have_texts;
