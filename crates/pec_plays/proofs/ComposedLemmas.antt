@@ -18,8 +18,7 @@ use Rattle.pec_ledger.specs.Tables.{IsOwedEnvelope, IsOwedOutcome}
 use Rattle.pec_ledger.specs.Trade.{Trade}
 use Rattle.pec_plays.specs.Frames.{charge_of, composed, envelope_of, original_in, original_taken, outcome_of, to_sender, unless_nobody}
 use Rattle.pec_plays.proofs.FrameLemmas.{TextLaws}
-use Rattle.pec_plays.proofs.OpenLemmas.{into_filter, some_found}
-use Rattle.pec_plays.proofs.StepLemmas.{pair_again}
+use Rattle.pec_plays.proofs.ListLemmas.{home_again, into_filter, pair_again, some_found}
 
 found_behind : {A B : Type 0} (f : A → Option B) (o : Option A) (x : A) → o ≡ Some x → IsSome (f x) → IsSome (option_and_then f o)
 found_behind f o x e some = subst (λ q. IsSome (option_and_then f q)) (sym e) some
@@ -37,9 +36,6 @@ somebody (b ∷ path) text a c = refl
 module _ (trade : Trade) (J : Journals) (laws : TextLaws trade J)
     (decisions : (provider : ℕ) (pair : Pair) (fate : Fate) → decided_of (ledger trade J provider) pair ≡ Some fate → IsTakenPair trade provider (ledger trade J provider) pair)
     (p : ℕ) where
-  has_home : (to : ℕ) (home : Option ℕ) → home ≡ Some to → is_home to home ≡ true
-  has_home to home e = ap (is_home to) e ∙ eq-eqb to to refl
-
   pub envelope_composed : (to : ℕ) (letter : Letter) → IsOwedEnvelope trade p (ledger trade J p) to letter → IsSome (composed trade p (J p) letter)
   unfolding ledger
   envelope_composed to letter is =
@@ -51,7 +47,7 @@ module _ (trade : Trade) (J : Journals) (laws : TextLaws trade J)
       (found_behind (λ (original : Bytes). unless_nobody (at_home trade to (addresses_of is.message.facts)) (trade.envelope_text id is.message.moment original))
       (body_at (J p) is.message.entry) has.0 has.1.bytes
       (somebody (at_home trade to (addresses_of is.message.facts)) (trade.envelope_text id is.message.moment has.0) is.pairs.0
-      (into_filter (λ (a : Bytes). is_home to (trade.home a)) (addresses_of is.message.facts) is.pairs.0 is.pairs.1 (has_home to (trade.home is.pairs.0) is.pairs.2))))))
+      (into_filter (λ (a : Bytes). is_home to (trade.home a)) (addresses_of is.message.facts) is.pairs.0 is.pairs.1 (home_again to (trade.home is.pairs.0) is.pairs.2))))))
 
   taken_original : (id : Id) (row : Taken) → taken_of (ledger trade J p) id ≡ Some row
       → (original : Bytes) × (original_taken trade p (J p) row ≡ Some original) × ((facts : Facts) × (trade.facts original ≡ Some facts))

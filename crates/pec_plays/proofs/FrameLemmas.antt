@@ -22,7 +22,7 @@ use Rattle.pec_ledger.specs.Steps.{half}
 use Rattle.pec_ledger.specs.Trade.{Framed, Seen, SeenEnvelope, Trade}
 use Rattle.pec_ledger.specs.TradeLaws.{IsTrade}
 use Rattle.pec_plays.specs.Frames.{ack_of, charge_of, composed, due_frames, envelope_of, frame_of, original_in, original_taken, outcome_of, to_home, to_sender, unless_nobody}
-use Rattle.pec_plays.proofs.StepLemmas.{from_filter, home_is}
+use Rattle.pec_plays.proofs.ListLemmas.{from_filter, home_is}
 
 -- what the ledger's laws say of rows and their texts, in journals that are Fit
 pub record TextLaws (trade : Trade) (J : Journals) : Type 0 where

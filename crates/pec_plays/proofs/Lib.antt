@@ -1,3 +1,5 @@
+pub mod ListLemmas
+pub mod ReceptionLemmas
 pub mod CommandLemmas
 pub mod SiteLemmas
 pub mod StepLemmas
@@ -7,6 +9,11 @@ pub mod RoundLemmas
 pub mod SoundLemmas
 pub mod KeptLemmas
 pub mod OpenLemmas
+pub mod DeliveryLemmas
 pub mod LinkLemmas
+pub mod SettleLemmas
+pub mod GoesOnLemmas
+pub mod RunLemmas
 pub mod ShortLemmas
+pub mod ToldLemmas
 pub mod ComposedLemmas

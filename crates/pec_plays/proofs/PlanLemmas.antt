@@ -27,7 +27,8 @@ use Rattle.pec_plays.specs.Decisions.{decide, is_open, is_recipient_of, pairs_ta
 use Rattle.pec_plays.specs.Reception.{arrive, each_once}
 use Rattle.pec_plays.specs.Steps.{Step, journal_after}
 use Rattle.pec_plays.specs.Turns.{decisions, entries_of, entry_at, plan}
-use Rattle.pec_plays.proofs.StepLemmas.{ArrivalLaws, arrive_good, decide_good, differ_filter, once_differ, pair_again, same_pairs}
+use Rattle.pec_plays.proofs.ListLemmas.{differ_filter, found_none, once_differ, pair_again, same_pairs}
+use Rattle.pec_plays.proofs.StepLemmas.{ArrivalLaws, arrive_good, decide_good}
 
 along_left : {S X : Type 0} (step : S → X → S) (M : S → X → Type 0) (s : S) (xs ys : List X) → AllAlong step M s (xs ++ ys) → AllAlong step M s xs
 along_left step M s [] ys a = tt
@@ -49,10 +50,6 @@ parted (suc n) (s ∷ steps) =
 abbrev open_by : List Taken → List Fate → Pair → Bool
 open_by taken decided pair =
     is_recipient_of pair.recipient (find (λ (t : Taken). same_id pair.id t.id) taken) && is_none (find (λ (f : Fate). same_pair pair f.pair) decided)
-
-none_is : {X : Type 0} (o : Option X) → is_none o ≡ true → o ≡ None
-none_is None e = refl
-none_is (Some x) e = absurd (false≢true e)
 
 not_found : (pair other : Pair) (decision : Decision) (moment : ℕ) → (pair ≡ other → ⊥)
     → find (λ (f : Fate). same_pair other f.pair) (record { pair = pair; decision = decision; moment = moment } ∷ []) ≡ None
@@ -102,7 +99,7 @@ module _ (trade : Trade) (world : IsTrade trade) (J : Journals) (laws : ArrivalL
       in let parts = and_parts (is_recipient_of other.recipient (taken_of h other.id)) (is_none (decided_of h other)) e
       in let test = λ (f : Fate). same_pair other f.pair
       in let none : find test (h.decided ++ fate ∷ []) ≡ None =
-      find-append test h.decided (fate ∷ []) ∙ ap (λ (o : Option Fate). option_or o (find test (fate ∷ []))) (none_is (decided_of h other) parts.1) ∙ not_found pair other decision now differ
+      find-append test h.decided (fate ∷ []) ∙ ap (λ (o : Option Fate). option_or o (find test (fate ∷ []))) (found_none (decided_of h other) parts.1) ∙ not_found pair other decision now differ
       in subst (λ (taken : List Taken). open_by taken (h.decided ++ fate ∷ []) other ≡ true) (sym (append-nil h.taken))
       (and_from (is_recipient_of other.recipient (taken_of h other.id)) (is_none (find test (h.decided ++ fate ∷ []))) parts.0 (ap is_none none))
 

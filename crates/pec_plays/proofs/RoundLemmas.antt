@@ -20,6 +20,7 @@ use Rattle.pec_ledger.specs.TradeLaws.{IsTrade}
 use Rattle.pec_plays.specs.Rounds.{delivered, delivered_to, link_size, outs_of, rooms_of, rounded, turns_from, turns_of, with_waiting}
 use Rattle.pec_plays.specs.Steps.{Step}
 use Rattle.pec_plays.specs.Turns.{Cut, Turned, Whole, Fails as FailsAt, Full, Stops, cut_turn, entries_of, entry_at, frames_in, last_of, not_begun, owed_of, plan, puts_from, turned, without_first}
+use Rattle.pec_plays.proofs.DeliveryLemmas.{after_is, after_length, out_at, outs_length, past_the_end, turn_in, turn_is, turns_length}
 use Rattle.pec_plays.proofs.FrameLemmas.{TextLaws, due_genuine}
 use Rattle.pec_plays.specs.Frames.{due_frames}
 use Rattle.pec_plays.specs.Scripts.{LinksAreShort}
@@ -150,46 +151,7 @@ module _ (trade : Trade) (world : IsTrade trade) (laws : StateLaws trade) (sites
       (cut_puts p rooms (plan trade p now (journal_at sites p) (frames_in (site_at sites p).waiting)) cut))
       (λ J texts e k. All-nil (IsGenuine trade J))
 
-  -- ---- turns and deliveries by number
-
-  later : (number place : ℕ) → (number + 1) + place ≡ number + suc place
-  later number place = omega arith
-
-  turn_at : (now : ℕ) (all : List Site) (cuts : ℕ → Cut) (number : ℕ) (ss : List Site) (k : ℕ) → k < length ss
-      → slice_get (turns_from trade now all cuts number ss) k ≡ Some (turned trade (number + k) now (rooms_of all (number + k)) (cuts (number + k)) (slice_index_or ss k empty_site))
-  turn_at now all cuts number [] k l = absurd (omega arith)
-  turn_at now all cuts number (s ∷ ss) zero l =
-      ap (λ (q : ℕ). Some (turned trade q now (rooms_of all q) (cuts q) s)) (let z : number ≡ number + 0 = omega arith in z)
-  turn_at now all cuts number (s ∷ ss) (suc k) l =
-      turn_at now all cuts (number + 1) ss k (omega arith)
-      ∙ ap (λ (q : ℕ). Some (turned trade q now (rooms_of all q) (cuts q) (slice_index_or ss k empty_site))) (later number k)
-
-  turns_length : (now : ℕ) (all : List Site) (cuts : ℕ → Cut) (number : ℕ) (ss : List Site) → length (turns_from trade now all cuts number ss) ≡ length ss
-  turns_length now all cuts number [] = refl
-  turns_length now all cuts number (s ∷ ss) = ap suc (turns_length now all cuts (number + 1) ss)
-
-  delivered_length : (outs : List (List (List Bytes))) (to : ℕ) (turns : List Turned) → length (delivered outs to turns) ≡ length turns
-  delivered_length outs to [] = refl
-  delivered_length outs to (t ∷ turns) = ap suc (delivered_length outs (to + 1) turns)
-
-  delivered_at : (outs : List (List (List Bytes))) (to : ℕ) (turns : List Turned) (k : ℕ) (turn : Turned) → slice_get turns k ≡ Some turn
-      → site_at (delivered outs to turns) k ≡ with_waiting turn.site (delivered_to (to + k) outs turn.site.waiting)
-  delivered_at outs to [] k turn e = absurd (none-some turn e)
-  delivered_at outs to (t ∷ turns) zero turn e =
-      let same = same_Some t turn e
-      in ap (λ (x : Turned). with_waiting x.site (delivered_to to outs x.site.waiting)) same
-      ∙ ap (λ (q : ℕ). with_waiting turn.site (delivered_to q outs turn.site.waiting)) (let z : to ≡ to + 0 = omega arith in z)
-  delivered_at outs to (t ∷ turns) (suc k) turn e =
-      delivered_at outs (to + 1) turns k turn e ∙ ap (λ (q : ℕ). with_waiting turn.site (delivered_to q outs turn.site.waiting)) (later to k)
-
-  out_at : (turns : List Turned) (k : ℕ) (turn : Turned) → slice_get turns k ≡ Some turn → slice_index_or (outs_of turns) k [] ≡ turn.out
-  out_at [] k turn e = absurd (none-some turn e)
-  out_at (t ∷ turns) zero turn e = ap (λ (x : Turned). x.out) (same_Some t turn e)
-  out_at (t ∷ turns) (suc k) turn e = out_at turns k turn e
-
-  outs_length : (turns : List Turned) → length (outs_of turns) ≡ length turns
-  outs_length [] = refl
-  outs_length (t ∷ turns) = ap suc (outs_length turns)
+  -- ---- what waits after a delivery
 
   delivery_genuine : (J : Journals) (to : ℕ) (outs : List (List (List Bytes))) (links : List (List Bytes))
       → ((k : ℕ) → AreGenuine trade J (slice_index_or (slice_index_or outs k []) to [])) → ((k : ℕ) → AreGenuine trade J (slice_index_or links k []))
@@ -280,32 +242,15 @@ module _ (trade : Trade) (world : IsTrade trade) (laws : StateLaws trade) (sites
     after = delivered (outs_of turns) 0 turns
 
     abbrev turn_of : ℕ → Turned
-    turn_of p = turned trade p now (rooms_of sites p) (cuts p) (site_at sites p)
-
-    turn_is : (p : ℕ) → p < length sites → slice_get turns p ≡ Some (turn_of p)
-    turn_is p l =
-        turn_at now sites cuts 0 sites p l
-        ∙ ap (λ (q : ℕ). Some (turned trade q now (rooms_of sites q) (cuts q) (site_at sites p))) (let z : 0 + p ≡ p = omega arith in z)
-
-    after_is : (p : ℕ) → p < length sites → site_at after p ≡ with_waiting (turn_of p).site (delivered_to p (outs_of turns) (turn_of p).site.waiting)
-    after_is p l =
-        delivered_at (outs_of turns) 0 turns p (turn_of p) (turn_is p l)
-        ∙ ap (λ (q : ℕ). with_waiting (turn_of p).site (delivered_to q (outs_of turns) (turn_of p).site.waiting)) (let z : 0 + p ≡ p = omega arith in z)
-
-    after_length : length after ≡ length sites
-    after_length = delivered_length (outs_of turns) 0 turns ∙ turns_length now sites cuts 0 sites
-
-    past_the_end : (p : ℕ) → length sites ≤ p → site_at after p ≡ site_at sites p
-    past_the_end p l =
-        get_or_past after p empty_site (let e = after_length in omega (arith, e)) ∙ sym (get_or_past sites p empty_site l)
+    turn_of = turn_in trade now cuts sites
 
     each_happens : (p : ℕ) → Happens trade sites after p
     each_happens p =
         elim (cases_lt p (length sites)) [
           | inl l ↦
-              let e = after_is p l
+              let e = after_is trade now cuts sites p l
               in turn_became p now range (rooms_of sites p) (cuts p) after (ap (λ (s : Site). s.journal) e) (ap (λ (s : Site). s.interrupted) e) (ap (λ (s : Site). s.up) e)
-          | inr l ↦ stays_as_it_was trade laws sites after p sound (past_the_end p l)
+          | inr l ↦ stays_as_it_was trade laws sites after p sound (past_the_end trade now cuts sites p l)
         ]
 
     fit_after : Fit trade (journals_of after)
@@ -320,27 +265,27 @@ module _ (trade : Trade) (world : IsTrade trade) (laws : StateLaws trade) (sites
     puts_are : (to k : ℕ) → AreGenuine trade (journals_of after) (slice_index_or (slice_index_or (outs_of turns) k []) to [])
     puts_are to k =
         elim (cases_lt k (length sites)) [
-          | inl l ↦ subst (λ (out : List (List Bytes)). AreGenuine trade (journals_of after) (slice_index_or out to [])) (sym (out_at turns k (turn_of k) (turn_is k l)))
-              (turn_puts k now (rooms_of sites k) (cuts k) (journals_of after) (texts (journals_of after) fit_after) (ap (λ (s : Site). s.journal) (after_is k l)) to)
+          | inl l ↦ subst (λ (out : List (List Bytes)). AreGenuine trade (journals_of after) (slice_index_or out to [])) (sym (out_at turns k (turn_of k) (turn_is trade now cuts sites k l)))
+              (turn_puts k now (rooms_of sites k) (cuts k) (journals_of after) (texts (journals_of after) fit_after) (ap (λ (s : Site). s.journal) (after_is trade now cuts sites k l)) to)
           | inr l ↦ subst (λ (out : List (List Bytes)). AreGenuine trade (journals_of after) (slice_index_or out to []))
-              (sym (get_or_past (outs_of turns) k [] (let e = outs_length turns ∙ turns_length now sites cuts 0 sites in omega (arith, e))))
+              (sym (get_or_past (outs_of turns) k [] (let e = outs_length turns ∙ turns_length trade now sites cuts 0 sites in omega (arith, e))))
               (All-nil (IsGenuine trade (journals_of after)))
         ]
 
     frames_after : (from to : ℕ) → AreGenuine trade (journals_of after) (frames_between after from to)
     frames_after from to =
         elim (cases_lt to (length sites)) [
-          | inl l ↦ subst (λ (s : Site). AreGenuine trade (journals_of after) (slice_index_or s.waiting from [])) (sym (after_is to l))
+          | inl l ↦ subst (λ (s : Site). AreGenuine trade (journals_of after) (slice_index_or s.waiting from [])) (sym (after_is trade now cuts sites to l))
               (delivery_genuine (journals_of after) to (outs_of turns) (turn_of to).site.waiting (puts_are to)
               (λ k. waits_on to (slice_index_or (turn_of to).site.waiting k []) (turn_leaves to now (rooms_of sites to) (cuts to) k)) from)
-          | inr l ↦ subst (λ (s : Site). AreGenuine trade (journals_of after) (slice_index_or s.waiting from [])) (sym (past_the_end to l))
+          | inr l ↦ subst (λ (s : Site). AreGenuine trade (journals_of after) (slice_index_or s.waiting from [])) (sym (past_the_end trade now cuts sites to l))
               (waits_on to (frames_between sites from to) (sound.genuine from to))
         ]
 
     pub sound_rounded : Sound trade (rounded trade now cuts sites).sites
     unfolding rounded turns_of
     sound_rounded = laws.next sites after sound (record {
-      count = after_length;
+      count = after_length trade now cuts sites;
       each = λ p. laws.each sites after p (each_happens p);
       genuine = frames_after;
     })
@@ -348,10 +293,10 @@ module _ (trade : Trade) (world : IsTrade trade) (laws : StateLaws trade) (sites
     put_for : (from to : ℕ) → length (slice_index_or (slice_index_or (outs_of turns) from []) to []) ≤ rooms_of sites from to
     put_for from to =
         elim (cases_lt from (length sites)) [
-          | inl l ↦ subst (λ (out : List (List Bytes)). length (slice_index_or out to []) ≤ rooms_of sites from to) (sym (out_at turns from (turn_of from) (turn_is from l)))
+          | inl l ↦ subst (λ (out : List (List Bytes)). length (slice_index_or out to []) ≤ rooms_of sites from to) (sym (out_at turns from (turn_of from) (turn_is trade now cuts sites from l)))
               (turn_puts_fit from now (rooms_of sites from) (cuts from) to)
           | inr l ↦ subst (λ (out : List (List Bytes)). length (slice_index_or out to []) ≤ rooms_of sites from to)
-              (sym (get_or_past (outs_of turns) from [] (let e = outs_length turns ∙ turns_length now sites cuts 0 sites in omega (arith, e))))
+              (sym (get_or_past (outs_of turns) from [] (let e = outs_length turns ∙ turns_length trade now sites cuts 0 sites in omega (arith, e))))
               (omega arith)
         ]
 
@@ -363,8 +308,8 @@ module _ (trade : Trade) (world : IsTrade trade) (laws : StateLaws trade) (sites
               in let put = put_for from to
               in let all = longer_by to (outs_of turns) (turn_of to).site.waiting from
               in let old = short from to
-              in subst (λ (s : Site). length (slice_index_or s.waiting from []) ≤ link_size) (sym (after_is to l)) (omega (arith, waits, put, all, old))
-          | inr l ↦ subst (λ (s : Site). length (slice_index_or s.waiting from []) ≤ link_size) (sym (past_the_end to l)) (short from to)
+              in subst (λ (s : Site). length (slice_index_or s.waiting from []) ≤ link_size) (sym (after_is trade now cuts sites to l)) (omega (arith, waits, put, all, old))
+          | inr l ↦ subst (λ (s : Site). length (slice_index_or s.waiting from []) ≤ link_size) (sym (past_the_end trade now cuts sites to l)) (short from to)
         ]
 
     pub short_rounded : LinksAreShort sites → LinksAreShort (rounded trade now cuts sites).sites

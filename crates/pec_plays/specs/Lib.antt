@@ -2,8 +2,11 @@ pub mod Commands
 pub mod Decisions
 pub mod Examples
 pub mod Frames
+pub mod Possible
 pub mod Reception
+pub mod ReceptionRows
 pub mod Rounds
 pub mod Scripts
 pub mod Steps
+pub mod Told
 pub mod Turns

@@ -34,17 +34,31 @@ abbrev pub each_once : {X : Type 0} → (X → X → Bool) → List X → List X
 each_once same [] = []
 each_once same (x ∷ xs) = x ∷ filter (λ y. not (same x y)) (each_once same xs)
 
--- ---- what a message has
+-- ---- what an envelope and a message have
+
+-- the path is the list of the envelope's recipients here, and there are some
+abbrev pub envelope_fits : Trade → ℕ → Framed → Bool
+envelope_fits trade provider framed =
+    same_path framed.path (at_home trade provider (trade.envelope_recipients framed.message))
+    && nat_lt 0 (length (at_home trade provider (trade.envelope_recipients framed.message)))
 
 abbrev pub has_pairs_at : Trade → ℕ → Option Accepted → Bool
 has_pairs_at trade by None = false
 has_pairs_at trade by (Some message) = nat_lt 0 (length (at_home trade by (addresses_of message.facts)))
 
--- the path is the sender of the message, and the recipient is one of its pairs
-abbrev pub is_pair_of : Trade → Bytes → Path → Option Accepted → Bool
-is_pair_of trade recipient path None = false
-is_pair_of trade recipient path (Some message) =
-    same_path path (message.sender ∷ []) && (list_any (bytes_eq recipient) (addresses_of message.facts) && is_some (trade.home recipient))
+-- the recipient is one of the message's pairs
+abbrev pub has_pair : Trade → Bytes → Option Accepted → Bool
+has_pair trade recipient None = false
+has_pair trade recipient (Some message) = list_any (bytes_eq recipient) (addresses_of message.facts) && is_some (trade.home recipient)
+
+-- the path is the sender of the message
+abbrev pub is_senders_path : Path → Option Accepted → Bool
+is_senders_path path None = false
+is_senders_path path (Some message) = same_path path (message.sender ∷ [])
+
+-- the accounts of a path that have room, each once, in the order in which they first stand there
+abbrev pub accounts_with_room : Trade → ℕ → List Entry → Path → Path
+accounts_with_room trade provider journal path = filter (has_room trade provider (half trade provider journal)) (each_once bytes_eq path)
 
 module _ (trade : Trade) (provider now : ℕ) (journal : List Entry) where
   -- ---- anything else
@@ -54,20 +68,10 @@ module _ (trade : Trade) (provider now : ℕ) (journal : List Entry) where
   anomaly message (account ∷ accounts) =
       enters trade provider journal (entries.Anomaly now (account ∷ accounts) message) (events.Anomaly (length (account ∷ accounts))) []
 
-  -- the accounts of a path that have room, each once
-  abbrev pub accounts_with_room : Path → Path
-  accounts_with_room path = filter (has_room trade provider (half trade provider journal)) (each_once bytes_eq path)
-
   abbrev pub otherwise : Framed → Step
-  otherwise framed = anomaly framed.message (accounts_with_room framed.path)
+  otherwise framed = anomaly framed.message (accounts_with_room trade provider journal framed.path)
 
   -- ---- envelopes
-
-  -- the path is the list of the envelope's recipients here, and there are some
-  abbrev pub envelope_fits : Framed → Bool
-  envelope_fits framed =
-      same_path framed.path (at_home trade provider (trade.envelope_recipients framed.message))
-      && nat_lt 0 (length (at_home trade provider (trade.envelope_recipients framed.message)))
 
   abbrev pub envelope_rows : Framed → Id → Bool → Option Taken → Step
   envelope_rows framed id false taken = otherwise framed
@@ -97,7 +101,8 @@ module _ (trade : Trade) (provider now : ℕ) (journal : List Entry) where
   outcome_fits framed receipt recipient =
       (receipt.id.provider == provider)
       && (is_home receipt.by (trade.home recipient)
-      && is_pair_of trade recipient framed.path (accepted_at (half trade provider journal) receipt.id.number))
+      && (has_pair trade recipient (accepted_at (half trade provider journal) receipt.id.number)
+      && is_senders_path framed.path (accepted_at (half trade provider journal) receipt.id.number)))
 
   abbrev pub outcome_rows : Framed → Receipt → Bytes → Decision → Bool → Option Known → Step
   outcome_rows framed receipt recipient decision false known = otherwise framed
@@ -148,7 +153,7 @@ module _ (trade : Trade) (provider now : ℕ) (journal : List Entry) where
   abbrev pub by_seen : Framed → Option Seen → Step
   by_seen framed None = otherwise framed
   by_seen framed (Some (SeenEnvelope id moment original)) =
-      envelope_rows framed id (envelope_fits framed) (taken_of (half trade provider journal) id)
+      envelope_rows framed id (envelope_fits trade provider framed) (taken_of (half trade provider journal) id)
   by_seen framed (Some (SeenReceipt receipt)) = by_receipt framed receipt receipt.kind
 
   abbrev pub by_frame : Option Framed → Step

@@ -1,0 +1,303 @@
+-- An answer settles the state behind it: of two lucks with one answer the state is one.
+use Rattle.std.proofs.Common.{◌≡◌, ℕ, zero, suc, ◌+◌, ◌-◌, ◌<◌, ◌≤◌, min, List, [], ◌∷◌, ◌++◌, Bool, true, false, inl, inr, length, take, drop, map, refl, ap, sym, subst, ◌∙◌, arith, nat_lt, Option, Some, None}
+use Rattle.std.specs.Prelude.{slice_get, if◌then◌else◌}
+use Rattle.std.specs.Option.{option_and_then, option_to_list}
+use Rattle.std.proofs.lemmas.Bool.{cases_lt}
+use Rattle.std.proofs.lemmas.List.{append-nil, drop_all, length-append, length-map, length-take, take_all}
+use Rattle.std.proofs.lemmas.Option.{slice_get_past}
+use Rattle.pec_types.specs.Bytes.{Bytes, Path}
+use Rattle.pec_types.specs.declared.turns.Event.{Event}
+use Rattle.pec_types.specs.declared.turns.ProviderFault.{ProviderFault}
+use Rattle.pec_types.specs.declared.turns.ProviderFault.TheVariants as faults
+use Rattle.pec_types.specs.declared.turns.Turn.{Turn}
+use Rattle.pec_types.specs.declared.messages.TheConstants.{MESSAGES}
+use Rattle.pec_records.specs.declared.entries.Entry.{Entry}
+use Rattle.pec_records.specs.declared.entries.Entry.TheVariants as entries
+use Rattle.pec_ledger.specs.Network.{Site, chosen, journal_at, site_at}
+use Rattle.pec_ledger.specs.Trade.{Trade}
+use Rattle.pec_plays.specs.Commands.{Answer, Command, Luck, Played, IsUp, Turns, Restarted, Refuses, Submit, Tick, Round, Lose, Repeat, Swap, Inject, Crash, Restart, Book, Mailbox, Show, answers, append, appended, at_work, messages_at, played, restarted, restarted_site, submitted, ticked, with_site}
+use Rattle.pec_plays.specs.Reception.{arrive}
+use Rattle.pec_plays.specs.Rounds.{delivered, outs_of, rooms_of, rounded, told_from, turns_from, turns_of}
+use Rattle.pec_plays.specs.Scripts.{Told, onto, script}
+use Rattle.pec_plays.specs.Steps.{Step, has_no_room}
+use Rattle.pec_plays.specs.Turns.{Cut, Turned, Whole, Fails, Full, Stops, behind, broken, cut_turn, decisions, entries_of, entry_at, events_of, frames_in, last_of, plan, stopped, turned, without_first}
+
+-- ---- tests that both sides make
+
+abbrev pub Settled : Played → Played → Type 0
+Settled x y = x.answer ≡ y.answer → x.after ≡ y.after
+
+settled_by : (b : Bool) (x y z : Played) → Settled x y → Settled (if b then x else z) (if b then y else z)
+settled_by true x y z s = s
+settled_by false x y z s = λ e. refl
+
+settled_else : (b : Bool) (x y z : Played) → Settled x y → Settled (if b then z else x) (if b then z else y)
+settled_else true x y z s = λ e. refl
+settled_else false x y z s = s
+
+-- ---- appends
+
+abbrev is_refusal : Answer → Bool
+is_refusal (Refuses fault) = true
+is_refusal _ = false
+
+appended_settled : (a b : Bool) (sites : List Site) (p : ℕ) (entry : Entry) (answer : Answer) → is_refusal answer ≡ false
+    → Settled (appended a sites p entry answer) (appended b sites p entry answer)
+appended_settled true true sites p entry answer n = λ e. refl
+appended_settled false false sites p entry answer n = λ e. refl
+appended_settled true false sites p entry answer n = λ e. absurd (let t = ap is_refusal e ∙ n in cc)
+appended_settled false true sites p entry answer n = λ e. absurd (let t = sym (ap is_refusal e) ∙ n in cc)
+
+module _ (trade : Trade) (sites : List Site) (a b : Luck) where
+  append_settled : (p : ℕ) (entry : Entry) (answer : Answer) → is_refusal answer ≡ false
+      → Settled (append trade a sites p entry answer) (append trade b sites p entry answer)
+  append_settled p entry answer n =
+      settled_else (has_no_room trade p (journal_at sites p) entry) (appended a.fails sites p entry answer) (appended b.fails sites p entry answer)
+      (answers sites (Refuses faults.JournalFull)) (appended_settled a.fails b.fails sites p entry answer n)
+
+  work_settled : (p now : ℕ) (x y : Played) → Settled x y → Settled (at_work trade sites p now x) (at_work trade sites p now y)
+  work_settled p now x y s =
+      settled_by (site_at sites p).up _ _ (answers sites (Refuses faults.Down))
+      (settled_else (nat_lt now (last_of trade p (journal_at sites p))) x y (answers sites (Refuses (faults.ClockBack (last_of trade p (journal_at sites p))))) s)
+
+  submitted_settled : (p now : ℕ) (sender : Bytes) (path : Path) (message : Bytes)
+      → Settled (submitted trade a sites p now sender path message) (submitted trade b sites p now sender path message)
+  submitted_settled p now sender path message =
+      settled_by (trade.is_account p sender) _ _ (answers sites (Refuses faults.NoAccount))
+      (work_settled p now _ _
+      (settled_by (nat_lt (messages_at trade sites p) MESSAGES) _ _ (answers sites (Refuses faults.Full)) (append_settled p _ _ refl)))
+
+  ticked_settled : (p now : ℕ) → Settled (ticked trade a sites p now) (ticked trade b sites p now)
+  ticked_settled p now = work_settled p now _ _ (append_settled p (entries.Ticked now) _ refl)
+
+  -- ---- restarts
+
+  found_so : (site : Site) (x y : Bool) (i : Option Entry) → site.interrupted ≡ i
+      → length (site.journal ++ chosen x i) ≡ length (site.journal ++ chosen y i) → chosen x i ≡ chosen y i
+  found_so site true true i is e = refl
+  found_so site false false i is e = refl
+  found_so site true false None is e = refl
+  found_so site false true None is e = refl
+  found_so site true false (Some entry) is e =
+      absurd (let m = length-append site.journal (entry ∷ []) in let n = length-append {A = Entry} site.journal [] in omega (arith, e, m, n))
+  found_so site false true (Some entry) is e =
+      absurd (let m = length-append site.journal (entry ∷ []) in let n = length-append {A = Entry} site.journal [] in omega (arith, e, m, n))
+
+  abbrev count_in : Answer → ℕ
+  count_in (Restarted n) = n
+  count_in _ = 0
+
+  restarted_so : (p : ℕ) (site : Site) (x y : Bool) → Settled
+      (record { answer = Restarted (length (restarted_site x site).journal); after = with_site sites p (restarted_site x site) })
+      (record { answer = Restarted (length (restarted_site y site).journal); after = with_site sites p (restarted_site y site) })
+  restarted_so p site x y e =
+      ap (λ (more : List Entry). with_site sites p (record { journal = site.journal ++ more; up = true; interrupted = None; waiting = site.waiting }))
+      (found_so site x y site.interrupted refl (ap count_in e))
+
+  works_or_not : (x y : Bool) (z u v : Played) → is_refusal z.answer ≡ true → is_refusal u.answer ≡ false → is_refusal v.answer ≡ false → Settled u v
+      → Settled (if x then z else u) (if y then z else v)
+  works_or_not true true z u v f g h s = λ e. refl
+  works_or_not false false z u v f g h s = s
+  works_or_not true false z u v f g h s = λ e. absurd (let t = sym f ∙ ap is_refusal e ∙ h in cc)
+  works_or_not false true z u v f g h s = λ e. absurd (let t = sym g ∙ ap is_refusal e ∙ f in cc)
+
+  restarted_settled : (p : ℕ) (site : Site) → Settled (restarted a sites p site) (restarted b sites p site)
+  restarted_settled p site =
+      settled_else site.up _ _ _ (works_or_not a.fails b.fails (answers sites (Refuses faults.DiskFault)) _ _ refl refl refl (restarted_so p site a.found b.found))
+
+-- ---- turns
+
+none_left : (n : ℕ) (links : List (List Bytes)) → length (frames_in links) ≤ n → without_first n links ≡ map (λ (link : List Bytes). []) links
+none_left n [] l = refl
+none_left n (link ∷ links) l =
+    let all = length-append link (frames_in links)
+    in both (drop n link) [] (without_first (n - length link) links) (map (λ (link : List Bytes). []) links) (drop_all n link (omega (arith, l, all)))
+    (none_left (n - length link) links (omega (arith, l, all)))
+  where
+    both : (x y : List Bytes) (xs ys : List (List Bytes)) → x ≡ y → xs ≡ ys → x ∷ xs ≡ y ∷ ys
+    both x y xs ys e f = rw (e, f) refl
+
+sites_so : (site : Site) (steps : List Step) (n m : ℕ) → take n steps ≡ take m steps → without_first (n + 1) site.waiting ≡ without_first (m + 1) site.waiting
+    → behind site (take n steps) (n + 1) ≡ behind site (take m steps) (m + 1)
+sites_so site steps n m e f =
+    ap (λ (s : List Step). behind site s (n + 1)) e
+    ∙ ap (λ (links : List (List Bytes)). record { journal = site.journal ++ entries_of (take m steps); up = site.up; interrupted = site.interrupted; waiting = links }) f
+
+-- two steps at which a turn ended are one, as far as it can be seen
+pub record SameEnd (site : Site) (steps : List Step) (n m : ℕ) : Type 0 where
+  pub told : take n steps ≡ take m steps
+  pub entry : entry_at steps n ≡ entry_at steps m
+  pub left : without_first (n + 1) site.waiting ≡ without_first (m + 1) site.waiting
+
+past_the_steps : (site : Site) (steps : List Step) (n m : ℕ) → length (frames_in site.waiting) ≤ length steps → length steps ≤ n → length steps ≤ m → SameEnd site steps n m
+past_the_steps site steps n m few l k = record {
+  told = take_all n steps l ∙ sym (take_all m steps k);
+  entry = ap (option_and_then (λ (step : Step). step.entry)) (slice_get_past steps n l)
+      ∙ sym (ap (option_and_then (λ (step : Step). step.entry)) (slice_get_past steps m k));
+  left = none_left (n + 1) site.waiting (omega (arith, few, l)) ∙ sym (none_left (m + 1) site.waiting (omega (arith, few, k)));
+}
+
+same_end : (site : Site) (steps : List Step) (n m : ℕ) → length (frames_in site.waiting) ≤ length steps
+    → events_of (take n steps) ≡ events_of (take m steps) → SameEnd site steps n m
+same_end site steps n m few e =
+    let f = ap length e
+    in let g : length (events_of (take n steps)) ≡ length (take n steps) = length-map (take n steps) (λ (step : Step). step.event)
+    in let h : length (events_of (take m steps)) ≡ length (take m steps) = length-map (take m steps) (λ (step : Step). step.event)
+    in let equal : min n (length steps) ≡ min m (length steps) = sym (length-take n steps) ∙ sym g ∙ f ∙ h ∙ length-take m steps
+    in elim (cases_lt n m) [
+      | inl l ↦ past_the_steps site steps n m few (omega (arith, l, equal)) (omega (arith, l, equal))
+      | inr l ↦ elim (cases_lt m n) [
+        | inl k ↦ past_the_steps site steps n m few (omega (arith, k, equal)) (omega (arith, k, equal))
+        | inr k ↦ subst (λ (i : ℕ). SameEnd site steps n i) (let same : n ≡ m = omega (arith, l, k) in same) (record { told = refl; entry = refl; left = refl })
+      ]
+    ]
+
+ended_so : (site : Site) (steps : List Step) (n m : ℕ) (fault : ProviderFault) → SameEnd site steps n m → stopped site steps n fault ≡ stopped site steps m fault
+ended_so site steps n m fault same =
+    turns_so (behind site (take n steps) (n + 1)) (behind site (take m steps) (m + 1)) (events_of (take n steps)) (events_of (take m steps))
+    (sites_so site steps n m same.told same.left) (ap events_of same.told)
+  where
+    turns_so : (x y : Site) (es fs : List Event) → x ≡ y → es ≡ fs
+        → (let t : Turned = record { site = x; events = es; out = []; ended = Some fault } in let u : Turned = record { site = y; events = fs; out = []; ended = Some fault } in t ≡ u)
+    turns_so x y es fs e f = rw (e, f) refl
+
+failed_so : (site : Site) (steps : List Step) (n m : ℕ) (fault : ProviderFault) → SameEnd site steps n m
+    → record (stopped site steps n fault) { site = broken (behind site (take n steps) (n + 1)) (entry_at steps n) }
+    ≡ record (stopped site steps m fault) { site = broken (behind site (take m steps) (m + 1)) (entry_at steps m) }
+failed_so site steps n m fault same =
+    ap (λ (t : Turned). record t { site = broken t.site (entry_at steps n) }) (ended_so site steps n m fault same)
+    ∙ ap (λ (i : Option Entry). record (stopped site steps m fault) { site = broken (behind site (take m steps) (m + 1)) i }) same.entry
+
+-- the fault by which a turn ended
+abbrev code : Option ProviderFault → ℕ
+code None = 0
+code (Some faults.DiskFault) = 1
+code (Some faults.JournalFull) = 2
+code (Some faults.NoMemory) = 3
+code (Some _) = 4
+
+cut_settled : (trade : Trade) (p : ℕ) (rooms : ℕ → ℕ) (site : Site) (steps : List Step) (a b : Cut) → length (frames_in site.waiting) ≤ length steps
+    → (cut_turn trade p rooms site steps a).events ≡ (cut_turn trade p rooms site steps b).events
+    → (cut_turn trade p rooms site steps a).ended ≡ (cut_turn trade p rooms site steps b).ended
+    → cut_turn trade p rooms site steps a ≡ cut_turn trade p rooms site steps b
+cut_settled trade p rooms site steps Whole Whole few e f = refl
+cut_settled trade p rooms site steps (Fails n) (Fails m) few e f = failed_so site steps n m faults.DiskFault (same_end site steps n m few e)
+cut_settled trade p rooms site steps (Full n) (Full m) few e f = ended_so site steps n m faults.JournalFull (same_end site steps n m few e)
+cut_settled trade p rooms site steps (Stops n) (Stops m) few e f = ended_so site steps n m faults.NoMemory (same_end site steps n m few e)
+cut_settled trade p rooms site steps Whole (Fails m) few e f = absurd (let c = ap code f in omega (arith, c))
+cut_settled trade p rooms site steps Whole (Full m) few e f = absurd (let c = ap code f in omega (arith, c))
+cut_settled trade p rooms site steps Whole (Stops m) few e f = absurd (let c = ap code f in omega (arith, c))
+cut_settled trade p rooms site steps (Fails n) Whole few e f = absurd (let c = ap code f in omega (arith, c))
+cut_settled trade p rooms site steps (Fails n) (Full m) few e f = absurd (let c = ap code f in omega (arith, c))
+cut_settled trade p rooms site steps (Fails n) (Stops m) few e f = absurd (let c = ap code f in omega (arith, c))
+cut_settled trade p rooms site steps (Full n) Whole few e f = absurd (let c = ap code f in omega (arith, c))
+cut_settled trade p rooms site steps (Full n) (Fails m) few e f = absurd (let c = ap code f in omega (arith, c))
+cut_settled trade p rooms site steps (Full n) (Stops m) few e f = absurd (let c = ap code f in omega (arith, c))
+cut_settled trade p rooms site steps (Stops n) Whole few e f = absurd (let c = ap code f in omega (arith, c))
+cut_settled trade p rooms site steps (Stops n) (Fails m) few e f = absurd (let c = ap code f in omega (arith, c))
+cut_settled trade p rooms site steps (Stops n) (Full m) few e f = absurd (let c = ap code f in omega (arith, c))
+
+module _ (trade : Trade) (now : ℕ) where
+  more_steps : (p : ℕ) (es : List Entry) (frames : List Bytes) → length frames ≤ length (plan trade p now es frames)
+  more_steps p es [] = omega arith
+  more_steps p es (frame ∷ frames) = suc_le (more_steps p (es ++ option_to_list (arrive trade p now es frame).entry) frames)
+    where
+      suc_le : {n m : ℕ} → n ≤ m → suc n ≤ suc m
+      suc_le l = omega (arith, l)
+
+  by_test : (c : Bool) (x y z : Turned) → (x.events ≡ y.events → x.ended ≡ y.ended → x ≡ y)
+      → (if c then x else z).events ≡ (if c then y else z).events → (if c then x else z).ended ≡ (if c then y else z).ended
+      → (if c then x else z) ≡ (if c then y else z)
+  by_test true x y z s = s
+  by_test false x y z s = λ e f. refl
+
+  else_test : (c : Bool) (x y z : Turned) → (x.events ≡ y.events → x.ended ≡ y.ended → x ≡ y)
+      → (if c then z else x).events ≡ (if c then z else y).events → (if c then z else x).ended ≡ (if c then z else y).ended
+      → (if c then z else x) ≡ (if c then z else y)
+  else_test true x y z s = λ e f. refl
+  else_test false x y z s = s
+
+  turned_settled : (p : ℕ) (rooms : ℕ → ℕ) (site : Site) (a b : Cut)
+      → (turned trade p now rooms a site).events ≡ (turned trade p now rooms b site).events
+      → (turned trade p now rooms a site).ended ≡ (turned trade p now rooms b site).ended
+      → turned trade p now rooms a site ≡ turned trade p now rooms b site
+  unfolding turned
+  turned_settled p rooms site a b =
+      by_test site.up _ _ _
+      (else_test (nat_lt now (last_of trade p site.journal)) _ _ _
+      (cut_settled trade p rooms site (plan trade p now site.journal (frames_in site.waiting)) a b (more_steps p site.journal (frames_in site.waiting))))
+
+  abbrev events_in : List Turn → List Event
+  events_in [] = []
+  events_in (turn ∷ turns) = turn.events
+
+  abbrev ended_in : List Turn → Option ProviderFault
+  ended_in [] = None
+  ended_in (turn ∷ turns) = turn.ended
+
+  abbrev tail_of : List Turn → List Turn
+  tail_of [] = []
+  tail_of (turn ∷ turns) = turns
+
+  both_turns : (x y : Turned) (xs ys : List Turned) → x ≡ y → xs ≡ ys → x ∷ xs ≡ y ∷ ys
+  both_turns x y xs ys e f = rw (e, f) refl
+
+  turns_settled : (all : List Site) (a b : ℕ → Cut) (number : ℕ) (ss : List Site)
+      → told_from number (turns_from trade now all a number ss) ≡ told_from number (turns_from trade now all b number ss)
+      → turns_from trade now all a number ss ≡ turns_from trade now all b number ss
+  turns_settled all a b number [] e = refl
+  turns_settled all a b number (s ∷ ss) e =
+      both_turns (turned trade number now (rooms_of all number) (a number) s) (turned trade number now (rooms_of all number) (b number) s)
+      (turns_from trade now all a (number + 1) ss) (turns_from trade now all b (number + 1) ss)
+      (turned_settled number (rooms_of all number) s (a number) (b number)
+      (ap events_in e) (ap ended_in e))
+      (turns_settled all a b (number + 1) ss (ap tail_of e))
+
+  rounded_settled : (sites : List Site) (a b : ℕ → Cut) → (rounded trade now a sites).turns ≡ (rounded trade now b sites).turns
+      → (rounded trade now a sites).sites ≡ (rounded trade now b sites).sites
+  unfolding rounded turns_of
+  rounded_settled sites a b e = ap (λ (turns : List Turned). delivered (outs_of turns) 0 turns) (turns_settled sites a b 0 sites e)
+
+-- ---- commands and scripts
+
+abbrev turns_told : Answer → List Turn
+turns_told (Turns turns) = turns
+turns_told _ = []
+
+pub played_settled : (trade : Trade) (sites : List Site) (command : Command) (a b : Luck) → Settled (played trade a sites command) (played trade b sites command)
+unfolding played
+played_settled trade sites (Submit p now sender path message) a b = submitted_settled trade sites a b p now sender path message
+played_settled trade sites (Tick p now) a b = ticked_settled trade sites a b p now
+played_settled trade sites (Round now) a b = λ e. rounded_settled trade now sites a.cuts b.cuts (ap turns_told e)
+played_settled trade sites (Lose from to place) a b = λ e. refl
+played_settled trade sites (Repeat from to place) a b = λ e. refl
+played_settled trade sites (Swap from to place) a b = λ e. refl
+played_settled trade sites (Inject from to frame) a b = λ e. refl
+played_settled trade sites (Crash p) a b = λ e. refl
+played_settled trade sites (Restart p) a b = restarted_settled trade sites a b p (site_at sites p)
+played_settled trade sites (Book address) a b = λ e. refl
+played_settled trade sites (Mailbox address) a b = λ e. refl
+played_settled trade sites (Show address place) a b = λ e. refl
+
+abbrev first_answer : Answer → List Answer → Answer
+first_answer other [] = other
+first_answer other (answer ∷ answers) = answer
+
+abbrev later_answers : List Answer → List Answer
+later_answers [] = []
+later_answers (answer ∷ answers) = answers
+
+pub script_settled : (trade : Trade) (sites : List Site) (commands : List Command) (a b : List Luck)
+    → (script trade a sites commands).answers ≡ (script trade b sites commands).answers → (script trade a sites commands).after ≡ (script trade b sites commands).after
+script_settled trade sites [] [] [] e = refl
+script_settled trade sites [] [] (y ∷ b) e = refl
+script_settled trade sites [] (x ∷ a) [] e = refl
+script_settled trade sites [] (x ∷ a) (y ∷ b) e = refl
+script_settled trade sites (command ∷ commands) [] [] e = refl
+script_settled trade sites (command ∷ commands) [] (y ∷ b) e = absurd (let n = ap length e in omega (arith, n))
+script_settled trade sites (command ∷ commands) (x ∷ a) [] e = absurd (let n = ap length e in omega (arith, n))
+script_settled trade sites (command ∷ commands) (x ∷ a) (y ∷ b) e =
+    let same = played_settled trade sites command x y (ap (first_answer IsUp) e)
+    in let rest : (script trade a (played trade x sites command).after commands).answers ≡ (script trade b (played trade x sites command).after commands).answers =
+    ap later_answers e ∙ sym (ap (λ (after : List Site). (script trade b after commands).answers) same)
+    in script_settled trade (played trade x sites command).after commands a b rest ∙ ap (λ (after : List Site). (script trade b after commands).after) same

@@ -1,0 +1,83 @@
+-- Which lucks can be: how a turn may be cut (`MayCut`), what a command may meet (`MayMeet`), and when no device failed in
+-- it (`IsQuiet`). This project's profile.
+use Rattle.std.specs.Prelude.{◌≡◌, ℕ, zero, suc, ◌+◌, ◌<◌, nat_lt, false, true, List, [], ◌∷◌, length, take, slice_get, All, IsSome, Some, None, if◌then◌else◌}
+use Rattle.pec_ledger.specs.Network.{Site, interrupted_at, site_at}
+use Rattle.pec_ledger.specs.Trade.{Trade}
+use Rattle.pec_plays.specs.Commands.{Command, Luck, Restart, Round, played}
+use Rattle.pec_plays.specs.Steps.{Step}
+use Rattle.pec_plays.specs.Turns.{Cut, Whole, Fails, Full, Stops, entry_at, frames_in, last_of, plan}
+
+-- The journal has room for the entries of all these steps.
+abbrev pub HaveRoom : List Step → Type 0
+HaveRoom steps = All (λ (step : Step). step.full ≡ false) steps
+
+-- The journal has room for the entries of the first steps, and not for that of the step of a number.
+pub record IsFull (steps : List Step) (number : ℕ) : Type 0 where
+  pub before : HaveRoom (take number steps)
+  pub step : Step
+  pub there : slice_get steps number ≡ Some step
+  pub full : step.full ≡ true
+
+-- A turn that was planned so may be cut so: it is done whole only where there is room for all entries; an append fails
+-- only at a step with an entry, for which there is room; the journal is full at the first step for which it has no room;
+-- and memory runs out before some step that there would have been room to reach.
+abbrev pub MayCut : List Step → Cut → Type 0
+MayCut steps Whole = HaveRoom steps
+MayCut steps (Fails number) = HaveRoom (take (number + 1) steps) × IsSome (entry_at steps number)
+MayCut steps (Full number) = IsFull steps number
+MayCut steps (Stops number) = HaveRoom (take number steps) × (number < length steps)
+
+-- A command may meet such a luck: the turns of a round that begin may be cut so.
+abbrev pub MayMeet : Trade → Luck → List Site → Command → Type 0
+MayMeet trade luck sites (Round now) =
+    (provider : ℕ) → provider < length sites → (site_at sites provider).up ≡ true
+    → nat_lt now (last_of trade provider (site_at sites provider).journal) ≡ false
+    → MayCut (plan trade provider now (site_at sites provider).journal (frames_in (site_at sites provider).waiting)) (luck.cuts provider)
+MayMeet trade luck sites _ = Unit {0}
+
+-- no append failed and no memory was missing
+abbrev pub IsCalm : Cut → Type 0
+IsCalm Whole = Unit {0}
+IsCalm (Fails number) = ⊥
+IsCalm (Full number) = Unit {0}
+IsCalm (Stops number) = ⊥
+
+-- No device failed in a command.
+pub record IsQuiet (luck : Luck) : Type 0 where
+  pub cuts : (provider : ℕ) → IsCalm (luck.cuts provider)
+  pub works : luck.fails ≡ false
+
+-- No provider has an interrupted entry.
+abbrev pub NoneInterrupted : List Site → Type 0
+NoneInterrupted sites = (provider : ℕ) → interrupted_at sites provider ≡ None
+
+-- The commands of a script may meet these lucks, and no device failed in any of them.
+abbrev pub AllQuiet : Trade → List Luck → List Site → List Command → Type 0
+AllQuiet trade [] sites commands = Unit {0}
+AllQuiet trade (luck ∷ lucks) sites [] = Unit {0}
+AllQuiet trade (luck ∷ lucks) sites (command ∷ commands) =
+    MayMeet trade luck sites command × IsQuiet luck × AllQuiet trade lucks (played trade luck sites command).after commands
+
+-- ---- the cut of a quiet turn
+
+-- as the cut of the steps behind the first
+abbrev pub later_cut : Cut → Cut
+later_cut Whole = Whole
+later_cut (Fails number) = Fails (suc number)
+later_cut (Full number) = Full (suc number)
+later_cut (Stops number) = Stops (suc number)
+
+-- A turn without faults is done whole, or ends at the first step for which the journal has no room.
+abbrev pub quiet_cut : List Step → Cut
+quiet_cut [] = Whole
+quiet_cut (step ∷ steps) = if step.full then Full zero else later_cut (quiet_cut steps)
+
+-- A luck without faults, for a command.
+abbrev pub quiet_luck : Trade → List Site → Command → Luck
+quiet_luck trade sites (Round now) = record {
+  cuts = λ provider.
+      quiet_cut (plan trade provider now (site_at sites provider).journal (frames_in (site_at sites provider).waiting));
+  fails = false;
+  found = false;
+}
+quiet_luck trade sites _ = record { cuts = λ provider. Whole; fails = false; found = false }
