@@ -13,6 +13,7 @@ pub mod DeliveryLemmas
 pub mod LinkLemmas
 pub mod SettleLemmas
 pub mod GoesOnLemmas
+pub mod QuietLemmas
 pub mod RunLemmas
 pub mod ShortLemmas
 pub mod ToldLemmas

@@ -81,3 +81,9 @@ quiet_luck trade sites (Round now) = record {
   found = false;
 }
 quiet_luck trade sites _ = record { cuts = λ provider. Whole; fails = false; found = false }
+
+-- Lucks without faults, one for each command of a script.
+abbrev pub quiet_lucks : Trade → List Site → List Command → List Luck
+quiet_lucks trade sites [] = []
+quiet_lucks trade sites (command ∷ commands) =
+    quiet_luck trade sites command ∷ quiet_lucks trade (played trade (quiet_luck trade sites command) sites command).after commands

@@ -1,9 +1,10 @@
-ghost use Rattle.std.specs.Prelude.{◌≡◌, ℕ, List};
+ghost use Rattle.std.specs.Prelude.{◌≡◌, ℕ, List, length};
 ghost use Rattle.pec_ledger.specs.Along.{AllDiffer, GoesOnAs};
 ghost use Rattle.pec_ledger.specs.Network.{journal_at, Site, Sound};
 ghost use Rattle.pec_ledger.specs.Trade.{Trade};
 ghost use Rattle.pec_ledger.specs.TradeLaws.{IsTrade};
 ghost use Rattle.pec_plays.specs.Commands.{Command, Luck, played};
+ghost use Rattle.pec_plays.specs.Possible.{AllQuiet, IsQuiet, MayMeet, NoneInterrupted, quiet_luck, quiet_lucks};
 ghost use Rattle.pec_plays.specs.Scripts.{AllUnforged, script};
 ghost use Rattle.pec_plays.specs.Told.{decided_told, learned_told};
 
@@ -40,3 +41,19 @@ pub fn no_two_answers()
     rows_have_their_texts();
     the_guarantees();
 }
+
+/// Without faults there is one answer and one state, and there is one at all: where no entry is interrupted, whatever a
+/// command or a script may meet without a fault of a device, it answers the same and leaves the same state.
+pub fn quiet_runs_are_one()
+    ensures commands { (trade : Trade) (sites : List Site) (command : Command) (luck other : Luck) → NoneInterrupted sites
+        → MayMeet trade luck sites command → IsQuiet luck → MayMeet trade other sites command → IsQuiet other
+        → played trade luck sites command ≡ played trade other sites command }
+    ensures scripts { (trade : Trade) (sites : List Site) (commands : List Command) (lucks others : List Luck) → NoneInterrupted sites
+        → length lucks ≡ length others → AllQuiet trade lucks sites commands → AllQuiet trade others sites commands
+        → script trade lucks sites commands ≡ script trade others sites commands }
+    // a luck without faults, for each command and each script
+    ensures command_there { (trade : Trade) (sites : List Site) (command : Command)
+        → MayMeet trade (quiet_luck trade sites command) sites command × IsQuiet (quiet_luck trade sites command) }
+    ensures script_there { (trade : Trade) (sites : List Site) (commands : List Command)
+        → AllQuiet trade (quiet_lucks trade sites commands) sites commands × (length (quiet_lucks trade sites commands) ≡ length commands) }
+{}

@@ -1,0 +1,357 @@
+-- Runs without faults are one: a turn without faults is cut in one way.
+use Rattle.std.proofs.Common.{◌≡◌, ℕ, zero, suc, ◌+◌, ◌<◌, ◌≤◌, List, [], ◌∷◌, ◌++◌, Bool, true, false, inl, inr, length, take, refl, ap, sym, subst, ◌∙◌, arith, nat_lt, Option, Some, None}
+use Rattle.std.specs.Prelude.{All, slice_get, slice_set, slice_index_or, if◌then◌else◌}
+use Rattle.std.proofs.lemmas.Bool.{cases_lt, false≢true}
+use Rattle.std.proofs.lemmas.List.{append-nil}
+use Rattle.std.proofs.lemmas.List.Elements.{All-cons, All-head, All-nil, All-tail}
+use Rattle.std.proofs.lemmas.Option.{none-some, same_Some}
+use Rattle.pec_types.specs.Bytes.{Bytes, Path}
+use Rattle.pec_types.specs.declared.messages.TheConstants.{MESSAGES}
+use Rattle.pec_types.specs.declared.turns.ProviderFault.{ProviderFault}
+use Rattle.pec_types.specs.declared.turns.ProviderFault.TheVariants as faults
+use Rattle.pec_records.specs.declared.entries.Entry.{Entry}
+use Rattle.pec_records.specs.declared.entries.Entry.TheVariants as entries
+use Rattle.pec_ledger.specs.Books.{book, mailbox_lines}
+use Rattle.pec_ledger.specs.Half.{Half, Posted}
+use Rattle.pec_ledger.specs.Items.{item_text}
+use Rattle.pec_ledger.specs.Lookups.{mailbox}
+use Rattle.pec_ledger.specs.Network.{Site, chosen, empty_site, frames_between, interrupted_at, journal_at, site_at}
+use Rattle.pec_ledger.specs.Trade.{Trade}
+use Rattle.pec_plays.specs.Commands.{Answer, Command, Luck, Played, IsUp, Refuses, Restarted, Turns, Submit, Tick, Round, Lose, Repeat, Swap, Inject, Crash, Restart, Book, Mailbox, Show, Lines, Items, account_home, answers, append, appended, asked, at_work, injected, lost, messages_at, played, put_again, restarted, restarted_site, shown, shown_bytes, stopped_site, submitted, swapped, swapped_at, ticked, with_entry, with_frames, with_site}
+use Rattle.pec_plays.specs.Possible.{AllQuiet, HaveRoom, IsCalm, IsFull, IsQuiet, MayCut, MayMeet, NoneInterrupted, later_cut, quiet_cut, quiet_luck, quiet_lucks}
+use Rattle.pec_plays.specs.Rounds.{Rounded, delivered, link_size, outs_of, rooms_of, rounded, told_from, turns_from, turns_of, with_waiting}
+use Rattle.pec_plays.specs.Scripts.{Told, onto, script}
+use Rattle.pec_plays.specs.Steps.{Step, has_no_room}
+use Rattle.pec_plays.specs.Turns.{Cut, Turned, Whole, Fails, Full, Stops, cut_turn, frames_in, last_of, not_begun, plan, turned}
+use Rattle.pec_plays.proofs.DeliveryLemmas.{after_is, past_the_end, turn_in}
+use Rattle.pec_plays.proofs.SiteLemmas.{put_cases}
+
+-- ---- cuts
+
+full_not : (s : Step) → s.full ≡ true → s.full ≡ false → ⊥
+full_not s e f = false≢true (sym f ∙ e)
+
+-- the quiet cut of steps, by whether there is room for the first
+abbrev cut_by : Bool → List Step → Cut
+cut_by full steps = if full then Full zero else later_cut (quiet_cut steps)
+
+whole_is : (s : Step) (steps : List Step) (full : Bool) → s.full ≡ full → HaveRoom (s ∷ steps) → (HaveRoom steps → Whole ≡ quiet_cut steps) → Whole ≡ cut_by full steps
+whole_is s steps true e room more = absurd (full_not s e (All-head (λ (x : Step). x.full ≡ false) s steps room))
+whole_is s steps false e room more = ap later_cut (more (All-tail (λ (x : Step). x.full ≡ false) s steps room))
+
+full_here : (s : Step) (steps : List Step) (full : Bool) → s.full ≡ full → IsFull (s ∷ steps) zero → Full zero ≡ cut_by full steps
+full_here s steps true e is = refl
+full_here s steps false e is = absurd (full_not s (subst (λ (x : Step). x.full ≡ true) (sym (same_Some s is.step is.there)) is.full) e)
+
+full_later : (s : Step) (steps : List Step) (n : ℕ) (full : Bool) → s.full ≡ full → IsFull (s ∷ steps) (suc n) → (IsFull steps n → Full n ≡ quiet_cut steps)
+    → Full (suc n) ≡ cut_by full steps
+full_later s steps n true e is more = absurd (full_not s e (All-head (λ (x : Step). x.full ≡ false) s (take n steps) is.before))
+full_later s steps n false e is more =
+    ap later_cut
+    (more (record { before = All-tail (λ (x : Step). x.full ≡ false) s (take n steps) is.before; step = is.step; there = is.there; full = is.full }))
+
+pub calm_cut : (steps : List Step) (cut : Cut) → MayCut steps cut → IsCalm cut → cut ≡ quiet_cut steps
+calm_cut [] Whole may calm = refl
+calm_cut [] (Full n) may calm = absurd (none-some may.step may.there)
+calm_cut steps (Fails n) may calm = absurd calm
+calm_cut steps (Stops n) may calm = absurd calm
+calm_cut (s ∷ steps) Whole may calm = whole_is s steps s.full refl may (λ room. calm_cut steps Whole room tt)
+calm_cut (s ∷ steps) (Full zero) may calm = full_here s steps s.full refl may
+calm_cut (s ∷ steps) (Full (suc n)) may calm = full_later s steps n s.full refl may (λ is. calm_cut steps (Full n) is tt)
+
+later_may : (s : Step) (steps : List Step) (cut : Cut) → s.full ≡ false → MayCut steps cut → IsCalm cut → MayCut (s ∷ steps) (later_cut cut)
+later_may s steps Whole e may calm = All-cons (λ (x : Step). x.full ≡ false) s steps e may
+later_may s steps (Fails n) e may calm = absurd calm
+later_may s steps (Stops n) e may calm = absurd calm
+later_may s steps (Full n) e may calm = record {
+  before = All-cons (λ (x : Step). x.full ≡ false) s (take n steps) e may.before;
+  step = may.step;
+  there = may.there;
+  full = may.full;
+}
+
+later_calm : (cut : Cut) → IsCalm cut → IsCalm (later_cut cut)
+later_calm Whole calm = tt
+later_calm (Fails n) calm = calm
+later_calm (Full n) calm = tt
+later_calm (Stops n) calm = calm
+
+calm_by : (full : Bool) (steps : List Step) → IsCalm (quiet_cut steps) → IsCalm (cut_by full steps)
+calm_by true steps calm = tt
+calm_by false steps calm = later_calm (quiet_cut steps) calm
+
+pub quiet_is_calm : (steps : List Step) → IsCalm (quiet_cut steps)
+quiet_is_calm [] = tt
+quiet_is_calm (s ∷ steps) = calm_by s.full steps (quiet_is_calm steps)
+
+may_by : (s : Step) (steps : List Step) (full : Bool) → s.full ≡ full → MayCut steps (quiet_cut steps) → MayCut (s ∷ steps) (cut_by full steps)
+may_by s steps true e may = record { before = All-nil (λ (x : Step). x.full ≡ false); step = s; there = refl; full = e }
+may_by s steps false e may = later_may s steps (quiet_cut steps) e may (quiet_is_calm steps)
+
+pub quiet_may : (steps : List Step) → MayCut steps (quiet_cut steps)
+quiet_may [] = All-nil (λ (x : Step). x.full ≡ false)
+quiet_may (s ∷ steps) = may_by s steps s.full refl (quiet_may steps)
+
+-- ---- one command
+
+module _ (trade : Trade) (sites : List Site) (a b : Luck) (quiet_a : IsQuiet a) (quiet_b : IsQuiet b) where
+  append_one : (p : ℕ) (entry : Entry) (answer : Answer) → append trade a sites p entry answer ≡ append trade b sites p entry answer
+  append_one p entry answer =
+      ap (λ (fails : Bool). if has_no_room trade p (journal_at sites p) entry then answers sites (Refuses faults.JournalFull) else appended fails sites p entry answer)
+      (quiet_a.works ∙ sym quiet_b.works)
+
+  work_one : (p now : ℕ) (x y : Played) → x ≡ y → at_work trade sites p now x ≡ at_work trade sites p now y
+  work_one p now x y e = ap (at_work trade sites p now) e
+
+  submitted_one : (p now : ℕ) (sender : Bytes) (path : Path) (message : Bytes)
+      → submitted trade a sites p now sender path message ≡ submitted trade b sites p now sender path message
+  submitted_one p now sender path message =
+      ap (λ (x : Played). if trade.is_account p sender then x else answers sites (Refuses faults.NoAccount))
+      (work_one p now _ _
+      (ap (λ (x : Played). if nat_lt (messages_at trade sites p) MESSAGES then x else answers sites (Refuses faults.Full)) (append_one p _ _)))
+
+  ticked_one : (p now : ℕ) → ticked trade a sites p now ≡ ticked trade b sites p now
+  ticked_one p now = work_one p now _ _ (append_one p (entries.Ticked now) _)
+
+  -- ---- restarts
+
+  chosen_nothing : (x : Bool) (i : Option Entry) → i ≡ None → chosen x i ≡ []
+  chosen_nothing true i e = ap (chosen true) e
+  chosen_nothing false i e = refl
+
+  found_nothing : (site : Site) (x y : Bool) → site.interrupted ≡ None → restarted_site x site ≡ restarted_site y site
+  found_nothing site x y e =
+      ap (λ (more : List Entry). record { journal = site.journal ++ more; up = true; interrupted = None; waiting = site.waiting })
+      (chosen_nothing x site.interrupted e ∙ sym (chosen_nothing y site.interrupted e))
+
+  abbrev restarted_as : Bool → ℕ → Site → Site → Played
+  restarted_as fails p old new =
+      if old.up then answers sites IsUp
+      else (if fails then answers sites (Refuses faults.DiskFault) else record { answer = Restarted (length new.journal); after = with_site sites p new })
+
+  restarted_one : (p : ℕ) (site : Site) → site.interrupted ≡ None → restarted a sites p site ≡ restarted b sites p site
+  restarted_one p site none =
+      ap (λ (fails : Bool). restarted_as fails p site (restarted_site a.found site)) (quiet_a.works ∙ sym quiet_b.works)
+      ∙ ap (restarted_as b.fails p site) (found_nothing site a.found b.found none)
+
+  -- ---- rounds
+
+  module _ (now : ℕ) where
+    -- where a turn begins, it may be cut so
+    abbrev MayBegin : ℕ → Site → Cut → Type 0
+    MayBegin p site cut = site.up ≡ true → nat_lt now (last_of trade p site.journal) ≡ false → MayCut (plan trade p now site.journal (frames_in site.waiting)) cut
+
+    abbrev turn_by : ℕ → (ℕ → ℕ) → Site → Cut → Bool → Bool → Turned
+    turn_by p rooms site cut up late =
+        if up then (if late then not_begun site (faults.ClockBack (last_of trade p site.journal))
+        else cut_turn trade p rooms site (plan trade p now site.journal (frames_in site.waiting)) cut)
+        else not_begun site faults.Down
+
+    turn_one : (p : ℕ) (rooms : ℕ → ℕ) (site : Site) (x y : Cut) → MayBegin p site x → MayBegin p site y → IsCalm x → IsCalm y
+        → (up late : Bool) → site.up ≡ up → nat_lt now (last_of trade p site.journal) ≡ late → turn_by p rooms site x up late ≡ turn_by p rooms site y up late
+    turn_one p rooms site x y may_x may_y calm_x calm_y true false e f =
+        let steps = plan trade p now site.journal (frames_in site.waiting)
+        in ap (cut_turn trade p rooms site steps) (calm_cut steps x (may_x e f) calm_x ∙ sym (calm_cut steps y (may_y e f) calm_y))
+    turn_one p rooms site x y may_x may_y calm_x calm_y true true e f = refl
+    turn_one p rooms site x y may_x may_y calm_x calm_y false late e f = refl
+
+    turned_one : (p : ℕ) (rooms : ℕ → ℕ) (site : Site) (x y : Cut) → MayBegin p site x → MayBegin p site y → IsCalm x → IsCalm y
+        → turned trade p now rooms x site ≡ turned trade p now rooms y site
+    unfolding turned
+    turned_one p rooms site x y may_x may_y calm_x calm_y =
+        turn_one p rooms site x y may_x may_y calm_x calm_y site.up (nat_lt now (last_of trade p site.journal)) refl refl
+
+    both_turns : (x y : Turned) (xs ys : List Turned) → x ≡ y → xs ≡ ys → x ∷ xs ≡ y ∷ ys
+    both_turns x y xs ys e f = rw (e, f) refl
+
+    abbrev AllMay : Luck → ℕ → List Site → Type 0
+    AllMay luck number ss = (k : ℕ) → k < length ss → MayBegin (number + k) (slice_index_or ss k empty_site) (luck.cuts (number + k))
+
+    first_may : (luck : Luck) (number : ℕ) (s : Site) (ss : List Site) → AllMay luck number (s ∷ ss) → MayBegin number s (luck.cuts number)
+    first_may luck number s ss may = subst (λ (q : ℕ). MayBegin q s (luck.cuts q)) (let z : number + 0 ≡ number = omega arith in z) (may 0 (omega arith))
+
+    rest_may : (luck : Luck) (number : ℕ) (s : Site) (ss : List Site) → AllMay luck number (s ∷ ss) → AllMay luck (number + 1) ss
+    rest_may luck number s ss may k l =
+        subst (λ (q : ℕ). MayBegin q (slice_index_or ss k empty_site) (luck.cuts q)) (let z : number + suc k ≡ (number + 1) + k = omega arith in z)
+        (may (suc k) (omega arith))
+
+    turns_one : (number : ℕ) (ss : List Site) → AllMay a number ss → AllMay b number ss → turns_from trade now sites a.cuts number ss ≡ turns_from trade now sites b.cuts number ss
+    turns_one number [] may_a may_b = refl
+    turns_one number (s ∷ ss) may_a may_b =
+        both_turns (turned trade number now (rooms_of sites number) (a.cuts number) s) (turned trade number now (rooms_of sites number) (b.cuts number) s)
+        (turns_from trade now sites a.cuts (number + 1) ss) (turns_from trade now sites b.cuts (number + 1) ss)
+        (turned_one number (rooms_of sites number) s (a.cuts number) (b.cuts number) (first_may a number s ss may_a) (first_may b number s ss may_b)
+        (quiet_a.cuts number) (quiet_b.cuts number))
+        (turns_one (number + 1) ss (rest_may a number s ss may_a) (rest_may b number s ss may_b))
+
+    from_the_first : (luck : Luck) → MayMeet trade luck sites (Round now) → AllMay luck 0 sites
+    from_the_first luck may k l =
+        subst (λ (q : ℕ). MayBegin q (slice_index_or sites k empty_site) (luck.cuts q)) (let z : k ≡ 0 + k = omega arith in z) (may k l)
+
+    rounded_one : MayMeet trade a sites (Round now) → MayMeet trade b sites (Round now) → rounded trade now a.cuts sites ≡ rounded trade now b.cuts sites
+    unfolding rounded turns_of
+    rounded_one may_a may_b =
+        ap (λ (turns : List Turned). let r : Rounded = record { sites = delivered (outs_of turns) 0 turns; turns = told_from 0 turns } in r)
+        (turns_one 0 sites (from_the_first a may_a) (from_the_first b may_b))
+
+  pub played_one : (command : Command) → NoneInterrupted sites → MayMeet trade a sites command → MayMeet trade b sites command
+      → played trade a sites command ≡ played trade b sites command
+  unfolding played
+  played_one (Submit p now sender path message) none may_a may_b = submitted_one p now sender path message
+  played_one (Tick p now) none may_a may_b = ticked_one p now
+  played_one (Round now) none may_a may_b =
+      ap (λ (r : Rounded). let x : Played = record { answer = Turns r.turns; after = r.sites } in x) (rounded_one now may_a may_b)
+  played_one (Lose from to place) none may_a may_b = refl
+  played_one (Repeat from to place) none may_a may_b = refl
+  played_one (Swap from to place) none may_a may_b = refl
+  played_one (Inject from to frame) none may_a may_b = refl
+  played_one (Crash p) none may_a may_b = refl
+  played_one (Restart p) none may_a may_b = restarted_one p (site_at sites p) (none p)
+  played_one (Book address) none may_a may_b = refl
+  played_one (Mailbox address) none may_a may_b = refl
+  played_one (Show address place) none may_a may_b = refl
+
+-- ---- no entry is interrupted by a command without faults
+
+module _ (trade : Trade) (sites : List Site) (luck : Luck) (quiet : IsQuiet luck) (none : NoneInterrupted sites) where
+  with_none : (p : ℕ) (site : Site) → site.interrupted ≡ None → NoneInterrupted (with_site sites p site)
+  with_none p site e q =
+      elim (put_cases sites p q site) [
+        | inl same ↦ ap (λ (s : Site). s.interrupted) same.1 ∙ e
+        | inr unchanged ↦ ap (λ (s : Site). s.interrupted) unchanged ∙ none q
+      ]
+
+  none_by : (t : Bool) (x y : Played) → NoneInterrupted x.after → NoneInterrupted y.after → NoneInterrupted (if t then x else y).after
+  none_by true x y a b = a
+  none_by false x y a b = b
+
+  none_appended : (fails : Bool) (p : ℕ) (entry : Entry) (answer : Answer) → fails ≡ false → NoneInterrupted (appended fails sites p entry answer).after
+  none_appended true p entry answer e = absurd (false≢true (sym e))
+  none_appended false p entry answer e = with_none p (with_entry (site_at sites p) entry) (none p)
+
+  none_append : (p : ℕ) (entry : Entry) (answer : Answer) → NoneInterrupted (append trade luck sites p entry answer).after
+  none_append p entry answer =
+      none_by (has_no_room trade p (journal_at sites p) entry) _ (appended luck.fails sites p entry answer) none (none_appended luck.fails p entry answer quiet.works)
+
+  none_work : (p now : ℕ) (done : Played) → NoneInterrupted done.after → NoneInterrupted (at_work trade sites p now done).after
+  none_work p now done more =
+      none_by (site_at sites p).up _ _ (none_by (nat_lt now (last_of trade p (journal_at sites p))) _ done none more) none
+
+  none_frames : (from to : ℕ) (frames : List Bytes) → NoneInterrupted (with_frames sites from to frames)
+  none_frames from to frames = with_none to (with_waiting (site_at sites to) (slice_set (site_at sites to).waiting from frames)) (none to)
+
+  none_again : (from to : ℕ) (found : Option Bytes) → NoneInterrupted (put_again sites from to found).after
+  none_again from to None = none
+  none_again from to (Some frame) = none_by (nat_lt (length (frames_between sites from to)) link_size) _ _ (none_frames from to _) none
+
+  none_swapped : (from to : ℕ) (found : Option (List Bytes)) → NoneInterrupted (swapped sites from to found).after
+  none_swapped from to None = none
+  none_swapped from to (Some frames) = none_frames from to frames
+
+  none_asked : (show : ℕ → Half → Played) (found : Option ℕ) → ((p : ℕ) (h : Half) → NoneInterrupted (show p h).after) → NoneInterrupted (asked sites show trade found).after
+  none_asked show None same = none
+  none_asked show (Some p) same = none_by (site_at sites p).up _ _ (same p _) none
+
+  none_bytes : (text : Option Bytes) → NoneInterrupted (shown_bytes sites text).after
+  none_bytes None = none
+  none_bytes (Some bytes) = none
+
+  none_shown : (p : ℕ) (found : Option Posted) → NoneInterrupted (shown trade sites p found).after
+  none_shown p None = none
+  none_shown p (Some posted) = none_bytes (item_text trade p (journal_at sites p) posted)
+
+  cut_keeps : (p : ℕ) (rooms : ℕ → ℕ) (site : Site) (steps : List Step) (cut : Cut) → IsCalm cut → (cut_turn trade p rooms site steps cut).site.interrupted ≡ site.interrupted
+  cut_keeps p rooms site steps Whole calm = refl
+  cut_keeps p rooms site steps (Fails n) calm = absurd calm
+  cut_keeps p rooms site steps (Full n) calm = refl
+  cut_keeps p rooms site steps (Stops n) calm = absurd calm
+
+  keeps_by : (site : Site) (t : Bool) (x y : Turned) → x.site.interrupted ≡ site.interrupted → y.site.interrupted ≡ site.interrupted
+      → (if t then x else y).site.interrupted ≡ site.interrupted
+  keeps_by site true x y a b = a
+  keeps_by site false x y a b = b
+
+  turn_keeps : (p now : ℕ) (rooms : ℕ → ℕ) (site : Site) (cut : Cut) → IsCalm cut → (turned trade p now rooms cut site).site.interrupted ≡ site.interrupted
+  unfolding turned
+  turn_keeps p now rooms site cut calm =
+      keeps_by site site.up _ _
+      (keeps_by site (nat_lt now (last_of trade p site.journal)) _ _ refl
+      (cut_keeps p rooms site (plan trade p now site.journal (frames_in site.waiting)) cut calm))
+      refl
+
+  none_rounded : (now : ℕ) → NoneInterrupted (rounded trade now luck.cuts sites).sites
+  unfolding rounded turns_of
+  none_rounded now q =
+      elim (cases_lt q (length sites)) [
+        | inl l ↦
+            ap (λ (s : Site). s.interrupted) (after_is trade now luck.cuts sites q l)
+            ∙ turn_keeps q now (rooms_of sites q) (site_at sites q) (luck.cuts q) (quiet.cuts q) ∙ none q
+        | inr l ↦ ap (λ (s : Site). s.interrupted) (past_the_end trade now luck.cuts sites q l) ∙ none q
+      ]
+
+  pub none_behind : (command : Command) → NoneInterrupted (played trade luck sites command).after
+  unfolding played
+  none_behind (Submit p now sender path message) =
+      none_by (trade.is_account p sender) _ _
+      (none_work p now _ (none_by (nat_lt (messages_at trade sites p) MESSAGES) _ _ (none_append p _ _) none)) none
+  none_behind (Tick p now) = none_work p now _ (none_append p (entries.Ticked now) _)
+  none_behind (Round now) = none_rounded now
+  none_behind (Lose from to place) = none_by (nat_lt place (length (frames_between sites from to))) _ _ (none_frames from to _) none
+  none_behind (Repeat from to place) = none_again from to (slice_get (frames_between sites from to) place)
+  none_behind (Swap from to place) = none_swapped from to (swapped_at place (frames_between sites from to))
+  none_behind (Inject from to frame) = none_by (nat_lt (length (frames_between sites from to)) link_size) _ _ (none_frames from to _) none
+  none_behind (Crash p) = with_none p (stopped_site (site_at sites p)) (none p)
+  none_behind (Restart p) =
+      none_by (site_at sites p).up _ _ none (none_by luck.fails _ _ none (with_none p (restarted_site luck.found (site_at sites p)) refl))
+  none_behind (Book address) =
+      none_asked (λ (p : ℕ) (h : Half). answers sites (Lines (book trade p h address))) (account_home trade address (trade.home address)) (λ p h. none)
+  none_behind (Mailbox address) =
+      none_asked (λ (p : ℕ) (h : Half). answers sites (Items (mailbox_lines h address))) (account_home trade address (trade.home address)) (λ p h. none)
+  none_behind (Show address place) =
+      none_asked (λ (p : ℕ) (h : Half). shown trade sites p (slice_get (mailbox h address) place)) (account_home trade address (trade.home address))
+      (λ p h. none_shown p (slice_get (mailbox h address) place))
+
+-- ---- scripts
+
+pub script_one : (trade : Trade) (a b : List Luck) (sites : List Site) (commands : List Command) → length a ≡ length b → NoneInterrupted sites
+    → AllQuiet trade a sites commands → AllQuiet trade b sites commands → script trade a sites commands ≡ script trade b sites commands
+script_one trade [] [] sites commands e none quiet_a quiet_b = refl
+script_one trade [] (y ∷ b) sites commands e none quiet_a quiet_b = absurd (omega (arith, e))
+script_one trade (x ∷ a) [] sites commands e none quiet_a quiet_b = absurd (omega (arith, e))
+script_one trade (x ∷ a) (y ∷ b) sites [] e none quiet_a quiet_b = refl
+script_one trade (x ∷ a) (y ∷ b) sites (command ∷ commands) e none quiet_a quiet_b =
+    let same = played_one trade sites x y quiet_a.1 quiet_b.1 command none quiet_a.0 quiet_b.0
+    in let rest = script_one trade a b (played trade x sites command).after commands (let f : length a ≡ length b = omega (arith, e) in f)
+    (none_behind trade sites x quiet_a.1 none command) quiet_a.2
+    (subst (λ (p : Played). AllQuiet trade b p.after commands) (sym same) quiet_b.2)
+    in ap (onto (played trade x sites command).answer) rest
+    ∙ ap (λ (p : Played). onto p.answer (script trade b p.after commands)) same
+
+-- ---- there is a luck without faults
+
+pub quiet_there : (trade : Trade) (sites : List Site) (command : Command) → MayMeet trade (quiet_luck trade sites command) sites command × IsQuiet (quiet_luck trade sites command)
+quiet_there trade sites (Round now) = (
+  λ p l up late. quiet_may (plan trade p now (site_at sites p).journal (frames_in (site_at sites p).waiting)),
+  record { cuts = λ p. quiet_is_calm (plan trade p now (site_at sites p).journal (frames_in (site_at sites p).waiting)); works = refl },
+)
+quiet_there trade sites (Submit p now sender path message) = (tt, record { cuts = λ p. tt; works = refl })
+quiet_there trade sites (Tick p now) = (tt, record { cuts = λ p. tt; works = refl })
+quiet_there trade sites (Lose from to place) = (tt, record { cuts = λ p. tt; works = refl })
+quiet_there trade sites (Repeat from to place) = (tt, record { cuts = λ p. tt; works = refl })
+quiet_there trade sites (Swap from to place) = (tt, record { cuts = λ p. tt; works = refl })
+quiet_there trade sites (Inject from to frame) = (tt, record { cuts = λ p. tt; works = refl })
+quiet_there trade sites (Crash p) = (tt, record { cuts = λ p. tt; works = refl })
+quiet_there trade sites (Restart p) = (tt, record { cuts = λ p. tt; works = refl })
+quiet_there trade sites (Book address) = (tt, record { cuts = λ p. tt; works = refl })
+quiet_there trade sites (Mailbox address) = (tt, record { cuts = λ p. tt; works = refl })
+quiet_there trade sites (Show address place) = (tt, record { cuts = λ p. tt; works = refl })
+
+pub quiet_along : (trade : Trade) (sites : List Site) (commands : List Command) → AllQuiet trade (quiet_lucks trade sites commands) sites commands
+quiet_along trade sites [] = tt
+quiet_along trade sites (command ∷ commands) =
+    let there = quiet_there trade sites command
+    in (there.0, there.1, quiet_along trade (played trade (quiet_luck trade sites command) sites command).after commands)
+
+pub quiet_enough : (trade : Trade) (sites : List Site) (commands : List Command) → length (quiet_lucks trade sites commands) ≡ length commands
+quiet_enough trade sites [] = refl
+quiet_enough trade sites (command ∷ commands) = ap suc (quiet_enough trade (played trade (quiet_luck trade sites command) sites command).after commands)
