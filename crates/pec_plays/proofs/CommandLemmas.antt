@@ -15,7 +15,8 @@ use Rattle.pec_records.specs.declared.entries.Entry.TheVariants as entries
 use Rattle.pec_ledger.specs.Half.{Half}
 use Rattle.pec_ledger.specs.Ledger.{Follows, Journals, Meets}
 use Rattle.pec_ledger.specs.Network.{AreGenuine, IsGenuine, Site, Sound, frames_between, journal_at, journals_of, site_at, Stays, Appends, Fails, Restarts}
-use Rattle.pec_ledger.specs.Steps.{half}
+use Rattle.pec_ledger.specs.Own.{Own}
+use Rattle.pec_ledger.specs.Steps.{half, moment_of}
 use Rattle.pec_ledger.specs.Trade.{Trade}
 use Rattle.pec_ledger.specs.TradeLaws.{IsTrade}
 use Rattle.pec_plays.specs.Commands.{Answer, Luck, Played, append, appended, asked, at_work, entry_by, injected, lost, messages_at, put_again, restarted, restarted_site, stopped_site, submitted, swapped, swapped_at, ticked, with_entry, with_frames, with_site}
@@ -23,6 +24,31 @@ use Rattle.pec_plays.specs.Rounds.{link_size, with_waiting}
 use Rattle.pec_plays.specs.Steps.{has_no_room}
 use Rattle.pec_plays.specs.Turns.{broken, last_of}
 use Rattle.pec_plays.proofs.SiteLemmas.{StateLaws, none_interrupted, sound_with}
+
+-- ---- the entry of a submission
+
+module _ (trade : Trade) (world : IsTrade trade) (p now : ℕ) (es : List Entry) where
+  pub entry_own : (sender : Bytes) (path : Path) (message : Bytes) (cause : Option Cause) → trade.cause p sender path message ≡ cause
+      → trade.is_account p sender ≡ true → length (half trade p es).messages < MESSAGES → 0 < length path → length path ≤ most_addresses
+      → Own trade p (half trade p es) (entry_by cause now sender path message) × (moment_of (entry_by cause now sender path message) ≡ now)
+  entry_own sender path message None e account room some few =
+      let admitted = world.admitted p sender path message e
+      in ((room, account, record { facts = admitted.0; are = admitted.1; sent = admitted.2; few = let l = admitted.4 in omega arith }), refl)
+  entry_own sender path message (Some cause) e account room some few = ((room, account, some, few), refl)
+
+  pub entry_meets : (J : Journals) (sender : Bytes) (path : Path) (message : Bytes) (cause : Option Cause) → trade.cause p sender path message ≡ cause
+      → trade.is_account p sender ≡ true → length (half trade p es).messages < MESSAGES → 0 < length path → length path ≤ most_addresses
+      → (half trade p es).last ≤ now → now < END_OF_TIME → Meets trade J p (half trade p es) (entry_by cause now sender path message)
+  entry_meets J sender path message None e account room some few time range =
+      let admitted = world.admitted p sender path message e
+      in record {
+        own = (entry_own sender path message None e account room some few).0;
+        in_time = time;
+        in_range = range;
+        joint = record { facts = admitted.0; are = admitted.1; none = admitted.3 };
+      }
+  entry_meets J sender path message (Some cause) e account room some few time range =
+      record { own = (entry_own sender path message (Some cause) e account room some few).0; in_time = time; in_range = range; joint = inl e }
 
 module _ (trade : Trade) (world : IsTrade trade) (laws : StateLaws trade) where
   -- ---- appends
@@ -67,21 +93,6 @@ module _ (trade : Trade) (world : IsTrade trade) (laws : StateLaws trade) where
 
   -- ---- submissions
 
-  entry_meets : (sites : List Site) (p now : ℕ) (sender : Bytes) (path : Path) (message : Bytes) (cause : Option Cause) → trade.cause p sender path message ≡ cause
-      → trade.is_account p sender ≡ true → messages_at trade sites p < MESSAGES → 0 < length path → length path ≤ most_addresses
-      → last_of trade p (journal_at sites p) ≤ now → now < END_OF_TIME
-      → Meets trade (journals_of sites) p (half trade p (journal_at sites p)) (entry_by cause now sender path message)
-  entry_meets sites p now sender path message None e account room some few time range =
-      let admitted = world.admitted p sender path message e
-      in record {
-        own = (room, account, record { facts = admitted.0; are = admitted.1; sent = admitted.2; few = let l = admitted.4 in omega arith });
-        in_time = time;
-        in_range = range;
-        joint = record { facts = admitted.0; are = admitted.1; none = admitted.3 };
-      }
-  entry_meets sites p now sender path message (Some cause) e account room some few time range =
-      record { own = (room, account, some, few); in_time = time; in_range = range; joint = inl e }
-
   pub sound_submitted : (luck : Luck) (sites : List Site) (p now : ℕ) (sender : Bytes) (path : Path) (message : Bytes) → Sound trade sites
       → 0 < length path → length path ≤ most_addresses → now < END_OF_TIME → Sound trade (submitted trade luck sites p now sender path message).after
   sound_submitted luck sites p now sender path message sound some few range =
@@ -89,7 +100,7 @@ module _ (trade : Trade) (world : IsTrade trade) (laws : StateLaws trade) where
       (λ account. sound_at_work sites p now _ sound
       (λ up time. by_test (nat_lt (messages_at trade sites p) MESSAGES) _ _
       (λ room. sound_append luck sites p (entry_by (trade.cause p sender path message) now sender path message) _ sound up
-      (entry_meets sites p now sender path message (trade.cause p sender path message) refl account
+      (entry_meets trade world p now (journal_at sites p) (journals_of sites) sender path message (trade.cause p sender path message) refl account
       (ltb-true (messages_at trade sites p) MESSAGES room) some few time range))
       (λ e. sound)))
       (λ e. sound)

@@ -1,6 +1,7 @@
 pub mod ListLemmas
 pub mod ReceptionLemmas
 pub mod CommandLemmas
+pub mod SightLemmas
 pub mod SiteLemmas
 pub mod StepLemmas
 pub mod PlanLemmas
@@ -8,13 +9,16 @@ pub mod FrameLemmas
 pub mod RoundLemmas
 pub mod SoundLemmas
 pub mod KeptLemmas
+pub mod NextLemmas
 pub mod OpenLemmas
 pub mod DeliveryLemmas
 pub mod LinkLemmas
 pub mod SettleLemmas
 pub mod GoesOnLemmas
+pub mod OwedLemmas
 pub mod QuietLemmas
 pub mod RunLemmas
 pub mod ShortLemmas
 pub mod ToldLemmas
+pub mod TurnLemmas
 pub mod ComposedLemmas

@@ -50,3 +50,8 @@ module _ (trade : Trade) (p : ℕ) where
             (ap (is_recipient_of pair.recipient) is.0.taken ∙ address_there is.0.row.recipients pair.recipient is.0.recipient)
             (ap is_none is.1))),
       )
+
+  pub undecided_open : (es : List Entry) (pair : Pair) → Contains (undecided trade p es) pair → is_open (half trade p es) pair ≡ true
+  unfolding undecided
+  undecided_open es pair c =
+      (from_filter (is_open (half trade p es)) (each_once same_pair (pairs_taken (half trade p es).taken)) pair c).1

@@ -47,7 +47,7 @@ parted (suc n) (s ∷ steps) =
           ∙ sym (append_assoc (option_to_list s.entry) (entries_of (take n steps)) (option_to_list (entry_at steps n) ++ more.0)),
     )
 
-abbrev open_by : List Taken → List Fate → Pair → Bool
+abbrev pub open_by : List Taken → List Fate → Pair → Bool
 open_by taken decided pair =
     is_recipient_of pair.recipient (find (λ (t : Taken). same_id pair.id t.id) taken) && is_none (find (λ (f : Fate). same_pair pair f.pair) decided)
 
@@ -59,11 +59,11 @@ not_found pair other decision moment differ =
       | inr e ↦ ap (λ b. cond b (Some (let f : Fate = record { pair = pair; decision = decision; moment = moment } in f)) None) e
     ]
 
-module _ (trade : Trade) (world : IsTrade trade) (J : Journals) (laws : ArrivalLaws trade J) (p now : ℕ) where
-  half_one : (es : List Entry) (e : Entry) → half trade p (es ++ e ∷ []) ≡ step trade p (half trade p es) e
-  unfolding half
-  half_one es e = fold-append (step trade p) empty es (e ∷ [])
+pub half_one : (trade : Trade) (p : ℕ) (es : List Entry) (e : Entry) → half trade p (es ++ e ∷ []) ≡ step trade p (half trade p es) e
+unfolding half
+half_one trade p es e = fold-append (step trade p) empty es (e ∷ [])
 
+module _ (trade : Trade) (world : IsTrade trade) (J : Journals) (laws : ArrivalLaws trade J) (p now : ℕ) where
   last_after : (h : Half) (e : Entry) → h.last ≤ now → moment_of e ≡ now → (step trade p h e).last ≤ now
   unfolding step
   last_after h e l m = omega arith
@@ -81,8 +81,8 @@ module _ (trade : Trade) (world : IsTrade trade) (J : Journals) (laws : ArrivalL
       let is = good e refl
       in (
         is.0,
-        subst (λ (h : Half). Follows trade J p h rest) (half_one es e)
-            (more (subst (λ (h : Half). h.last ≤ now) (sym (half_one es e)) (last_after (half trade p es) e time is.1))),
+        subst (λ (h : Half). Follows trade J p h rest) (half_one trade p es e)
+            (more (subst (λ (h : Half). h.last ≤ now) (sym (half_one trade p es e)) (last_after (half trade p es) e time is.1))),
       )
 
   -- ---- decisions
@@ -108,7 +108,7 @@ module _ (trade : Trade) (world : IsTrade trade) (J : Journals) (laws : ArrivalL
   unfolding decide
   all_stay_open es pair [] n all = tt
   all_stay_open es pair (other ∷ pairs) n all = (
-    subst (λ (h : Half). is_open h other ≡ true) (sym (half_one es (entries.Decided now pair.id pair.recipient (decision_at trade p (half trade p es) pair.recipient))))
+    subst (λ (h : Half). is_open h other ≡ true) (sym (half_one trade p es (entries.Decided now pair.id pair.recipient (decision_at trade p (half trade p es) pair.recipient))))
         (stays_open (half trade p es) pair other (decision_at trade p (half trade p es) pair.recipient) n.0 all.0),
     all_stay_open es pair pairs n.1 all.1,
   )

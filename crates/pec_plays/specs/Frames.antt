@@ -1,6 +1,6 @@
 -- The frames that a provider puts: each due letter that it composes in its own name, from its own journal (`frame_of`).
 -- RFC 6109, section 3, within this project's profile.
-use Rattle.std.specs.Prelude.{ℕ, ◌==◌, List, [], ◌∷◌, if◌then◌else◌, Option, Some, None}
+use Rattle.std.specs.Prelude.{◌≡◌, ℕ, ◌==◌, Contains, List, [], ◌∷◌, if◌then◌else◌, Option, Some, None}
 use Rattle.std.specs.List.{filter_map}
 use Rattle.std.specs.Option.{option_and_then, option_map}
 use Rattle.pec_types.specs.Bytes.{Bytes, Path}
@@ -131,3 +131,9 @@ module _ (trade : Trade) (provider : ℕ) (journal : List Entry) where
   -- The frames that are due to a provider, at most as many as its link has room for.
   unfoldable pub due_frames : ℕ → ℕ → List Letter → List Bytes
   due_frames to room owed = filter_map frame_of (due_letters trade provider (half trade provider journal) to room owed)
+
+  -- A frame that is put for a provider: that of a due letter.
+  pub record IsDueFrame (to room : ℕ) (owed : List Letter) (frame : Bytes) : Type 0 where
+    pub letter : Letter
+    pub due : Contains (due_letters trade provider (half trade provider journal) to room owed) letter
+    pub is : frame_of letter ≡ Some frame

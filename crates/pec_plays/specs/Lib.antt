@@ -8,5 +8,6 @@ pub mod ReceptionRows
 pub mod Rounds
 pub mod Scripts
 pub mod Steps
+pub mod TableSight
 pub mod Told
 pub mod Turns

@@ -1,6 +1,8 @@
 -- Which lucks can be: how a turn may be cut (`MayCut`), what a command may meet (`MayMeet`), and when no device failed in
 -- it (`IsQuiet`). This project's profile.
-use Rattle.std.specs.Prelude.{◌≡◌, ℕ, zero, suc, ◌+◌, ◌<◌, nat_lt, false, true, List, [], ◌∷◌, length, take, slice_get, All, IsSome, Some, None, if◌then◌else◌}
+use Rattle.std.specs.Prelude.{◌≡◌, ℕ, zero, suc, ◌+◌, ◌<◌, nat_lt, false, true, List, [], ◌∷◌, length, take, slice_get, All, IsSome, Option, Some, None, if◌then◌else◌}
+use Rattle.pec_types.specs.declared.turns.ProviderFault.{ProviderFault}
+use Rattle.pec_types.specs.declared.turns.ProviderFault.TheVariants as faults
 use Rattle.pec_ledger.specs.Network.{Site, interrupted_at, site_at}
 use Rattle.pec_ledger.specs.Trade.{Trade}
 use Rattle.pec_plays.specs.Commands.{Command, Luck, Restart, Round, played}
@@ -57,6 +59,15 @@ AllQuiet trade [] sites commands = Unit {0}
 AllQuiet trade (luck ∷ lucks) sites [] = Unit {0}
 AllQuiet trade (luck ∷ lucks) sites (command ∷ commands) =
     MayMeet trade luck sites command × IsQuiet luck × AllQuiet trade lucks (played trade luck sites command).after commands
+
+-- ---- the cut that an answer tells
+
+-- by how the turn ended, and of how many steps it told; a turn that didn't begin tells no cut
+abbrev pub cut_by : Option ProviderFault → ℕ → Cut
+cut_by (Some faults.DiskFault) told = Fails told
+cut_by (Some faults.JournalFull) told = Full told
+cut_by (Some faults.NoMemory) told = Stops told
+cut_by _ told = Whole
 
 -- ---- the cut of a quiet turn
 

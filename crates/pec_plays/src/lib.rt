@@ -5,12 +5,24 @@
 
 mod examples;
 mod reception;
+mod rounds;
+mod rules;
 mod runs;
 mod soundness;
+mod turns;
 
 pub use examples::answers_of_the_examples;
-pub use reception::a_frame_is_received_by_its_row;
+pub use reception::{
+    a_frame_is_received_by_its_row, decisions_are_the_table, reception_is_the_table,
+};
+pub use rounds::a_round_is_its_turns;
+pub use rules::{
+    the_next_pairs_are_left, what_a_provider_does_is_its_own, what_a_provider_does_may_follow,
+};
 pub use runs::{a_command_appends, answers_settle_the_state, no_two_answers, quiet_runs_are_one};
 pub use soundness::{
     a_cut_turn_is_a_front, a_network_stays_sound, due_letters_are_composed, undecided_pairs,
+};
+pub use turns::{
+    a_cut_is_told, a_plan_goes_step_by_step, a_turn_puts_what_is_due, frames_are_taken_in_order,
 };

@@ -1,17 +1,18 @@
-ghost use Rattle.std.specs.Prelude.{◌≡◌, ◌↔◌, ℕ, List, Contains, IsSome, Some, None};
+ghost use Rattle.std.specs.Prelude.{◌≡◌, ◌↔◌, ℕ, List, ◌++◌, Contains, IsSome, Some, None};
+ghost use Rattle.pec_types.specs.Bytes.{Bytes};
 ghost use Rattle.pec_types.specs.Message.{Id};
 ghost use Rattle.pec_types.specs.declared.letters.Letter.{Letter as SomeLetter};
 ghost use Rattle.pec_types.specs.declared.letters.Letter.TheVariants as letters;
 ghost use Rattle.pec_records.specs.declared.entries.Entry.{Entry};
 ghost use Rattle.pec_ledger.specs.Along.{GoesOnAs};
-ghost use Rattle.pec_ledger.specs.Half.{Taken};
+ghost use Rattle.pec_ledger.specs.Half.{Known, Taken};
 ghost use Rattle.pec_ledger.specs.Ledger.{Fit, Journals, ledger};
-ghost use Rattle.pec_ledger.specs.Lookups.{decided_of, taken_of};
+ghost use Rattle.pec_ledger.specs.Lookups.{decided_of, known_of, taken_of};
 ghost use Rattle.pec_ledger.specs.Tables.{IsOwedEnvelope, IsOwedOutcome};
 ghost use Rattle.pec_plays.specs.Frames.{composed};
 ghost use Rattle.pec_ledger.specs.Network.{Site, Sound};
 ghost use Rattle.pec_ledger.specs.Own.{IsTakenPair};
-ghost use Rattle.pec_ledger.specs.Pairs.{Pair};
+ghost use Rattle.pec_ledger.specs.Pairs.{Pair, pair_of};
 ghost use Rattle.pec_ledger.specs.Steps.{half};
 ghost use Rattle.pec_ledger.specs.Trade.{Trade};
 ghost use Rattle.pec_ledger.specs.TradeLaws.{IsTrade};
@@ -19,7 +20,7 @@ ghost use Rattle.pec_plays.specs.Commands.{Command, Luck, played};
 ghost use Rattle.pec_plays.specs.Decisions.{undecided};
 ghost use Rattle.pec_plays.specs.Scripts.{AllUnforged, IsUnforged, KeptAlong, LinksAreShort, ShortAlong, SoundAlong};
 ghost use Rattle.pec_plays.specs.Steps.{Step};
-ghost use Rattle.pec_plays.specs.Turns.{Cut, Whole, cut_turn};
+ghost use Rattle.pec_plays.specs.Turns.{Cut, Whole, cut_turn, entries_of, owed_of, plan};
 
 use pec_ledger::{
     any_images, arrivals_are_true, licences_stand, rows_have_their_texts, soundness,
@@ -68,8 +69,9 @@ pub fn undecided_pairs()
         × (decided_of (half trade provider journal) pair ≡ None)) }
 {}
 
-/// In journals that are Fit a provider composes every envelope and every outcome that it owes, and the charge of each
-/// message that it took: none is left out for want of its text.
+/// In journals that are Fit a provider composes every envelope and every outcome that it owes, the charge of each message
+/// that it took, the acknowledgement of each outcome that it knows, and so every answer that it owes in a turn: none is
+/// left out for want of its text.
 pub fn due_letters_are_composed()
     ensures envelopes { (trade : Trade) → IsTrade trade → (journals : Journals) → Fit trade journals
         → (provider to : ℕ) (letter : SomeLetter) → IsOwedEnvelope trade provider (ledger trade journals provider) to letter
@@ -80,6 +82,14 @@ pub fn due_letters_are_composed()
     ensures charges { (trade : Trade) → IsTrade trade → (journals : Journals) → Fit trade journals
         → (provider : ℕ) (id : Id) (row : Taken) → taken_of (ledger trade journals provider) id ≡ Some row
         → IsSome (composed trade provider (journals provider) (letters.Charge id provider)) }
+    ensures acks { (trade : Trade) → IsTrade trade → (journals : Journals) → Fit trade journals
+        → (provider : ℕ) (id : Id) (recipient : Bytes) (row : Known) → known_of (ledger trade journals provider) (pair_of id recipient) ≡ Some row
+        → IsSome (composed trade provider (journals provider) (letters.Ack id recipient)) }
+    ensures answers { (trade : Trade) → IsTrade trade → (journals : Journals) → Fit trade journals
+        → (provider now : ℕ) (journal : List Entry) (frames : List Bytes)
+        → GoesOnAs (journal ++ entries_of (plan trade provider now journal frames)) (journals provider)
+        → (letter : SomeLetter) → Contains (owed_of (plan trade provider now journal frames)) letter
+        → IsSome (composed trade provider (journals provider) letter) }
 {
     rows_have_their_texts();
     texts_are_seen();
