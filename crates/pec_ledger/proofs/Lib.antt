@@ -15,3 +15,4 @@ pub mod Arrivals
 pub mod TableLemmas
 pub mod SmallWorldLemmas
 pub mod DecisionLemmas
+pub mod PremiseLemmas

@@ -1,7 +1,7 @@
 -- Worked examples in the small world, as entries of journals: what books, mailboxes and clock calls they come to. The
 -- provider 0 is alfa, with alice (0) and anna (1); the provider 1 is beta, with bob (1), carl (2), whose mailbox has room
 -- for one item, and no account of the name 9.
-use Rattle.std.specs.Prelude.{ℕ, List, [], ◌∷◌, ◌++◌, Some, None}
+use Rattle.std.specs.Prelude.{ℕ, List, [], ◌∷◌, ◌++◌, Option, Some, None}
 use Rattle.pec_types.specs.Bytes.{Bytes}
 use Rattle.pec_types.specs.Message.{Id}
 use Rattle.pec_types.specs.declared.limits.Due.{Due}
@@ -17,6 +17,7 @@ use Rattle.pec_records.specs.declared.entries.Entry.TheVariants as entries
 use Rattle.pec_ledger.specs.Half.{Mark}
 use Rattle.pec_ledger.specs.Pairs.{id_of, pair_of}
 use Rattle.pec_ledger.specs.SmallWorld.{address}
+use Rattle.pec_ledger.specs.Trade.{Receipt}
 
 abbrev pub alice : Bytes
 alice = address 0 0
@@ -73,6 +74,10 @@ receipt_line kind = record { kind = item_kinds.Receipt kind; id = Some first; re
 
 abbrev pub receipt_line_on : Kind → Bytes → ItemLine
 receipt_line_on kind recipient = record { kind = item_kinds.Receipt kind; id = Some first; recipient = Some recipient }
+
+-- a receipt on the first message, composed at alfa
+abbrev pub receipt_on : Kind → Option Bytes → Receipt
+receipt_on kind recipient = record { kind = kind; id = first; by = 0; moment = morning; recipient = recipient }
 
 -- ---- two recipients, one of whom stands in `To` and the other in `Cc`
 

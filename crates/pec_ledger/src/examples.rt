@@ -1,21 +1,39 @@
-ghost use Rattle.std.specs.Prelude.{◌≡◌, [], ◌∷◌, ◌++◌, Some, None};
+ghost use Rattle.std.specs.Prelude.{◌≡◌, ℕ, List, [], ◌∷◌, ◌++◌, Some, None};
 ghost use Rattle.pec_types.specs.declared.limits.Due.TheVariants as dues;
 ghost use Rattle.pec_types.specs.declared.mailboxes.ItemKind.TheVariants as item_kinds;
 ghost use Rattle.pec_types.specs.declared.messages.Class.TheVariants as classes;
 ghost use Rattle.pec_types.specs.declared.messages.Decision.TheVariants as decisions;
+ghost use Rattle.pec_types.specs.declared.messages.Refusal.{Refusal as SomeRefusal};
 ghost use Rattle.pec_types.specs.declared.messages.Refusal.TheVariants as refusals;
 ghost use Rattle.pec_types.specs.declared.receipts.Kind.TheVariants as kinds;
 ghost use Rattle.pec_records.specs.declared.entries.Entry.TheVariants as entries;
 ghost use Rattle.pec_ledger.specs.Books.{book, mailbox_lines};
-ghost use Rattle.pec_ledger.specs.Examples.{accepting, alice, anna, bob, carl, carl_wrote, mark_on_anna, nobody, noticed_and_delivered, one_placed, open_line, receipt_line, receipt_line_on, to_nobody, to_one, to_two};
+ghost use Rattle.pec_ledger.specs.Examples.{accepting, alice, anna, bob, carl, carl_wrote, first, mark_on_anna, nobody, noticed_and_delivered, one_placed, open_line, receipt_line, receipt_line_on, receipt_on, to_nobody, to_one, to_two};
+ghost use Rattle.pec_ledger.specs.Network.{FollowsState, journal_at, Site};
 ghost use Rattle.pec_ledger.specs.Own.{decision_at};
 ghost use Rattle.pec_ledger.specs.SmallWorld.{small};
 ghost use Rattle.pec_ledger.specs.Steps.{half, marks_by};
-ghost use Rattle.pec_ledger.specs.TradeLaws.{IsTrade};
+ghost use Rattle.pec_ledger.specs.Trade.{Trade};
+ghost use Rattle.pec_ledger.specs.TradeLaws.{CanBeComposed, IsSent, IsTrade};
 
 /// There is a world that meets all laws, so nothing that is said of worlds is said of none.
 pub fn a_world_is_there()
     ensures { IsTrade small }
+{}
+
+/// What the laws ask for can be had, so that none is said of nothing: a message that was accepted, a receipt of each kind
+/// that is composed of one (a notice of non-acceptance is composed of none), and a journal that follows a state.
+pub fn the_premises_are_met()
+    ensures sent { IsSent small first (to_one anna) }
+    ensures acceptance { CanBeComposed small (receipt_on kinds.Acceptance None) (to_one anna) }
+    ensures charge { CanBeComposed small (receipt_on kinds.Charge None) (to_one anna) }
+    ensures delivery { CanBeComposed small (receipt_on kinds.Delivery (Some anna)) (to_one anna) }
+    ensures error { (refusal : SomeRefusal) → CanBeComposed small (receipt_on (kinds.DeliveryError refusal) (Some anna)) (to_one anna) }
+    ensures warning { CanBeComposed small (receipt_on kinds.Warning (Some anna)) (to_one anna) }
+    ensures notice { CanBeComposed small (receipt_on kinds.Notice (Some anna)) (to_one anna) }
+    ensures late_notice { CanBeComposed small (receipt_on kinds.LateNotice (Some anna)) (to_one anna) }
+    ensures ack { CanBeComposed small (receipt_on kinds.Ack (Some anna)) (to_one anna) }
+    ensures images { (trade : Trade) (state : List Site) (provider : ℕ) → FollowsState trade state provider (journal_at state provider) }
 {}
 
 /// Books and mailboxes of the worked examples.

@@ -11,7 +11,9 @@ mod licences;
 mod tables;
 
 pub use crashes::{any_images, soundness};
-pub use examples::{a_world_is_there, books_of_the_examples, marks_of_the_examples};
+pub use examples::{
+    a_world_is_there, books_of_the_examples, marks_of_the_examples, the_premises_are_met,
+};
 pub use guarantees::the_guarantees;
 pub use letters::{arrivals_are_true, rows_have_their_texts, texts_are_seen};
 pub use licences::licences_stand;
