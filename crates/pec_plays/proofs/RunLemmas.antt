@@ -259,14 +259,9 @@ module _ (trade : Trade) (names : Event → List Pair) (rows : Half → List Pai
   -- ---- scripts
 
   module _ (one : (sites : List Site) → Sound trade sites → Once rows home trade (journals_of sites))
-      (next : (luck : Luck) (sites : List Site) (command : Command) → Sound trade sites → IsUnforged trade sites command → Sound trade (played trade luck sites command).after) where
-    script_sound : (lucks : List Luck) (sites : List Site) (commands : List Command) → Sound trade sites → AllUnforged trade lucks sites commands
-        → Sound trade (script trade lucks sites commands).after
-    script_sound [] sites commands sound given = sound
-    script_sound (luck ∷ lucks) sites [] sound given = sound
-    script_sound (luck ∷ lucks) sites (command ∷ commands) sound given =
-        script_sound lucks (played trade luck sites command).after commands (next luck sites command sound given.0) given.1
-
+      (next : (luck : Luck) (sites : List Site) (command : Command) → Sound trade sites → IsUnforged trade sites command → Sound trade (played trade luck sites command).after)
+      (ends : (lucks : List Luck) (sites : List Site) (commands : List Command) → Sound trade sites → AllUnforged trade lucks sites commands
+      → Sound trade (script trade lucks sites commands).after) where
     script_grows : (lucks : List Luck) (sites : List Site) (commands : List Command) → Sound trade sites → AllUnforged trade lucks sites commands → (pair : Pair)
         → times (same_pair pair) (flat_map (named_by names) (script trade lucks sites commands).answers) + at_home (journals_of sites) pair (home pair)
         ≤ at_home (journals_of (script trade lucks sites commands).after) pair (home pair)
@@ -290,7 +285,7 @@ module _ (trade : Trade) (names : Event → List Pair) (rows : Half → List Pai
         differ_by_counts (flat_map (named_by names) (script trade lucks sites commands).answers)
         (λ pair.
         let grows = script_grows lucks sites commands sound given pair
-        in let most = at_most_one (script trade lucks sites commands).after (script_sound lucks sites commands sound given) pair (home pair)
+        in let most = at_most_one (script trade lucks sites commands).after (ends lucks sites commands sound given) pair (home pair)
         in omega (arith, grows, most))
 
 -- ---- decided and learned
@@ -329,6 +324,8 @@ module _ (trade : Trade) (outcome : (J : Journals) → Fit trade J → OneOutcom
   }
 
   module _ (next : (luck : Luck) (sites : List Site) (command : Command) → Sound trade sites → IsUnforged trade sites command → Sound trade (played trade luck sites command).after)
+      (ends : (lucks : List Luck) (sites : List Site) (commands : List Command) → Sound trade sites → AllUnforged trade lucks sites commands
+      → Sound trade (script trade lucks sites commands).after)
       (lucks : List Luck) (sites : List Site) (commands : List Command) (sound : Sound trade sites) (given : AllUnforged trade lucks sites commands) where
     pub decided_differ : (homes : (J : Journals) → Fit trade J → (p : ℕ) (pair : Pair) (fate : Fate) → decided_of (ledger trade J p) pair ≡ Some fate → trade.home pair.recipient ≡ Some p)
         → AllDiffer (decided_told (script trade lucks sites commands).answers)
@@ -336,7 +333,7 @@ module _ (trade : Trade) (outcome : (J : Journals) → Fit trade J → OneOutcom
         told_differ trade decides decided_rows decided_more (λ (pair : Pair). trade.home pair.recipient) (decided_on trade)
         (λ p now rooms site luck.
         let turn = turn_tells trade p now rooms site (luck.cuts p) in (turn.more, turn.journal, turn.tells.decided))
-        (λ ss s. decided_once homes (journals_of ss) s.fit) next lucks sites commands sound given
+        (λ ss s. decided_once homes (journals_of ss) s.fit) next ends lucks sites commands sound given
 
     pub learned_differ : (knowns : (J : Journals) → Fit trade J → (p : ℕ) (pair : Pair) (row : Known) → known_of (ledger trade J p) pair ≡ Some row → IsOwnPair trade p (ledger trade J p) pair)
         → AllDiffer (learned_told (script trade lucks sites commands).answers)
@@ -344,4 +341,4 @@ module _ (trade : Trade) (outcome : (J : Journals) → Fit trade J → OneOutcom
         told_differ trade learns known_rows known_more (λ (pair : Pair). Some pair.id.provider) (known_on trade)
         (λ p now rooms site luck.
         let turn = turn_tells trade p now rooms site (luck.cuts p) in (turn.more, turn.journal, turn.tells.known))
-        (λ ss s. known_once knowns (journals_of ss) s.fit) next lucks sites commands sound given
+        (λ ss s. known_once knowns (journals_of ss) s.fit) next ends lucks sites commands sound given

@@ -15,7 +15,7 @@ use Rattle.pec_ledger.specs.Network.{FollowsState, Site, Sound, frames_between, 
 use Rattle.pec_ledger.specs.Trade.{Trade}
 use Rattle.pec_ledger.specs.TradeLaws.{IsTrade}
 use Rattle.pec_plays.specs.Commands.{Command, Luck, Submit, Tick, Round, Lose, Repeat, Swap, Inject, Crash, Restart, Book, Mailbox, Show, Lines, Items, account_home, answers, played, shown, shown_bytes, swapped_at}
-use Rattle.pec_plays.specs.Scripts.{AllUnforged, IsUnforged, LinksAreShort, ShortAlong, SoundAlong}
+use Rattle.pec_plays.specs.Scripts.{AllUnforged, IsUnforged, LinksAreShort, ShortAlong, SoundAlong, script}
 use Rattle.pec_plays.specs.Steps.{Step}
 use Rattle.pec_plays.specs.Turns.{Cut, Whole, Fails, Full, Stops, cut_turn, entries_of, entry_at, events_of}
 use Rattle.pec_plays.proofs.CommandLemmas.{sound_asked, sound_crashed, sound_injected, sound_lost, sound_put_again, sound_restarted, sound_submitted, sound_swapped, sound_ticked}
@@ -65,6 +65,13 @@ module _ (trade : Trade) (world : IsTrade trade) (laws : LedgerLaws trade) where
   sound_played luck sites (Show address place) sound given =
       sound_asked trade world laws.states sites (λ (p : ℕ) (h : Half). shown trade sites p (slice_get (mailbox h address) place)) (account_home trade address (trade.home address)) sound
       (λ p h. shows_nothing_new sites p (slice_get (mailbox h address) place))
+
+  pub sound_at_end : (lucks : List Luck) (sites : List Site) (commands : List Command) → Sound trade sites → AllUnforged trade lucks sites commands
+      → Sound trade (script trade lucks sites commands).after
+  sound_at_end [] sites commands sound given = sound
+  sound_at_end (luck ∷ lucks) sites [] sound given = sound
+  sound_at_end (luck ∷ lucks) sites (command ∷ commands) sound given =
+      sound_at_end lucks (played trade luck sites command).after commands (sound_played luck sites command sound given.0) given.1
 
   pub sound_along : (lucks : List Luck) (sites : List Site) (commands : List Command) → Sound trade sites → AllUnforged trade lucks sites commands
       → SoundAlong trade lucks sites commands

@@ -1,14 +1,16 @@
 -- Worked scripts in the small world of the ledger, with their lucks: what they answer. The provider 0 is alfa, with alice
 -- (0) and anna (1); the provider 1 is beta, with bob (1).
-use Rattle.std.specs.Prelude.{ℕ, zero, suc, false, true, List, [], ◌∷◌, Option, None}
+use Rattle.std.specs.Prelude.{ℕ, zero, suc, false, true, List, [], ◌∷◌, ◌++◌, length, Option, None}
 use Rattle.pec_types.specs.Bytes.{Bytes}
 use Rattle.pec_types.specs.declared.turns.Event.{Event}
 use Rattle.pec_types.specs.declared.turns.ProviderFault.{ProviderFault}
 use Rattle.pec_types.specs.declared.turns.Turn.{Turn}
 use Rattle.pec_ledger.specs.Examples.{alice, anna, bob, morning, to_one}
-use Rattle.pec_ledger.specs.Network.{at_start}
+use Rattle.pec_ledger.specs.Half.{Half}
+use Rattle.pec_ledger.specs.Network.{Site, at_start, journal_at}
 use Rattle.pec_ledger.specs.SmallWorld.{small}
-use Rattle.pec_plays.specs.Commands.{Answer, Book, Command, Luck, Mailbox, Restart, Round, Submit, Swap, Turns}
+use Rattle.pec_ledger.specs.Steps.{half}
+use Rattle.pec_plays.specs.Commands.{Answer, Book, Command, Inject, Luck, Mailbox, Restart, Round, Submit, Swap, Turns}
 use Rattle.pec_plays.specs.Scripts.{script}
 use Rattle.pec_plays.specs.Turns.{Cut, Fails, Whole}
 
@@ -55,6 +57,19 @@ to_the_end =
 abbrev pub out_of_order : List Command
 out_of_order = writes_to bob ∷ Round 1704186001 ∷ Round 1704186002 ∷ Swap 1 0 0 ∷ Round 1704186003 ∷ Round 1704186004 ∷ []
 
+-- ---- a place behind the last frame
+
+abbrev pub no_such_place : List Command
+no_such_place = writes_to bob ∷ Round 1704186001 ∷ Round 1704186002 ∷ Swap 1 0 1 ∷ []
+
+-- ---- a message for bob that no provider sealed, and bytes that are no frame
+
+abbrev pub unsealed : Bytes
+unsealed = length bob ∷ bob ++ 9 ∷ []
+
+abbrev pub from_outside : List Command
+from_outside = Inject 0 1 unsealed ∷ Inject 0 1 [] ∷ Round 1704186001 ∷ Mailbox bob ∷ []
+
 -- ---- the append of a decision fails, and alfa is restarted
 
 abbrev pub with_a_fault : List Command
@@ -64,6 +79,18 @@ with_a_fault = writes_to anna ∷ Round 1704186001 ∷ Round 1704186002 ∷ Book
 abbrev pub calmly : List Command → List Luck
 calmly [] = []
 calmly (command ∷ commands) = calm ∷ calmly commands
+
+-- the state behind a script without faults
+abbrev pub left_by : List Command → List Site
+left_by commands = (script small (calmly commands) (at_start small) commands).after
+
+-- alfa's half then
+abbrev pub alfa_behind : List Command → Half
+alfa_behind commands = half small 0 (journal_at (left_by commands) 0)
+
+-- a message that was taken and decided, and of which nothing was heard
+abbrev pub halfway : List Command
+halfway = writes_to anna ∷ Round 1704186001 ∷ Round 1704186002 ∷ []
 
 abbrev pub answers_of : List Luck → List Command → List Answer
 answers_of lucks commands = (script small lucks (at_start small) commands).answers

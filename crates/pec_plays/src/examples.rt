@@ -1,4 +1,4 @@
-ghost use Rattle.std.specs.Prelude.{◌≡◌, [], ◌∷◌, Some, None};
+ghost use Rattle.std.specs.Prelude.{◌≡◌, [], ◌∷◌, length, Some, None};
 ghost use Rattle.pec_types.specs.declared.letters.Letter.TheVariants as letters;
 ghost use Rattle.pec_types.specs.declared.mailboxes.ItemKind.TheVariants as item_kinds;
 ghost use Rattle.pec_types.specs.declared.messages.Class.TheVariants as classes;
@@ -8,8 +8,15 @@ ghost use Rattle.pec_types.specs.declared.turns.Event.TheVariants as events;
 ghost use Rattle.pec_types.specs.declared.turns.ProviderFault.TheVariants as faults;
 ghost use Rattle.pec_types.specs.declared.turns.Submitted.TheVariants as submissions;
 ghost use Rattle.pec_ledger.specs.Examples.{anna, bob, first, open_line, receipt_line, receipt_line_on};
-ghost use Rattle.pec_plays.specs.Commands.{IsUp, Items, Lines, Refuses, Restarted, Submits, Swapped, Turns};
-ghost use Rattle.pec_plays.specs.Examples.{alfa_turn, answers_of, calm, calmly, failing, finding, idle, out_of_order, to_the_end, turn_of, with_a_fault};
+ghost use Rattle.pec_ledger.specs.Due.{owed_letters};
+ghost use Rattle.pec_ledger.specs.Network.{at_start, frames_between, Sound};
+ghost use Rattle.pec_ledger.specs.SmallWorld.{small};
+ghost use Rattle.pec_plays.specs.Commands.{Injected, IsUp, Items, Lines, NoFrame, Refuses, Restarted, Submits, Swapped, Turns};
+ghost use Rattle.pec_plays.specs.Examples.{alfa_behind, alfa_turn, answers_of, calm, calmly, failing, finding, from_outside, halfway, idle, left_by, no_such_place, out_of_order, to_the_end, turn_of, with_a_fault};
+ghost use Rattle.pec_plays.specs.Scripts.{AllUnforged};
+
+use crate::soundness::a_network_stays_sound;
+use pec_ledger::{a_world_is_there, soundness};
 
 /// The worked scripts, computed. A message goes from submission to delivery, and its letters are repeated until each is
 /// answered; letters that change places do no harm; an append that fails is the end of a turn, and a restart goes on from
@@ -51,6 +58,23 @@ pub fn answers_of_the_examples()
         ∷ turn_of 1 (events.Acked first bob ∷ []) [] None
         ∷ [])
         ∷ [] }
+    // No frame waits at the place.
+    ensures no_such_place { answers_of (calmly no_such_place) no_such_place
+        ≡ Submits (submissions.Accepted first)
+        ∷ Turns (turn_of 0 [] ((1, 1) ∷ []) None ∷ idle 1 ∷ [])
+        ∷ Turns
+        (turn_of 0 [] ((1, 1) ∷ []) None
+        ∷ turn_of 1 (events.Took first ∷ events.Decided first bob decisions.Placed ∷ []) ((0, 2) ∷ []) None
+        ∷ [])
+        ∷ NoFrame
+        ∷ [] }
+    // What no provider sealed is an anomaly, what is no frame is dropped.
+    ensures from_outside { answers_of (calmly from_outside) from_outside
+        ≡ Injected
+        ∷ Injected
+        ∷ Turns (idle 0 ∷ turn_of 1 (events.Anomaly 1 ∷ events.Dropped ∷ []) [] None ∷ [])
+        ∷ Items (record { kind = item_kinds.Anomaly; id = None; recipient = None } ∷ [])
+        ∷ [] }
     // The decision's append fails: nothing is put, alfa is down, and the restart forgets the entry ..
     ensures fault_forgotten { answers_of (calm ∷ calm ∷ failing 1 ∷ calm ∷ calm ∷ calm ∷ []) with_a_fault
         ≡ Submits (submissions.Accepted first)
@@ -70,3 +94,19 @@ pub fn answers_of_the_examples()
         ∷ IsUp
         ∷ [] }
 {}
+
+/// There is a run that meets all premises of the laws of runs, and has rows of every kind: its commands may come, its
+/// state is Sound to the end, and halfway frames wait and letters are owed.
+pub fn a_run_is_there()
+    ensures unforged { AllUnforged small (calmly to_the_end) (at_start small) to_the_end }
+    ensures sound { Sound small (left_by to_the_end) }
+    ensures rows { length (alfa_behind to_the_end).messages ∷ length (alfa_behind to_the_end).charged ∷ length (alfa_behind to_the_end).known
+        ∷ length (alfa_behind to_the_end).taken ∷ length (alfa_behind to_the_end).decided ∷ length (alfa_behind to_the_end).acked ∷ []
+        ≡ 1 ∷ 1 ∷ 1 ∷ 1 ∷ 1 ∷ 1 ∷ [] }
+    ensures waiting { length (frames_between (left_by halfway) 0 0) ≡ 3 }
+    ensures owed { owed_letters small 0 (alfa_behind halfway) 0 [] ≡ letters.Outcome first anna ∷ letters.Envelope first 0 ∷ [] }
+{
+    a_network_stays_sound();
+    a_world_is_there();
+    soundness();
+}

@@ -11,7 +11,7 @@ mod runs;
 mod soundness;
 mod turns;
 
-pub use examples::answers_of_the_examples;
+pub use examples::{a_run_is_there, answers_of_the_examples};
 pub use reception::{
     a_frame_is_received_by_its_row, decisions_are_the_table, reception_is_the_table,
 };

@@ -18,7 +18,7 @@ ghost use Rattle.pec_ledger.specs.Trade.{Trade};
 ghost use Rattle.pec_ledger.specs.TradeLaws.{IsTrade};
 ghost use Rattle.pec_plays.specs.Commands.{Command, Luck, played};
 ghost use Rattle.pec_plays.specs.Decisions.{undecided};
-ghost use Rattle.pec_plays.specs.Scripts.{AllUnforged, IsUnforged, KeptAlong, LinksAreShort, ShortAlong, SoundAlong};
+ghost use Rattle.pec_plays.specs.Scripts.{AllUnforged, IsUnforged, KeptAlong, LinksAreShort, script, ShortAlong, SoundAlong};
 ghost use Rattle.pec_plays.specs.Steps.{Step};
 ghost use Rattle.pec_plays.specs.Turns.{Cut, Whole, cut_turn, entries_of, owed_of, plan};
 
@@ -35,6 +35,8 @@ pub fn a_network_stays_sound()
         → Sound trade sites → IsUnforged trade sites command → Sound trade (played trade luck sites command).after }
     ensures scripts { (trade : Trade) → IsTrade trade → (lucks : List Luck) (sites : List Site) (commands : List Command)
         → Sound trade sites → AllUnforged trade lucks sites commands → SoundAlong trade lucks sites commands }
+    ensures ends { (trade : Trade) → IsTrade trade → (lucks : List Luck) (sites : List Site) (commands : List Command)
+        → Sound trade sites → AllUnforged trade lucks sites commands → Sound trade (script trade lucks sites commands).after }
     // what users get, at each book that is shown
     ensures guarantees { (trade : Trade) → IsTrade trade → (lucks : List Luck) (sites : List Site) (commands : List Command)
         → Sound trade sites → AllUnforged trade lucks sites commands → KeptAlong trade lucks sites commands }

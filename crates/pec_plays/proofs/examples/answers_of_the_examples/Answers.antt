@@ -18,4 +18,4 @@ use Rattle.pec_plays.proofs.examples.answers_of_the_examples.Goals as goal
 
 pub returns : goal.returns
 unfolding due_of number_16 number_32 number_64 book mailbox_lines due_letters at_start decision_at half size_of step played decide undecided due_frames frame_of arrive rounded turns_of has_no_room turned
-returns c = record { to_the_end = refl; out_of_order = refl; fault_forgotten = refl; fault_found = refl }
+returns c = record { to_the_end = refl; out_of_order = refl; no_such_place = refl; from_outside = refl; fault_forgotten = refl; fault_found = refl }

@@ -2,7 +2,7 @@
 use Rattle.pec_ledger.specs.Trade.{Trade}
 use Rattle.pec_ledger.specs.TradeLaws.{IsTrade}
 use Rattle.pec_plays.proofs.KeptLemmas.{kept_along}
-use Rattle.pec_plays.proofs.SoundLemmas.{LedgerLaws, short_along, sound_along, sound_played}
+use Rattle.pec_plays.proofs.SoundLemmas.{LedgerLaws, short_along, sound_along, sound_at_end, sound_played}
 use Rattle.pec_plays.proofs.soundness.a_network_stays_sound.Goals as goal
 
 pub returns : goal.returns
@@ -40,5 +40,6 @@ returns c =
           })
           lucks sites commands (sound_along trade world (laws trade world) lucks sites commands sound given);
       links = λ trade world lucks sites commands sound given short. short_along trade world (laws trade world) lucks sites commands sound given short;
+      ends = λ trade world lucks sites commands sound given. sound_at_end trade world (laws trade world) lucks sites commands sound given;
       scripts = λ trade world lucks sites commands sound given. sound_along trade world (laws trade world) lucks sites commands sound given;
     }
