@@ -1,12 +1,11 @@
 -- The premises of the ledger's laws are met in the small world, and a journal follows its own state.
-use Rattle.std.proofs.Common.{◌≡◌, ℕ, List, [], ◌∷◌, false, refl, sym, arith, Option, Some}
+use Rattle.std.proofs.Common.{ℕ, List, [], ◌∷◌, false, refl, sym, arith, Option, Some}
 use Rattle.std.proofs.lemmas.List.{append-nil}
 use Rattle.pec_types.specs.Bytes.{Bytes}
 use Rattle.pec_types.specs.declared.messages.Facts.{Facts}
 use Rattle.pec_types.specs.declared.receipts.Kind.{Kind}
-use Rattle.pec_records.specs.declared.entries.Entry.{Entry}
 use Rattle.pec_ledger.specs.Examples.{alice, anna, first, receipt_on, to_one}
-use Rattle.pec_ledger.specs.Network.{FollowsState, Site, interrupted_at, journal_at}
+use Rattle.pec_ledger.specs.Network.{FollowsState, Site, journal_at}
 use Rattle.pec_ledger.specs.SmallWorld.{facts_from, small}
 use Rattle.pec_ledger.specs.Trade.{Trade}
 use Rattle.pec_ledger.specs.TradeLaws.{CanBeComposed, IsOfKind, IsSent, Names}

@@ -1,5 +1,5 @@
 -- Each command only appends: every journal goes on as it was.
-use Rattle.std.proofs.Common.{◌≡◌, ℕ, ◌<◌, List, [], ◌∷◌, ◌++◌, Bool, true, false, inl, inr, length, refl, ap, sym, subst, ◌∙◌, nat_lt, Option, Some, None}
+use Rattle.std.proofs.Common.{ℕ, List, [], ◌∷◌, Bool, true, false, inl, inr, length, refl, ap, sym, subst, ◌∙◌, nat_lt, Option, Some, None}
 use Rattle.std.specs.Prelude.{slice_get, slice_set, if◌then◌else◌}
 use Rattle.std.proofs.lemmas.Bool.{cases_lt}
 use Rattle.std.proofs.lemmas.List.{append-nil}
@@ -14,11 +14,11 @@ use Rattle.pec_ledger.specs.Items.{item_text}
 use Rattle.pec_ledger.specs.Lookups.{mailbox}
 use Rattle.pec_ledger.specs.Network.{Site, chosen, frames_between, journal_at, site_at}
 use Rattle.pec_ledger.specs.Trade.{Trade}
-use Rattle.pec_plays.specs.Commands.{Answer, Command, Luck, Played, Submit, Tick, Round, Lose, Repeat, Swap, Inject, Crash, Restart, Book, Mailbox, Show, Lines, Items, account_home, answers, append, appended, asked, at_work, injected, lost, messages_at, played, put_again, restarted, restarted_site, shown, shown_bytes, stopped_site, submitted, swapped, swapped_at, ticked, with_entry, with_frames, with_site}
+use Rattle.pec_plays.specs.Commands.{Answer, Command, Luck, Played, Submit, Tick, Round, Lose, Repeat, Swap, Inject, Crash, Restart, Book, Mailbox, Show, Lines, Items, account_home, answers, append, appended, asked, at_work, injected, lost, messages_at, played, put_again, restarted, restarted_site, shown, shown_bytes, stopped_site, submitted, swapped, swapped_at, with_entry, with_frames, with_site}
 use Rattle.pec_plays.specs.Rounds.{link_size, rounded, turns_of, with_waiting}
 use Rattle.pec_plays.specs.Steps.{has_no_room}
 use Rattle.pec_plays.specs.Turns.{broken, last_of}
-use Rattle.pec_plays.proofs.DeliveryLemmas.{after_is, past_the_end, turn_in}
+use Rattle.pec_plays.proofs.DeliveryLemmas.{after_is, past_the_end}
 use Rattle.pec_plays.proofs.SiteLemmas.{put_cases}
 use Rattle.pec_plays.proofs.ToldLemmas.{turn_tells}
 use Rattle.pec_plays.specs.Rounds.{rooms_of}

@@ -1,6 +1,6 @@
 -- When the first undecided pair is decided, the others are the undecided ones.
-use Rattle.std.proofs.Common.{◌≡◌, ℕ, List, [], ◌∷◌, ◌++◌, Bool, true, false, not, ◌&&◌, cond, ◌⊎◌, inl, inr, refl, ap, sym, subst, ◌∙◌, Option, Some, None}
-use Rattle.std.specs.Prelude.{Contains, filter, is_none}
+use Rattle.std.proofs.Common.{◌≡◌, ℕ, List, [], ◌∷◌, ◌++◌, Bool, true, false, not, ◌&&◌, cond, inl, inr, refl, ap, sym, subst, ◌∙◌, Option, Some, None}
+use Rattle.std.specs.Prelude.{filter, is_none}
 use Rattle.std.specs.List.{find}
 use Rattle.std.specs.Option.{option_or}
 use Rattle.std.proofs.lemmas.Bool.{cases_Bool, false≢true}
@@ -13,13 +13,13 @@ use Rattle.pec_ledger.specs.Along.{AllDiffer, StandsNotIn}
 use Rattle.pec_ledger.specs.Half.{Fate, Half, Taken}
 use Rattle.pec_ledger.specs.Lookups.{decided_of, taken_of}
 use Rattle.pec_ledger.specs.Own.{decision_at}
-use Rattle.pec_ledger.specs.Pairs.{Pair, same_id, same_pair}
+use Rattle.pec_ledger.specs.Pairs.{Pair, same_pair}
 use Rattle.pec_ledger.specs.Steps.{half, step}
 use Rattle.pec_ledger.specs.Trade.{Trade}
 use Rattle.pec_plays.specs.Decisions.{decide, is_open, is_recipient_of, pairs_taken, undecided}
 use Rattle.pec_plays.specs.Reception.{each_once}
 use Rattle.pec_plays.specs.Steps.{journal_after}
-use Rattle.pec_plays.proofs.ListLemmas.{differ_filter, once_differ, pair_again, same_pairs}
+use Rattle.pec_plays.proofs.ListLemmas.{once_differ, pair_again, same_pairs}
 use Rattle.pec_plays.proofs.PlanLemmas.{half_one, open_by}
 
 -- ---- a filter with one test more, where the items differ

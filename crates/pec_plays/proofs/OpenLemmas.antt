@@ -1,6 +1,6 @@
 -- The undecided pairs are exactly the taken ones on which nothing is decided.
-use Rattle.std.proofs.Common.{◌≡◌, ◌↔◌, ℕ, List, [], ◌∷◌, true, inl, inr, map, refl, ap, sym, subst, ◌∙◌, Option, Some, None}
-use Rattle.std.specs.Prelude.{Contains, filter, is_none}
+use Rattle.std.proofs.Common.{◌≡◌, ◌↔◌, ℕ, List, [], ◌∷◌, true, inl, inr, map, refl, ap, sym, subst, ◌∙◌, None}
+use Rattle.std.specs.Prelude.{Contains, is_none}
 use Rattle.std.proofs.lemmas.Bool.{and_from, and_parts}
 use Rattle.std.proofs.lemmas.List.Elements.{Contains-append_left, Contains-append_right}
 use Rattle.pec_types.specs.Bytes.{Bytes}

@@ -1,13 +1,11 @@
 -- Runs without faults are one: a turn without faults is cut in one way.
-use Rattle.std.proofs.Common.{◌≡◌, ℕ, zero, suc, ◌+◌, ◌<◌, ◌≤◌, List, [], ◌∷◌, ◌++◌, Bool, true, false, inl, inr, length, take, refl, ap, sym, subst, ◌∙◌, arith, nat_lt, Option, Some, None}
-use Rattle.std.specs.Prelude.{All, slice_get, slice_set, slice_index_or, if◌then◌else◌}
+use Rattle.std.proofs.Common.{◌≡◌, ℕ, zero, suc, ◌+◌, ◌<◌, List, [], ◌∷◌, ◌++◌, Bool, true, false, inl, inr, length, take, refl, ap, sym, subst, ◌∙◌, arith, nat_lt, Option, Some, None}
+use Rattle.std.specs.Prelude.{slice_get, slice_set, slice_index_or, if◌then◌else◌}
 use Rattle.std.proofs.lemmas.Bool.{cases_lt, false≢true}
-use Rattle.std.proofs.lemmas.List.{append-nil}
 use Rattle.std.proofs.lemmas.List.Elements.{All-cons, All-head, All-nil, All-tail}
 use Rattle.std.proofs.lemmas.Option.{none-some, same_Some}
 use Rattle.pec_types.specs.Bytes.{Bytes, Path}
 use Rattle.pec_types.specs.declared.messages.TheConstants.{MESSAGES}
-use Rattle.pec_types.specs.declared.turns.ProviderFault.{ProviderFault}
 use Rattle.pec_types.specs.declared.turns.ProviderFault.TheVariants as faults
 use Rattle.pec_records.specs.declared.entries.Entry.{Entry}
 use Rattle.pec_records.specs.declared.entries.Entry.TheVariants as entries
@@ -15,15 +13,15 @@ use Rattle.pec_ledger.specs.Books.{book, mailbox_lines}
 use Rattle.pec_ledger.specs.Half.{Half, Posted}
 use Rattle.pec_ledger.specs.Items.{item_text}
 use Rattle.pec_ledger.specs.Lookups.{mailbox}
-use Rattle.pec_ledger.specs.Network.{Site, chosen, empty_site, frames_between, interrupted_at, journal_at, site_at}
+use Rattle.pec_ledger.specs.Network.{Site, chosen, empty_site, frames_between, journal_at, site_at}
 use Rattle.pec_ledger.specs.Trade.{Trade}
-use Rattle.pec_plays.specs.Commands.{Answer, Command, Luck, Played, IsUp, Refuses, Restarted, Turns, Submit, Tick, Round, Lose, Repeat, Swap, Inject, Crash, Restart, Book, Mailbox, Show, Lines, Items, account_home, answers, append, appended, asked, at_work, injected, lost, messages_at, played, put_again, restarted, restarted_site, shown, shown_bytes, stopped_site, submitted, swapped, swapped_at, ticked, with_entry, with_frames, with_site}
+use Rattle.pec_plays.specs.Commands.{Answer, Command, Luck, Played, IsUp, Refuses, Restarted, Turns, Submit, Tick, Round, Lose, Repeat, Swap, Inject, Crash, Restart, Book, Mailbox, Show, Lines, Items, account_home, answers, append, appended, asked, at_work, messages_at, played, put_again, restarted, restarted_site, shown, shown_bytes, stopped_site, submitted, swapped, swapped_at, ticked, with_entry, with_frames, with_site}
 use Rattle.pec_plays.specs.Possible.{AllQuiet, HaveRoom, IsCalm, IsFull, IsQuiet, MayCut, MayMeet, NoneInterrupted, later_cut, quiet_cut, quiet_luck, quiet_lucks}
 use Rattle.pec_plays.specs.Rounds.{Rounded, delivered, link_size, outs_of, rooms_of, rounded, told_from, turns_from, turns_of, with_waiting}
-use Rattle.pec_plays.specs.Scripts.{Told, onto, script}
+use Rattle.pec_plays.specs.Scripts.{onto, script}
 use Rattle.pec_plays.specs.Steps.{Step, has_no_room}
 use Rattle.pec_plays.specs.Turns.{Cut, Turned, Whole, Fails, Full, Stops, cut_turn, frames_in, last_of, not_begun, plan, turned}
-use Rattle.pec_plays.proofs.DeliveryLemmas.{after_is, past_the_end, turn_in}
+use Rattle.pec_plays.proofs.DeliveryLemmas.{after_is, past_the_end}
 use Rattle.pec_plays.proofs.SiteLemmas.{put_cases}
 
 -- ---- cuts

@@ -1,6 +1,6 @@
 -- What is done with a frame is done by one row of the table.
-use Rattle.std.proofs.Common.{◌≡◌, ◌↔◌, ℕ, zero, suc, ◌<◌, ◌≤◌, List, [], ◌∷◌, Bool, true, false, not, ◌||◌, ◌&&◌, cond, ◌⊎◌, inl, inr, length, refl, ap, sym, subst, ◌∙◌, arith, nat_lt, Option, Some, None}
-use Rattle.std.specs.Prelude.{Contains, IsSome, IsTrue, is_some, filter, ◌==◌}
+use Rattle.std.proofs.Common.{◌≡◌, ◌↔◌, ℕ, List, [], ◌∷◌, Bool, true, false, ◌&&◌, length, refl, ap, sym, subst, ◌∙◌, nat_lt, Option, Some, None}
+use Rattle.std.specs.Prelude.{is_some, ◌==◌}
 use Rattle.std.specs.List.{list_any}
 use Rattle.std.specs.Str.{bytes_eq}
 use Rattle.std.proofs.lemmas.Bool.{and_from, and_parts, eqb-true, eq-eqb, false≢true, ltb-true, lt-ltb}

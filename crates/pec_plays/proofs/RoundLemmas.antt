@@ -1,11 +1,10 @@
 -- A round keeps a state Sound and links short, however its turns are cut.
 use Rattle.std.proofs.Common.{◌≡◌, ℕ, zero, suc, ◌+◌, ◌-◌, ◌<◌, ◌≤◌, List, [], ◌∷◌, ◌++◌, Bool, true, false, inl, inr, length, take, refl, ap, sym, subst, ◌∙◌, arith, nat_lt, Option, Some, None}
-use Rattle.std.specs.Prelude.{IsSome, slice_get, slice_index_or, if◌then◌else◌}
+use Rattle.std.specs.Prelude.{IsSome, slice_index_or, if◌then◌else◌}
 use Rattle.std.specs.Option.{option_to_list}
 use Rattle.std.proofs.lemmas.Bool.{cases_lt, ltb-false}
 use Rattle.std.proofs.lemmas.List.{append-nil, get_or_past, length-append, length-drop}
 use Rattle.std.proofs.lemmas.List.Elements.{All-append, All-drop, All-nil}
-use Rattle.std.proofs.lemmas.Option.{none-some, same_Some}
 use Rattle.pec_types.specs.Bytes.{Bytes}
 use Rattle.pec_types.specs.declared.letters.Letter.{Letter}
 use Rattle.pec_types.specs.declared.turns.ProviderFault.{ProviderFault}
@@ -13,11 +12,11 @@ use Rattle.pec_types.specs.declared.turns.ProviderFault.TheVariants as faults
 use Rattle.pec_types.specs.declared.moments.TheConstants.{END_OF_TIME}
 use Rattle.pec_records.specs.declared.entries.Entry.{Entry}
 use Rattle.pec_ledger.specs.Ledger.{Fit, Follows, Journals}
-use Rattle.pec_ledger.specs.Network.{AreGenuine, FollowsState, Happens, IsGenuine, Site, Sound, empty_site, frames_between, interrupted_at, is_up, journal_at, journals_of, site_at, Stays, Appends, Fails}
+use Rattle.pec_ledger.specs.Network.{AreGenuine, FollowsState, Happens, IsGenuine, Site, Sound, frames_between, interrupted_at, is_up, journal_at, journals_of, site_at, Stays, Appends, Fails}
 use Rattle.pec_ledger.specs.Steps.{half}
 use Rattle.pec_ledger.specs.Trade.{Trade}
 use Rattle.pec_ledger.specs.TradeLaws.{IsTrade}
-use Rattle.pec_plays.specs.Rounds.{delivered, delivered_to, link_size, outs_of, rooms_of, rounded, turns_from, turns_of, with_waiting}
+use Rattle.pec_plays.specs.Rounds.{delivered, delivered_to, link_size, outs_of, rooms_of, rounded, turns_from, turns_of}
 use Rattle.pec_plays.specs.Steps.{Step}
 use Rattle.pec_plays.specs.Turns.{Cut, Turned, Whole, Fails as FailsAt, Full, Stops, cut_turn, entries_of, entry_at, frames_in, last_of, not_begun, owed_of, plan, puts_from, turned, without_first}
 use Rattle.pec_plays.proofs.DeliveryLemmas.{after_is, after_length, out_at, outs_length, past_the_end, turn_in, turn_is, turns_length}

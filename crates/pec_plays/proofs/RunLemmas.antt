@@ -1,12 +1,11 @@
 -- No two answers of a run decide one pair, and none learn one: each told pair is that of a new row at its one provider.
-use Rattle.std.proofs.Common.{◌≡◌, ℕ, zero, suc, ◌+◌, ◌<◌, ◌≤◌, List, [], ◌∷◌, ◌++◌, Bool, true, false, inl, inr, length, map, refl, ap, sym, subst, ◌∙◌, arith, nat_lt, Option, Some, None}
+use Rattle.std.proofs.Common.{◌≡◌, ℕ, suc, ◌+◌, ◌<◌, ◌≤◌, List, [], ◌∷◌, ◌++◌, Bool, true, false, inl, inr, length, refl, ap, sym, subst, ◌∙◌, arith, nat_lt, Option, Some, None}
 use Rattle.std.specs.Prelude.{slice_get, if◌then◌else◌}
 use Rattle.std.specs.List.{find, flat_map}
 use Rattle.std.proofs.lemmas.Bool.{cases_eq, cases_lt}
 use Rattle.std.proofs.lemmas.Option.{none-some, same_Some, slice_get_past}
-use Rattle.pec_types.specs.Bytes.{Bytes, Path}
+use Rattle.pec_types.specs.Bytes.{Bytes}
 use Rattle.pec_types.specs.declared.turns.Event.{Event}
-use Rattle.pec_types.specs.declared.turns.Turn.{Turn}
 use Rattle.pec_types.specs.declared.messages.TheConstants.{MESSAGES}
 use Rattle.pec_records.specs.declared.entries.Entry.{Entry}
 use Rattle.pec_records.specs.declared.entries.Entry.TheVariants as entries
@@ -18,11 +17,11 @@ use Rattle.pec_ledger.specs.Lookups.{decided_of, known_of, mailbox}
 use Rattle.pec_ledger.specs.Books.{book, mailbox_lines}
 use Rattle.pec_ledger.specs.Network.{Site, Sound, frames_between, journal_at, journals_of, site_at}
 use Rattle.pec_ledger.specs.Own.{IsOwnPair}
-use Rattle.pec_ledger.specs.Guarantees.{OneOutcome, times_decided, times_known}
+use Rattle.pec_ledger.specs.Guarantees.{OneOutcome}
 use Rattle.pec_ledger.specs.Pairs.{Pair, same_pair}
 use Rattle.pec_ledger.specs.Steps.{half}
 use Rattle.pec_ledger.specs.Trade.{Trade}
-use Rattle.pec_plays.specs.Commands.{Answer, Command, Luck, Played, Submit, Tick, Round, Lose, Repeat, Swap, Inject, Crash, Restart, Book, Mailbox, Show, Turns, Lines, Items, account_home, answers, append, appended, asked, at_work, injected, lost, messages_at, played, put_again, restarted, shown, shown_bytes, submitted, swapped, swapped_at, ticked}
+use Rattle.pec_plays.specs.Commands.{Answer, Command, Luck, Played, Submit, Tick, Round, Lose, Repeat, Swap, Inject, Crash, Restart, Book, Mailbox, Show, Lines, Items, account_home, answers, append, appended, asked, at_work, messages_at, played, put_again, shown, shown_bytes, swapped, swapped_at}
 use Rattle.pec_plays.specs.Steps.{has_no_room}
 use Rattle.pec_plays.specs.Rounds.{delivered, link_size, outs_of, rooms_of, rounded, told_from, turns_from, turns_of}
 use Rattle.pec_plays.specs.Scripts.{AllUnforged, IsUnforged, script}

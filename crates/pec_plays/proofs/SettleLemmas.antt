@@ -1,9 +1,9 @@
 -- An answer settles the state behind it: of two lucks with one answer the state is one.
-use Rattle.std.proofs.Common.{◌≡◌, ℕ, zero, suc, ◌+◌, ◌-◌, ◌<◌, ◌≤◌, min, List, [], ◌∷◌, ◌++◌, Bool, true, false, inl, inr, length, take, drop, map, refl, ap, sym, subst, ◌∙◌, arith, nat_lt, Option, Some, None}
-use Rattle.std.specs.Prelude.{slice_get, if◌then◌else◌}
+use Rattle.std.proofs.Common.{◌≡◌, ℕ, suc, ◌+◌, ◌-◌, ◌≤◌, min, List, [], ◌∷◌, ◌++◌, Bool, true, false, inl, inr, length, take, drop, map, refl, ap, sym, subst, ◌∙◌, arith, nat_lt, Option, Some, None}
+use Rattle.std.specs.Prelude.{if◌then◌else◌}
 use Rattle.std.specs.Option.{option_and_then, option_to_list}
 use Rattle.std.proofs.lemmas.Bool.{cases_lt}
-use Rattle.std.proofs.lemmas.List.{append-nil, drop_all, length-append, length-map, length-take, take_all}
+use Rattle.std.proofs.lemmas.List.{drop_all, length-append, length-map, length-take, take_all}
 use Rattle.std.proofs.lemmas.Option.{slice_get_past}
 use Rattle.pec_types.specs.Bytes.{Bytes, Path}
 use Rattle.pec_types.specs.declared.turns.Event.{Event}
@@ -18,9 +18,9 @@ use Rattle.pec_ledger.specs.Trade.{Trade}
 use Rattle.pec_plays.specs.Commands.{Answer, Command, Luck, Played, IsUp, Turns, Restarted, Refuses, Submit, Tick, Round, Lose, Repeat, Swap, Inject, Crash, Restart, Book, Mailbox, Show, answers, append, appended, at_work, messages_at, played, restarted, restarted_site, submitted, ticked, with_site}
 use Rattle.pec_plays.specs.Reception.{arrive}
 use Rattle.pec_plays.specs.Rounds.{delivered, outs_of, rooms_of, rounded, told_from, turns_from, turns_of}
-use Rattle.pec_plays.specs.Scripts.{Told, onto, script}
+use Rattle.pec_plays.specs.Scripts.{script}
 use Rattle.pec_plays.specs.Steps.{Step, has_no_room}
-use Rattle.pec_plays.specs.Turns.{Cut, Turned, Whole, Fails, Full, Stops, behind, broken, cut_turn, decisions, entries_of, entry_at, events_of, frames_in, last_of, plan, stopped, turned, without_first}
+use Rattle.pec_plays.specs.Turns.{Cut, Turned, Whole, Fails, Full, Stops, behind, broken, cut_turn, entries_of, entry_at, events_of, frames_in, last_of, plan, stopped, turned, without_first}
 
 -- ---- tests that both sides make
 

@@ -1,7 +1,7 @@
 -- What is done with a frame, and what is decided, is what the tables of pec_points answer.
-use Rattle.std.proofs.Common.{◌≡◌, ◌↔◌, ℕ, zero, suc, ◌<◌, ◌≤◌, List, [], ◌∷◌, Bool, true, false, not, ◌&&◌, cond, length, refl, ap, sym, subst, ◌∙◌, arith, nat_lt, Option, Some, None}
+use Rattle.std.proofs.Common.{◌≡◌, ℕ, List, [], ◌∷◌, Bool, true, false, not, ◌&&◌, cond, length, refl, ap, sym, ◌∙◌, arith, nat_lt, Option, Some, None}
 use Rattle.std.specs.Prelude.{is_some, nat_le, unwrap_or, ◌==◌, if◌then◌else◌}
-use Rattle.std.proofs.lemmas.Bool.{and_from, and_parts, eqb-true, eq-eqb, false≢true, ltb-false, ne_eqb}
+use Rattle.std.proofs.lemmas.Bool.{eqb-true, eq-eqb, false≢true, ltb-false, ne_eqb}
 use Rattle.pec_types.specs.Bytes.{Bytes, Path}
 use Rattle.pec_types.specs.Message.{Id}
 use Rattle.pec_types.specs.declared.letters.Letter.{Letter}
@@ -13,9 +13,9 @@ use Rattle.pec_types.specs.declared.receipts.Kind.{Kind}
 use Rattle.pec_types.specs.declared.receipts.Kind.TheVariants as kinds
 use Rattle.pec_types.specs.declared.turns.Event.TheVariants as events
 use Rattle.pec_records.specs.declared.entries.Entry.{Entry}
-use Rattle.pec_points.specs.Decision.{IsDecision, IsFull, HasRoom, Mailbox, MailboxRow, NoAccount, decided_by}
+use Rattle.pec_points.specs.Decision.{IsFull, HasRoom, NoAccount, decided_by}
 use Rattle.pec_points.specs.DecisionReading.{decision_of}
-use Rattle.pec_points.specs.Reception.{FrameRow, IsReception, NewEnvelope, KnownEnvelope, NewCharge, KnownCharge, NewOutcome, KnownOutcome, NewAck, KnownAck, SomeRoom, NoRoom, received_by}
+use Rattle.pec_points.specs.Reception.{FrameRow, NewEnvelope, KnownEnvelope, NewCharge, KnownCharge, NewOutcome, KnownOutcome, NewAck, KnownAck, SomeRoom, NoRoom, received_by}
 use Rattle.pec_points.specs.ReceptionReading.{is_home as is_table_home, reception_of}
 use Rattle.pec_points.specs.declared.reception.Arrived.{Arrived}
 use Rattle.pec_points.specs.declared.reception.Reception.{Reception}
@@ -26,7 +26,7 @@ use Rattle.pec_ledger.specs.Own.{decision_at}
 use Rattle.pec_ledger.specs.Pairs.{pair_of}
 use Rattle.pec_ledger.specs.Steps.{half}
 use Rattle.pec_ledger.specs.Trade.{Framed, Receipt, Seen, SeenEnvelope, SeenReceipt, Trade}
-use Rattle.pec_plays.specs.Reception.{accounts_with_room, ack_fits, ack_rows, anomaly, arrive, by_ack, by_frame, by_outcome, by_receipt, by_seen, charge_fits, charge_rows, envelope_fits, envelope_rows, has_pair, has_pairs_at, is_senders_path, otherwise, outcome_fits, outcome_rows, same_path}
+use Rattle.pec_plays.specs.Reception.{accounts_with_room, ack_fits, ack_rows, anomaly, arrive, by_ack, by_frame, by_outcome, by_receipt, by_seen, charge_fits, charge_rows, envelope_fits, envelope_rows, has_pair, is_senders_path, otherwise, outcome_fits, outcome_rows, same_path}
 use Rattle.pec_plays.specs.Steps.{Step, passes}
 use Rattle.pec_plays.specs.TableSight.{a_charge, a_receipt, an_ack, an_envelope, an_outcome, arrived_at, arrived_by, decision_of_kind, done_by, done_on, mailbox_at, no_letter, rooms_in}
 

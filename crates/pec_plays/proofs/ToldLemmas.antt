@@ -1,9 +1,9 @@
 -- Which pairs events name: those of the rows that the entries add. So no two events of a run name one pair.
-use Rattle.std.proofs.Common.{◌≡◌, ℕ, zero, suc, ◌+◌, ◌<◌, ◌≤◌, List, [], ◌∷◌, ◌++◌, Bool, true, false, cond, ◌⊎◌, inl, inr, length, map, take, fold, filter, refl, ap, sym, subst, ◌∙◌, arith, nat_lt, Option, Some, None}
-use Rattle.std.specs.Prelude.{slice_get, slice_index_or, if◌then◌else◌}
+use Rattle.std.proofs.Common.{◌≡◌, ℕ, zero, suc, ◌+◌, ◌≤◌, List, [], ◌∷◌, ◌++◌, Bool, true, false, cond, length, map, take, fold, filter, refl, ap, sym, subst, ◌∙◌, arith, nat_lt, Option, Some, None}
+use Rattle.std.specs.Prelude.{if◌then◌else◌}
 use Rattle.std.specs.List.{find, flat_map}
 use Rattle.std.specs.Option.{option_to_list}
-use Rattle.std.proofs.lemmas.Bool.{cases_eq, cases_lt, false≢true}
+use Rattle.std.proofs.lemmas.Bool.{false≢true}
 use Rattle.std.proofs.lemmas.Grind.{flat_map-append}
 use Rattle.std.proofs.lemmas.List.{append-nil, append_assoc, map-append}
 use Rattle.std.proofs.lemmas.List.Sums.{fold-append}
@@ -15,23 +15,20 @@ use Rattle.pec_types.specs.declared.messages.Decision.TheVariants.{Placed, Refus
 use Rattle.pec_types.specs.declared.receipts.Kind.{Kind}
 use Rattle.pec_types.specs.declared.receipts.Kind.TheVariants as kinds
 use Rattle.pec_types.specs.declared.turns.Event.{Event}
-use Rattle.pec_types.specs.declared.turns.ProviderFault.{ProviderFault}
-use Rattle.pec_types.specs.declared.turns.Turn.{Turn}
 use Rattle.pec_records.specs.declared.entries.Entry.{Entry}
 use Rattle.pec_ledger.specs.Along.{AllDiffer, StandsNotIn, times}
 use Rattle.pec_ledger.specs.Half.{Charge, Fate, Half, Known, Taken, empty}
 use Rattle.pec_ledger.specs.Lookups.{charged_of, is_acked, known_of, taken_of}
-use Rattle.pec_ledger.specs.Network.{Site, journal_at, site_at}
+use Rattle.pec_ledger.specs.Network.{Site}
 use Rattle.pec_ledger.specs.Pairs.{Pair, pair_of, same_pair}
 use Rattle.pec_ledger.specs.Steps.{decided_by, half, known_by, step}
 use Rattle.pec_ledger.specs.Trade.{Framed, Receipt, Seen, SeenEnvelope, SeenReceipt, Trade}
 use Rattle.pec_plays.specs.Decisions.{decide, undecided}
 use Rattle.pec_plays.specs.Reception.{accounts_with_room, ack_fits, ack_rows, anomaly, arrive, by_ack, by_frame, by_outcome, by_receipt, by_seen, charge_fits, charge_rows, envelope_fits, envelope_rows, otherwise, outcome_fits, outcome_rows}
-use Rattle.pec_plays.specs.Rounds.{rooms_of, told_from, turns_from}
 use Rattle.pec_plays.specs.Steps.{Step, journal_after}
-use Rattle.pec_plays.specs.Told.{decides, learns, named_in}
+use Rattle.pec_plays.specs.Told.{decides, learns}
 use Rattle.pec_plays.specs.Turns.{Cut, Turned, Whole, Fails, Full, Stops, cut_turn, decisions, entries_of, events_of, frames_in, last_of, plan, turned}
-use Rattle.pec_plays.proofs.ListLemmas.{pair_again, same_pairs}
+use Rattle.pec_plays.proofs.ListLemmas.{pair_again}
 
 -- ---- counts
 

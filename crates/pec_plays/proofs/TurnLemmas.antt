@@ -1,11 +1,11 @@
 -- Turns step by step: plans, frames that are taken, frames that are put, and cuts.
-use Rattle.std.proofs.Common.{◌≡◌, ◌↔◌, ℕ, zero, suc, ◌+◌, ◌-◌, ◌<◌, ◌≤◌, min, List, [], ◌∷◌, ◌++◌, inl, inr, length, take, drop, refl, ap, sym, subst, ◌∙◌, arith, Option, Some, None}
+use Rattle.std.proofs.Common.{◌≡◌, ◌↔◌, ℕ, zero, suc, ◌+◌, ◌-◌, ◌<◌, List, [], ◌∷◌, ◌++◌, inl, inr, length, take, drop, refl, ap, sym, subst, ◌∙◌, arith, Option, Some, None}
 use Rattle.std.specs.Prelude.{Contains, IsSome, slice_get, slice_index_or}
 use Rattle.std.specs.List.{cons_option, filter_map}
 use Rattle.std.specs.Option.{option_and_then}
 use Rattle.std.proofs.lemmas.Bool.{false≢true}
 use Rattle.std.proofs.lemmas.List.{drop-drop, length-drop, length-map, length-take}
-use Rattle.std.proofs.lemmas.Option.{none-some, same_Some, slice_get_within}
+use Rattle.std.proofs.lemmas.Option.{none-some, slice_get_within}
 use Rattle.pec_types.specs.Bytes.{Bytes}
 use Rattle.pec_types.specs.declared.letters.Letter.{Letter}
 use Rattle.pec_types.specs.declared.turns.ProviderFault.{ProviderFault}
@@ -19,8 +19,8 @@ use Rattle.pec_plays.specs.Decisions.{decide, undecided}
 use Rattle.pec_plays.specs.Frames.{IsDueFrame, due_frames, frame_of}
 use Rattle.pec_plays.specs.Possible.{MayCut, cut_by}
 use Rattle.pec_plays.specs.Steps.{Step, journal_after}
-use Rattle.pec_plays.specs.Turns.{Cut, Whole, Fails, Full, Stops, cut_turn, decisions, entries_of, entry_at, events_of, frames_in, owed_of, plan, puts_from, without_first}
-use Rattle.pec_plays.proofs.ListLemmas.{contains_cases, contains_here, contains_none, contains_there, what_is}
+use Rattle.pec_plays.specs.Turns.{Cut, Whole, Fails, Full, Stops, cut_turn, decisions, entries_of, events_of, frames_in, owed_of, plan, puts_from, without_first}
+use Rattle.pec_plays.proofs.ListLemmas.{contains_cases, contains_here, contains_none, contains_there}
 use Rattle.pec_plays.proofs.NextLemmas.{next_undecided}
 
 -- ---- plans

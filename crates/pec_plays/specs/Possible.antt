@@ -5,7 +5,7 @@ use Rattle.pec_types.specs.declared.turns.ProviderFault.{ProviderFault}
 use Rattle.pec_types.specs.declared.turns.ProviderFault.TheVariants as faults
 use Rattle.pec_ledger.specs.Network.{Site, interrupted_at, site_at}
 use Rattle.pec_ledger.specs.Trade.{Trade}
-use Rattle.pec_plays.specs.Commands.{Command, Luck, Restart, Round, played}
+use Rattle.pec_plays.specs.Commands.{Command, Luck, Round, played}
 use Rattle.pec_plays.specs.Steps.{Step}
 use Rattle.pec_plays.specs.Turns.{Cut, Whole, Fails, Full, Stops, entry_at, frames_in, last_of, plan}
 

@@ -1,7 +1,7 @@
 -- What the tables of pec_points see of a provider's journal: of a message in a frame (`arrived_at`), and of a recipient
 -- (`mailbox_at`); and what is done by the answer of the table of reception (`done_by`). RFC 6109, sections 3.1 to 3.3,
 -- within this project's profile.
-use Rattle.std.specs.Prelude.{ℕ, Bool, true, false, List, [], ◌∷◌, length, Option, Some, None, is_some}
+use Rattle.std.specs.Prelude.{ℕ, true, false, List, [], ◌∷◌, length, Option, Some, None, is_some}
 use Rattle.pec_types.specs.Bytes.{Bytes}
 use Rattle.pec_types.specs.Message.{Id}
 use Rattle.pec_types.specs.declared.letters.Letter.{Letter}
@@ -16,7 +16,7 @@ use Rattle.pec_records.specs.declared.entries.Entry.TheVariants as entries
 use Rattle.pec_points.specs.Decision.{Mailbox}
 use Rattle.pec_points.specs.declared.reception.Arrived.{Arrived}
 use Rattle.pec_points.specs.declared.reception.Reception.{Reception}
-use Rattle.pec_points.specs.declared.reception.Reception.TheVariants.{Take, Charge, Outcome, Ack, Repeat, Anomaly, Drop}
+use Rattle.pec_points.specs.declared.reception.Reception.TheVariants.{Take, Charge, Outcome, Ack, Repeat, Anomaly}
 use Rattle.pec_ledger.specs.Half.{Half}
 use Rattle.pec_ledger.specs.Lookups.{accepted_at, charged_of, counted, decided_of, is_acked, known_of, taken_of}
 use Rattle.pec_ledger.specs.Pairs.{pair_of}
