@@ -2,7 +2,7 @@
 -- texts.
 use Rattle.std.proofs.Common.{◌≡◌, ◌⊎◌, ◌↔◌, ℕ, zero, suc, ◌+◌, List, [], ◌∷◌, true, false, cond, drop, find, option_map, slice_get, add-one, Result, Ok, Err, Option, None, Some, inl, inr, refl, ap, sym, ◌∙◌, subst}
 use Rattle.std.proofs.lemmas.Option.{same_Some}
-use Rattle.pec_types.specs.Answers.{Gives, ReadsExactly, TellsExactly, seen_as, told_is_read}
+use Rattle.pec_types.specs.Answers.{TellsExactly}
 use Rattle.pec_types.specs.Bytes.{Bytes}
 use Rattle.pec_types.specs.Results.{◌>>=◌}
 use Rattle.pec_types.specs.declared.disputes.LetterFault.{LetterFault}
@@ -17,11 +17,12 @@ use Rattle.pec_cert.specs.declared.certificates.CertData.{CertData}
 use Rattle.pec_seal.specs.Opening.{opened_of}
 use Rattle.pec_seal.specs.Seals.{IsSealedByNone, Seals, sealed}
 use Rattle.pec_seal.specs.declared.seals.SealFault.{SealFault}
-use Rattle.pec_letter_parts.proofs.ToldLemmas.{clash, err_is, given_told, readable_told, same_told, then_told}
+use Rattle.pec_letter_parts.proofs.ToldLemmas.{given_told, readable_told, same_told}
 use Rattle.pec_letter_parts.specs.Asking.{known, readable}
 use Rattle.pec_letter_parts.specs.Contents.{certificate_name}
 use Rattle.pec_letter_parts.specs.Letters.{Certifies, Headed, IsHeaded, IsLetter, IsLetterIn, IsUnheaded, IsUnread, IsUnreadIn, Letter, body_of, has_name, is_value, part_name}
 use Rattle.pec_letter_parts.specs.LettersReading.{certified_by, headed_of, letter_in, letter_of}
+use Rattle.pec_letter_parts.specs.Told.{clash, err_is, then_told}
 
 -- ---- heads
 
@@ -212,12 +213,6 @@ pub letter_told : (seals : Seals) (text : Bytes) → TellsExactly (IsHeaded seal
     → TellsExactly (IsLetter seals text) (IsUnread seals text) (letter_of seals text)
 unfolding letter_of
 letter_told seals text headed inside = then_told (IsHeaded seals text) (IsUnheaded seals text) IsLetterIn IsUnreadIn (headed_of seals text) letter_in headed inside
-
--- what a call answers is read exactly, where it is what is told exactly
-pub gives_read : {X Y E : Type 0} (A : Y → Type 0) (F : E → Type 0) (no_memory : E) (seen : X → Y) (answer : Result X E) (told : Result Y E)
-    → TellsExactly A F told → Gives no_memory seen answer told → ReadsExactly A F no_memory (seen_as seen answer)
-gives_read A F no_memory seen (Ok value) told tells same = told_is_read A F no_memory (Ok (seen value)) told tells same
-gives_read A F no_memory seen (Err fault) told tells same = told_is_read A F no_memory (Err fault) told tells same
 
 -- ---- parts by their names
 

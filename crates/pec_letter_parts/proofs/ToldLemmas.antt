@@ -1,48 +1,8 @@
--- Exact answers, one after another: where a reading is told exactly, and so is what follows it, both together are.
-use Rattle.std.proofs.Common.{◌≡◌, ◌⊎◌, ◌↔◌, Result, Ok, Err, inl, inr, refl, ap, sym, ◌∙◌}
+-- What one reading tells exactly, by other words and by one fault in place of its own.
+use Rattle.std.proofs.Common.{◌≡◌, ◌↔◌, Result, Ok, Err, refl, ap, sym}
 use Rattle.pec_types.specs.Answers.{TellsExactly}
-use Rattle.pec_types.specs.Results.{◌>>=◌}
 use Rattle.pec_letter_parts.specs.Asking.{readable}
-
-pub clash : {X E : Type 0} (r : Result X E) (x : X) (fault : E) → r ≡ Ok x → r ≡ Err fault → ⊥
-clash r x fault a b = absurd cc
-
-pub ok_is : {X E : Type 0} (r : Result X E) (x y : X) → r ≡ Ok x → r ≡ Ok y → x ≡ y
-ok_is r x y a b = cc
-
-pub err_is : {X E : Type 0} (r : Result X E) (f g : E) → r ≡ Err f → r ≡ Err g → f ≡ g
-err_is r f g a b = cc
-
--- both readings together
-pub then_told : {X Y E : Type 0} (A : X → Type 0) (F : E → Type 0) (B : X → Y → Type 0) (G : X → E → Type 0) (r : Result X E) (k : X → Result Y E)
-    → TellsExactly A F r → ((x : X) → TellsExactly (B x) (G x) (k x))
-    → TellsExactly (λ y. (x : X) × (A x × B x y)) (λ f. F f ⊎ ((x : X) × (A x × G x f))) (r >>= k)
-then_told A F B G (Ok x) k first next = record {
-  value = λ y. (
-    (λ is. (x, ((first.value x).0 refl, ((next x).value y).0 is))),
-    (λ h. ap k (ok_is (Ok x) x h.0 refl ((first.value h.0).1 h.1.0)) ∙ ((next h.0).value y).1 h.1.1),
-  );
-  fault = λ f. (
-    (λ is. inr (x, ((first.value x).0 refl, ((next x).fault f).0 is))),
-    (λ h. elim h [
-      | inl here ↦ absurd (clash (Ok x) x f refl ((first.fault f).1 here))
-      | inr there ↦ ap k (ok_is (Ok x) x there.0 refl ((first.value there.0).1 there.1.0)) ∙ ((next there.0).fault f).1 there.1.1
-    ]),
-  );
-}
-then_told A F B G (Err e) k first next = record {
-  value = λ y. (
-    (λ is. absurd (clash (Err e) y e is refl)),
-    (λ h. absurd (clash (Err e) h.0 e ((first.value h.0).1 h.1.0) refl)),
-  );
-  fault = λ f. (
-    (λ is. inl ((first.fault f).0 (ap Err (err_is (Err e) e f refl is)))),
-    (λ h. elim h [
-      | inl here ↦ ap Err (err_is (Err e) e f refl ((first.fault f).1 here))
-      | inr there ↦ absurd (clash (Err e) there.0 e ((first.value there.0).1 there.1.0) refl)
-    ]),
-  );
-}
+use Rattle.pec_letter_parts.specs.Told.{clash, err_is, ok_is}
 
 -- what a reading can say, and one fault in place of its own
 pub readable_told : {X D E : Type 0} (A : X → Type 0) (Q : Type 0) (e : E) (r : Result X D)

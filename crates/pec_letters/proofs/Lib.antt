@@ -1,4 +1,3 @@
-mod ToldLemmas
 mod TextLemmas
 mod HeadingLemmas
 mod SeenLemmas

@@ -11,8 +11,6 @@ use Rattle.pec_types.specs.Address.{IsLowerAddress}
 use Rattle.pec_types.specs.Bytes.{Bytes, Path, comma}
 use Rattle.pec_types.specs.Message.{Id}
 use Rattle.pec_types.specs.Words.{wish_word}
-use Rattle.pec_types.specs.declared.disputes.Disputed.TheVariants as disputed
-use Rattle.pec_types.specs.declared.disputes.LetterFault.TheVariants.{Disagree}
 use Rattle.pec_types.specs.declared.messages.Class.{Class}
 use Rattle.pec_types.specs.declared.messages.Class.TheVariants.{Primary, Copy}
 use Rattle.pec_types.specs.declared.messages.Facts.{Facts}
@@ -42,28 +40,24 @@ use Rattle.pec_letter_facts.specs.Certifying.{certificate_of, name_of, typed}
 use Rattle.pec_letter_facts.specs.Questions.{are_typed, id_named, is_dated, is_from_home, is_sealed_by_issuer, is_wish_marked, marking_of}
 use Rattle.pec_letter_facts.specs.ReadBack.{IsReadBack, listed_values}
 use Rattle.pec_letters.specs.Envelopes.{envelope_certificate, envelope_heading, envelope_word}
-use Rattle.pec_letters.specs.Seen.{Seen, addresses_in, are_recipients, certifies_envelope, facts_in, facts_read, is_envelope, is_marked, is_named_path, is_path, is_sealed_at_home, is_wish, is_wished, named_in, seen_of, with_sender}
+use Rattle.pec_letters.specs.Seen.{Seen, addresses_in, are_recipients, certifies_envelope, dated, facts_in, facts_read, is_envelope, is_marked, is_named_path, is_path, is_sealed_at_home, is_wish, is_wished, named_in, seen_of, with_sender}
 
 same_text : (text : Bytes) → bytes_eq text text ≡ true
 same_text text = (bytes_decides text text).1 refl
 
 -- ---- the table
 
-pub passes : (providers : List Provider) (letter : Letter) (original : Bytes) (id : Id) (facts : Facts)
+-- the last row stands behind all others
+pub passes_to_date : (providers : List Provider) (letter : Letter) (original : Bytes) (id : Id) (facts : Facts)
     → is_envelope letter ≡ true → body_of message_name letter.parts ≡ Some original → id_named providers (codes "Message-ID") letter ≡ Some id
     → is_sealed_at_home providers id letter ≡ true → is_from_home providers id letter ≡ true → facts_in original letter ≡ Some facts
-    → are_recipients providers facts letter ≡ true → is_wished facts letter ≡ true → is_dated letter ≡ true
-    → seen_of providers letter ≡ Ok (record { id = id; moment = letter.cert.stamp.moment; facts = facts; original = original })
+    → are_recipients providers facts letter ≡ true → is_wished facts letter ≡ true
+    → seen_of providers letter ≡ dated letter (record { id = id; moment = letter.cert.stamp.moment; facts = facts; original = original })
 unfolding seen_of
-passes providers letter original id facts a b c d e f g h i = rw (a, b, c, d, e, f, g, h, i) refl
+passes_to_date providers letter original id facts a b c d e f g h = rw (a, b, c, d, e, f, g, h) refl
 
--- the last row fails where the date does
-pub date_fails : (providers : List Provider) (letter : Letter) (original : Bytes) (id : Id) (facts : Facts)
-    → is_envelope letter ≡ true → body_of message_name letter.parts ≡ Some original → id_named providers (codes "Message-ID") letter ≡ Some id
-    → is_sealed_at_home providers id letter ≡ true → is_from_home providers id letter ≡ true → facts_in original letter ≡ Some facts
-    → are_recipients providers facts letter ≡ true → is_wished facts letter ≡ true → is_dated letter ≡ false → seen_of providers letter ≡ Err (Disagree disputed.Moment)
-unfolding seen_of
-date_fails providers letter original id facts a b c d e f g h i = rw (a, b, c, d, e, f, g, h, i) refl
+dated_right : (letter : Letter) (seen : Seen) → is_dated letter ≡ true → dated letter seen ≡ Ok seen
+dated_right letter seen i = rw i refl
 
 -- ---- the questions of envelopes
 
@@ -186,7 +180,7 @@ seen_back providers issuer id stamp facts original letter passing again known ba
     ∙ ap (λ (path : Path). Some path) (sym (in_order facts.recipients known.order))
     in let typed_are : letter.cert.recipients ≡ map (typed providers) facts.recipients = ap (λ (c : CertData). c.recipients) same
     in let stamped : letter.cert.stamp ≡ stamp = ap (λ (c : CertData). c.stamp) same
-    in passes providers letter original id facts
+    in passes_to_date providers letter original id facts
     (marked letter cert same back.found.marking refl)
     back.message_is
     (passing.id id (codes "Message-ID") letter known.within known.below (ap (λ (c : CertData). c.id) same) back.found.name)
@@ -196,5 +190,6 @@ seen_back providers issuer id stamp facts original letter passing again known ba
     (facts_found original known.fields known.place facts letter known.read known.facts_are (ap (λ (c : CertData). c.sender) same))
     (recipients_found providers facts letter (passing.types facts.recipients letter typed_are) (ap (λ (c : CertData). is_none c.delivered) same) typed_are named)
     (wish_found facts letter (ap (λ (c : CertData). c.wish) same) (passing.wish facts.wish letter.head back.found.wish))
+    ∙ dated_right letter (record { id = id; moment = letter.cert.stamp.moment; facts = facts; original = original })
     (passing.dated letter (back.found.date ∙ ap (λ (s : Instant). Some (header_date_of s)) (sym stamped)))
     ∙ ap (λ (s : Instant). Ok (record { id = id; moment = s.moment; facts = facts; original = original })) stamped

@@ -143,6 +143,14 @@ is_wish wanted (Some wish) = bytes_eq (wish_word wish) (wish_word wanted)
 unfoldable pub is_wished : Facts → Letter → Bool
 is_wished facts letter = is_wish facts.wish letter.cert.wish && is_wish_marked facts.wish letter.head
 
+-- ---- Moment
+
+-- what is seen, where the date of the head is that of the certified stamp
+abbrev pub dated : Letter → Seen → Result Seen LetterFault
+dated letter seen = do
+  date ← claim (is_dated letter) (Disagree disputed.Moment)
+  Ok seen
+
 -- ---- the table
 
 -- What is seen of a letter that was read, or the fault of the first row that applies.
@@ -156,8 +164,7 @@ seen_of providers letter = do
   facts ← known (facts_in original letter) (Disagree disputed.Sender)
   recipients ← claim (are_recipients providers facts letter) (Disagree disputed.Recipient)
   wish ← claim (is_wished facts letter) (Disagree disputed.Wish)
-  date ← claim (is_dated letter) (Disagree disputed.Moment)
-  Ok (record { id = id; moment = letter.cert.stamp.moment; facts = facts; original = original })
+  dated letter (record { id = id; moment = letter.cert.stamp.moment; facts = facts; original = original })
 
 -- The text is seen as this envelope.
 abbrev pub IsSeen : Seals → List Provider → Bytes → Seen → Type 0

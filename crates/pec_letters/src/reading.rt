@@ -4,7 +4,7 @@ ghost use Rattle.pec_types.specs.declared.disputes.LetterFault.TheVariants as fa
 ghost use Rattle.pec_directory.specs.Directory.{providers_of};
 ghost use Rattle.pec_letter_parts.specs.LettersReading.{letter_of};
 ghost use Rattle.pec_letter_parts.specs.Views.{letter_shown};
-ghost use Rattle.pec_letters.specs.Seen.{IsSeen, IsUnseen, seen_of};
+ghost use Rattle.pec_letters.specs.Seen.{IsSeen, IsUnseen, dated, seen_of};
 ghost use Rattle.pec_letters.specs.SeenReading.{view};
 ghost use Rattle.pec_letters.specs.Views.{view_shown};
 
@@ -71,7 +71,7 @@ fn read_letter<'a, S: Sealer>(
     headed.letter(alloc)
 }
 
-/// What is seen of a letter that was read: the rows in their order.
+/// What is seen of a letter that was read: the rows in their order, the last by `dated`.
 #[tactic(auto, unfolding(crate::specs::Seen::seen_of))]
 fn see<'a>(
     alloc: Global,
@@ -104,15 +104,27 @@ fn see<'a>(
     if !is_wished(&facts, letter) {
         return Err(LetterFault::Disagree(Disputed::Wish));
     }
-    if !is_dated(alloc, letter)? {
-        return Err(LetterFault::Disagree(Disputed::Moment));
-    }
-    Ok(EnvelopeView {
+    let view = EnvelopeView {
         id,
         moment: moment_of(letter),
         facts,
         original,
-    })
+    };
+    dated(alloc, letter, view)
+}
+
+/// What is seen of a letter that passed every other row, where its date is that of the certified stamp: the last row.
+fn dated<'a>(
+    alloc: Global,
+    letter: &Letter<'_>,
+    view: EnvelopeView<'a>,
+) -> Result<EnvelopeView<'a>, LetterFault>
+    ensures { Gives faults.NoMemory view_shown result (dated (letter_shown letter.now) (view_shown view.entry)) }
+{
+    if !is_dated(alloc, letter)? {
+        return Err(LetterFault::Disagree(Disputed::Moment));
+    }
+    Ok(view)
 }
 
 /// The certified moment.

@@ -2,7 +2,7 @@
 use Rattle.pec_letter_parts.specs.Letters.{IsLetter, IsUnread}
 use Rattle.pec_letter_parts.specs.LettersReading.{letter_of}
 use Rattle.pec_letters.proofs.RowLemmas.{names_passed}
-use Rattle.pec_letters.proofs.ToldLemmas.{table_told}
+use Rattle.pec_letter_parts.specs.Told.{table_told}
 use Rattle.pec_letters.specs.Seen.{seen_of}
 use Rattle.pec_letters.specs.SeenReading.{view}
 use Rattle.pec_letters.proofs.laws.a_text_is_one_envelope.Goals as goal

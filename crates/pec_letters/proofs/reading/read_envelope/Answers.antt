@@ -1,7 +1,7 @@
 -- What is seen is what `view` tells, and so what the text is.
 use Rattle.pec_types.specs.declared.disputes.LetterFault.TheVariants as faults
 use Rattle.pec_directory.specs.Directory.{providers_of}
-use Rattle.pec_letters.proofs.ToldLemmas.{gives_read}
+use Rattle.pec_letter_parts.specs.Told.{gives_read}
 use Rattle.pec_letters.specs.Seen.{IsSeen, IsUnseen}
 use Rattle.pec_letters.specs.SeenReading.{view}
 use Rattle.pec_letters.specs.Views.{view_shown}

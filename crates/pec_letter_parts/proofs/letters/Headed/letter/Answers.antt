@@ -1,8 +1,8 @@
 -- What was read is what `letter_in` tells, and so what is behind the head.
 use Rattle.pec_types.specs.declared.disputes.LetterFault.TheVariants as faults
-use Rattle.pec_letter_parts.proofs.LetterLemmas.{gives_read}
 use Rattle.pec_letter_parts.specs.Letters.{IsLetterIn, IsUnreadIn}
 use Rattle.pec_letter_parts.specs.LettersReading.{letter_in}
+use Rattle.pec_letter_parts.specs.Told.{gives_read}
 use Rattle.pec_letter_parts.specs.Views.{headed_shown, letter_shown}
 use Rattle.pec_letter_parts.proofs.letters.Headed.letter.Goals as goal
 

@@ -1,8 +1,8 @@
 -- What was read is what `headed_of` tells, and so what is read of the text.
 use Rattle.pec_types.specs.declared.disputes.LetterFault.TheVariants as faults
-use Rattle.pec_letter_parts.proofs.LetterLemmas.{gives_read}
 use Rattle.pec_letter_parts.specs.Letters.{IsHeaded, IsUnheaded}
 use Rattle.pec_letter_parts.specs.LettersReading.{headed_of}
+use Rattle.pec_letter_parts.specs.Told.{gives_read}
 use Rattle.pec_letter_parts.specs.Views.{headed_shown}
 use Rattle.pec_letter_parts.proofs.letters.Headed.read.Goals as goal
 
