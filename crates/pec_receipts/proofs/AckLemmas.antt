@@ -139,7 +139,7 @@ lower_among address (r ∷ all) place lower e =
     in lower_at address (r ∷ all) place r lower found.0 found.1
 
 -- the recipient that is named, an address in lower case
-named_one : (providers : List Provider) (r : Receipt) (recipient : Option Bytes) → AllByRecursion (λ (one : Recipient). IsLowerAddress one.address) r.facts.recipients
+pub named_one : (providers : List Provider) (r : Receipt) (recipient : Option Bytes) → AllByRecursion (λ (one : Recipient). IsLowerAddress one.address) r.facts.recipients
     → r.recipient ≡ recipient → IsNamed providers r about.Recipient recipient → (address : Bytes) × ((r.recipient ≡ Some address) × IsLowerAddress address)
 named_one providers r None lower e named = absurd named
 named_one providers r (Some address) lower e named = (address, (e, lower_among address r.facts.recipients named.1.0 lower named.1.1))

@@ -1,10 +1,11 @@
 mod AckLemmas
 mod AgainLemmas
 mod ComposeLemmas
+mod GivingLemmas
 mod LawLemmas
 mod NameLemmas
 mod OtherLemmas
 mod SeenLemmas
 mod StandLemmas
 mod TextLemmas
-mod ToldLemmas
+mod ThereLemmas

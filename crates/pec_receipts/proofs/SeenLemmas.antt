@@ -1,12 +1,12 @@
 -- What is seen of a text is told exactly by the functions.
-use Rattle.std.proofs.Common.{◌≡◌, List, Option, Some, None, Ok, Err}
+use Rattle.std.proofs.Common.{List, Option, Some, None}
 use Rattle.pec_types.specs.Answers.{TellsExactly}
 use Rattle.pec_types.specs.Bytes.{Bytes}
 use Rattle.pec_directory.specs.Directory.{Provider}
 use Rattle.pec_seal.specs.Seals.{Seals}
 use Rattle.pec_letter_parts.specs.Letters.{Headed, IsHeaded, IsLetterIn, IsUnheaded, IsUnreadIn}
 use Rattle.pec_letter_parts.specs.LettersReading.{headed_of, letter_in}
-use Rattle.pec_receipts.proofs.ToldLemmas.{itself_told, then_told}
+use Rattle.pec_letter_parts.specs.Told.{itself_told, table_told, then_told}
 use Rattle.pec_receipts.specs.Seen.{IsSeen, IsSeenBy, IsUnseen, IsUnseenBy, acknowledged, reply_of, seen_of}
 use Rattle.pec_receipts.specs.SeenReading.{seen_by, seen_in, view}
 
@@ -17,8 +17,7 @@ Letters = (read : Headed) → TellsExactly (IsLetterIn read) (IsUnreadIn read) (
 by_told : Letters → (providers : List Provider) (read : Headed) (reply : Option Bytes)
     → TellsExactly (IsSeenBy providers read reply) (IsUnseenBy providers read reply) (seen_by providers read reply)
 by_told letters providers read None =
-    then_told (IsLetterIn read) (IsUnreadIn read) (λ letter seen. seen_of providers letter ≡ Ok seen) (λ letter fault. seen_of providers letter ≡ Err fault)
-    (letter_in read) (seen_of providers) (letters read) (λ letter. itself_told (seen_of providers letter))
+    table_told (IsLetterIn read) (IsUnreadIn read) (seen_of providers) (letter_in read) (letters read)
 by_told letters providers read (Some value) = itself_told (acknowledged providers read value)
 
 in_told : Letters → (providers : List Provider) (read : Headed)

@@ -244,14 +244,20 @@ IsReceipt seals kept r original text = IsReceiptBy seals kept r original (row_of
 
 -- ---- the same as a function
 
+-- the parts of a receipt that this provider composes; an acknowledgement has none
+abbrev pub receipt_parts : List Provider → Receipt → Bytes → Row → Option Said → Kept → List Bytes
+receipt_parts providers r original row None issuer = []
+receipt_parts providers r original row (Some said) issuer =
+    parts_of (receipt_contents providers issuer.provider.name r (stamp_of issuer.zone r.moment) row said original
+    (cert_text (receipt_certificate providers issuer.provider.name r (stamp_of issuer.zone r.moment) row said)))
+
 -- the text of a receipt that this provider composes
 abbrev pub text_by : Seals → List Provider → Receipt → Bytes → Row → Option Said → Kept → Option Bytes
 text_by seals providers r original row None issuer =
     sealed seals r.by (with_head (heading_fields (ack_heading providers r (stamp_of issuer.zone r.moment) row)) ack_body)
 text_by seals providers r original row (Some said) issuer =
     letter_text seals r.by (receipt_heading providers r (stamp_of issuer.zone r.moment) row said)
-    (parts_of (receipt_contents providers issuer.provider.name r (stamp_of issuer.zone r.moment) row said original
-    (cert_text (receipt_certificate providers issuer.provider.name r (stamp_of issuer.zone r.moment) row said))))
+    (receipt_parts providers r original row (Some said) issuer)
 
 -- The text of the receipt; none where there is no such provider, or no boundary is free.
 unfoldable pub receipt_text : Seals → List Kept → Receipt → Bytes → Option Bytes

@@ -1,16 +1,20 @@
-ghost use Rattle.std.specs.Prelude.{◌≡◌, ◌<◌, ◌++◌, List, Some, IsSome, IfOk, IfSome, OnOk, length};
+ghost use Rattle.std.specs.Prelude.{◌≡◌, ◌<◌, ◌^◌, ◌++◌, List, Some, IsSome, IfOk, IfSome, OnOk, length, slice_get};
 ghost use Rattle.pec_types.specs.Bytes.{Bytes};
 ghost use Rattle.pec_types.specs.Text.{AllPrintable};
+ghost use Rattle.pec_types.specs.declared.moments.TheConstants.{END_OF_TIME};
 ghost use Rattle.pec_heads.specs.WrittenHeads.{head_text};
+ghost use Rattle.pec_bodies.specs.Composing.{bytes_of};
 ghost use Rattle.pec_cert.specs.Certificate.{IsCert};
 ghost use Rattle.pec_directory.specs.Directory.{Kept, providers_of};
+ghost use Rattle.pec_directory.specs.Lawful.{IsLawful};
 ghost use Rattle.pec_seal.specs.Seals.{Seals};
 ghost use Rattle.pec_letter_parts.specs.Contents.{parts_of};
 ghost use Rattle.pec_letter_parts.specs.Headings.{heading_fields};
 ghost use Rattle.pec_letter_parts.specs.Sealing.{IsLetterText};
 ghost use Rattle.pec_letter_parts.specs.Views.{contents_shown};
-ghost use Rattle.pec_letter_facts.specs.Certifying.{told_text};
-ghost use Rattle.pec_receipts.specs.Receipts.{CanBeGiven, IsAcknowledging, IsCertifying, IsCertifyingBy, IsReceipt, ack_heading, marked_wish, phrase_of, receipt_certificate, receipt_heading, receipt_text};
+ghost use Rattle.pec_letter_facts.specs.Certifying.{ArePrintable, told_text};
+ghost use Rattle.pec_receipts.specs.Kinds.{row_of};
+ghost use Rattle.pec_receipts.specs.Receipts.{CanBeGiven, IsAcknowledging, IsCertifying, IsCertifyingBy, IsReceipt, ack_heading, marked_wish, phrase_of, receipt_certificate, receipt_heading, receipt_parts, receipt_text};
 ghost use Rattle.pec_receipts.specs.Views.{row_shown, said_shown};
 ghost use Rattle.pec_receipts.specs.declared.receipts.Receipt.{Receipt as ReceiptShown};
 
@@ -19,9 +23,10 @@ use crate::kinds::{Row, Said, row_of};
 use crate::messages::Shown;
 use crate::receipts::Receipt;
 use crate::reporting::{phrase, report};
-use pec_cert::{Stamp, a_certificate_has_one_text, write};
+use pec_bodies::parts_have_one_composed_body;
+use pec_cert::{Stamp, a_certificate_has_one_text, a_rule_has_one_clock, write};
 use pec_directory::Directory;
-use pec_letter_facts::{certificate, told_text};
+use pec_letter_facts::{certificate, told_text, what_is_certified_can_be_written};
 use pec_letter_parts::{
     Contents, Heading, Marking, a_letter_has_one_text, compose_letter, put_heading,
 };
@@ -29,15 +34,27 @@ use pec_seal::{Sealer, seal};
 use pec_types::{NoMemory, Text, Wish};
 use std::alloc::Global;
 
-/// The law of receipts as texts: what is said is one text at most, the one that `receipt_text` gives.
+/// The law of receipts as texts: what is said is one text at most, the one that `receipt_text` gives; what a provider may give is that
+/// text; and where its parts have less than 2^64 bytes together, there is one.
 pub fn a_receipt_has_one_text()
     ensures only { (seals : Seals) (kept : List Kept) (receipt : ReceiptShown) (original text : Bytes)
         → IsReceipt seals kept receipt original text → receipt_text seals kept receipt original ≡ Some text }
     ensures one { (seals : Seals) (kept : List Kept) (receipt : ReceiptShown) (original text other : Bytes)
         → IsReceipt seals kept receipt original text → IsReceipt seals kept receipt original other → text ≡ other }
+    ensures text { (seals : Seals) (kept : List Kept) (receipt : ReceiptShown) (original text : Bytes)
+        → IsLawful (providers_of kept) → CanBeGiven (providers_of kept) receipt → ArePrintable receipt.facts
+        → receipt.moment < END_OF_TIME
+        → receipt_text seals kept receipt original ≡ Some text → IsReceipt seals kept receipt original text }
+    ensures there { (seals : Seals) (kept : List Kept) (receipt : ReceiptShown) (original : Bytes) (issuer : Kept)
+        → slice_get kept receipt.by ≡ Some issuer → IsSome (seals.name_of receipt.by)
+        → bytes_of (receipt_parts (providers_of kept) receipt original (row_of receipt.kind) (row_of receipt.kind).said issuer) < 2 ^ 64
+        → (text : Bytes) × (receipt_text seals kept receipt original ≡ Some text) }
 {
     a_letter_has_one_text();
     a_certificate_has_one_text();
+    a_rule_has_one_clock();
+    what_is_certified_can_be_written();
+    parts_have_one_composed_body();
 }
 
 /// The receipt, notice or acknowledgement that says this, sealed by the provider that composes it (RFC 6109, sections 3.1 to 3.3, within

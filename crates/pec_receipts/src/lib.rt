@@ -4,6 +4,7 @@
 
 mod asking;
 mod composing;
+mod giving;
 mod headings;
 mod kinds;
 mod laws;

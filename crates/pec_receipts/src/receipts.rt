@@ -40,7 +40,7 @@ impl Receipt {
 
 /// The place of an address among recipients, from 0.
 #[tactic(auto, unfolding(crate::specs::Receipts::place_among))]
-fn place_among(recipients: &[Recipient], address: &Address) -> Option<usize>
+pub(crate) fn place_among(recipients: &[Recipient], address: &Address) -> Option<usize>
     ensures { result ≡ place_among recipients.now address.now }
 {
     recipients

@@ -127,7 +127,7 @@ fn add_address_at(
     Ok(())
 }
 
-fn is_home(directory: &Directory, provider: u32, address: &Address) -> bool
+pub(crate) fn is_home(directory: &Directory, provider: u32, address: &Address) -> bool
     ensures { result ≡ is_number provider (home_of (providers_of directory.now) address.now) }
 {
     match directory.home_of(address) {
