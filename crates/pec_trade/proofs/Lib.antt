@@ -1,0 +1,14 @@
+mod PathLemmas
+mod DirectoryLemmas
+mod FactsLemmas
+mod AdmissionLemmas
+mod FrameLemmas
+mod SizeLemmas
+mod TextLemmas
+mod SeenLemmas
+mod NamedLemmas
+mod SentLemmas
+mod EnvelopeLemmas
+mod ReceiptLemmas
+mod NoticeLemmas
+mod TradeLemmas
