@@ -5,7 +5,7 @@ ghost use Rattle.pec_letters.specs.Fitting.{Fits};
 ghost use Rattle.pec_seal.specs.Hmac.{IsKey, hmac_seals};
 ghost use Rattle.pec_house.specs.Keys.{keys_of, names_of};
 
-use pec_directory::Directory;
+use pec_directory::{Directory, Provider};
 use pec_seal::{HmacSealer, Sealer};
 use pec_types::{NoMemory, Text, Text8};
 use std::alloc::Global;
@@ -34,7 +34,7 @@ fn names(alloc: Global, directory: &Directory) -> Result<Vec<Text>, NoMemory>
         let Some(provider) = directory.provider(number) else {
             unreachable!();
         };
-        let name = provider.name().copy(alloc)?;
+        let name = name_of(alloc, provider)?;
         names.push(name)?;
     }
     Ok(names)
@@ -49,10 +49,24 @@ fn keys(alloc: Global, directory: &Directory) -> Result<Vec<Text8>, NoMemory>
         let Some(provider) = directory.provider(number) else {
             unreachable!();
         };
-        let key = Vec::from_slice(alloc, provider.key())?;
-        keys.push(Text8::of(key))?;
+        let key = key_of(alloc, provider)?;
+        keys.push(key)?;
     }
     Ok(keys)
+}
+
+fn name_of(alloc: Global, provider: &Provider) -> Result<Text, NoMemory>
+    ensures { IfOk result (λ name. name ≡ provider.now.provider.name) }
+{
+    let name = provider.name().copy(alloc)?;
+    Ok(name)
+}
+
+fn key_of(alloc: Global, provider: &Provider) -> Result<Text8, NoMemory>
+    ensures { IfOk result (λ key. key ≡ provider.now.provider.key) }
+{
+    let key = Vec::from_slice(alloc, provider.key())?;
+    Ok(Text8::of(key))
 }
 
 /// Names of a directory's providers differ, and keys have 16 to 64 bytes. It takes no memory.

@@ -10,6 +10,6 @@ pub loop-number-preserved : goal.loop-number-preserved
 loop-number-preserved c =
     let number = c.loop-number.number
     in let before = keys_of (providers_of (take number c.args.directory.now))
-    in c.in_ok-push.ensures.items ∙ ap (λ (keys : Path). keys ++ c.of.result ∷ []) c.loop-number.invariant
-    ∙ ap (λ (key : Bytes). before ++ key ∷ []) (c.of.ensures ∙ c.in_ok-key.ensures.items ∙ c.key.ensures)
+    in c.in_ok-push.ensures.items ∙ ap (λ (keys : Path). keys ++ c.in_ok-key.key ∷ []) c.loop-number.invariant
+    ∙ ap (λ (key : Bytes). before ++ key ∷ []) c.in_ok-key.ensures
     ∙ sym (one_more (λ (p : Provider). p.key) c.args.directory.now number c.in-Some.provider.now (sym c.in-Some.ensures))

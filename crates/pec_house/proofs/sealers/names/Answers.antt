@@ -11,5 +11,5 @@ loop-number-preserved c =
     let number = c.loop-number.number
     in let before = names_of (providers_of (take number c.args.directory.now))
     in c.in_ok-push.ensures.items ∙ ap (λ (names : Path). names ++ c.in_ok-name.name ∷ []) c.loop-number.invariant
-    ∙ ap (λ (name : Bytes). before ++ name ∷ []) (c.in_ok-name.ensures ∙ c.name.ensures)
+    ∙ ap (λ (name : Bytes). before ++ name ∷ []) c.in_ok-name.ensures
     ∙ sym (one_more (λ (p : Provider). p.name) c.args.directory.now number c.in-Some.provider.now (sym c.in-Some.ensures))
