@@ -2,7 +2,7 @@
 use Rattle.std.proofs.Common.{◌≡◌, ℕ, ◌<◌, ◌≤◌, ◌^◌, Bool, true, false, cond, List, [], ◌∷◌, ◌++◌, length, slice_get, Option, None, Some, Result, Ok, codes, refl, ap, sym, ◌∙◌, subst, arith, length-append}
 use Rattle.std.specs.Prelude.{IsSome, is_some, unwrap_or}
 use Rattle.std.specs.List.{AllByRecursion}
-use Rattle.std.specs.Option.{IfSome, option_and_then}
+use Rattle.std.specs.Option.{IfSome}
 use Rattle.pec_types.specs.Address.{IsLowerAddress}
 use Rattle.pec_types.specs.Answers.{TellsExactly}
 use Rattle.pec_types.specs.Bytes.{Bytes, Path}
@@ -41,8 +41,9 @@ use Rattle.pec_letters.specs.SeenReading.{view as envelope_view}
 use Rattle.pec_ledger.specs.Lookups.{addresses_of}
 use Rattle.pec_ledger.specs.OfDirectory.{facts_in, named_by, recipients_named}
 use Rattle.pec_ledger.specs.Trade.{SeenEnvelope}
-use Rattle.pec_trade.specs.Texts.{envelope_bytes, or_none, seen_in}
+use Rattle.pec_trade.specs.Texts.{envelope_bytes, seen_in}
 use Rattle.pec_trade.proofs.DirectoryLemmas.{issuer_at, name_short, named_by as name_is, sealed_name_short}
+use Rattle.pec_trade.proofs.GivingLemmas.{envelope_so}
 use Rattle.pec_trade.proofs.NamedLemmas.{Lines, has_to, named_are, recipients_are, seal_line, sealed_fields}
 use Rattle.pec_trade.proofs.SeenLemmas.{Views, as_envelope, facts_are, the_envelope}
 use Rattle.pec_trade.proofs.SentLemmas.{Sent}
@@ -146,12 +147,6 @@ module _ (seals : Seals) (laws : Envelopes seals) (kept : List Kept) (lawful : I
     pub is : IsEnvelope seals kept id moment facts original text
     pub given : envelope_bytes kept seals id moment original ≡ text
 
-  given_as : (id : Id) (moment : ℕ) (facts : Facts) (original text : Bytes) → facts_in original ≡ Some facts → envelope_text seals kept id moment facts original ≡ Some text
-      → envelope_bytes kept seals id moment original ≡ text
-  unfolding envelope_bytes
-  given_as id moment facts original text are there =
-      ap (λ (o : Option Facts). or_none (option_and_then (λ (f : Facts). envelope_text seals kept id moment f original) o)) are ∙ ap or_none there
-
   pub composed : (id : Id) (moment : ℕ) (facts : Facts) (original : Bytes) → Sent kept id original facts → moment < END_OF_TIME → Composed id moment facts original
   composed id moment facts original sent before =
       let providers = providers_of kept
@@ -170,7 +165,7 @@ module _ (seals : Seals) (laws : Envelopes seals) (kept : List Kept) (lawful : I
         text = found.0;
         there = found.1;
         is = laws.text kept id moment facts original found.0 lawful sent.has (record { home = sent.home }) before found.1;
-        given = given_as id moment facts original found.0 sent.are found.1;
+        given = envelope_so kept seals id moment facts original found.0 sent.are sent.home found.1;
       }
 
   view_of : (id : Id) (moment : ℕ) (facts : Facts) (original : Bytes) → Sent kept id original facts → moment < END_OF_TIME → (made : Composed id moment facts original)

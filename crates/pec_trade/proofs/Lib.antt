@@ -7,6 +7,7 @@ mod SizeLemmas
 mod TextLemmas
 mod SeenLemmas
 mod NamedLemmas
+mod GivingLemmas
 mod SentLemmas
 mod EnvelopeLemmas
 mod ReceiptLemmas

@@ -36,7 +36,8 @@ use Rattle.pec_receipts.specs.Seen.{seen_again}
 use Rattle.pec_receipts.specs.SeenReading.{view as receipt_view}
 use Rattle.pec_ledger.specs.TradeLaws.{letter_seen}
 use Rattle.pec_trade.specs.Refused.{refused_facts, text_in}
-use Rattle.pec_trade.specs.Texts.{anomaly_bytes, or_none, refusal, refusal_bytes, seen_in}
+use Rattle.pec_trade.specs.Giving.{can_be_given}
+use Rattle.pec_trade.specs.Texts.{anomaly_bytes, given_text, or_none, refusal, refusal_bytes, seen_in}
 use Rattle.pec_trade.proofs.DirectoryLemmas.{account_is_home, account_lower, provider_at}
 use Rattle.pec_trade.proofs.FactsLemmas.{Heads, text_short}
 use Rattle.pec_trade.proofs.FrameLemmas.{Told, path_lower}
@@ -172,10 +173,16 @@ module _ (seals : Seals) (laws : Notices seals) (kept : List Kept) (lawful : IsL
   unfolding refusal_bytes
   refusal_unseen id moment account cause path message within below is some few before = by (list_all is_lower path) refl
     where
-      by : (t : Bool) → list_all is_lower path ≡ t → NoLetter (cond t (or_none (receipt_text seals kept (refusal id moment account cause path message) message)) [])
+      given_or_not : (t : Bool) → NoLetter (or_none (receipt_text seals kept (refusal id moment account cause path message) message))
+          → NoLetter (or_none (cond t (receipt_text seals kept (refusal id moment account cause path message) message) None))
+      given_or_not true none = none
+      given_or_not false none = nothing
+
+      by : (t : Bool) → list_all is_lower path ≡ t → NoLetter (cond t (or_none (given_text kept seals (refusal id moment account cause path message) message)) [])
       by true e =
-          refused id moment account cause path message within below is some few before (path_lower laws.told path e)
-          (receipt_text seals kept (refusal id moment account cause path message) message) refl
+          given_or_not (can_be_given (providers_of kept) (refusal id moment account cause path message))
+          (refused id moment account cause path message within below is some few before (path_lower laws.told path e)
+          (receipt_text seals kept (refusal id moment account cause path message) message) refl)
       by false e = nothing
 
   -- ---- anomalies

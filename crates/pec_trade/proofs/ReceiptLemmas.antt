@@ -2,7 +2,7 @@
 use Rattle.std.proofs.Common.{◌≡◌, zero, suc, ◌<◌, ◌^◌, false, List, [], ◌∷◌, ◌⊎◌, inl, inr, length, map, Option, None, Some, Ok, ap, sym, ◌∙◌, subst, arith}
 use Rattle.std.specs.Prelude.{Contains}
 use Rattle.std.specs.List.{AllByRecursion}
-use Rattle.std.specs.Option.{IfSome, option_and_then}
+use Rattle.std.specs.Option.{IfSome}
 use Rattle.std.proofs.lemmas.Bool.{false≢true}
 use Rattle.pec_types.specs.Address.{IsLowerAddress}
 use Rattle.pec_types.specs.Bytes.{Bytes}
@@ -22,12 +22,12 @@ use Rattle.pec_receipts.specs.Receipts.{CanBeGiven, IsNamed, IsReceipt, receipt_
 use Rattle.pec_receipts.specs.Seen.{seen_again}
 use Rattle.pec_receipts.specs.SeenReading.{view as receipt_view}
 use Rattle.pec_receipts.specs.declared.receipts.Receipt.{Receipt as Given}
-use Rattle.pec_ledger.specs.OfDirectory.{facts_in}
 use Rattle.pec_ledger.specs.Trade.{Receipt, SeenReceipt}
 use Rattle.pec_ledger.specs.TradeLaws.{CanBeComposed, IsOfKind, Names}
-use Rattle.pec_trade.specs.Texts.{given, or_none, receipt_bytes, seen_in}
+use Rattle.pec_trade.specs.Texts.{given, receipt_bytes, seen_in}
 use Rattle.pec_trade.specs.TradeOf.{trade_of}
 use Rattle.pec_trade.proofs.DirectoryLemmas.{issuer_at, name_short, named_by as name_is, provider_at}
+use Rattle.pec_trade.proofs.GivingLemmas.{receipt_so}
 use Rattle.pec_trade.proofs.PathLemmas.{placed}
 use Rattle.pec_trade.proofs.SeenLemmas.{Views, as_receipt}
 use Rattle.pec_trade.proofs.SentLemmas.{Sent}
@@ -114,12 +114,6 @@ module _ (seals : Seals) (laws : Receipts seals) (kept : List Kept) (lawful : Is
     pub can : CanBeGiven (providers_of kept) (given receipt facts)
     pub bytes : receipt_bytes kept seals receipt original ≡ text
 
-  bytes_as : (receipt : Receipt) (facts : Facts) (original text : Bytes) → facts_in original ≡ Some facts → receipt_text seals kept (given receipt facts) original ≡ Some text
-      → receipt_bytes kept seals receipt original ≡ text
-  unfolding receipt_bytes
-  bytes_as receipt facts original text are there =
-      ap (λ (o : Option Facts). or_none (option_and_then (λ (f : Facts). receipt_text seals kept (given receipt f) original) o)) are ∙ ap or_none there
-
   pub composed : (receipt : Receipt) (original : Bytes) (can : CanBeComposed (trade_of kept seals) receipt original) → Sent kept receipt.id original can.sent.facts
       → Composed receipt can.sent.facts original
   composed receipt original can sent =
@@ -138,20 +132,21 @@ module _ (seals : Seals) (laws : Receipts seals) (kept : List Kept) (lawful : Is
       }
       in let found = receipt_there laws.texts seals kept r original issuer stands sent.small sent.fits (name_short providers receipt.by issuer.issuer.provider lawful issuer.there)
       (name_is seals providers receipt.by issuer.issuer.provider fits issuer.there)
+      in let may : CanBeGiven providers r = record {
+        by_is = can.by;
+        provider_is = sent.within;
+        home = sent.home;
+        recipients = sent.small.some;
+        subject = sent.small.subject;
+        named = is_named kept seals receipt facts receipt.kind can.kind;
+        own = is_own kept seals receipt facts receipt.kind can.kind;
+      }
       in record {
         text = found.0;
         there = found.1;
         is = receipt_is laws.texts seals kept r original found.0 stands (provider_at kept receipt.by) found.1;
-        can = record {
-          by_is = can.by;
-          provider_is = sent.within;
-          home = sent.home;
-          recipients = sent.small.some;
-          subject = sent.small.subject;
-          named = is_named kept seals receipt facts receipt.kind can.kind;
-          own = is_own kept seals receipt facts receipt.kind can.kind;
-        };
-        bytes = bytes_as receipt facts original found.0 sent.are found.1;
+        can = may;
+        bytes = receipt_so kept seals receipt facts original found.0 sent.are may found.1;
       }
 
   -- is seen as what it was composed of

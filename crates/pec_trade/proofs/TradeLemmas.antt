@@ -1,10 +1,6 @@
 -- The world of a directory and a sealer meets all that the ledger asks.
-use Rattle.std.proofs.Common.{◌≡◌, ◌↔◌, ℕ, ◌<◌, ◌^◌, Bool, cond, List, [], length, Option, None, Some, refl, ap, sym, ◌∙◌, subst}
-use Rattle.std.specs.List.{AllByRecursion}
-use Rattle.std.specs.Option.{option_and_then}
-use Rattle.std.proofs.lemmas.Bool.{lt-ltb}
+use Rattle.std.proofs.Common.{◌≡◌, ◌↔◌, ℕ, ◌<◌, List, length, None, Some, refl, ap, sym, subst}
 use Rattle.std.proofs.lemmas.Option.{none-some, same_Some}
-use Rattle.pec_types.specs.Address.{IsLowerAddress}
 use Rattle.pec_types.specs.Bytes.{Bytes, Path}
 use Rattle.pec_types.specs.Message.{Id}
 use Rattle.pec_types.specs.declared.messages.Cause.{Cause}
@@ -13,25 +9,21 @@ use Rattle.pec_directory.specs.Directory.{Kept, Provider, providers_of}
 use Rattle.pec_directory.specs.Ids.{Names, id_of}
 use Rattle.pec_directory.specs.Lawful.{IsLawful}
 use Rattle.pec_seal.specs.Seals.{Seals}
-use Rattle.pec_letters.specs.Anomalies.{anomaly_text}
-use Rattle.pec_letters.specs.Envelopes.{envelope_text}
 use Rattle.pec_letters.specs.Fitting.{Fits}
-use Rattle.pec_receipts.specs.Receipts.{receipt_text}
 use Rattle.pec_points.specs.Admission.{IsAccepted, IsCause}
 use Rattle.pec_points.specs.AdmissionReading.{admission_of}
 use Rattle.pec_points.specs.Case.{Case, case_at}
 use Rattle.pec_points.specs.declared.admission.Admission.{Admission}
 use Rattle.pec_points.specs.declared.admission.Admission.TheVariants.{Accepted, Not}
-use Rattle.pec_ledger.specs.OfDirectory.{facts_in}
-use Rattle.pec_ledger.specs.Trade.{Receipt, SeenEnvelope}
+use Rattle.pec_ledger.specs.Trade.{SeenEnvelope}
 use Rattle.pec_ledger.specs.TradeLaws.{IsTrade}
-use Rattle.pec_trade.specs.Texts.{anomaly_bytes, envelope_bytes, given, or_none, receipt_bytes, refusal, refusal_bytes, seen_in}
+use Rattle.pec_trade.specs.Texts.{seen_in}
 use Rattle.pec_trade.specs.TradeOf.{cause_at, cause_in, trade_of}
 use Rattle.pec_trade.proofs.AdmissionLemmas.{Admits, admitted}
 use Rattle.pec_trade.proofs.DirectoryLemmas.{account_is_home, home_within}
 use Rattle.pec_trade.proofs.EnvelopeLemmas.{Envelopes, recipients_again, seen_again}
 use Rattle.pec_trade.proofs.FactsLemmas.{recipients_differ, recipients_in}
-use Rattle.pec_trade.proofs.FrameLemmas.{Frames, Told, framed_back, path_again}
+use Rattle.pec_trade.proofs.FrameLemmas.{Frames, framed_back}
 use Rattle.pec_trade.proofs.NoticeLemmas.{Notices, anomaly_unseen, refusal_unseen}
 use Rattle.pec_trade.proofs.ReceiptLemmas.{Receipts, seen_as}
 use Rattle.pec_trade.proofs.SeenLemmas.{id_is, opens, the_envelope}
@@ -108,28 +100,3 @@ accepted_so law providers provider account path message =
       (λ e. let found = accepted_is (admission_of case) e in (found.0, (law case found.0).0 found.1)),
       (λ is. ap cause_in ((law case is.0).1 is.1)),
     )
-
-pub envelope_so : (kept : List Kept) (seals : Seals) (id : Id) (moment : ℕ) (facts : Facts) (original text : Bytes) → facts_in original ≡ Some facts
-    → envelope_text seals kept id moment facts original ≡ Some text → envelope_bytes kept seals id moment original ≡ text
-unfolding envelope_bytes
-envelope_so kept seals id moment facts original text are there =
-    ap (λ (o : Option Facts). or_none (option_and_then (λ (f : Facts). envelope_text seals kept id moment f original) o)) are ∙ ap or_none there
-
-pub receipt_so : (kept : List Kept) (seals : Seals) (receipt : Receipt) (facts : Facts) (original text : Bytes) → facts_in original ≡ Some facts
-    → receipt_text seals kept (given receipt facts) original ≡ Some text → receipt_bytes kept seals receipt original ≡ text
-unfolding receipt_bytes
-receipt_so kept seals receipt facts original text are there =
-    ap (λ (o : Option Facts). or_none (option_and_then (λ (f : Facts). receipt_text seals kept (given receipt f) original) o)) are ∙ ap or_none there
-
-pub refusal_so : Told → (kept : List Kept) (seals : Seals) (id : Id) (moment : ℕ) (account : Bytes) (cause : Cause) (path : Path) (message text : Bytes)
-    → AllByRecursion IsLowerAddress path → receipt_text seals kept (refusal id moment account cause path message) message ≡ Some text
-    → refusal_bytes kept seals id moment account cause path message ≡ text
-unfolding refusal_bytes
-refusal_so told kept seals id moment account cause path message text lower there =
-    ap (λ (t : Bool). cond t (or_none (receipt_text seals kept (refusal id moment account cause path message) message)) []) (path_again told path lower) ∙ ap or_none there
-
-pub anomaly_so : (kept : List Kept) (seals : Seals) (provider entry moment : ℕ) (message text : Bytes) → entry < 2 ^ 64
-    → anomaly_text seals kept provider entry moment message ≡ Some text → anomaly_bytes kept seals provider entry moment message ≡ text
-unfolding anomaly_bytes
-anomaly_so kept seals provider entry moment message text small there =
-    ap (λ (t : Bool). cond t (or_none (anomaly_text seals kept provider entry moment message)) []) (lt-ltb entry (2 ^ 64) small) ∙ ap or_none there

@@ -1,3 +1,4 @@
 pub mod Refused
+pub mod Giving
 pub mod Texts
 pub mod TradeOf

@@ -13,7 +13,7 @@ use Rattle.pec_types.specs.declared.messages.Cause.{Cause}
 use Rattle.pec_types.specs.declared.messages.Facts.{Facts}
 use Rattle.pec_types.specs.declared.receipts.Kind.TheVariants as kinds
 use Rattle.pec_cert.specs.CertificateReading.{is_lower}
-use Rattle.pec_directory.specs.Directory.{Kept, Provider}
+use Rattle.pec_directory.specs.Directory.{Kept, Provider, home_of, is_number, providers_of}
 use Rattle.pec_seal.specs.Seals.{Seals}
 use Rattle.pec_frames.specs.Frames.{frame_text}
 use Rattle.pec_frames.specs.FramesReading.{framed_of}
@@ -28,6 +28,7 @@ use Rattle.pec_receipts.specs.declared.reading.ReceiptView.{ReceiptView}
 use Rattle.pec_receipts.specs.declared.receipts.Receipt.{Receipt as Given}
 use Rattle.pec_ledger.specs.OfDirectory.{facts_in}
 use Rattle.pec_ledger.specs.Trade.{Framed, Receipt, Seen, SeenEnvelope, SeenReceipt}
+use Rattle.pec_trade.specs.Giving.{can_be_given}
 use Rattle.pec_trade.specs.Refused.{refused_facts}
 
 -- the text, or nothing
@@ -83,21 +84,31 @@ refusal id moment account cause path message = record {
 }
 
 module _ (kept : List Kept) (seals : Seals) where
+  -- an envelope, where the provider of the message is the sender's home
+  abbrev pub envelope_from : Id → ℕ → Bytes → Facts → Option Bytes
+  envelope_from id moment original facts =
+      if is_number id.provider (home_of (providers_of kept) facts.sender)
+      then envelope_text seals kept id moment facts original
+      else None
+
   -- The envelope of a message that was accepted at a moment.
   unfoldable pub envelope_bytes : Id → ℕ → Bytes → Bytes
-  envelope_bytes id moment original =
-      or_none (facts_in original >>= λ (facts : Facts). envelope_text seals kept id moment facts original)
+  envelope_bytes id moment original = or_none (facts_in original >>= envelope_from id moment original)
+
+  -- a receipt, where a provider may give it
+  abbrev pub given_text : Given → Bytes → Option Bytes
+  given_text r original = if can_be_given (providers_of kept) r then receipt_text seals kept r original else None
 
   -- The receipt, the notice or the acknowledgement on an original.
   unfoldable pub receipt_bytes : Receipt → Bytes → Bytes
   receipt_bytes receipt original =
-      or_none (facts_in original >>= λ (facts : Facts). receipt_text seals kept (given receipt facts) original)
+      or_none (facts_in original >>= λ (facts : Facts). given_text (given receipt facts) original)
 
   -- The notice that a message wasn't accepted from an account along a path of addresses in lower case.
   unfoldable pub refusal_bytes : Id → ℕ → Bytes → Cause → Path → Bytes → Bytes
   refusal_bytes id moment account cause path message =
       if list_all is_lower path
-      then or_none (receipt_text seals kept (refusal id moment account cause path message) message)
+      then or_none (given_text (refusal id moment account cause path message) message)
       else []
 
   -- The envelope in which a provider hands on what isn't certified mail, by the number of its entry, below 2^64.

@@ -1,4 +1,4 @@
-ghost use Rattle.std.specs.Prelude.{◌≡◌, ◌↔◌, ◌<◌, ◌^◌, ℕ, List, None, Some, length};
+ghost use Rattle.std.specs.Prelude.{◌≡◌, ◌↔◌, ◌<◌, ◌^◌, ℕ, List, [], None, Some, length, true};
 ghost use Rattle.std.specs.List.{AllByRecursion};
 ghost use Rattle.pec_types.specs.Address.{IsLowerAddress};
 ghost use Rattle.pec_types.specs.Bytes.{Bytes, Path};
@@ -6,13 +6,14 @@ ghost use Rattle.pec_types.specs.Message.{Id};
 ghost use Rattle.pec_types.specs.declared.messages.Cause.{Cause as SomeCause};
 ghost use Rattle.pec_types.specs.declared.messages.Facts.{Facts as SomeFacts};
 ghost use Rattle.pec_types.specs.declared.moments.TheConstants.{END_OF_TIME};
-ghost use Rattle.pec_directory.specs.Directory.{Kept, providers_of};
+ghost use Rattle.pec_directory.specs.Directory.{Kept, Provider, home_of, providers_of};
 ghost use Rattle.pec_directory.specs.Lawful.{IsLawful};
 ghost use Rattle.pec_frames.specs.Frames.{HasFrame, frame_text};
 ghost use Rattle.pec_letters.specs.Anomalies.{anomaly_text};
 ghost use Rattle.pec_letters.specs.Envelopes.{IsEnvelope, envelope_text};
 ghost use Rattle.pec_letters.specs.Fitting.{Fits};
 ghost use Rattle.pec_receipts.specs.Receipts.{CanBeGiven, IsReceipt, receipt_text};
+ghost use Rattle.pec_receipts.specs.declared.receipts.Receipt.{Receipt as Given};
 ghost use Rattle.pec_points.specs.Admission.{IsAccepted, IsCause};
 ghost use Rattle.pec_points.specs.Case.{case_at};
 ghost use Rattle.pec_seal.specs.Seals.{Seals};
@@ -20,6 +21,7 @@ ghost use Rattle.pec_ledger.specs.Lookups.{addresses_of};
 ghost use Rattle.pec_ledger.specs.OfDirectory.{IsOf, facts_in, recipients_named};
 ghost use Rattle.pec_ledger.specs.Trade.{Receipt as Stated, SeenEnvelope};
 ghost use Rattle.pec_ledger.specs.TradeLaws.{CanBeComposed, IsSent, IsTrade};
+ghost use Rattle.pec_trade.specs.Giving.{can_be_given};
 ghost use Rattle.pec_trade.specs.Texts.{given, refusal};
 ghost use Rattle.pec_trade.specs.TradeOf.{trade_of};
 
@@ -127,23 +129,58 @@ pub fn a_trade_says_what_its_parts_say()
     ensures frames { (kept : List Kept) (seals : Seals) (path : Path) (message frame : Bytes)
         → ((trade_of kept seals).framed path message ≡ Some frame)
         ↔ (HasFrame path message × (frame ≡ frame_text path message)) }
-    // Texts that are composed are the trade's.
+    // An envelope that is composed is the trade's; where none can be composed the trade has none.
     ensures envelope { (kept : List Kept) (seals : Seals) (id : Id) (moment : ℕ)
         (facts : SomeFacts) (original text : Bytes)
-        → facts_in original ≡ Some facts → envelope_text seals kept id moment facts original ≡ Some text
+        → facts_in original ≡ Some facts → home_of (providers_of kept) facts.sender ≡ Some id.provider
+        → envelope_text seals kept id moment facts original ≡ Some text
         → (trade_of kept seals).envelope_text id moment original ≡ text }
-    ensures receipt { (kept : List Kept) (seals : Seals) (receipt : Stated) (facts : SomeFacts) (original text : Bytes)
-        → facts_in original ≡ Some facts → receipt_text seals kept (given receipt facts) original ≡ Some text
+    ensures no_envelope { (kept : List Kept) (seals : Seals) (id : Id) (moment : ℕ) (original : Bytes)
+        → ((facts : SomeFacts) → facts_in original ≡ Some facts
+        → home_of (providers_of kept) facts.sender ≡ Some id.provider → ⊥)
+        → (trade_of kept seals).envelope_text id moment original ≡ [] }
+    // So with receipts, which can be composed where they may be given, as a test says.
+    ensures given { (providers : List Provider) (receipt : Given)
+        → (can_be_given providers receipt ≡ true) ↔ CanBeGiven providers receipt }
+    ensures receipt { (kept : List Kept) (seals : Seals) (receipt : Stated)
+        (facts : SomeFacts) (original text : Bytes)
+        → facts_in original ≡ Some facts → CanBeGiven (providers_of kept) (given receipt facts)
+        → receipt_text seals kept (given receipt facts) original ≡ Some text
         → (trade_of kept seals).receipt_text receipt original ≡ text }
+    ensures no_receipt { (kept : List Kept) (seals : Seals) (receipt : Stated) (original : Bytes)
+        → ((facts : SomeFacts) → facts_in original ≡ Some facts
+        → CanBeGiven (providers_of kept) (given receipt facts) → ⊥)
+        → (trade_of kept seals).receipt_text receipt original ≡ [] }
+    // So with notices of non-acceptance, along a path in lower case.
     ensures refusal { (kept : List Kept) (seals : Seals) (id : Id) (moment : ℕ) (account : Bytes)
         (cause : SomeCause) (path : Path) (message text : Bytes)
         → AllByRecursion IsLowerAddress path
+        → CanBeGiven (providers_of kept) (refusal id moment account cause path message)
         → receipt_text seals kept (refusal id moment account cause path message) message ≡ Some text
         → (trade_of kept seals).refusal_text id moment account cause path message ≡ text }
+    ensures no_refusal { (kept : List Kept) (seals : Seals) (id : Id) (moment : ℕ) (account : Bytes)
+        (cause : SomeCause) (path : Path) (message : Bytes)
+        → (AllByRecursion IsLowerAddress path
+        → CanBeGiven (providers_of kept) (refusal id moment account cause path message) → ⊥)
+        → (trade_of kept seals).refusal_text id moment account cause path message ≡ [] }
+    // So with anomalies, which any provider of the directory can compose.
     ensures anomaly { (kept : List Kept) (seals : Seals) (provider entry moment : ℕ) (message text : Bytes)
         → entry < 2 ^ 64 → anomaly_text seals kept provider entry moment message ≡ Some text
         → (trade_of kept seals).anomaly_text provider entry moment message ≡ text }
+    ensures no_anomaly { (kept : List Kept) (seals : Seals) (provider entry moment : ℕ) (message : Bytes)
+        → (entry < 2 ^ 64 → provider < length kept → ⊥)
+        → (trade_of kept seals).anomaly_text provider entry moment message ≡ [] }
+    // No text that is composed is empty.
+    ensures some_envelope { (seals : Seals) (kept : List Kept) (id : Id) (moment : ℕ)
+        (facts : SomeFacts) (original text : Bytes)
+        → envelope_text seals kept id moment facts original ≡ Some text → 0 < length text }
+    ensures some_receipt { (seals : Seals) (kept : List Kept) (receipt : Given) (original text : Bytes)
+        → receipt_text seals kept receipt original ≡ Some text → 0 < length text }
+    ensures some_anomaly { (seals : Seals) (kept : List Kept) (provider entry moment : ℕ) (message text : Bytes)
+        → anomaly_text seals kept provider entry moment message ≡ Some text → 0 < length text }
 {
     an_address_is_told_exactly();
+    a_letter_has_one_text();
+    a_message_has_one_anomaly();
     a_message_has_one_answer();
 }
