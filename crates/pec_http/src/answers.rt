@@ -1,7 +1,7 @@
 ghost use Rattle.std.specs.Prelude.{◌≡◌, ◌+◌, ◌≤◌, ◌++◌, ◌∷◌, [], length, codes, decimal, Ok, IfOk, IfErr, vec_len, vec_capacity};
 ghost use Rattle.pec_types.specs.Answers.{seen_as};
 ghost use Rattle.pec_types.specs.Bytes.{line_feed};
-ghost use Rattle.pec_types.specs.Words.{cause_word, id_text, last_digit, seven_digits};
+ghost use Rattle.pec_types.specs.Words.{cause_word, id_text};
 ghost use Rattle.pec_http.specs.Replies.{fault_reply, shown_reply, stop_reply, submitted_reply};
 ghost use Rattle.pec_http.specs.Writing.{IsReply};
 ghost use Rattle.pec_http.specs.declared.stops.Stop.TheVariants as stops;
@@ -11,7 +11,7 @@ ghost use Rattle.pec_http.specs.declared.statuses.Status.TheVariants as statuses
 use crate::replies::{Reply, composed, put, put_number};
 use crate::statuses::{Kind, Status};
 use crate::stops::Stop;
-use pec_types::{Cause, Moment, MsgId, ProviderFault, Submitted};
+use pec_types::{Cause, Moment, MsgId, ProviderFault, Submitted, seven_digits};
 use std::alloc::Global;
 
 /// How many bytes an answer's body has at most that says what became of a submission.
@@ -171,27 +171,6 @@ fn put_id(body: &mut Vec<u8>, domain: &[u8], id: MsgId)
     put(body, &seven_digits(id.number));
     put(body, b"@");
     put(body, domain);
-}
-
-#[tactic(auto, unfolding(pec_types::specs::Words::seven_digits))]
-fn seven_digits(number: u64) -> [u8; 7]
-    ensures { result ≡ seven_digits number }
-{
-    [
-        last_digit(number / 1_000_000),
-        last_digit(number / 100_000),
-        last_digit(number / 10_000),
-        last_digit(number / 1_000),
-        last_digit(number / 100),
-        last_digit(number / 10),
-        last_digit(number),
-    ]
-}
-
-fn last_digit(number: u64) -> u8
-    ensures { result ≡ last_digit number }
-{
-    (number % 10) as u8 + b'0'
 }
 
 /// Puts the body of a refusal's answer, and tells its status.

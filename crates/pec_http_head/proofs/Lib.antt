@@ -1,3 +1,5 @@
-pub mod BlankLemmas
+pub mod EndLemmas
+pub mod HeadLemmas
 pub mod PathLemmas
+pub mod RunLemmas
 pub mod SeenLemmas

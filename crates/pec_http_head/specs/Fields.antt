@@ -1,14 +1,13 @@
 -- Fields of a head by their names, whatever the case of the letters (RFC 9110, section 5.1), and what a request tells by
 -- them: `key_of`, `length_of` and `path_of`. The fields `x-key` and `x-path` are this project's.
-use Rattle.std.specs.Prelude.{ℕ, ◌==◌, nat_le, Bool, ◌&&◌, List, [], ◌∷◌, length, codes, Option, None, if◌then◌else◌}
-use Rattle.std.specs.Char.{is_ascii_digit}
-use Rattle.std.specs.List.{list_all, slice_get}
+use Rattle.std.specs.Prelude.{ℕ, ◌==◌, nat_le, Bool, List, [], ◌∷◌, length, codes, Option, None, if◌then◌else◌}
+use Rattle.std.specs.List.{slice_get}
 use Rattle.std.specs.Str.{str_eq_ignore_ascii_case}
 use Rattle.pec_types.specs.Bytes.{Bytes, Path}
 use Rattle.pec_types.specs.Options.{◌>>=◌}
-use Rattle.pec_http_head.specs.Numbers.{with_digits}
 use Rattle.pec_http_head.specs.Paths.{addresses_in}
 use Rattle.pec_http_head.specs.Requests.{Request}
+use Rattle.pec_words.specs.Numbers.{digits_number}
 
 abbrev pub is_named : Bytes → Bytes × Bytes → Bool
 is_named name field = str_eq_ignore_ascii_case field.0 name
@@ -26,12 +25,9 @@ only_value name fields = if length (values_of name fields) == 1 then slice_get (
 unfoldable pub key_of : Request → Option Bytes
 key_of request = slice_get (values_of (codes "x-key") request.fields) 0
 
--- 1 to 10 digits
-abbrev pub is_length : Bytes → Bool
-is_length text = (nat_le 1 (length text) && nat_le (length text) 10) && list_all is_ascii_digit text
-
+-- The length that 1 to 10 digits give, with zeros in front or without.
 abbrev pub length_in : Bytes → Option ℕ
-length_in text = if is_length text then with_digits 0 text else None
+length_in text = if nat_le (length text) 10 then digits_number text else None
 
 -- The length that the one `content-length` declares.
 abbrev pub declared_in : List (Bytes × Bytes) → Option ℕ

@@ -1,6 +1,6 @@
 pub mod Cuts
 pub mod Fields
-pub mod Numbers
+pub mod HeadEnds
 pub mod Paths
 pub mod Requests
 pub mod Routes

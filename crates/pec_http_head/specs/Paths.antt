@@ -1,44 +1,18 @@
--- A forward path as a request spells it: 1 to 1,000 addresses joined by commas, with blanks round them. This project's
--- profile.
-use Rattle.std.specs.Prelude.{ℕ, Bool, ◌==◌, ◌||◌, List, [], ◌∷◌, length, nat_le, Option, Some, None, option_map, if◌then◌else◌}
+-- A forward path as a request spells it, one to 1,000 addresses joined by commas with blanks round them: `IsSpacedPath`,
+-- and how it is read, `addresses_in`. This project's profile.
+use Rattle.std.specs.Prelude.{List, [], map, Option}
 use Rattle.std.specs.List.{slice_split}
-use Rattle.std.specs.Result.{result_ok}
-use Rattle.pec_types.specs.AddressReading.{address_of}
-use Rattle.pec_types.specs.Bytes.{Bytes, Path, comma, space, tab}
-use Rattle.pec_types.specs.Options.{◌>>=◌}
+use Rattle.pec_heads.specs.Bytes.{trimmed}
+use Rattle.pec_types.specs.Bytes.{Bytes, Path, comma}
+use Rattle.pec_words.specs.Cuts.{IsCut, is_at}
+use Rattle.pec_words.specs.Paths.{ArePath, path_with}
 
-abbrev pub is_comma : ℕ → Bool
-is_comma b = b == comma
+-- Between its commas the text has the addresses of this path, with blanks round them or none.
+pub record IsSpacedPath (text : Bytes) (path : Path) : Type 0 where
+  pub parts : List Bytes
+  pub cut : IsCut comma text parts
+  pub are : ArePath (map trimmed parts) path
 
-abbrev pub is_blank : ℕ → Bool
-is_blank b = b == space || b == tab
-
--- The bytes from the first on that is no blank.
-abbrev pub skip_blanks : Bytes → Bytes
-skip_blanks [] = []
-skip_blanks (b ∷ bs) = if is_blank b then skip_blanks bs else b ∷ bs
-
-abbrev pub before_cut : ℕ → Bytes → Bytes
-before_cut b [] = if is_blank b then [] else b ∷ []
-before_cut b (c ∷ bs) = b ∷ c ∷ bs
-
--- The bytes up to the last that is no blank.
-abbrev pub cut_blanks : Bytes → Bytes
-cut_blanks [] = []
-cut_blanks (b ∷ bs) = before_cut b (cut_blanks bs)
-
--- The address that a part of a path is, with blanks round it.
-unfoldable pub address_in : Bytes → Option Bytes
-address_in part = result_ok (address_of (cut_blanks (skip_blanks part)))
-
--- The addresses that these parts are, where each is one.
-abbrev pub all_addresses : List Bytes → Option Path
-all_addresses [] = Some []
-all_addresses (part ∷ parts) = address_in part >>= λ first. option_map (λ rest. first ∷ rest) (all_addresses parts)
-
-abbrev pub short_path : Path → Option Path
-short_path path = if nat_le (length path) 1000 then Some path else None
-
--- The path that a text spells.
+-- The path that a text is.
 unfoldable pub addresses_in : Bytes → Option Path
-addresses_in text = all_addresses (slice_split is_comma text) >>= short_path
+addresses_in text = path_with [] (map trimmed (slice_split (is_at comma) text))

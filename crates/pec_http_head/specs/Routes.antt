@@ -6,10 +6,10 @@ use Rattle.std.specs.Str.{bytes_eq}
 use Rattle.pec_types.specs.AddressReading.{address_of}
 use Rattle.pec_types.specs.Bytes.{Bytes, after_front, at_sign}
 use Rattle.pec_types.specs.Options.{◌>>=◌}
-use Rattle.pec_http_head.specs.Numbers.{place_in}
 use Rattle.pec_http_head.specs.declared.routes.Call.{Call}
 use Rattle.pec_http_head.specs.declared.routes.Call.TheVariants.{Submit, Book, Items, Item}
 use Rattle.pec_http_head.specs.declared.routes.Route.{Route}
+use Rattle.pec_words.specs.Numbers.{number_below}
 
 -- b'/'
 abbrev pub slash : ℕ
@@ -36,6 +36,10 @@ account_in segment = result_ok (address_of (signs_read 0 segment))
 -- The text up to its first slash, and what stands behind that.
 unfoldable pub segment_at : Bytes → Option (Bytes × Bytes)
 segment_at text = option_map (λ at. (take at text, drop (at + 1) text)) (position is_slash text)
+
+-- The place of an item: a number without zeros in front, of at most nine digits.
+unfoldable pub place_in : Bytes → Option ℕ
+place_in text = number_below 1000000000 text
 
 -- What is asked of an account, by what stands behind its address.
 unfoldable pub call_in : Bytes → Option Call

@@ -2,16 +2,16 @@ ghost use Rattle.std.specs.Prelude.{◌≡◌, ℕ, ◌<◌, ◌≤◌, List, []
 ghost use Rattle.std.specs.Option.{option_map};
 ghost use Rattle.httparse.specs.Grammar.{ReadsRequest, RequestHead};
 ghost use Rattle.httparse.specs.Spans.{IsHeaderWithin, IsRequestAt, IsRequestWithin, header_bytes};
-ghost use Rattle.pec_http_head.specs.Fields.{declared_in, key_of, length_of, path_of};
+ghost use Rattle.pec_http_head.specs.Fields.{declared_in, key_of, length_in, length_of, path_of};
 ghost use Rattle.pec_http_head.specs.Requests.{ReadsHead};
 ghost use Rattle.pec_http_head.specs.Views.{field_shown, request_shown};
 
 use crate::fields::{count, first, only};
-use crate::numbers::length_in;
 use crate::paths::addresses_in;
 use httparse::Status;
 use httparse::spans::{EMPTY_HEADER_SPAN, HeaderSpan, RequestSpans, parse_request};
 use pec_types::{Address, NoMemory};
+use pec_words::{a_path_has_one_reading, digits_number};
 use std::alloc::Global;
 
 /// A field of a head, its value without the blanks around it (RFC 9112, section 5).
@@ -77,6 +77,7 @@ impl<'a> Head<'a> {
         let Some(text) = only(&self.fields, b"x-path".as_slice()) else {
             return Ok(None);
         };
+        a_path_has_one_reading();
         let path = addresses_in(alloc, text)?;
         Ok(path)
     }
@@ -88,6 +89,17 @@ fn declared(fields: &[Field<'_>]) -> Option<u64>
 {
     let text = only(fields, b"content-length".as_slice())?;
     length_in(text)
+}
+
+/// The length that 1 to 10 digits give, with zeros in front or without.
+fn length_in(text: &[u8]) -> Option<u64>
+    ensures { result ≡ length_in text.now }
+{
+    if text.len() <= 10 {
+        digits_number(text)
+    } else {
+        None
+    }
 }
 
 /// Where the parts of a head are that is the whole text and has room here for its fields.

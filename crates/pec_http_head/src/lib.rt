@@ -6,13 +6,14 @@ mod cuts;
 mod fields;
 mod heads;
 mod laws;
-mod numbers;
 mod paths;
 mod routes;
 mod stands;
 
 pub use cuts::Cut;
 pub use heads::{Field, Head};
-pub use laws::a_request_is_seen_in_one_way;
+pub use laws::{
+    a_head_ends_in_one_place, a_request_is_seen_in_one_way, a_spaced_path_has_one_reading,
+};
 pub use routes::{Call, Route};
 pub use stands::{HEAD_BYTES, HEAD_LINES, Scan, Stand};

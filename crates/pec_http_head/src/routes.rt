@@ -1,11 +1,14 @@
 ghost use Rattle.std.specs.Prelude.{◌≡◌, ◌<◌, length, position, IfOk, IfSome, codes};
 ghost use Rattle.std.specs.Option.{option_map};
 ghost use Rattle.pec_types.specs.Bytes.{after_front};
-ghost use Rattle.pec_http_head.specs.Routes.{account_in, call_in, is_sign, is_slash, method_of, route_of, segment_at, signs_read};
+ghost use Rattle.pec_http_head.specs.Routes.{account_in, call_in, is_sign, is_slash, method_of, place_in, route_of, segment_at, signs_read};
 
-use crate::numbers::place_in;
 use pec_types::{Address, NoMemory};
+use pec_words::number_below;
 use std::alloc::Global;
+
+/// The first number of more than nine digits.
+const PLACES: u64 = 1_000_000_000;
 
 /// What is asked of an account.
 #[derive(Clone, Copy, Debug, PartialEq, Eq)]
@@ -76,6 +79,14 @@ fn call_in(text: &[u8]) -> Option<Call>
     let digits = after_front(b"items/".as_slice(), text)?;
     let place = place_in(digits)?;
     Some(Call::Item(place))
+}
+
+#[tactic(auto, unfolding(crate::specs::Routes::place_in))]
+fn place_in(text: &[u8]) -> Option<u32>
+    ensures { result ≡ place_in text.now }
+{
+    let place = number_below(text, PLACES)?;
+    Some(place as u32)
 }
 
 #[tactic(auto, unfolding(pec_types::specs::Bytes::after_front))]

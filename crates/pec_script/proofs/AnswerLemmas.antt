@@ -24,7 +24,7 @@ use Rattle.pec_script.specs.Printed.{AreSameEvents, AreSameLetters, IsEvent, IsL
 use Rattle.pec_script.specs.Rows.{AreRows, IsRow, IsWord}
 use Rattle.pec_script.specs.Texts.{Row, event_words, fault_text, id_of, letter_words, name_of, refusal_rows, submitted_text, submitted_words}
 use Rattle.pec_script.proofs.BookLemmas.{one_decision}
-use Rattle.pec_script.proofs.RowLemmas.{one_text}
+use Rattle.pec_script.proofs.RowLemmas.{CutsTold, one_text}
 use Rattle.pec_script.proofs.WordLemmas.{NamesTold, decimal_word, id_of_word, one_decimal, one_id, text_word}
 
 -- ---- lines that begin with different words differ
@@ -91,12 +91,12 @@ one_submitted_row names providers lawful (submitted.NotAccepted id cause) (submi
     let word : cause_word cause ≡ cause_word why = cc in
     ap (λ i. submitted.NotAccepted i cause) (one_id names providers id other lawful is also same) ∙ ap (λ c. submitted.NotAccepted other c) (one_cause cause why word)
 
-pub one_submitted : NamesTold → (providers : List Provider) → IsLawful providers → (told other : Submitted) → IsSubmitted providers told → IsSubmitted providers other
+pub one_submitted : CutsTold → NamesTold → (providers : List Provider) → IsLawful providers → (told other : Submitted) → IsSubmitted providers told → IsSubmitted providers other
     → submitted_text providers told ≡ submitted_text providers other → told ≡ other
 unfolding submitted_text
-one_submitted names providers lawful told other is also e =
+one_submitted cuts names providers lawful told other is also e =
     one_submitted_row names providers lawful told other is also (first (submitted_words providers told) (submitted_words providers other)
-    (one_text (submitted_words providers told ∷ []) (submitted_words providers other ∷ []) (submitted_is_row names providers lawful told is, tt) (submitted_is_row names providers lawful other also, tt) e))
+    (one_text cuts (submitted_words providers told ∷ []) (submitted_words providers other ∷ []) (submitted_is_row names providers lawful told is, tt) (submitted_is_row names providers lawful other also, tt) e))
   where
     first : (row other : Row) → row ∷ [] ≡ other ∷ [] → row ≡ other
     first row other e = cc
@@ -133,10 +133,10 @@ one_refusal_row refusals.JournalFull other is also e = absurd (rows_apart _ _ e 
 one_refusal_row refusals.NoMemory refusals.NoMemory is also e = refl
 one_refusal_row refusals.NoMemory other is also e = absurd (rows_apart _ _ e refl)
 
-pub one_refusal : (fault other : ProviderFault) → IsRefusal fault → IsRefusal other → fault_text fault ≡ fault_text other → fault ≡ other
+pub one_refusal : CutsTold → (fault other : ProviderFault) → IsRefusal fault → IsRefusal other → fault_text fault ≡ fault_text other → fault ≡ other
 unfolding fault_text
-one_refusal fault other is also e =
-    one_refusal_row fault other is also (one_text (refusal_rows [] fault) (refusal_rows [] other) (refusal_are_rows fault is) (refusal_are_rows other also) e)
+one_refusal cuts fault other is also e =
+    one_refusal_row fault other is also (one_text cuts (refusal_rows [] fault) (refusal_rows [] other) (refusal_are_rows fault is) (refusal_are_rows other also) e)
 
 -- ---- events
 

@@ -1,57 +1,56 @@
 -- What the text of an argument is read as is what it says; and of all arguments the first that says nothing is refused.
-use Rattle.std.proofs.Common.{◌≡◌, ℕ, ◌+◌, ◌<◌, ◌^◌, ◌⊎◌, Bool, true, false, nat_lt, cond, List, [], ◌∷◌, length, Option, Some, None, Result, Ok, Err, refl, sym, ◌∙◌, ap, subst, arith, inl, inr, lt-ltb, ltb-true}
-use Rattle.std.proofs.lemmas.Option.{none-some, same_Some}
-use Rattle.std.specs.Fmt.{decimal}
+use Rattle.std.proofs.Common.{◌≡◌, ℕ, ◌+◌, ◌≤◌, ◌^◌, ◌⊎◌, ◌↔◌, List, [], ◌∷◌, length, Option, Some, None, Result, Ok, Err, refl, sym, ◌∙◌, ap, subst, arith, inl, inr}
+use Rattle.std.proofs.lemmas.Option.{none-some}
 use Rattle.base64.specs.Engines.{standard}
 use Rattle.base64.specs.GeneralPurpose.{decode_of}
 use Rattle.pec_directory.specs.Directory.{Provider}
-use Rattle.pec_types.specs.Bytes.{Bytes}
+use Rattle.pec_types.specs.Address.{IsAddressFault, IsReadAs}
+use Rattle.pec_types.specs.AddressReading.{address_of}
+use Rattle.pec_types.specs.Answers.{TellsExactly}
+use Rattle.pec_types.specs.Bytes.{Bytes, Path}
 use Rattle.pec_types.specs.Results.{◌>>=◌}
 use Rattle.pec_types.specs.declared.moments.TheConstants.{END_OF_TIME}
 use Rattle.pec_script.specs.Forms.{Kind, provider, moment, place, address, path, base64, Meaning, Said}
 use Rattle.pec_script.specs.Lines.{AllSay, IsFirstWrong, Says, SaysNothing, fault_of}
 use Rattle.pec_script.specs.LinesReading.{address_in, arguments_of, meaning_of, message_of, moment_of, next_of, or_fault, place_of}
-use Rattle.pec_script.specs.Numbers.{below, number_of}
+use Rattle.pec_words.specs.Numbers.{IsNumber, number_below}
+use Rattle.pec_words.specs.Paths.{IsPath, path_of}
 use Rattle.pec_script.specs.declared.commands.Command.{Command}
 use Rattle.pec_script.specs.declared.faults.LineFault.{LineFault}
-use Rattle.pec_script.proofs.NumberLemmas.{number_printed, number_read}
-use Rattle.pec_script.proofs.PathLemmas.{AddressesTold, address_again, address_is, ok_told, path_again, path_is}
+use Rattle.pec_script.proofs.RowLemmas.{CutsTold}
 use Rattle.std.specs.Result.{result_ok}
 
 -- ---- one argument
 
-bounded : (text : Bytes) (bound n m : ℕ) (x : Bool) → nat_lt m bound ≡ x → number_of text ≡ Some m → cond x (Some m) None ≡ Some n → (text ≡ decimal n) × (n < bound)
-bounded text bound n m true small is e =
-    let same : m ≡ n = same_Some m n e in
-    (number_printed text m is ∙ ap decimal same, subst (λ k. k < bound) same (ltb-true m bound small))
-bounded text bound n m false large is e = absurd (none-some n e)
+-- what laws of addresses, numbers, paths and cuts say
+pub record WordsTold : Type 0 where
+  pub addresses : (text : Bytes) → TellsExactly (IsReadAs text) (IsAddressFault text) (address_of text)
+  pub numbers : (bound : ℕ) (text : Bytes) (number : ℕ) → bound ≤ 2 ^ 64 → (number_below bound text ≡ Some number) ↔ IsNumber bound text number
+  pub paths : (text : Bytes) (path : Path) → (path_of text ≡ Some path) ↔ IsPath text path
+  pub cuts : CutsTold
 
-below_is : (text : Bytes) (bound n : ℕ) (o : Option ℕ) → number_of text ≡ o → below bound o ≡ Some n → (text ≡ decimal n) × (n < bound)
-below_is text bound n None is e = absurd (none-some n e)
-below_is text bound n (Some m) is e = bounded text bound n m (nat_lt m bound) refl is e
+ok_told : {T E : Type 0} (r : Result T E) (x : T) → result_ok r ≡ Some x → r ≡ Ok x
+ok_told (Ok y) x e = cc
+ok_told (Err f) x e = absurd cc
 
-below_again : (text : Bytes) (bound n : ℕ) → bound < 2 ^ 64 → text ≡ decimal n → n < bound → below bound (number_of text) ≡ Some n
-below_again text bound n small is less =
-    ap (below bound) (number_read text n (omega arith) is) ∙ ap (λ x. cond x (Some n) None) (lt-ltb n bound less)
-
-pub says : AddressesTold → (providers : List Provider) (kind : Kind) (text : Bytes) (meaning : Meaning kind)
+pub says : WordsTold → (providers : List Provider) (kind : Kind) (text : Bytes) (meaning : Meaning kind)
     → meaning_of providers kind text ≡ Some meaning → Says providers kind text meaning
 unfolding moment_of place_of message_of address_in
 says law providers provider text meaning e = e
-says law providers moment text meaning e = below_is text END_OF_TIME meaning (number_of text) refl e
-says law providers place text meaning e = below_is text (2 ^ 32) meaning (number_of text) refl e
-says law providers address text meaning e = address_is law text meaning e
-says law providers path text meaning e = path_is law text meaning e
+says law providers moment text meaning e = (law.numbers END_OF_TIME text meaning (omega arith)).0 e
+says law providers place text meaning e = (law.numbers (2 ^ 32) text meaning (omega arith)).0 e
+says law providers address text meaning e = ((law.addresses text).value meaning).0 (ok_told (address_of text) meaning e)
+says law providers path text meaning e = (law.paths text meaning).0 e
 says law providers base64 text meaning e = ok_told (decode_of standard text) meaning e
 
-pub says_again : AddressesTold → (providers : List Provider) (kind : Kind) (text : Bytes) (meaning : Meaning kind)
+pub says_again : WordsTold → (providers : List Provider) (kind : Kind) (text : Bytes) (meaning : Meaning kind)
     → Says providers kind text meaning → meaning_of providers kind text ≡ Some meaning
 unfolding moment_of place_of message_of address_in
 says_again law providers provider text meaning is = is
-says_again law providers moment text meaning is = below_again text END_OF_TIME meaning (omega arith) is.0 is.1
-says_again law providers place text meaning is = below_again text (2 ^ 32) meaning (omega arith) is.0 is.1
-says_again law providers address text meaning is = address_again law text meaning is
-says_again law providers path text meaning is = path_again law text meaning is
+says_again law providers moment text meaning is = (law.numbers END_OF_TIME text meaning (omega arith)).1 is
+says_again law providers place text meaning is = (law.numbers (2 ^ 32) text meaning (omega arith)).1 is
+says_again law providers address text meaning is = ap result_ok (((law.addresses text).value meaning).1 is)
+says_again law providers path text meaning is = (law.paths text meaning).1 is
 says_again law providers base64 text meaning is = ap result_ok is
 
 -- what is read is none where the text says nothing
@@ -72,7 +71,7 @@ behind_right : (providers : List Provider) (kind : Kind) (kinds : List Kind) (nu
 behind_right providers kind kinds number text texts makes meaning answer is (all said say e) = all (meaning, said) (is, say) e
 behind_right providers kind kinds number text texts makes meaning answer is (not_all fault wrong e) = not_all fault (inr (meaning, is, wrong)) e
 
-next_read : AddressesTold → (providers : List Provider) (kind : Kind) (kinds : List Kind) (number : ℕ) (text : Bytes) (texts : List Bytes) (makes : Said (kind ∷ kinds) → Command)
+next_read : WordsTold → (providers : List Provider) (kind : Kind) (kinds : List Kind) (number : ℕ) (text : Bytes) (texts : List Bytes) (makes : Said (kind ∷ kinds) → Command)
     (o : Option (Meaning kind)) → meaning_of providers kind text ≡ o
     → ((meaning : Meaning kind) → Read providers kinds (number + 1) texts (λ said. makes (meaning, said)) (arguments_of providers kinds (number + 1) texts (λ said. makes (meaning, said))))
     → Read providers (kind ∷ kinds) number (text ∷ texts) makes
@@ -90,7 +89,7 @@ next_is : (providers : List Provider) (kind : Kind) (kinds : List Kind) (number 
 unfolding next_of
 next_is providers kind kinds number text texts makes = refl
 
-pub arguments_read : AddressesTold → (providers : List Provider) (kinds : List Kind) (number : ℕ) (texts : List Bytes) (makes : Said kinds → Command)
+pub arguments_read : WordsTold → (providers : List Provider) (kinds : List Kind) (number : ℕ) (texts : List Bytes) (makes : Said kinds → Command)
     → length texts ≡ length kinds → Read providers kinds number texts makes (arguments_of providers kinds number texts makes)
 arguments_read law providers [] number [] makes same = all tt tt refl
 arguments_read law providers [] number (text ∷ texts) makes same = absurd (omega arith)
@@ -103,7 +102,7 @@ arguments_read law providers (kind ∷ kinds) number (text ∷ texts) makes same
 
 -- ---- and back
 
-pub arguments_again : AddressesTold → (providers : List Provider) (kinds : List Kind) (number : ℕ) (texts : List Bytes) (makes : Said kinds → Command)
+pub arguments_again : WordsTold → (providers : List Provider) (kinds : List Kind) (number : ℕ) (texts : List Bytes) (makes : Said kinds → Command)
     (said : Said kinds) → AllSay providers kinds texts said → arguments_of providers kinds number texts makes ≡ Ok (makes said)
 unfolding or_fault
 arguments_again law providers [] number [] makes said say = refl
@@ -114,7 +113,7 @@ arguments_again law providers (kind ∷ kinds) number (text ∷ texts) makes sai
     ∙ (ap (λ o. or_fault (fault_of kind number) o >>= λ meaning. arguments_of providers kinds (number + 1) texts (λ more. makes (meaning, more))) (says_again law providers kind text said.0 say.0)
     ∙ arguments_again law providers kinds (number + 1) texts (λ more. makes (said.0, more)) said.1 say.1)
 
-pub wrong_again : AddressesTold → (providers : List Provider) (kinds : List Kind) (number : ℕ) (texts : List Bytes) (makes : Said kinds → Command)
+pub wrong_again : WordsTold → (providers : List Provider) (kinds : List Kind) (number : ℕ) (texts : List Bytes) (makes : Said kinds → Command)
     (fault : LineFault) → IsFirstWrong providers number kinds texts fault → arguments_of providers kinds number texts makes ≡ Err fault
 unfolding or_fault
 wrong_again law providers [] number texts makes fault wrong = absurd wrong

@@ -21,9 +21,8 @@ use Rattle.pec_types.specs.declared.messages.Refusal.TheVariants.{NoMailbox, Mai
 use Rattle.pec_script.specs.Printed.{IsBookLine, IsMomentOrNone, IsOutcome}
 use Rattle.pec_script.specs.Rows.{AreRows, IsRow, IsWord}
 use Rattle.pec_script.specs.Texts.{Row, book_row, book_text, id_of, moment_word, outcome_words}
-use Rattle.pec_script.proofs.NumberLemmas.{decimal_spelled}
-use Rattle.pec_script.proofs.RowLemmas.{one_text, same_front}
-use Rattle.pec_script.proofs.WordLemmas.{NamesTold, address_word, decimal_word, id_of_word, one_decimal, one_id, text_word}
+use Rattle.pec_script.proofs.RowLemmas.{CutsTold, one_text, same_front}
+use Rattle.pec_script.proofs.WordLemmas.{NamesTold, address_word, decimal_digits, decimal_word, id_of_word, one_decimal, one_id, text_word}
 
 -- ---- words
 
@@ -67,7 +66,7 @@ moment_is_word (Some moment) is = decimal_word moment (omega arith)
 
 -- a number isn't a hyphen
 no_hyphen : (n : ℕ) → n < 2 ^ 64 → decimal n ≢ codes "-"
-no_hyphen n small e = false≢true (sym (ap (list_all is_ascii_digit) e) ∙ (decimal_spelled n small).digits)
+no_hyphen n small e = false≢true (sym (ap (list_all is_ascii_digit) e) ∙ decimal_digits n small)
 
 one_moment : (moment other : Option ℕ) → IsMomentOrNone moment → IsMomentOrNone other → moment_word moment ≡ moment_word other → moment ≡ other
 one_moment None None is also e = refl
@@ -178,13 +177,13 @@ one_book_rows told providers lawful (line ∷ lines) (other ∷ others) all alls
 pub count_is_row : (word : Bytes) → IsWord word → (count : ℕ) → count < 2 ^ 64 → IsRow (word ∷ decimal count ∷ [])
 count_is_row word is count small = record { some = omega arith; words = (is, (decimal_word count small, tt)) }
 
-pub one_book : NamesTold → (providers : List Provider) → IsLawful providers → (lines others : List BookLine) → AllByRecursion (IsBookLine providers) lines
+pub one_book : CutsTold → NamesTold → (providers : List Provider) → IsLawful providers → (lines others : List BookLine) → AllByRecursion (IsBookLine providers) lines
     → AllByRecursion (IsBookLine providers) others → length lines < 2 ^ 64 → length others < 2 ^ 64 → book_text providers lines ≡ book_text providers others → lines ≡ others
 unfolding book_text
-one_book told providers lawful lines others all alls few less e =
+one_book cuts told providers lawful lines others all alls few less e =
     let row : (ls : List BookLine) → Row = λ ls. codes "book" ∷ decimal (length ls) ∷ [] in
     one_book_rows told providers lawful lines others all alls
     (same_front (map (book_row providers) lines) (map (book_row providers) others) (row lines) (row others)
-    (one_text (map (book_row providers) lines ++ row lines ∷ []) (map (book_row providers) others ++ row others ∷ [])
+    (one_text cuts (map (book_row providers) lines ++ row lines ∷ []) (map (book_row providers) others ++ row others ∷ [])
     (books_are_rows told providers lawful lines all (row lines) (count_is_row (codes "book") (text_word (codes "book") refl) (length lines) few))
     (books_are_rows told providers lawful others alls (row others) (count_is_row (codes "book") (text_word (codes "book") refl) (length others) less)) e))

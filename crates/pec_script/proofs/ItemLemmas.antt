@@ -19,7 +19,7 @@ use Rattle.pec_script.specs.Printed.{AreAlike, IsAddressOrNone, IsItemLine, IsNa
 use Rattle.pec_script.specs.Rows.{AreRows, IsRow, IsWord}
 use Rattle.pec_script.specs.Texts.{Row, id_of, id_word, item_row, item_rows, items_text, kind_word, recipient_word}
 use Rattle.pec_script.proofs.BookLemmas.{count_is_row}
-use Rattle.pec_script.proofs.RowLemmas.{one_text, same_front}
+use Rattle.pec_script.proofs.RowLemmas.{CutsTold, one_text, same_front}
 use Rattle.pec_script.proofs.WordLemmas.{NamesTold, address_word, decimal_word, id_of_word, one_id, text_word}
 
 -- ---- items
@@ -99,13 +99,13 @@ alike_rows told providers lawful place (line ∷ lines) (other ∷ others) all a
       alike_rows told providers lawful (place + 1) lines others all.1 alls.1 rest,
     )
 
-pub alike_items : NamesTold → (providers : List Provider) → IsLawful providers → (lines others : List ItemLine) → AllByRecursion (IsItemLine providers) lines
+pub alike_items : CutsTold → NamesTold → (providers : List Provider) → IsLawful providers → (lines others : List ItemLine) → AllByRecursion (IsItemLine providers) lines
     → AllByRecursion (IsItemLine providers) others → length lines < 2 ^ 64 → length others < 2 ^ 64 → items_text providers lines ≡ items_text providers others → AreAlike lines others
 unfolding items_text
-alike_items told providers lawful lines others all alls few less e =
+alike_items cuts told providers lawful lines others all alls few less e =
     let row : (ls : List ItemLine) → Row = λ ls. codes "mailbox" ∷ decimal (length ls) ∷ [] in
     alike_rows told providers lawful 0 lines others all alls
     (same_front (item_rows providers 0 lines) (item_rows providers 0 others) (row lines) (row others)
-    (one_text (item_rows providers 0 lines ++ row lines ∷ []) (item_rows providers 0 others ++ row others ∷ [])
+    (one_text cuts (item_rows providers 0 lines ++ row lines ∷ []) (item_rows providers 0 others ++ row others ∷ [])
     (items_are_rows told providers lawful 0 lines (omega arith) all (row lines) (count_is_row (codes "mailbox") (text_word (codes "mailbox") refl) (length lines) few))
     (items_are_rows told providers lawful 0 others (omega arith) alls (row others) (count_is_row (codes "mailbox") (text_word (codes "mailbox") refl) (length others) less)) e))

@@ -1,12 +1,9 @@
 pub mod AnswerLemmas
 pub mod ArgumentLemmas
 pub mod BookLemmas
-pub mod CutLemmas
 pub mod ItemLemmas
 pub mod LineLemmas
 pub mod MarkLemmas
-pub mod NumberLemmas
-pub mod PathLemmas
 pub mod RowLemmas
 pub mod VerbLemmas
 pub mod WordLemmas

@@ -19,7 +19,7 @@ use Rattle.pec_script.specs.Rows.{AreRows, IsRow, IsWord}
 use Rattle.pec_script.specs.Texts.{Row, id_of, mark_rows, mark_word, marked, marks_text, refused_rows, refused_text, text_of}
 use Rattle.pec_script.specs.declared.faults.LineFault.{LineFault}
 use Rattle.pec_script.specs.declared.faults.LineFault.TheVariants as faults
-use Rattle.pec_script.proofs.RowLemmas.{one_text, same_front}
+use Rattle.pec_script.proofs.RowLemmas.{CutsTold, one_text, same_front}
 use Rattle.pec_script.proofs.WordLemmas.{NamesTold, address_word, decimal_word, id_of_word, one_decimal, one_id, text_word}
 
 -- ---- marks
@@ -119,14 +119,14 @@ ticked_is_row : IsRow ticked
 unfolding ticked
 ticked_is_row = record { some = omega arith; words = (text_word (codes "ticked") refl, tt) }
 
-pub one_marks : NamesTold → (providers : List Provider) → IsLawful providers → (marks others : List Mark) → AllByRecursion (IsMark providers) marks
+pub one_marks : CutsTold → NamesTold → (providers : List Provider) → IsLawful providers → (marks others : List Mark) → AllByRecursion (IsMark providers) marks
     → AllByRecursion (IsMark providers) others → marks_text providers marks ≡ marks_text providers others → marks ≡ others
 unfolding marks_text ticked
-one_marks told providers lawful marks others all alls e =
+one_marks cuts told providers lawful marks others all alls e =
     let lines : (ms : List Mark) → List Row = λ ms. map (row_of providers) ms ++ ticked ∷ [] in
     one_marks_rows told providers lawful marks others all alls
     (same_front (map (row_of providers) marks) (map (row_of providers) others) ticked ticked
-    (one_text (lines marks) (lines others) (marks_are_rows told providers lawful marks all ticked ticked_is_row) (marks_are_rows told providers lawful others alls ticked ticked_is_row)
+    (one_text cuts (lines marks) (lines others) (marks_are_rows told providers lawful marks all ticked ticked_is_row) (marks_are_rows told providers lawful others alls ticked ticked_is_row)
     (sym (ap (λ rows. text_of (rows ++ ticked ∷ [])) (rows_are providers marks all)) ∙ (e ∙ ap (λ rows. text_of (rows ++ ticked ∷ [])) (rows_are providers others alls)))))
 
 -- ---- refused lines
@@ -200,9 +200,9 @@ line_told line (faults.BadBase64 number) is = refl
 line_told line (faults.UnknownProvider number) is = refl
 line_told line faults.NoMemory is = absurd is
 
-pub one_refused : (line also : ℕ) (fault other : LineFault) → line < 2 ^ 64 → also < 2 ^ 64 → IsLineRefusal fault → IsLineRefusal other
+pub one_refused : CutsTold → (line also : ℕ) (fault other : LineFault) → line < 2 ^ 64 → also < 2 ^ 64 → IsLineRefusal fault → IsLineRefusal other
     → refused_text line fault ≡ refused_text also other → (line ≡ also) × (fault ≡ other)
 unfolding refused_text
-one_refused line also fault other small less is too e =
-    let rows : refused_rows line fault ≡ refused_rows also other = one_text (refused_rows line fault) (refused_rows also other) (refused_are_rows line small fault is) (refused_are_rows also less other too) e in
+one_refused cuts line also fault other small less is too e =
+    let rows : refused_rows line fault ≡ refused_rows also other = one_text cuts (refused_rows line fault) (refused_rows also other) (refused_are_rows line small fault is) (refused_are_rows also less other too) e in
     (one_decimal line also small less (sym (line_told line fault is) ∙ (ap line_in rows ∙ line_told also other too)), one_fault line also fault other is too rows)

@@ -1,17 +1,21 @@
 -- A text of lines is read back, line by line and word by word.
-use Rattle.std.proofs.Common.{◌≡◌, ℕ, ◌≤◌, List, [], ◌∷◌, ◌++◌, length, drop, map, refl, sym, ◌∙◌, ap, append_assoc, append-nil, arith}
+use Rattle.std.proofs.Common.{◌≡◌, ℕ, ◌+◌, ◌<◌, ◌≤◌, ◌↔◌, List, [], ◌∷◌, ◌++◌, length, drop, map, refl, sym, ◌∙◌, ap, append_assoc, append-nil, arith}
 use Rattle.std.proofs.lemmas.List.{at_drop_all, length-append}
-use Rattle.std.proofs.lemmas.List.Splits.{slice_split_at}
+use Rattle.std.proofs.lemmas.List.Splits.{length-slice_split}
+use Rattle.std.specs.Prelude.{count_by}
 use Rattle.std.specs.List.{AllByRecursion, flat_map, join_with_byte, slice_split}
 use Rattle.pec_directory.specs.Directory.{Provider}
 use Rattle.pec_types.specs.Bytes.{Bytes, line_feed, space}
 use Rattle.pec_types.specs.declared.turns.Event.{Event}
 use Rattle.pec_types.specs.declared.turns.Turn.{Turn}
-use Rattle.pec_script.specs.Cuts.{Lacks, is_at}
+use Rattle.pec_words.specs.Cuts.{IsCut, Lacks, is_at}
 use Rattle.pec_script.specs.Pages.{line_after, only, rest_after, text_after, text_for}
 use Rattle.pec_script.specs.Rows.{AreRows, IsRow, IsWord}
 use Rattle.pec_script.specs.Texts.{Row, ended_rows, event_row, line_of, name_of, sent_rows, text_of, turn_rows}
-use Rattle.pec_script.proofs.CutLemmas.{parts_again, tests_from}
+
+-- there is one part more than there are separators
+pub parts_count : (c : ℕ) (text : Bytes) → length (slice_split (is_at c) text) ≡ count_by (is_at c) text + 1
+parts_count c text = length-slice_split (is_at c) text
 
 pub lacks_append : (c : ℕ) (xs ys : Bytes) → Lacks c xs → Lacks c ys → Lacks c (xs ++ ys)
 lacks_append c [] ys h k = k
@@ -31,14 +35,31 @@ spaceless_words (word ∷ words) all = (all.0.spaceless, spaceless_words words a
 abbrev said : List Row → List Bytes
 said rows = map (join_with_byte space) rows
 
--- cut at its line feeds, a text is what its lines say, and nothing behind the last
-lines_in : (rows : List Row) → AreRows rows → slice_split (is_at line_feed) (text_of rows) ≡ said rows ++ [] ∷ []
+-- with nothing behind the last line feed, a text is all these, joined by line feeds
+text_joined : (rows : List Row) → text_of rows ≡ join_with_byte line_feed (said rows ++ [] ∷ [])
 unfolding line_of
-lines_in [] all = refl
-lines_in (row ∷ rows) all =
-    ap (slice_split (is_at line_feed)) (append_assoc (join_with_byte space row) (line_feed ∷ []) (text_of rows))
-    ∙ (slice_split_at (is_at line_feed) (join_with_byte space row) line_feed (text_of rows) (tests_from line_feed (join_with_byte space row) (feedless_words row all.0.words)) refl
-    ∙ ap (λ ls. join_with_byte space row ∷ ls) (lines_in rows all.1))
+text_joined [] = refl
+text_joined (row ∷ []) = append-nil (join_with_byte space row ++ line_feed ∷ [])
+text_joined (row ∷ next ∷ rows) =
+    append_assoc (join_with_byte space row) (line_feed ∷ []) (text_of (next ∷ rows))
+    ∙ ap (λ t. join_with_byte space row ++ line_feed ∷ t) (text_joined (next ∷ rows))
+
+feedless_rows : (rows : List Row) → AreRows rows → AllByRecursion (Lacks line_feed) (said rows ++ [] ∷ [])
+feedless_rows [] all = (tt, tt)
+feedless_rows (row ∷ rows) all = (feedless_words row all.0.words, feedless_rows rows all.1)
+
+-- what a law of cuts says
+abbrev pub CutsTold : Type 0
+CutsTold = (separator : ℕ) (text : Bytes) (parts : List Bytes) → IsCut separator text parts ↔ (slice_split (is_at separator) text ≡ parts)
+
+parts_again : CutsTold → (c : ℕ) (parts : List Bytes) → 0 < length parts → AllByRecursion (Lacks c) parts → slice_split (is_at c) (join_with_byte c parts) ≡ parts
+parts_again cuts c parts some whole = (cuts c (join_with_byte c parts) parts).0 (record { some = some; joined = refl; whole = whole })
+
+-- cut at its line feeds, a text is what its lines say, and nothing behind the last
+lines_in : CutsTold → (rows : List Row) → AreRows rows → slice_split (is_at line_feed) (text_of rows) ≡ said rows ++ [] ∷ []
+lines_in cuts rows all =
+    ap (slice_split (is_at line_feed)) (text_joined rows)
+    ∙ parts_again cuts line_feed (said rows ++ [] ∷ []) (omega (arith, length-append (said rows) ([] ∷ []))) (feedless_rows rows all)
 
 pub same_front : {X : Type 0} (xs ys : List X) (x y : X) → xs ++ x ∷ [] ≡ ys ++ y ∷ [] → xs ≡ ys
 same_front [] [] x y e = refl
@@ -49,25 +70,25 @@ same_front (a ∷ xs) (b ∷ ys) x y e =
     let rest : xs ++ x ∷ [] ≡ ys ++ y ∷ [] = cc in
     ap (λ c. c ∷ xs) first ∙ ap (λ l. b ∷ l) (same_front xs ys x y rest)
 
-pub words_in : (row other : Row) → IsRow row → IsRow other → join_with_byte space row ≡ join_with_byte space other → row ≡ other
-words_in row other first second e =
-    sym (parts_again space row first.some (spaceless_words row first.words))
-    ∙ (ap (slice_split (is_at space)) e ∙ parts_again space other second.some (spaceless_words other second.words))
+words_in : CutsTold → (row other : Row) → IsRow row → IsRow other → join_with_byte space row ≡ join_with_byte space other → row ≡ other
+words_in cuts row other first second e =
+    sym (parts_again cuts space row first.some (spaceless_words row first.words))
+    ∙ (ap (slice_split (is_at space)) e ∙ parts_again cuts space other second.some (spaceless_words other second.words))
 
-rows_in : (rows others : List Row) → AreRows rows → AreRows others → said rows ≡ said others → rows ≡ others
-rows_in [] [] all alls e = refl
-rows_in [] (other ∷ others) all alls e = absurd cc
-rows_in (row ∷ rows) [] all alls e = absurd cc
-rows_in (row ∷ rows) (other ∷ others) all alls e =
+rows_in : CutsTold → (rows others : List Row) → AreRows rows → AreRows others → said rows ≡ said others → rows ≡ others
+rows_in cuts [] [] all alls e = refl
+rows_in cuts [] (other ∷ others) all alls e = absurd cc
+rows_in cuts (row ∷ rows) [] all alls e = absurd cc
+rows_in cuts (row ∷ rows) (other ∷ others) all alls e =
     let first : join_with_byte space row ≡ join_with_byte space other = cc in
     let rest : said rows ≡ said others = cc in
-    ap (λ r. r ∷ rows) (words_in row other all.0 alls.0 first) ∙ ap (λ rs. other ∷ rs) (rows_in rows others all.1 alls.1 rest)
+    ap (λ r. r ∷ rows) (words_in cuts row other all.0 alls.0 first) ∙ ap (λ rs. other ∷ rs) (rows_in cuts rows others all.1 alls.1 rest)
 
 -- a text is made of one list of lines
-pub one_text : (rows others : List Row) → AreRows rows → AreRows others → text_of rows ≡ text_of others → rows ≡ others
-one_text rows others all alls e =
-    rows_in rows others all alls
-    (same_front (said rows) (said others) [] [] (sym (lines_in rows all) ∙ (ap (slice_split (is_at line_feed)) e ∙ lines_in others alls)))
+pub one_text : CutsTold → (rows others : List Row) → AreRows rows → AreRows others → text_of rows ≡ text_of others → rows ≡ others
+one_text cuts rows others all alls e =
+    rows_in cuts rows others all alls
+    (same_front (said rows) (said others) [] [] (sym (lines_in cuts rows all) ∙ (ap (slice_split (is_at line_feed)) e ∙ lines_in cuts others alls)))
 
 -- ---- lines that are put one after another
 

@@ -1,7 +1,9 @@
 -- The words of lines have neither a space nor a line feed, and no word belongs to two things.
-use Rattle.std.proofs.Common.{◌≡◌, ◌≢◌, ℕ, ◌+◌, ◌%◌, ◌/◌, ◌^◌, ◌<◌, Bool, true, false, not, ◌&&◌, eqb, List, [], ◌∷◌, ◌++◌, codes, length, Option, Some, None, refl, sym, ◌∙◌, ap, arith}
+use Rattle.std.proofs.Common.{◌≡◌, ◌≢◌, ℕ, ◌+◌, ◌%◌, ◌/◌, ◌^◌, ◌<◌, Bool, true, false, not, ◌&&◌, eqb, List, [], ◌∷◌, ◌++◌, codes, length, Option, Some, None, refl, sym, ◌∙◌, ap, arith, rules}
 use Rattle.std.proofs.lemmas.Bool.{and_parts, false≢true}
+use Rattle.std.proofs.lemmas.Fmt.{decimal_injective, digits_decimal}
 use Rattle.std.proofs.lemmas.Option.{none-some, same_Some}
+use Rattle.std.proofs.lemmas.Str.Parse.{IsNumeralModel, numerals_by_fold}
 use Rattle.std.specs.Char.{is_ascii_digit}
 use Rattle.std.specs.Fmt.{decimal}
 use Rattle.std.specs.List.{list_all}
@@ -19,12 +21,11 @@ use Rattle.pec_types.specs.Words.{id_text, seven_digits}
 use Rattle.pec_types.specs.declared.messages.TheConstants.{MESSAGES}
 use Rattle.pec_types.specs.declared.scanning.Stand.{Stand}
 use Rattle.pec_types.specs.declared.scanning.Stand.TheVariants.{AtomBegins, InAtom, LabelBegins, BehindLetter, BehindHyphen}
-use Rattle.pec_script.specs.Cuts.{Lacks}
-use Rattle.pec_script.specs.Numbers.{number_of}
+use Rattle.pec_words.specs.Cuts.{Lacks}
+use Rattle.pec_words.specs.Numbers.{worth_behind}
 use Rattle.pec_script.specs.Printed.{IsNamed}
 use Rattle.pec_script.specs.Rows.{IsWord}
 use Rattle.pec_script.specs.Texts.{id_of}
-use Rattle.pec_script.proofs.NumberLemmas.{decimal_spelled, number_read}
 use Rattle.pec_script.proofs.RowLemmas.{lacks_append}
 
 -- ---- bytes that a word has
@@ -53,12 +54,17 @@ word_behind xs ys h = record { spaceless = lacks_behind space xs ys h.spaceless;
 
 -- ---- numbers
 
+own : IsNumeralModel (λ ds. list_all is_ascii_digit ds ≡ true) (worth_behind 0)
+own = numerals_by_fold _ (search rules) worth_behind (search rules)
+
+pub decimal_digits : (n : ℕ) → n < 2 ^ 64 → list_all is_ascii_digit (decimal n) ≡ true
+decimal_digits n small = digits_decimal own n small
+
 pub decimal_word : (n : ℕ) → n < 2 ^ 64 → IsWord (decimal n)
-decimal_word n small = is_word is_ascii_digit refl refl (decimal n) (decimal_spelled n small).digits
+decimal_word n small = is_word is_ascii_digit refl refl (decimal n) (decimal_digits n small)
 
 pub one_decimal : (n m : ℕ) → n < 2 ^ 64 → m < 2 ^ 64 → decimal n ≡ decimal m → n ≡ m
-one_decimal n m small less e =
-    same_Some n m (sym (number_read (decimal n) n small refl) ∙ (ap number_of e ∙ number_read (decimal m) m less refl))
+one_decimal n m small less e = decimal_injective n m small less e
 
 -- ---- addresses
 

@@ -1,12 +1,8 @@
-pub mod Arguments
-pub mod Cuts
 pub mod Forms
 pub mod Known
 pub mod Lines
 pub mod LinesReading
-pub mod Numbers
 pub mod Pages
-pub mod Paths
 pub mod Printed
 pub mod Rows
 pub mod Texts

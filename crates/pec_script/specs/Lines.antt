@@ -3,26 +3,26 @@
 -- section 4, padded and canonical.
 use Rattle.std.specs.Prelude.{◌≡◌, ◌≢◌, ℕ, ◌+◌, ◌<◌, ◌^◌, List, [], ◌∷◌, length, Some, Ok}
 use Rattle.std.specs.Prelude.{◌⊎◌}
-use Rattle.std.specs.Fmt.{decimal}
 use Rattle.base64.specs.Engines.{standard}
 use Rattle.base64.specs.GeneralPurpose.{decode_of}
 use Rattle.pec_directory.specs.Directory.{Provider, named}
 use Rattle.pec_types.specs.Address.{IsReadAs}
 use Rattle.pec_types.specs.Bytes.{Bytes, space}
 use Rattle.pec_types.specs.declared.moments.TheConstants.{END_OF_TIME}
-use Rattle.pec_script.specs.Cuts.{IsCut}
 use Rattle.pec_script.specs.Forms.{Kind, provider, moment, place, address, path, base64, Meaning, Said, form_of, kinds_of, made}
-use Rattle.pec_script.specs.Paths.{IsPath}
 use Rattle.pec_script.specs.declared.commands.Command.{Command}
 use Rattle.pec_script.specs.declared.faults.LineFault.{LineFault}
 use Rattle.pec_script.specs.declared.faults.LineFault.TheVariants.{UnknownWord, Arity, BadNumber, BadAddress, BadBase64, UnknownProvider, NoMemory}
 use Rattle.pec_script.specs.declared.verbs.Verb.{Verb}
+use Rattle.pec_words.specs.Cuts.{IsCut}
+use Rattle.pec_words.specs.Numbers.{IsNumber}
+use Rattle.pec_words.specs.Paths.{IsPath}
 
 -- The text of an argument says this of its kind. A number is printed in decimal, with no sign and no leading zero.
 abbrev pub Says : List Provider → (kind : Kind) → Bytes → Meaning kind → Type 0
 Says providers provider text number = named providers text ≡ Some number
-Says providers moment text seconds = (text ≡ decimal seconds) × (seconds < END_OF_TIME)
-Says providers place text at = (text ≡ decimal at) × (at < 2 ^ 32)
+Says providers moment text seconds = IsNumber END_OF_TIME text seconds
+Says providers place text at = IsNumber (2 ^ 32) text at
 Says providers address text bytes = IsReadAs text bytes
 Says providers path text addresses = IsPath text addresses
 Says providers base64 text bytes = decode_of standard text ≡ Ok bytes

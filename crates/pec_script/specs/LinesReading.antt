@@ -11,21 +11,21 @@ use Rattle.pec_types.specs.AddressReading.{address_of}
 use Rattle.pec_types.specs.Bytes.{Bytes, space}
 use Rattle.pec_types.specs.Results.{◌>>=◌}
 use Rattle.pec_types.specs.declared.moments.TheConstants.{END_OF_TIME}
-use Rattle.pec_script.specs.Cuts.{is_at}
 use Rattle.pec_script.specs.Forms.{Kind, provider, moment, place, address, path, base64, Meaning, Said, form_of, kinds_of, made, verbs}
 use Rattle.pec_script.specs.Lines.{fault_of}
-use Rattle.pec_script.specs.Numbers.{below, number_of}
-use Rattle.pec_script.specs.Paths.{path_of}
 use Rattle.pec_script.specs.declared.commands.Command.{Command}
 use Rattle.pec_script.specs.declared.faults.LineFault.{LineFault}
 use Rattle.pec_script.specs.declared.faults.LineFault.TheVariants.{UnknownWord, Arity}
 use Rattle.pec_script.specs.declared.verbs.Verb.{Verb}
+use Rattle.pec_words.specs.Cuts.{is_at}
+use Rattle.pec_words.specs.Numbers.{number_below}
+use Rattle.pec_words.specs.Paths.{path_of}
 
 unfoldable pub moment_of : Bytes → Option ℕ
-moment_of text = below END_OF_TIME (number_of text)
+moment_of text = number_below END_OF_TIME text
 
 unfoldable pub place_of : Bytes → Option ℕ
-place_of text = below (2 ^ 32) (number_of text)
+place_of text = number_below (2 ^ 32) text
 
 unfoldable pub message_of : Bytes → Option Bytes
 message_of text = result_ok (decode_of standard text)

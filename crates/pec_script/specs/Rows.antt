@@ -2,7 +2,7 @@
 use Rattle.std.specs.Prelude.{◌<◌, List, length}
 use Rattle.std.specs.List.{AllByRecursion}
 use Rattle.pec_types.specs.Bytes.{Bytes, line_feed, space}
-use Rattle.pec_script.specs.Cuts.{Lacks}
+use Rattle.pec_words.specs.Cuts.{Lacks}
 use Rattle.pec_script.specs.Texts.{Row}
 
 -- neither a space nor a line feed stands in a word

@@ -2,20 +2,18 @@ ghost use Rattle.std.specs.Prelude.{◌≡◌, ◌≤◌, List, count_by, length
 ghost use Rattle.pec_directory.specs.Directory.{named, providers_of};
 ghost use Rattle.pec_types.specs.Answers.{Gives, OrNoMemory};
 ghost use Rattle.pec_types.specs.Bytes.{Bytes, space};
-ghost use Rattle.pec_script.specs.Arguments.{parts_behind};
-ghost use Rattle.pec_script.specs.Cuts.{is_at};
 ghost use Rattle.pec_script.specs.LinesReading.{address_in, message_of, moment_of, next_of, or_fault, place_of};
-ghost use Rattle.pec_script.specs.Paths.{path_of};
 ghost use Rattle.pec_script.specs.declared.faults.LineFault.TheVariants as faults;
+ghost use Rattle.pec_words.specs.Cuts.{is_at, parts_behind};
+ghost use Rattle.pec_words.specs.Paths.{path_of};
 
-use crate::cuts::cut;
 use crate::faults::LineFault;
 use crate::numbers::{moment_of, place_of};
-use crate::paths;
 use base64::DecodeAllocError;
 use base64::engine::general_purpose::STANDARD;
 use pec_directory::Directory;
 use pec_types::{Address, Items, Moment, NoMemory, Text8};
+use pec_words::cut;
 use std::alloc::Global;
 
 // Each of these calls reads the text of one argument; its number, from 1, is for the fault.
@@ -73,7 +71,7 @@ pub(crate) fn read_address(alloc: Global, text: &[u8], number: u8) -> Result<Add
 pub(crate) fn read_path(alloc: Global, text: &[u8], number: u8) -> Result<Items<Address>, LineFault>
     ensures { OrNoMemory faults.NoMemory result (or_fault (faults.BadAddress number) (path_of text.now)) }
 {
-    match paths::read_path(alloc, text)? {
+    match pec_words::read_path(alloc, text)? {
         Some(path) => Ok(Items::of(path)),
         None => Err(LineFault::BadAddress(number)),
     }
@@ -114,7 +112,7 @@ fn decoded(alloc: Global, text: &[u8]) -> Result<Option<Vec<u8>>, NoMemory>
 }
 
 /// How many words are left.
-#[tactic(auto, using(crate::proofs::CutLemmas::parts_count))]
+#[tactic(auto, using(crate::proofs::RowLemmas::parts_count))]
 pub(crate) fn count_words(rest: Option<&[u8]>) -> usize
     ensures { result ≡ length (parts_behind space (option_map (λ text. text.now) rest.entry)) }
 {

@@ -2,22 +2,22 @@ ghost use Rattle.pec_directory.specs.Directory.{Provider, providers_of};
 ghost use Rattle.pec_types.specs.Answers.{OrNoMemory, ReadsExactly};
 ghost use Rattle.pec_types.specs.Bytes.{space};
 ghost use Rattle.std.specs.Prelude.{List, option_map};
-ghost use Rattle.pec_script.specs.Arguments.{parts_behind};
 ghost use Rattle.pec_script.specs.Lines.{IsCommand, IsLineFault};
 ghost use Rattle.pec_script.specs.LinesReading.{command_of, made_of};
 ghost use Rattle.pec_script.specs.declared.faults.LineFault.TheVariants as faults;
 ghost use Rattle.pec_script.specs.declared.verbs.Verb.TheVariants as verbs;
+ghost use Rattle.pec_words.specs.Cuts.{parts_behind};
 
 use crate::arguments::{
     count_words, next_word, read_address, read_bytes, read_moment, read_path, read_place,
     read_provider,
 };
-use crate::cuts::cut;
 use crate::faults::LineFault;
 use crate::laws::a_line_has_one_reading;
 use crate::verbs::Verb;
 use pec_directory::Directory;
 use pec_types::{Address, Items, Moment, Text8};
+use pec_words::cut;
 use std::alloc::Global;
 
 /// What a line of a script asks for.

@@ -20,6 +20,7 @@ ghost use Rattle.pec_script.specs.Texts.{Row, book_text, event_words, fault_text
 
 use pec_directory::{a_first_domain_is_one_providers, a_text_names_one_message};
 use pec_types::{an_address_is_told_exactly, lower_addresses_pass};
+use pec_words::{a_number_has_one_spelling, a_path_has_one_reading, a_text_is_cut_in_one_way};
 
 /// A line has one reading: it is told to say a command exactly where it says that one, and to have a fault exactly where it has
 /// that one.
@@ -27,12 +28,17 @@ pub fn a_line_has_one_reading()
     ensures { (providers : List Provider) (line : Bytes) → TellsExactly (IsCommand providers line) (IsLineFault providers line) (command_of providers line) }
 {
     an_address_is_told_exactly();
+    a_number_has_one_spelling();
+    a_path_has_one_reading();
+    a_text_is_cut_in_one_way();
 }
 
 /// A text of lines is made of one list of lines, each of one list of words, where no word has a space or a line feed.
 pub fn a_text_has_one_list_of_lines()
     ensures { (rows others : List Row) → AreRows rows → AreRows others → text_of rows ≡ text_of others → rows ≡ others }
-{}
+{
+    a_text_is_cut_in_one_way();
+}
 
 /// In lines no name belongs to two messages: it has the first domain of the message's own provider, which no other has first.
 pub fn a_name_has_one_message()
@@ -54,6 +60,7 @@ pub fn a_text_has_one_book()
     lower_addresses_pass();
     a_first_domain_is_one_providers();
     a_text_names_one_message();
+    a_text_is_cut_in_one_way();
 }
 
 /// No text belongs to two mailboxes that differ in more than the causes that aren't printed.
@@ -66,6 +73,7 @@ pub fn a_text_has_one_mailbox()
     lower_addresses_pass();
     a_first_domain_is_one_providers();
     a_text_names_one_message();
+    a_text_is_cut_in_one_way();
 }
 
 /// No text belongs to two answers on a submission.
@@ -77,12 +85,15 @@ pub fn a_text_has_one_submission()
     lower_addresses_pass();
     a_first_domain_is_one_providers();
     a_text_names_one_message();
+    a_text_is_cut_in_one_way();
 }
 
 /// No text belongs to two refusals of a provider.
 pub fn a_text_has_one_refusal()
     ensures { (fault other : ProviderFault) → IsRefusal fault → IsRefusal other → fault_text fault ≡ fault_text other → fault ≡ other }
-{}
+{
+    a_text_is_cut_in_one_way();
+}
 
 /// No words belong to two events of a turn that differ in more than what isn't printed.
 pub fn words_have_one_event()
@@ -104,6 +115,7 @@ pub fn a_text_has_one_clock_call()
     lower_addresses_pass();
     a_first_domain_is_one_providers();
     a_text_names_one_message();
+    a_text_is_cut_in_one_way();
 }
 
 /// No text belongs to two refused lines.
@@ -111,4 +123,6 @@ pub fn a_text_has_one_refused_line()
     ensures { (line also : ℕ) (fault other : LineFault) → line < 2 ^ 64 → also < 2 ^ 64
         → IsLineRefusal fault → IsLineRefusal other
         → refused_text line fault ≡ refused_text also other → (line ≡ also) × (fault ≡ other) }
-{}
+{
+    a_text_is_cut_in_one_way();
+}

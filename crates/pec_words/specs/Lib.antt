@@ -1,0 +1,4 @@
+pub mod Cuts
+pub mod NumberSteps
+pub mod Numbers
+pub mod Paths
