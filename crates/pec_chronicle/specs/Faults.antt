@@ -1,0 +1,16 @@
+-- What the journal's faults are to whoever opens entries. This project's profile.
+use Rattle.pec_journal.specs.declared.faults.OpenFault as journal
+use Rattle.pec_journal.specs.declared.faults.OpenFault.TheVariants as journals
+use Rattle.pec_journal.specs.declared.faults.ReadFault.{ReadFault}
+use Rattle.pec_journal.specs.declared.faults.ReadFault.TheVariants as reads
+use Rattle.pec_chronicle.specs.declared.faults.OpenFault.{OpenFault}
+use Rattle.pec_chronicle.specs.declared.faults.OpenFault.TheVariants as faults
+
+abbrev pub opened_as : journal.OpenFault → OpenFault
+opened_as journals.DiskFault = faults.DiskFault
+opened_as (journals.NotAJournal place) = faults.NotAJournal place
+opened_as journals.NoMemory = faults.NoMemory
+
+abbrev pub read_as : ReadFault → OpenFault
+read_as reads.DiskFault = faults.DiskFault
+read_as reads.NoMemory = faults.NoMemory

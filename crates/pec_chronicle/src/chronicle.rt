@@ -1,0 +1,292 @@
+ghost use Rattle.std.specs.Prelude.{◌≡◌, ◌≢◌, ◌+◌, ◌-◌, ◌<◌, ◌≤◌, ◌↔◌, true, false, ◌∷◌, [], length, None, Some, IsErrOf, IfOk, OnOk, IfErr, vec_len, vec_capacity};
+ghost use Rattle.std.specs.Option.{option_map};
+ghost use Rattle.std.specs.Prelude.{slice_get};
+ghost use Rattle.pec_outside.specs.DiskModel.{Rests};
+ghost use Rattle.pec_outside.specs.Flow.{HasRisen};
+ghost use Rattle.pec_journal.specs.JournalFile.{framing, header};
+ghost use Rattle.pec_journal.specs.JournalState.{Keeps};
+ghost use Rattle.pec_journal.specs.declared.journal.TheConstants.{JOURNAL_LIMIT};
+ghost use Rattle.pec_records.specs.Entry.{IsWithinLimits, entry_text};
+ghost use Rattle.pec_ledger.specs.Ledger.{body_at};
+ghost use Rattle.pec_chronicle.specs.Carrying.{CarriesOn, NothingMay, ThisMay, with_entry};
+ghost use Rattle.pec_chronicle.specs.Chronicle.{HasRoom, Stands, past_of};
+ghost use Rattle.pec_chronicle.specs.Fields.{disk_in, end_in, spare_in, IsChronicle};
+ghost use Rattle.pec_chronicle.specs.declared.faults.AppendFault.TheVariants as append;
+ghost use Rattle.pec_chronicle.specs.declared.faults.CreateFault.TheVariants as create;
+
+use crate::crashes::Past;
+use crate::drives::Drive;
+use crate::encoded::Encoded;
+use crate::faults::{AppendFault, CreateFault};
+use crate::laws::a_disk_is_so;
+use pec_journal::Journal;
+use pec_outside::Disk;
+use pec_records::{Entry, an_entry_within_the_limits_is_short};
+use pec_types::{NoMemory, Text8};
+use std::alloc::Global;
+use std::marker::Model;
+
+/// One provider's entries over its disk. This project's profile.
+#[derive(Drop)]
+pub struct Chronicle<D> {
+    drive: Drive<D>,
+    entries: Vec<Encoded>,
+    // The entry whose append answered a fault of the disk.
+    interrupted: Option<Encoded>,
+    down: bool,
+}
+
+impl<D> Model for Chronicle<D> {
+    ghost use Rattle.std.specs.Prelude.{◌-◌, vec_len, vec_capacity};
+    ghost use Rattle.pec_chronicle.specs.Chronicle.{ChronicleState};
+
+    ghost Value = { ChronicleState D };
+
+    ghost use Rattle.pec_chronicle.specs.Fields.{disk_in, end_in, spare_in, IsChronicle};
+
+    ghost view = { λ chronicle. record {
+      entries = chronicle.entries.items;
+      interrupted = chronicle.interrupted;
+      down = chronicle.down;
+      disk = disk_in chronicle.drive;
+      end = end_in chronicle.drive;
+      spare = spare_in chronicle.drive;
+      places = vec_capacity chronicle.entries - vec_len chronicle.entries;
+    } };
+
+    ghost invariant = { λ chronicle. IsChronicle chronicle.drive chronicle.entries.items chronicle.interrupted chronicle.down };
+}
+
+impl<D> Chronicle<D> {
+    /// How many entries there are. It takes no memory.
+    pub fn entries(&self) -> u64
+        ensures { result ≡ length self.now.entries }
+    {
+        self.entries.len() as u64
+    }
+
+    /// The place of the journal's closed gate, in bytes from 0, while it is up. It takes no memory.
+    pub fn end(&self) -> u64
+        ensures { result ≡ self.now.end }
+    {
+        self.drive.end()
+    }
+
+    /// Whether nothing is appended any more. It takes no memory.
+    pub fn is_down(&self) -> bool
+        ensures down { result ≡ self.now.down }
+        ensures whole { self.now.down ≡ false → self.now.interrupted ≡ None }
+    {
+        self.down
+    }
+
+    /// The bytes of the entry of a number, from 0, if there is one. It takes no memory.
+    pub fn bytes(&self, number: u64) -> Option<&[u8]>
+        ensures { option_map (λ bytes. bytes.now) result ≡ option_map entry_text (slice_get self.now.entries number) }
+    {
+        let kept = self.kept(number)?;
+        Some(kept.bytes())
+    }
+
+    /// The message that the entry of a number holds, if it holds one. It takes no memory.
+    pub fn body(&self, number: u64) -> Option<&[u8]>
+        ensures { option_map (λ body. body.now) result ≡ body_at self.now.entries number }
+    {
+        let kept = self.kept(number)?;
+        kept.body()
+    }
+
+    // Every look at an entry.
+    fn kept(&self, number: u64) -> Option<&Encoded>
+        ensures { option_map (λ kept. kept.now) result ≡ slice_get self.now.entries number }
+    {
+        self.entries.get(number as usize)
+    }
+
+    /// The disk, and the bytes of the entry whose append answered a fault of the disk. It takes no memory.
+    pub fn into_parts(self) -> (D, Option<Text8>)
+        ensures disk { result.0 ≡ self.disk }
+        ensures interrupted { result.1 ≡ option_map entry_text self.interrupted }
+    {
+        let (disk, past) = self.part();
+        (disk, past.into_interrupted())
+    }
+
+    // The entries that are kept so.
+    pub(crate) fn of(
+        drive: Drive<D>,
+        entries: Vec<Encoded>,
+        interrupted: Option<Encoded>,
+        down: bool,
+    ) -> Chronicle<D>
+        requires { IsChronicle drive entries.items interrupted down }
+        ensures { result ≡ record {
+          entries = entries.items;
+          interrupted = interrupted;
+          down = down;
+          disk = disk_in drive;
+          end = end_in drive;
+          spare = spare_in drive;
+          places = vec_capacity entries - vec_len entries;
+        } }
+    {
+        Chronicle {
+            drive,
+            entries,
+            interrupted,
+            down,
+        }
+    }
+
+    // The disk, and what is kept besides.
+    pub(crate) fn part(self) -> (D, Past)
+        ensures disk { result.0 ≡ self.disk }
+        ensures past { result.1 ≡ past_of self }
+    {
+        let Chronicle {
+            drive,
+            entries,
+            interrupted,
+            down: _,
+        } = self;
+        (drive.into_disk(), Past::new(entries, interrupted))
+    }
+}
+
+impl<D: Disk> Chronicle<D> {
+    /// Makes the journal on an empty disk, with this entry. A crash during the call may leave a disk that holds bytes and is
+    /// no journal. With a fault the disk comes back; one that was empty may hold bytes then.
+    pub fn create(alloc: Global, disk: D, start: &Entry) -> Result<Chronicle<D>, (CreateFault, D)>
+        requires { IsWithinLimits start.now }
+        ensures created { IfOk result (λ made. (made.entries ≡ start.now ∷ []) × (made.interrupted ≡ None) × (made.down ≡ false)) }
+        ensures stands { D.tells → IfOk result (λ made. Stands D.sight made) }
+
+        // Not empty exactly where the disk holds a byte, unless the size can't be told; it then stays as it is.
+        ensures empty { D.tells → OnOk result (length (D.sight disk).seen ≡ 0) }
+        ensures not_empty { D.tells → IfErr result (λ fault. fault.0 ≡ create.NotEmpty →
+            (length (D.sight disk).seen ≢ 0) × Rests (D.sight disk) (D.sight fault.1)) }
+        ensures as_it_was { D.tells → length (D.sight disk).seen ≢ 0 → IfErr result (λ fault. Rests (D.sight disk) (D.sight fault.1)) }
+
+        ensures disk_fault { IfErr result (λ fault. fault.0 ≡ create.DiskFault → HasRisen (D.faults disk) (D.faults fault.1)) }
+        ensures later { IfOk result (λ made. D.faults disk ≤ D.faults made.disk) }
+        ensures later_err { IfErr result (λ fault. D.faults disk ≤ D.faults fault.1) }
+    {
+        match Journal::create(disk) {
+            Ok(journal) => Chronicle::begin(alloc, journal, start),
+            Err((pec_journal::CreateFault::NotEmpty, disk)) => Err((CreateFault::NotEmpty, disk)),
+            Err((pec_journal::CreateFault::DiskFault, disk)) => Err((CreateFault::DiskFault, disk)),
+        }
+    }
+
+    // The first entry of a journal that has none.
+    fn begin(
+        alloc: Global,
+        journal: Journal<D>,
+        start: &Entry,
+    ) -> Result<Chronicle<D>, (CreateFault, D)>
+        requires limits { IsWithinLimits start.now }
+        requires fresh { (journal.end ≡ length header) × (journal.spent ≡ false) }
+        ensures created { IfOk result (λ made. (made.entries ≡ start.now ∷ []) × (made.interrupted ≡ None) × (made.down ≡ false)) }
+        ensures stands { D.tells → Keeps (D.sight journal.disk) [] journal.end → IfOk result (λ made. Stands D.sight made) }
+        ensures not_empty { IfErr result (λ fault. fault.0 ≢ create.NotEmpty) }
+        ensures disk_fault { IfErr result (λ fault. fault.0 ≡ create.DiskFault → HasRisen (D.faults journal.disk) (D.faults fault.1)) }
+        ensures later { IfOk result (λ made. D.faults journal.disk ≤ D.faults made.disk) }
+        ensures later_err { IfErr result (λ fault. D.faults journal.disk ≤ D.faults fault.1) }
+    {
+        let mut chronicle = Chronicle::of(Drive::Open(journal), Vec::new(alloc), None, false);
+        match chronicle.put_first(alloc, start) {
+            Ok(()) => Ok(chronicle),
+            Err(fault) => Err((fault, chronicle.into_parts().0)),
+        }
+    }
+
+    // Reserves and appends an entry, where the journal ends near its beginning.
+    fn put_first(&mut self, alloc: Global, start: &Entry) -> Result<(), CreateFault>
+        requires limits { IsWithinLimits start.now }
+        requires up { self.old.down ≡ false }
+        requires whole { self.old.interrupted ≡ None }
+        requires near { self.old.end ≡ length header }
+        ensures put { OnOk result ((self.new.entries ≡ with_entry self.old.entries start.now) × (self.new.interrupted ≡ None) × (self.new.down ≡ false)) }
+        ensures stands { D.tells → Stands D.sight self.old → Stands D.sight self.new }
+        ensures not_empty { IsErrOf result create.NotEmpty → ⊥ }
+        ensures disk_fault { IsErrOf result create.DiskFault → HasRisen (D.faults self.old.disk) (D.faults self.new.disk) }
+        ensures later { D.faults self.old.disk ≤ D.faults self.new.disk }
+    {
+        let encoded = match self.reserve(alloc, start) {
+            Ok(encoded) => encoded,
+            Err(NoMemory) => return Err(CreateFault::NoMemory),
+        };
+        match self.append(encoded) {
+            Ok(()) => Ok(()),
+            Err(AppendFault::DiskFault) => Err(CreateFault::DiskFault),
+            Err(AppendFault::JournalFull) => unreachable!(),
+            Err(AppendFault::Down) => unreachable!(),
+        }
+    }
+
+    /// Encodes an entry, and takes all memory that its append needs. It makes no call of the disk.
+    pub fn reserve(&mut self, alloc: Global, entry: &Entry) -> Result<Encoded, NoMemory>
+        requires { IsWithinLimits entry.now }
+        ensures encoded { IfOk result (λ encoded. encoded ≡ entry.now) }
+        ensures room { OnOk result (HasRoom self.new entry.now) }
+        ensures same { self.new ≡ record self.old { spare = self.new.spare; places = self.new.places } }
+        ensures carries { D.tells → CarriesOn D.sight NothingMay self.old self.new }
+    {
+        an_entry_within_the_limits_is_short();
+        a_disk_is_so::<D>();
+        let encoded = Encoded::encode(alloc, entry)?;
+        self.drive.reserve(alloc, encoded.bytes().len())?;
+        self.entries.reserve(1)?;
+        Ok(encoded)
+    }
+
+    /// Appends an entry for which room was reserved, by four calls of the disk. After Ok a crash leaves it. It takes no
+    /// memory.
+    pub fn append(&mut self, entry: Encoded) -> Result<(), AppendFault>
+        requires { HasRoom self.old entry }
+
+        // A crash at any moment of the call leaves the journal of the entries, or of these and the new one. After Ok it
+        // leaves the new one too.
+        ensures carries { D.tells → CarriesOn D.sight (ThisMay self.old.entries entry) self.old self.new }
+        ensures ok { OnOk result (self.new ≡ record self.old {
+          entries = with_entry self.old.entries entry;
+          disk = self.new.disk;
+          end = self.old.end + framing + length (entry_text entry);
+          spare = self.new.spare;
+          places = self.new.places;
+        }) }
+
+        // Each fault comes exactly there, the first that applies, but for the disk's, which comes only after a fault of it.
+        ensures down { IsErrOf result append.Down ↔ (self.old.down ≡ true) }
+        ensures full { IsErrOf result append.JournalFull ↔ (self.old.down ≡ false)
+            × (JOURNAL_LIMIT < self.old.end + framing + length (entry_text entry)) }
+        ensures disk_fault { IsErrOf result append.DiskFault → HasRisen (D.faults self.old.disk) (D.faults self.new.disk) }
+        ensures later { D.faults self.old.disk ≤ D.faults self.new.disk }
+
+        // After a fault of the disk it is down, and keeps the entry aside. After any other it is as it was.
+        ensures broken { IsErrOf result append.DiskFault → self.new ≡ record self.old {
+          interrupted = Some entry;
+          down = true;
+          disk = self.new.disk;
+          spare = self.new.spare;
+        } }
+        ensures refused { IfErr result (λ fault. fault ≢ append.DiskFault → self.new ≡ record self.old { spare = self.new.spare }) }
+    {
+        a_disk_is_so::<D>();
+        if self.down {
+            return Err(AppendFault::Down);
+        }
+        match self.drive.append(entry.bytes()) {
+            Ok(()) => {
+                self.entries.push_reserved(entry);
+                Ok(())
+            }
+            Err(AppendFault::DiskFault) => {
+                self.down = true;
+                self.interrupted = Some(entry);
+                Err(AppendFault::DiskFault)
+            }
+            Err(fault) => Err(fault),
+        }
+    }
+}

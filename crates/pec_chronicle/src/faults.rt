@@ -1,0 +1,76 @@
+ghost use Rattle.std.specs.Prelude.{◌≡◌};
+ghost use Rattle.pec_chronicle.specs.Faults.{opened_as, read_as};
+ghost use Rattle.pec_chronicle.specs.declared.faults.OpenFault.TheVariants as opening;
+
+use pec_journal::ReadFault;
+use std::alloc::{AllocError, AllocFailed};
+
+/// Why no entries were made.
+#[derive(Clone, Copy, Debug, PartialEq, Eq)]
+pub enum CreateFault {
+    /// The disk's size isn't 0.
+    NotEmpty,
+    DiskFault,
+    NoMemory,
+}
+
+/// Why no entries were opened.
+#[derive(Clone, Copy, Debug, PartialEq, Eq)]
+pub enum OpenFault {
+    DiskFault,
+    /// The bytes are no journal: the place of the header, the gate or the length that isn't there, or of the length of an
+    /// entry that runs past the end.
+    NotAJournal(u64),
+    /// The number, from 0, of the first entry whose bytes are none.
+    BadEntry(u64),
+    NoMemory,
+}
+
+/// Why an entry was not appended. The first that applies is answered.
+#[derive(Clone, Copy, Debug, PartialEq, Eq)]
+pub enum AppendFault {
+    Down,
+    /// The journal would end behind 1,099,511,627,776 bytes.
+    JournalFull,
+    /// It is down from now on, and the entry may be there after a crash, or not.
+    DiskFault,
+}
+
+impl From<pec_journal::OpenFault> for OpenFault {
+    ghost from_gives = { λ was fault. fault ≡ opened_as was };
+
+    fn from(fault: pec_journal::OpenFault) -> Self {
+        match fault {
+            pec_journal::OpenFault::DiskFault => OpenFault::DiskFault,
+            pec_journal::OpenFault::NotAJournal(place) => OpenFault::NotAJournal(place),
+            pec_journal::OpenFault::NoMemory => OpenFault::NoMemory,
+        }
+    }
+}
+
+impl From<ReadFault> for OpenFault {
+    ghost from_gives = { λ was fault. fault ≡ read_as was };
+
+    fn from(fault: ReadFault) -> Self {
+        match fault {
+            ReadFault::DiskFault => OpenFault::DiskFault,
+            ReadFault::NoMemory => OpenFault::NoMemory,
+        }
+    }
+}
+
+impl From<AllocError> for OpenFault {
+    ghost from_gives = { λ _ fault. fault ≡ opening.NoMemory };
+
+    fn from(_: AllocError) -> Self {
+        OpenFault::NoMemory
+    }
+}
+
+impl<T: Drop> From<AllocFailed<T>> for OpenFault {
+    ghost from_gives = { λ _ fault. fault ≡ opening.NoMemory };
+
+    fn from(_: AllocFailed<T>) -> Self {
+        OpenFault::NoMemory
+    }
+}

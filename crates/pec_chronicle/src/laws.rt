@@ -1,0 +1,27 @@
+ghost use Rattle.std.specs.Prelude.{◌≡◌, ℕ, ◌+◌, ◌≤◌, List, [], length, map};
+ghost use Rattle.pec_journal.specs.JournalFile.{front};
+ghost use Rattle.pec_records.specs.declared.entries.Entry.{Entry};
+ghost use Rattle.pec_records.specs.Entry.{entry_text};
+ghost use Rattle.pec_ledger.specs.Half.{start_of_entries};
+ghost use Rattle.pec_ledger.specs.Steps.{size_of};
+ghost use Rattle.pec_chronicle.specs.Carrying.{with_entry};
+
+use pec_outside::Disk;
+
+/// Where the journal of entries ends: with none behind its header, and with each more that entry's size behind.
+pub fn a_journal_ends_behind_its_entries()
+    ensures none { length (front []) ≡ start_of_entries }
+    ensures more { (entries : List Entry) (entry : Entry) → length (front (map entry_text (with_entry entries entry))) ≡
+        length (front (map entry_text entries)) + size_of entry }
+{}
+
+/// The laws of every disk, for proofs that speak of two values over it.
+pub(crate) fn a_disk_is_so<D: Disk>()
+    // This moment is one of those since an earlier one, and since this moment there is no other.
+    ensures counts { D.tells → (disk : D) (t : ℕ) (image : List ℕ) → t ≤ (D.sight disk).moment →
+        (D.sight disk).may_leave image → (D.sight disk).left_since t image }
+    ensures now { D.tells → (disk : D) (image : List ℕ) → (D.sight disk).left_since (D.sight disk).moment image →
+        (D.sight disk).may_leave image }
+    // A disk as it reads is one of its images.
+    ensures reads { D.tells → (disk : D) → (D.sight disk).may_leave (D.sight disk).seen }
+{}

@@ -1,0 +1,18 @@
+//! One provider's entries over its disk: each outlives a crash from the moment on that its append is answered, and after a
+//! crash they are there again, with the entry whose append was cut off or without it. It knows nothing of what an entry means.
+#![tactic(auto)]
+
+mod chronicle;
+mod crashes;
+mod drives;
+mod encoded;
+mod faults;
+mod laws;
+mod reopening;
+
+pub use chronicle::Chronicle;
+pub use crashes::Past;
+pub use encoded::Encoded;
+pub use faults::{AppendFault, CreateFault, OpenFault};
+pub use laws::a_journal_ends_behind_its_entries;
+pub use reopening::Unopened;
