@@ -4,6 +4,7 @@ ghost use Rattle.pec_types.specs.declared.messages.TheConstants.{MESSAGES};
 ghost use Rattle.pec_types.specs.declared.moments.TheConstants.{END_OF_TIME};
 ghost use Rattle.pec_records.specs.Entry.{most_addresses};
 ghost use Rattle.pec_records.specs.declared.entries.Entry.{Entry};
+ghost use Rattle.pec_records.specs.declared.entries.Entry.TheVariants as entries;
 ghost use Rattle.pec_ledger.specs.Ledger.{Fit, Journals, Meets};
 ghost use Rattle.pec_ledger.specs.Network.{IsGenuine};
 ghost use Rattle.pec_ledger.specs.Own.{Own};
@@ -32,6 +33,8 @@ pub fn what_a_provider_does_is_its_own()
         → 0 < length path → length path ≤ most_addresses
         → Own trade provider (half trade provider journal) (entry_by (trade.cause provider sender path message) now sender path message)
         × (moment_of (entry_by (trade.cause provider sender path message) now sender path message) ≡ now) }
+    ensures clock_calls { (trade : Trade) (provider now : ℕ) (journal : List Entry)
+        → Own trade provider (half trade provider journal) (entries.Ticked now) × (moment_of (entries.Ticked now) ≡ now) }
 {}
 
 /// The same entries meet all conditions of the ledger, in any journals that are Fit, where the moment isn't before the
@@ -53,6 +56,9 @@ pub fn what_a_provider_does_may_follow()
         → IsTrue (trade.is_account provider sender) → length (half trade provider journal).messages < MESSAGES
         → 0 < length path → length path ≤ most_addresses
         → Meets trade journals provider (half trade provider journal) (entry_by (trade.cause provider sender path message) now sender path message) }
+    ensures clock_calls { (trade : Trade) (journals : Journals)
+        → (provider now : ℕ) (journal : List Entry) → (half trade provider journal).last ≤ now → now < END_OF_TIME
+        → Meets trade journals provider (half trade provider journal) (entries.Ticked now) }
 {
     arrivals_are_true();
 }

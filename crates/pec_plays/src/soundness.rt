@@ -9,8 +9,8 @@ ghost use Rattle.pec_ledger.specs.Half.{Known, Taken};
 ghost use Rattle.pec_ledger.specs.Ledger.{Fit, Journals, ledger};
 ghost use Rattle.pec_ledger.specs.Lookups.{decided_of, known_of, taken_of};
 ghost use Rattle.pec_ledger.specs.Tables.{IsOwedEnvelope, IsOwedOutcome};
-ghost use Rattle.pec_plays.specs.Frames.{composed};
-ghost use Rattle.pec_ledger.specs.Network.{Site, Sound};
+ghost use Rattle.pec_plays.specs.Frames.{composed, due_frames};
+ghost use Rattle.pec_ledger.specs.Network.{AreGenuine, Site, Sound};
 ghost use Rattle.pec_ledger.specs.Own.{IsTakenPair};
 ghost use Rattle.pec_ledger.specs.Pairs.{Pair, pair_of};
 ghost use Rattle.pec_ledger.specs.Steps.{half};
@@ -92,6 +92,9 @@ pub fn due_letters_are_composed()
         → GoesOnAs (journal ++ entries_of (plan trade provider now journal frames)) (journals provider)
         → (letter : SomeLetter) → Contains (owed_of (plan trade provider now journal frames)) letter
         → IsSome (composed trade provider (journals provider) letter) }
+    // and the frames of what is composed are genuine
+    ensures frames { (trade : Trade) → IsTrade trade → (journals : Journals) → Fit trade journals
+        → (provider to room : ℕ) (owed : List SomeLetter) → AreGenuine trade journals (due_frames trade provider (journals provider) to room owed) }
 {
     rows_have_their_texts();
     texts_are_seen();

@@ -23,4 +23,5 @@ returns c =
           (decide_good trade world J (laws trade world J fit) p now es time range pair (undecided_open trade p es pair among) entry is).0;
       submissions = λ trade world J p now es time range sender path message account room some few.
           entry_meets trade world p now es J sender path message (trade.cause p sender path message) refl account room some few time range;
+      clock_calls = λ trade J p now es time range. record { own = tt; in_time = time; in_range = range; joint = tt };
     }

@@ -4,7 +4,7 @@ use Rattle.pec_ledger.specs.Ledger.{Fit, Journals, ledger}
 use Rattle.pec_ledger.specs.Trade.{Trade}
 use Rattle.pec_ledger.specs.TradeLaws.{IsTrade}
 use Rattle.pec_plays.proofs.ComposedLemmas.{ack_composed, answer_composed, charge_composed, envelope_composed, outcome_composed}
-use Rattle.pec_plays.proofs.FrameLemmas.{TextLaws}
+use Rattle.pec_plays.proofs.FrameLemmas.{TextLaws, due_genuine}
 use Rattle.pec_plays.proofs.OwedLemmas.{backed_stays, plan_backs}
 use Rattle.pec_plays.specs.Turns.{entries_of, plan}
 use Rattle.pec_plays.proofs.soundness.due_letters_are_composed.Goals as goal
@@ -28,4 +28,5 @@ returns c =
       answers = λ trade world J fit p now es frames more letter owed. answer_composed trade J (texts trade world J fit) (c.rows_have_their_texts.ensures.decisions trade J fit) p
           (c.rows_have_their_texts.ensures.knowns trade J fit) letter
           (backed_stays trade p (es ++ entries_of (plan trade p now es frames)) (J p) letter more (plan_backs trade p now es frames letter owed));
+      frames = λ trade world J fit p to room owed. due_genuine trade world J (texts trade world J fit) p to room owed;
     }
