@@ -17,6 +17,7 @@ pub mod SettleLemmas
 pub mod GoesOnLemmas
 pub mod OwedLemmas
 pub mod QuietLemmas
+pub mod RefusalLemmas
 pub mod RunLemmas
 pub mod ShortLemmas
 pub mod ToldLemmas

@@ -5,6 +5,7 @@ pub mod Frames
 pub mod Possible
 pub mod Reception
 pub mod ReceptionRows
+pub mod Refusals
 pub mod Rounds
 pub mod Scripts
 pub mod Steps
