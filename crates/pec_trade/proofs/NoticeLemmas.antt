@@ -1,5 +1,5 @@
 -- Notices of non-acceptance and anomalies are seen as no letter.
-use Rattle.std.proofs.Common.{◌≡◌, ℕ, ◌<◌, ◌≤◌, ◌^◌, nat_lt, Bool, true, false, cond, List, [], ◌∷◌, ◌++◌, length, map, Option, None, Some, Err, codes, refl, ap, arith, length-append}
+use Rattle.std.proofs.Common.{◌≡◌, ℕ, ◌<◌, ◌≤◌, ◌^◌, nat_lt, Bool, true, false, cond, List, [], ◌∷◌, ◌++◌, length, map, Option, None, Some, Err, codes, refl, ap, ◌∙◌, arith, length-append}
 use Rattle.std.specs.Prelude.{IsTrue}
 use Rattle.std.specs.List.{AllByRecursion, list_all}
 use Rattle.std.specs.Option.{IfSome, option_and_then}
@@ -16,35 +16,42 @@ use Rattle.pec_types.specs.declared.messages.Class.TheVariants.{Primary}
 use Rattle.pec_types.specs.declared.messages.Recipient.{Recipient}
 use Rattle.pec_types.specs.declared.messages.TheConstants.{MESSAGES}
 use Rattle.pec_types.specs.declared.moments.TheConstants.{END_OF_TIME}
+use Rattle.pec_types.specs.declared.receipts.Kind.TheVariants as kinds
 use Rattle.pec_heads.specs.BoundedFacts.{IsShortText}
 use Rattle.pec_heads.specs.FactsOfHeads.{fresh, has_address, recipient, recipients_of}
 use Rattle.pec_cert.specs.CertificateReading.{is_lower}
-use Rattle.pec_directory.specs.Directory.{Kept, Provider, home_of, is_account_of, providers_of}
+use Rattle.pec_cert.specs.Zone.{stamp_of}
+use Rattle.pec_directory.specs.Directory.{first_of, Kept, Provider, home_of, is_account_of, providers_of}
 use Rattle.pec_directory.specs.Lawful.{IsLawful}
 use Rattle.pec_records.specs.Entry.{most_addresses}
 use Rattle.pec_seal.specs.Seals.{Seals}
+use Rattle.pec_letter_parts.specs.Contents.{parts_of}
 use Rattle.pec_letter_parts.specs.Letters.{Headed, IsHeaded}
+use Rattle.pec_letter_parts.specs.Sealing.{letter_text}
 use Rattle.pec_letter_parts.specs.LettersReading.{letter_of}
 use Rattle.pec_letter_parts.specs.declared.headings.Marking.TheVariants as markings
 use Rattle.pec_letter_facts.specs.Certifying.{ArePrintable}
 use Rattle.pec_letter_facts.specs.Questions.{marking_of}
-use Rattle.pec_letters.specs.Anomalies.{IsAnomaly, anomaly_text, anomaly_word}
+use Rattle.pec_letters.specs.Anomalies.{IsAnomaly, anomaly_contents, anomaly_heading, anomaly_phrase, anomaly_text, anomaly_word}
+use Rattle.pec_letters.specs.Fitting.{Fits}
 use Rattle.pec_letters.specs.SeenReading.{view as envelope_view}
-use Rattle.pec_receipts.specs.Kinds.{row_of}
-use Rattle.pec_receipts.specs.Receipts.{CanBeGiven, receipt_text}
+use Rattle.pec_receipts.specs.Kinds.{Said, row_of}
+use Rattle.pec_receipts.specs.Receipts.{CanBeGiven, message_in, receipt_text}
 use Rattle.pec_receipts.specs.Seen.{seen_again}
 use Rattle.pec_receipts.specs.SeenReading.{view as receipt_view}
 use Rattle.pec_ledger.specs.TradeLaws.{letter_seen}
 use Rattle.pec_trade.specs.Refused.{refused_facts, text_in}
 use Rattle.pec_trade.specs.Giving.{can_be_given}
-use Rattle.pec_trade.specs.Texts.{anomaly_bytes, given_text, or_none, refusal, refusal_bytes, seen_in}
-use Rattle.pec_trade.proofs.DirectoryLemmas.{account_is_home, account_lower, provider_at}
+use Rattle.pec_trade.specs.Texts.{anomaly_bytes, given_text, or_none, receipt_seen, refusal, refusal_bytes, seen_in}
+use Rattle.pec_trade.proofs.DirectoryLemmas.{account_is_home, account_lower, issuer_at, name_short, named_by, provider_at}
 use Rattle.pec_trade.proofs.FactsLemmas.{Heads, text_short}
 use Rattle.pec_trade.proofs.FrameLemmas.{Told, path_lower}
+use Rattle.pec_trade.proofs.GivingLemmas.{anomaly_so, refusal_so}
 use Rattle.pec_trade.proofs.PathLemmas.{all_joined, all_mapped}
 use Rattle.pec_trade.proofs.ReceiptLemmas.{Receipts}
 use Rattle.pec_trade.proofs.SeenLemmas.{as_receipt, in_neither, nothing_seen}
-use Rattle.pec_trade.proofs.TextLemmas.{Stands, receipt_is}
+use Rattle.pec_trade.proofs.SizeLemmas.{bare_parts_small}
+use Rattle.pec_trade.proofs.TextLemmas.{AreSmall, MessageFits, Stands, letter_there, receipt_is, receipt_with}
 
 -- ---- the facts of a refused message
 
@@ -141,30 +148,57 @@ module _ (seals : Seals) (laws : Notices seals) (kept : List Kept) (lawful : IsL
     own = λ e. refl;
   }
 
-  refused : (id : Id) (moment : ℕ) (account : Bytes) (cause : Cause) (path : Path) (message : Bytes) → id.provider < length (providers_of kept) → id.number < MESSAGES
-      → IsTrue (is_account_of (providers_of kept) id.provider account) → 0 < length path → length path ≤ most_addresses → moment < END_OF_TIME
-      → AllByRecursion IsLowerAddress path → (found : Option Bytes)
+  some_so : (path : Path) → 0 < length path → 0 < length (recipients_of path [])
+  some_so path some = omega (arith, recipients_count path, fresh_some path some)
+
+  few_so : (path : Path) → length path ≤ most_addresses → length (recipients_of path []) ≤ 1000
+  few_so path few = omega (arith, recipients_count path, fresh_few [] path, few)
+
+  -- What is asked of a message that isn't accepted.
+  pub record Refused (id : Id) (moment : ℕ) (account : Bytes) (path : Path) : Type 0 where
+    pub within : id.provider < length (providers_of kept)
+    pub below : id.number < MESSAGES
+    pub is : IsTrue (is_account_of (providers_of kept) id.provider account)
+    pub some : 0 < length path
+    pub few : length path ≤ most_addresses
+    pub lower : AllByRecursion IsLowerAddress path
+    pub before : moment < END_OF_TIME
+
+  account_so : (id : Id) (moment : ℕ) (account : Bytes) (path : Path) → Refused id moment account path → IsLowerAddress account
+  account_so id moment account path refused = account_lower (providers_of kept) id.provider account lawful refused.is
+
+  stands_so : (id : Id) (moment : ℕ) (account : Bytes) (cause : Cause) (path : Path) (message : Bytes) → Refused id moment account path
+      → Stands laws.receipts.texts kept (refusal id moment account cause path message)
+  stands_so id moment account cause path message refused = record {
+    lawful = lawful;
+    within = refused.within;
+    printable = facts_printable account path message (account_so id moment account path refused) refused.lower;
+    some = some_so path refused.some;
+    named = tt;
+    before = refused.before;
+  }
+
+  can_so : (id : Id) (moment : ℕ) (account : Bytes) (cause : Cause) (path : Path) (message : Bytes) → Refused id moment account path
+      → CanBeGiven (providers_of kept) (refusal id moment account cause path message)
+  can_so id moment account cause path message refused =
+      given_so id moment account cause path message refused.within (account_is_home (providers_of kept) id.provider account refused.is) (some_so path refused.some)
+
+  -- a notice is seen as what it is
+  seen_so : (id : Id) (moment : ℕ) (account : Bytes) (cause : Cause) (path : Path) (message : Bytes) → Refused id moment account path → (text : Bytes)
+      → receipt_text seals kept (refusal id moment account cause path message) message ≡ Some text
+      → seen_in seals (providers_of kept) text ≡ Some (receipt_seen (seen_again (refusal id moment account cause path message)))
+  seen_so id moment account cause path message refused text e =
+      let r = refusal id moment account cause path message
+      in let stands = stands_so id moment account cause path message refused
+      in as_receipt seals (providers_of kept) text laws.receipts.views (seen_again r)
+      (laws.receipts.seen kept r message text lawful (can_so id moment account cause path message refused) stands.printable refused.below refused.before
+      (omega (arith, few_so path refused.few)) (receipt_is laws.receipts.texts seals kept r message text stands (provider_at kept id.provider) e))
+
+  unseen_so : (id : Id) (moment : ℕ) (account : Bytes) (cause : Cause) (path : Path) (message : Bytes) → Refused id moment account path → (found : Option Bytes)
       → receipt_text seals kept (refusal id moment account cause path message) message ≡ found → NoLetter (or_none found)
-  refused id moment account cause path message within below is some few before all None e = nothing
-  refused id moment account cause path message within below is some few before all (Some text) e =
-      let providers = providers_of kept
-      in let r = refusal id moment account cause path message
-      in let lower = account_lower providers id.provider account lawful is
-      in let printable = facts_printable account path message lower all
-      in let count = recipients_count path
-      in let recipients : 0 < length (recipients_of path []) = omega (arith, count, fresh_some path some)
-      in let stands : Stands laws.receipts.texts kept r = record {
-        lawful = lawful;
-        within = within;
-        printable = printable;
-        some = recipients;
-        named = tt;
-        before = before;
-      }
-      in let can : CanBeGiven providers r = given_so id moment account cause path message within (account_is_home providers id.provider account is) recipients
-      in let view = laws.receipts.seen kept r message text lawful can printable below before (omega (arith, count, fresh_few [] path, few))
-      (receipt_is laws.receipts.texts seals kept r message text stands (provider_at kept id.provider) e)
-      in λ me. ap (option_and_then (letter_seen me)) (as_receipt seals providers text laws.receipts.views (seen_again r) view)
+  unseen_so id moment account cause path message refused None e = nothing
+  unseen_so id moment account cause path message refused (Some text) e =
+      λ me. ap (option_and_then (letter_seen me)) (seen_so id moment account cause path message refused text e)
 
   -- A notice of non-acceptance is seen as no letter.
   pub refusal_unseen : (id : Id) (moment : ℕ) (account : Bytes) (cause : Cause) (path : Path) (message : Bytes) → id.provider < length (providers_of kept) → id.number < MESSAGES
@@ -181,9 +215,59 @@ module _ (seals : Seals) (laws : Notices seals) (kept : List Kept) (lawful : IsL
       by : (t : Bool) → list_all is_lower path ≡ t → NoLetter (cond t (or_none (given_text kept seals (refusal id moment account cause path message) message)) [])
       by true e =
           given_or_not (can_be_given (providers_of kept) (refusal id moment account cause path message))
-          (refused id moment account cause path message within below is some few before (path_lower laws.told path e)
-          (receipt_text seals kept (refusal id moment account cause path message) message) refl)
+          (unseen_so id moment account cause path message (record {
+            within = within;
+            below = below;
+            is = is;
+            some = some;
+            few = few;
+            lower = path_lower laws.told path e;
+            before = before;
+          }) (receipt_text seals kept (refusal id moment account cause path message) message) refl)
       by false e = nothing
+
+  -- ---- its text
+
+  no_message : (id : Id) (moment : ℕ) (account : Bytes) (cause : Cause) (path : Path) (message : Bytes)
+      → IfSome (row_of (kinds.NonAcceptance cause)).said (λ (said : Said). MessageFits (refusal id moment account cause path message) said message)
+  unfolding row_of message_in
+  no_message id moment account cause path message = tt
+
+  -- The notice of a message that isn't accepted.
+  pub record Notice (id : Id) (moment : ℕ) (account : Bytes) (cause : Cause) (path : Path) (message : Bytes) : Type 0 where
+    pub text : Bytes
+    pub there : receipt_text seals kept (refusal id moment account cause path message) message ≡ Some text
+    pub can : CanBeGiven (providers_of kept) (refusal id moment account cause path message)
+    pub bytes : refusal_bytes kept seals id moment account cause path message ≡ text
+    pub seen : seen_in seals (providers_of kept) text ≡ Some (receipt_seen (seen_again (refusal id moment account cause path message)))
+
+  pub notice : Fits seals (providers_of kept) → (id : Id) (moment : ℕ) (account : Bytes) (cause : Cause) (path : Path) (message : Bytes) → Refused id moment account path
+      → Notice id moment account cause path message
+  notice fits id moment account cause path message refused =
+      let providers = providers_of kept
+      in let texts = laws.receipts.texts
+      in let r = refusal id moment account cause path message
+      in let stands = stands_so id moment account cause path message refused
+      in let can = can_so id moment account cause path message refused
+      in let issuer = issuer_at kept id.provider refused.within
+      in let account_is : AllPrintable account × (length account ≤ 254) = texts.address account (account_so id moment account path refused)
+      in let small : AreSmall (refused_facts account path message) = record {
+        printable = stands.printable;
+        some = stands.some;
+        few = few_so path refused.few;
+        reply = omega (arith, account_is.1);
+        subject = can.subject;
+        reference = fits_text (text_in (codes "Message-ID") message) (text_short laws.heads (codes "Message-ID") message);
+      }
+      in let found = receipt_with texts seals kept r message issuer stands small (no_message id moment account cause path message)
+      (name_short providers id.provider issuer.issuer.provider lawful issuer.there) (named_by seals providers id.provider issuer.issuer.provider fits issuer.there)
+      in record {
+        text = found.0;
+        there = found.1;
+        can = can;
+        bytes = refusal_so kept seals laws.told id moment account cause path message found.0 refused.lower can found.1;
+        seen = seen_so id moment account cause path message refused found.0 found.1;
+      }
 
   -- ---- anomalies
 
@@ -206,3 +290,24 @@ module _ (seals : Seals) (laws : Notices seals) (kept : List Kept) (lawful : IsL
       by : (t : Bool) → nat_lt entry (2 ^ 64) ≡ t → NoLetter (cond t (or_none (anomaly_text seals kept provider entry moment message)) [])
       by true e = handed_on provider entry moment message (ltb-true entry (2 ^ 64) e) before (anomaly_text seals kept provider entry moment message) refl
       by false e = nothing
+
+  there_so : Fits seals (providers_of kept) → (provider entry moment : ℕ) (message : Bytes) → provider < length (providers_of kept) → length message ≤ 67108864
+      → (text : Bytes) × (anomaly_text seals kept provider entry moment message ≡ Some text)
+  unfolding anomaly_text
+  there_so fits provider entry moment message within small =
+      let issuer = issuer_at kept provider within
+      in let stamp = stamp_of issuer.issuer.zone moment
+      in let by = λ (one : Kept).
+      letter_text seals provider (anomaly_heading (first_of one.provider.domains) entry (stamp_of one.zone moment) message) (parts_of (anomaly_contents (stamp_of one.zone moment) message))
+      in let found = letter_there laws.receipts.texts seals provider (anomaly_heading (first_of issuer.issuer.provider.domains) entry stamp message)
+      (parts_of (anomaly_contents stamp message)) issuer.issuer.provider.name
+      (named_by seals (providers_of kept) provider issuer.issuer.provider fits issuer.there) (bare_parts_small stamp anomaly_phrase message (omega arith) small)
+      in (found.0, ap (option_and_then by) issuer.is ∙ found.1)
+
+  -- An anomaly of a message of at most 64 MiB has its text.
+  pub anomaly_there : Fits seals (providers_of kept) → (provider entry moment : ℕ) (message : Bytes) → provider < length (providers_of kept) → entry < 2 ^ 64
+      → length message ≤ 67108864
+      → (text : Bytes) × (anomaly_text seals kept provider entry moment message ≡ Some text) × (anomaly_bytes kept seals provider entry moment message ≡ text)
+  anomaly_there fits provider entry moment message within below small =
+      let found = there_so fits provider entry moment message within small
+      in (found.0, found.1, anomaly_so kept seals provider entry moment message found.0 below found.1)

@@ -32,7 +32,7 @@ use Rattle.pec_cert.specs.declared.certificates.CertRecipient.{CertRecipient}
 use Rattle.pec_cert.specs.declared.stamps.Shown.{Shown}
 use Rattle.pec_cert.specs.declared.stamps.ShownZone.{ShownZone}
 use Rattle.pec_directory.specs.Directory.{Provider}
-use Rattle.pec_letter_parts.specs.Contents.{part_fields, part_text, parts_of}
+use Rattle.pec_letter_parts.specs.Contents.{lines_text, part_fields, part_text, parts_of}
 use Rattle.pec_letter_parts.specs.declared.contents.PartKind.{PartKind}
 use Rattle.pec_letter_parts.specs.declared.contents.PartKind.TheVariants as parts
 use Rattle.pec_letter_facts.specs.Certifying.{name_of, told_text, with_subject}
@@ -253,6 +253,20 @@ parts_small text certificate None short small m =
     omega (arith, part_small parts.Text text, part_small parts.Certificate certificate)
 parts_small text certificate (Some message) short small m =
     omega (arith, part_small parts.Text text, part_small parts.Message message, part_small parts.Certificate certificate)
+
+-- So have those of a letter that certifies nothing, with its one line for people behind the date.
+pub bare_parts_small : (stamp : Instant) (phrase message : Bytes) → length phrase ≤ 1000 → length message ≤ 67108864
+    → bytes_of (parts_of (record { text = lines_text (day_line_of stamp ∷ phrase ∷ []); message = Some message; certificate = None })) < 2 ^ 64
+unfolding parts_of
+bare_parts_small stamp phrase message short m =
+    let text = lines_text (day_line_of stamp ∷ phrase ∷ [])
+    in omega (
+      arith,
+      part_small parts.Text text,
+      sized (day_line_of stamp ∷ codes "\r\n" ∷ []) phrase,
+      day_line_small stamp,
+      part_small parts.Message message,
+    )
 
 -- ---- words of errors
 

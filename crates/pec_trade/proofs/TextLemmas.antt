@@ -67,7 +67,7 @@ pub record Texts : Type 0 where
 -- ---- letters
 
 -- There is a letter of parts that aren't too long.
-letter_there : Texts → (seals : Seals) (provider : ℕ) (heading : Heading) (parts : List Bytes) (name : Bytes) → seals.name_of provider ≡ Some name
+pub letter_there : Texts → (seals : Seals) (provider : ℕ) (heading : Heading) (parts : List Bytes) (name : Bytes) → seals.name_of provider ≡ Some name
     → bytes_of parts < 2 ^ 64 → (text : Bytes) × (letter_text seals provider heading parts ≡ Some text)
 unfolding letter_text composed_body
 letter_there texts seals provider heading parts name named small =
@@ -191,6 +191,10 @@ bounded_small printable facts bounded some few = record {
 longer : (text : Option Bytes) → IfSome text (λ t. length t ≤ 900) → IfSome text (λ t. length t ≤ 1000)
 longer None short = tt
 longer (Some text) short = omega (arith, short)
+
+-- what a receipt shows of the message isn't too long
+abbrev pub MessageFits : Receipt → Said → Bytes → Type 0
+MessageFits r said original = IfSome (message_in r said original) (λ m. length m ≤ 67108864)
 
 module _ (texts : Texts) where
   all_short : (all : List Recipient) → AllByRecursion (λ (r : Recipient). IsLowerAddress r.address) all → AreShort all
@@ -402,8 +406,14 @@ module _ (texts : Texts) where
       (lower_short (delivered_to r (row_of r.kind).about) (delivered_lower r r.kind lower))
       (reported_small providers r r.kind (all_short r.facts.recipients small.printable.recipients) small.few) right.detail
 
+  messages_small : (r : Receipt) (original : Bytes) → length original ≤ 31457280 → (found : Option Said)
+      → IfSome found (λ (said : Said). MessageFits r said original)
+  messages_small r original fits None = tt
+  messages_small r original fits (Some said) = message_small r said original fits
+
   there_by : (seals : Seals) (kept : List Kept) (r : Receipt) (original : Bytes) (found : Option Said) (issuer : Issuer kept r.by) → IsRight found → Stands kept r
-      → AreSmall r.facts → length original ≤ 31457280 → length issuer.issuer.provider.name ≤ 32 → seals.name_of r.by ≡ Some issuer.issuer.provider.name
+      → AreSmall r.facts → IfSome found (λ (said : Said). MessageFits r said original) → length issuer.issuer.provider.name ≤ 32
+      → seals.name_of r.by ≡ Some issuer.issuer.provider.name
       → (text : Bytes) × (option_and_then (text_by seals (providers_of kept) r original (row_of r.kind) found) (slice_get kept r.by) ≡ Some text)
   there_by seals kept r original None issuer right stands small fits short named =
       let row = row_of r.kind
@@ -422,13 +432,20 @@ module _ (texts : Texts) where
       (parts_small (told_text providers r.id stamp r.facts (phrase_of name r row said)) certificate (message_in r said original)
       (text_of_people providers r.id stamp r.facts (phrase_of name r row said) stands.lawful stands.within small (phrase_small name r said short stands.named right))
       (cert_of_receipt providers name r stamp said stands.lawful stands.within short small stands.named right)
-      (message_small r said original fits))
+      fits)
       in (letter.0, ap (option_and_then (text_by seals providers r original row (Some said))) issuer.is ∙ letter.1)
 
-  -- A receipt of short facts on a message of at most 30 MiB has its text.
+  -- A receipt of short facts has its text, where what it shows of the message isn't too long.
+  pub receipt_with : (seals : Seals) (kept : List Kept) (r : Receipt) (original : Bytes) (issuer : Issuer kept r.by) → Stands kept r → AreSmall r.facts
+      → IfSome (row_of r.kind).said (λ (said : Said). MessageFits r said original) → length issuer.issuer.provider.name ≤ 32
+      → seals.name_of r.by ≡ Some issuer.issuer.provider.name → (text : Bytes) × (receipt_text seals kept r original ≡ Some text)
+  unfolding receipt_text
+  receipt_with seals kept r original issuer stands small fits short named =
+      there_by seals kept r original (row_of r.kind).said issuer (row_right r.kind) stands small fits short named
+
+  -- So has one on a message of at most 30 MiB.
   pub receipt_there : (seals : Seals) (kept : List Kept) (r : Receipt) (original : Bytes) (issuer : Issuer kept r.by) → Stands kept r → AreSmall r.facts
       → length original ≤ 31457280 → length issuer.issuer.provider.name ≤ 32 → seals.name_of r.by ≡ Some issuer.issuer.provider.name
       → (text : Bytes) × (receipt_text seals kept r original ≡ Some text)
-  unfolding receipt_text
   receipt_there seals kept r original issuer stands small fits short named =
-      there_by seals kept r original (row_of r.kind).said issuer (row_right r.kind) stands small fits short named
+      receipt_with seals kept r original issuer stands small (messages_small r original fits (row_of r.kind).said) short named

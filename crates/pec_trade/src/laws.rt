@@ -1,12 +1,14 @@
-ghost use Rattle.std.specs.Prelude.{◌≡◌, ◌↔◌, ◌<◌, ◌^◌, ℕ, List, [], None, Some, length, true};
+ghost use Rattle.std.specs.Prelude.{◌≡◌, ◌↔◌, ◌<◌, ◌≤◌, ◌^◌, ℕ, List, [], None, Some, length, true};
 ghost use Rattle.std.specs.List.{AllByRecursion};
 ghost use Rattle.pec_types.specs.Address.{IsLowerAddress};
 ghost use Rattle.pec_types.specs.Bytes.{Bytes, Path};
 ghost use Rattle.pec_types.specs.Message.{Id};
 ghost use Rattle.pec_types.specs.declared.messages.Cause.{Cause as SomeCause};
 ghost use Rattle.pec_types.specs.declared.messages.Facts.{Facts as SomeFacts};
+ghost use Rattle.pec_types.specs.declared.messages.TheConstants.{MESSAGES};
 ghost use Rattle.pec_types.specs.declared.moments.TheConstants.{END_OF_TIME};
-ghost use Rattle.pec_directory.specs.Directory.{Kept, Provider, home_of, providers_of};
+ghost use Rattle.pec_types.specs.declared.receipts.Kind.TheVariants as kinds;
+ghost use Rattle.pec_directory.specs.Directory.{Kept, Provider, home_of, is_account_of, providers_of};
 ghost use Rattle.pec_directory.specs.Lawful.{IsLawful};
 ghost use Rattle.pec_frames.specs.Frames.{HasFrame, frame_text};
 ghost use Rattle.pec_letters.specs.Anomalies.{anomaly_text};
@@ -17,9 +19,10 @@ ghost use Rattle.pec_receipts.specs.declared.receipts.Receipt.{Receipt as Given}
 ghost use Rattle.pec_points.specs.Admission.{IsAccepted, IsCause};
 ghost use Rattle.pec_points.specs.Case.{case_at};
 ghost use Rattle.pec_seal.specs.Seals.{Seals};
+ghost use Rattle.pec_records.specs.Entry.{most_addresses};
 ghost use Rattle.pec_ledger.specs.Lookups.{addresses_of};
 ghost use Rattle.pec_ledger.specs.OfDirectory.{IsOf, facts_in, recipients_named};
-ghost use Rattle.pec_ledger.specs.Trade.{Receipt as Stated, SeenEnvelope};
+ghost use Rattle.pec_ledger.specs.Trade.{Receipt as Stated, SeenEnvelope, SeenReceipt};
 ghost use Rattle.pec_ledger.specs.TradeLaws.{CanBeComposed, IsSent, IsTrade};
 ghost use Rattle.pec_trade.specs.Giving.{can_be_given};
 ghost use Rattle.pec_trade.specs.Texts.{given, refusal};
@@ -70,6 +73,31 @@ pub fn the_texts_are_a_trade<S: Sealer>()
         × CanBeGiven (providers_of kept) (given receipt can.sent.facts)
         × IsReceipt (S.seals sealer) kept (given receipt can.sent.facts) original text
         × ((trade_of kept (S.seals sealer)).receipt_text receipt original ≡ text) }
+    // A message that isn't accepted has its notice, which is seen as what it is.
+    ensures notices { (sealer : S) (kept : List Kept)
+        → IsLawful (providers_of kept) → Fits (S.seals sealer) (providers_of kept)
+        → (id : Id) (moment : ℕ) (account : Bytes) (cause : SomeCause) (path : Path) (message : Bytes)
+        → id.provider < length kept → id.number < MESSAGES
+        → is_account_of (providers_of kept) id.provider account ≡ true
+        → 0 < length path → length path ≤ most_addresses → AllByRecursion IsLowerAddress path → moment < END_OF_TIME
+        → (text : Bytes)
+        × (receipt_text (S.seals sealer) kept (refusal id moment account cause path message) message ≡ Some text)
+        × CanBeGiven (providers_of kept) (refusal id moment account cause path message)
+        × ((trade_of kept (S.seals sealer)).refusal_text id moment account cause path message ≡ text)
+        × ((trade_of kept (S.seals sealer)).view text ≡ Some (SeenReceipt (record {
+          kind = kinds.NonAcceptance cause;
+          id = id;
+          by = id.provider;
+          moment = moment;
+          recipient = None;
+        }))) }
+    // So has an anomaly of a message of at most 64 MiB, which is more than a frame has.
+    ensures anomalies { (sealer : S) (kept : List Kept)
+        → IsLawful (providers_of kept) → Fits (S.seals sealer) (providers_of kept)
+        → (provider entry moment : ℕ) (message : Bytes)
+        → provider < length kept → entry < 2 ^ 64 → length message ≤ 67_108_864
+        → (text : Bytes) × (anomaly_text (S.seals sealer) kept provider entry moment message ≡ Some text)
+        × ((trade_of kept (S.seals sealer)).anomaly_text provider entry moment message ≡ text) }
     // Whatever is seen as an envelope, also one that nobody composed, names the recipients of its original where it
     // names anybody.
     ensures names { (sealer : S) (kept : List Kept)

@@ -1,7 +1,11 @@
 -- The laws of all parts together.
+use Rattle.std.proofs.Common.{arith}
+use Rattle.std.proofs.lemmas.List.{length-map}
+use Rattle.pec_directory.specs.Directory.{Kept}
 use Rattle.pec_trade.proofs.EnvelopeLemmas.{Envelopes, Values, composed as envelope_composed, seen_names}
 use Rattle.pec_trade.proofs.FactsLemmas.{Heads}
 use Rattle.pec_trade.proofs.NamedLemmas.{Lines}
+use Rattle.pec_trade.proofs.NoticeLemmas.{anomaly_there, notice}
 use Rattle.pec_trade.proofs.ReceiptLemmas.{Receipts, composed as receipt_composed}
 use Rattle.pec_trade.proofs.SeenLemmas.{Views}
 use Rattle.pec_trade.proofs.SentLemmas.{Sending, sent_as}
@@ -108,5 +112,19 @@ returns g c =
           let made = receipt_composed (seals_of sealer) (receipts sealer) kept lawful fits receipt original can
           (sent_as sending kept (seals_of sealer) lawful receipt.id original can.sent)
           in (made.text, made.there, made.can, made.is, made.bytes);
+      notices = λ sealer kept lawful fits id moment account cause path message within below is some few lower before.
+          let made = notice (seals_of sealer) (parts sealer).notices kept lawful fits id moment account cause path message (record {
+            within = omega (arith, within, length-map kept (λ (one : Kept). one.provider));
+            below = below;
+            is = is;
+            some = some;
+            few = few;
+            lower = lower;
+            before = before;
+          })
+          in (made.text, made.there, made.can, made.bytes, made.seen);
+      anomalies = λ sealer kept lawful fits provider entry moment message within below small.
+          anomaly_there (seals_of sealer) (parts sealer).notices kept lawful fits provider entry moment message
+          (omega (arith, within, length-map kept (λ (one : Kept). one.provider))) below small;
       names = λ sealer kept lawful fits. seen_names (seals_of sealer) (envelopes sealer) kept lawful fits;
     }
