@@ -1,0 +1,5 @@
+//! Tests of `pec_chronicle` over its public calls: entries on disks in memory.
+#![tactic(auto)]
+
+#[cfg(test)]
+mod tests;
