@@ -1,5 +1,5 @@
 -- How entries over a disk carry on from call to call: the crates above compose their clauses by these lemmas.
-use Rattle.std.proofs.Common.{◌≡◌, Bool, List, [], ◌∷◌, ◌++◌, ◌∙◌, refl, sym, ap, subst, append_assoc}
+use Rattle.std.proofs.Common.{◌≡◌, Bool, List, [], ◌∷◌, ◌++◌, ◌∙◌, sym, ap, subst, append_assoc}
 use Rattle.std.specs.Prelude.{Option, ℕ}
 use Rattle.std.proofs.lemmas.List.{append-nil}
 use Rattle.pec_outside.specs.DiskModel.{Sight}
@@ -7,7 +7,7 @@ use Rattle.pec_outside.specs.Moments.{started, and_then, weaker}
 use Rattle.pec_types.specs.Bytes.{Bytes}
 use Rattle.pec_records.specs.declared.entries.Entry.{Entry}
 use Rattle.pec_ledger.specs.Network.{chosen}
-use Rattle.pec_chronicle.specs.Chronicle.{ChronicleState, IsJournalOf, Stands}
+use Rattle.pec_chronicle.specs.Chronicle.{ChronicleState, IsJournalOf}
 use Rattle.pec_chronicle.specs.Carrying.{AllFollow, CarriesOn, Following, GoesOn, IsImage, NothingMay, ThisMay, with_entry}
 
 -- ---- entries that follow

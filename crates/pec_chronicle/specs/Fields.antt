@@ -1,7 +1,6 @@
 -- A chronicle as the program keeps it. This project's profile.
 use Rattle.std.specs.Prelude.{◌≡◌, ℕ, Bool, false, List, Option, None, IfSome}
 use Rattle.std.specs.List.{All}
-use Rattle.pec_journal.specs.JournalState.{JournalState}
 use Rattle.pec_records.specs.declared.entries.Entry.{Entry}
 use Rattle.pec_records.specs.Entry.{CanBeWritten}
 use Rattle.pec_chronicle.specs.declared.drives.Drive.{Drive}

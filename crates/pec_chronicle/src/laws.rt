@@ -5,8 +5,11 @@ ghost use Rattle.pec_records.specs.Entry.{entry_text};
 ghost use Rattle.pec_ledger.specs.Half.{start_of_entries};
 ghost use Rattle.pec_ledger.specs.Steps.{size_of};
 ghost use Rattle.pec_chronicle.specs.Carrying.{with_entry};
+ghost use Rattle.pec_chronicle.specs.Chronicle.{IsJournalOf};
 
+use pec_journal::a_file_has_one_list;
 use pec_outside::Disk;
+use pec_records::one_entry;
 
 /// Where the journal of entries ends: with none behind its header, and with each more that entry's size behind.
 pub fn a_journal_ends_behind_its_entries()
@@ -14,6 +17,14 @@ pub fn a_journal_ends_behind_its_entries()
     ensures more { (entries : List Entry) (entry : Entry) → length (front (map entry_text (with_entry entries entry))) ≡
         length (front (map entry_text entries)) + size_of entry }
 {}
+
+/// Bytes are the journal of one list of entries at most.
+pub fn a_disk_holds_one_list()
+    ensures { (one other : List Entry) (bytes : List ℕ) → IsJournalOf one bytes → IsJournalOf other bytes → one ≡ other }
+{
+    one_entry();
+    a_file_has_one_list();
+}
 
 /// The laws of every disk, for proofs that speak of two values over it.
 pub(crate) fn a_disk_is_so<D: Disk>()

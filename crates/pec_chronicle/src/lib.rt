@@ -14,5 +14,5 @@ pub use chronicle::Chronicle;
 pub use crashes::Past;
 pub use encoded::Encoded;
 pub use faults::{AppendFault, CreateFault, OpenFault};
-pub use laws::a_journal_ends_behind_its_entries;
+pub use laws::{a_disk_holds_one_list, a_journal_ends_behind_its_entries};
 pub use reopening::Unopened;

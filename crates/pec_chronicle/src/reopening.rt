@@ -14,13 +14,14 @@ use crate::chronicle::Chronicle;
 use crate::drives::Drive;
 use crate::encoded::Encoded;
 use crate::faults::OpenFault;
-use pec_journal::{Journal, a_file_has_one_list, entries_stand_at_their_places};
+use crate::laws::a_disk_holds_one_list;
+use pec_journal::{Journal, entries_stand_at_their_places};
 use pec_outside::Disk;
-use pec_records::{Entry, EntryFault, one_entry};
+use pec_records::{Entry, EntryFault};
 use pec_types::Place;
 use std::alloc::Global;
 
-/// A disk on which no entries were opened: why not, and the entries that were read before the fault, in order.
+/// A disk on which no entries were opened: why not, and where the fault is that of an entry those before it, in order.
 #[derive(Drop)]
 pub struct Unopened<D> {
     pub fault: OpenFault,
@@ -55,8 +56,7 @@ impl<D: Disk> Chronicle<D> {
         ensures later { IfOk result (λ read. D.faults disk ≤ D.faults read.0.disk) }
         ensures later_err { IfErr result (λ unopened. D.faults disk ≤ D.faults unopened.disk) }
     {
-        one_entry();
-        a_file_has_one_list();
+        a_disk_holds_one_list();
         match Journal::reopen(alloc, disk) {
             Ok((journal, places)) => Chronicle::read(alloc, journal, &places),
             Err((fault, disk)) => Err(Unopened {

@@ -1,11 +1,8 @@
-use Rattle.std.proofs.Common.{◌≡◌, ◌+◌, ◌<◌, ◌≤◌, List, ℕ, [], ◌∷◌, ◌++◌, ◌∙◌, length, get_or, take, sym, ap, subst, rules, arith}
-use Rattle.std.specs.Prelude.{map}
+use Rattle.std.proofs.Common.{◌≡◌, ◌<◌, [], ◌∙◌, length, get_or, sym, ap, rules, arith}
 use Rattle.std.proofs.lemmas.List.{take_all}
 use Rattle.std.proofs.lemmas.List.Elements.{All-push}
 use Rattle.pec_outside.specs.Moments.{stays_on}
-use Rattle.pec_journal.specs.JournalFile.{IsFile}
-use Rattle.pec_types.specs.Bytes.{Bytes}
-use Rattle.pec_records.specs.Entry.{CanBeWritten, entry_text}
+use Rattle.pec_records.specs.Entry.{CanBeWritten}
 use Rattle.pec_chronicle.proofs.ReadingLemmas.{as_many_places, place_stands, same_but_disk, stops_at, texts_more}
 use Rattle.pec_chronicle.proofs.reopening.read_all.Goals as goal
 

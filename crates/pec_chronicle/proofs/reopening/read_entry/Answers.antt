@@ -1,4 +1,4 @@
-use Rattle.std.proofs.Common.{◌≡◌, sym}
+use Rattle.std.proofs.Common.{sym}
 use Rattle.pec_chronicle.proofs.reopening.read_entry.Goals as goal
 
 pub returns-in-Ok-clause-is : goal.returns-in-Ok-clause-is

@@ -1,10 +1,10 @@
-use Rattle.std.proofs.Common.{◌≡◌, List, ℕ, ◌∙◌, ap, subst}
+use Rattle.std.proofs.Common.{◌≡◌, List, ℕ, ◌∙◌, subst}
 use Rattle.std.specs.Prelude.{map, ◌≢◌}
 use Rattle.std.proofs.lemmas.Result.{IfOk-weaker}
 use Rattle.pec_records.specs.Entry.{entry_text}
 use Rattle.pec_chronicle.specs.Chronicle.{IsJournalOf, Stands, StopsAtBad}
 use Rattle.pec_chronicle.specs.declared.faults.OpenFault.TheVariants as faults
-use Rattle.pec_chronicle.proofs.ReadingLemmas.{both_of_fault, no_stop, one_journal, opened_elsewhere}
+use Rattle.pec_chronicle.proofs.ReadingLemmas.{both_of_fault, no_stop, opened_elsewhere}
 use Rattle.pec_chronicle.proofs.chronicle.Chronicle.reopen.Goals as goal
 
 pub returns-in-Ok-clause-list : goal.returns-in-Ok-clause-list
@@ -15,7 +15,7 @@ returns-in-Ok-clause-list g c tells entries journal =
     IfOk-weaker c.read.result
     (λ read. IsJournalOf read.0.entries (sight c.in-Ok.journal.disk).seen × Stands sight read.0)
     (λ read. read.0.entries ≡ entries)
-    (λ read there. one_journal c.one_entry.ensures.value c.a_file_has_one_list.ensures.list read.0.entries entries (sight c.args.disk).seen
+    (λ read there. c.a_disk_holds_one_list.ensures read.0.entries entries (sight c.args.disk).seen
     (subst (λ (bytes : List ℕ). IsJournalOf read.0.entries bytes) seen there.0) journal)
     (c.read.ensures.stands tells (map entry_text entries) opened.0 (c.deref.ensures.value ∙ opened.1))
 

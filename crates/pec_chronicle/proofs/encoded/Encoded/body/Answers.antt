@@ -1,7 +1,4 @@
-use Rattle.std.proofs.Common.{◌≡◌, ◌-◌, List, ℕ, length, take, drop, sym, subst, ◌∙◌}
-use Rattle.std.specs.Prelude.{Some}
-use Rattle.pec_records.specs.declared.entries.Entry.{Entry}
-use Rattle.pec_ledger.specs.Ledger.{body_of}
+use Rattle.std.proofs.Common.{sym, ◌∙◌}
 use Rattle.pec_chronicle.proofs.EntryLemmas.{body_behind}
 use Rattle.pec_chronicle.proofs.encoded.Encoded.body.Goals as goal
 
