@@ -1,0 +1,503 @@
+//! What each request is answered: the rows in their order, targets, fields and heads, in whole and byte by byte.
+use crate::desk::Mood;
+use crate::serving::{NEVER, answer, is_answered, serve};
+use pec_http::Served;
+use std::alloc::Global;
+use std::test::Fail;
+
+/// A request, and what it is answered where the desk takes messages of up to ten bytes from `anna@alfa.example`.
+type Row = (&'static str, (u16, &'static str));
+
+// Each row of the answers that stops a request, where the next one applies too.
+const ROWS: [Row; 18] = [
+    // no empty line ends the head
+    (
+        "GET /mail/anna@alfa.example/book HTTP/1.1\r\nx-key: chiave\r\n",
+        (400, "bad-request\n"),
+    ),
+    // row 2 before 3: no head, and no route
+    ("GET /nowhere\r\n\r\n", (400, "bad-request\n")),
+    // 3 before 4: no route, and another method
+    (
+        "PUT /nowhere HTTP/1.1\r\nx-key: chiave\r\n\r\n",
+        (404, "not-found\n"),
+    ),
+    // 4 before 5: another method, and no account
+    (
+        "POST /mail/bob@alfa.example/book HTTP/1.1\r\n\r\n",
+        (405, "method\n"),
+    ),
+    (
+        "GET /mail/anna@alfa.example/submit HTTP/1.1\r\nx-key: chiave\r\n\r\n",
+        (405, "method\n"),
+    ),
+    (
+        "HEAD /mail/anna@alfa.example/book HTTP/1.1\r\nx-key: chiave\r\n\r\n",
+        (405, "method\n"),
+    ),
+    (
+        "get /mail/anna@alfa.example/book HTTP/1.1\r\nx-key: chiave\r\n\r\n",
+        (405, "method\n"),
+    ),
+    // 5 before 6: no account, and no key
+    (
+        "GET /mail/bob@alfa.example/book HTTP/1.1\r\n\r\n",
+        (404, "not-found\n"),
+    ),
+    // 5 before 7: no account, and a key
+    (
+        "GET /mail/bob@alfa.example/book HTTP/1.1\r\nx-key: x\r\n\r\n",
+        (404, "not-found\n"),
+    ),
+    // 6 before 8: no key, and no length
+    (
+        "POST /mail/anna@alfa.example/submit HTTP/1.1\r\n\r\n",
+        (401, "no-key\n"),
+    ),
+    // 7 before 8: a wrong key, and no length
+    (
+        "POST /mail/anna@alfa.example/submit HTTP/1.1\r\nx-key: chiavi\r\n\r\n",
+        (403, "wrong-key\n"),
+    ),
+    // 8 before 9: no length, and no path
+    (
+        "POST /mail/anna@alfa.example/submit HTTP/1.1\r\nx-key: chiave\r\n\r\n",
+        (411, "length\n"),
+    ),
+    // 9 before 10: no path, and too long
+    (
+        "POST /mail/anna@alfa.example/submit HTTP/1.1\r\nx-key: chiave\r\ncontent-length: 11\r\n\r\n",
+        (400, "bad-request\n"),
+    ),
+    // 10 before 11: too long, and cut
+    (
+        "POST /mail/anna@alfa.example/submit HTTP/1.1\r\nx-key: chiave\r\nx-path: bob@beta.example\r\ncontent-length: 11\r\n\r\n",
+        (413, "too-large\n"),
+    ),
+    // 11: cut
+    (
+        "POST /mail/anna@alfa.example/submit HTTP/1.1\r\nx-key: chiave\r\nx-path: bob@beta.example\r\ncontent-length: 5\r\n\r\nSalv",
+        (400, "bad-request\n"),
+    ),
+    // none
+    (
+        "POST /mail/anna@alfa.example/submit HTTP/1.1\r\nx-key: chiave\r\nx-path: bob@beta.example\r\ncontent-length: 5\r\n\r\nSalve",
+        (201, "accepted pec.0000007@alfa.example\n"),
+    ),
+    (
+        "GET /mail/anna@alfa.example/book HTTP/1.1\r\nx-key: chiave\r\n\r\n",
+        (200, "book 0\n"),
+    ),
+    (
+        "GET /mail/anna@alfa.example/items HTTP/1.1\r\nx-key: chiave\r\n\r\n",
+        (200, "mailbox 0\n"),
+    ),
+];
+
+// Addresses, routes and places in targets.
+const TARGETS: [Row; 26] = [
+    (
+        "GET /mail/ANNA%40alfa.EXAMPLE/book HTTP/1.1\r\nx-key: chiave\r\n\r\n",
+        (200, "book 0\n"),
+    ),
+    // two signs
+    (
+        "GET /mail/anna%40%40alfa.example/book HTTP/1.1\r\nx-key: chiave\r\n\r\n",
+        (404, "not-found\n"),
+    ),
+    // no other escape is read
+    (
+        "GET /mail/anna@alfa%2eexample/book HTTP/1.1\r\nx-key: chiave\r\n\r\n",
+        (404, "not-found\n"),
+    ),
+    (
+        "GET /mail%2fanna@alfa.example/book HTTP/1.1\r\nx-key: chiave\r\n\r\n",
+        (404, "not-found\n"),
+    ),
+    (
+        "GET /mail/anna@alfa.example%2fbook HTTP/1.1\r\nx-key: chiave\r\n\r\n",
+        (404, "not-found\n"),
+    ),
+    (
+        "GET /mail/anna%4/book HTTP/1.1\r\nx-key: chiave\r\n\r\n",
+        (404, "not-found\n"),
+    ),
+    // a query, a fragment, an absolute target, an asterisk
+    (
+        "GET /mail/anna@alfa.example/book? HTTP/1.1\r\nx-key: chiave\r\n\r\n",
+        (404, "not-found\n"),
+    ),
+    (
+        "GET /mail/anna@alfa.example/book?x=1 HTTP/1.1\r\nx-key: chiave\r\n\r\n",
+        (404, "not-found\n"),
+    ),
+    (
+        "GET /mail/anna@alfa.example/book#x HTTP/1.1\r\nx-key: chiave\r\n\r\n",
+        (404, "not-found\n"),
+    ),
+    (
+        "GET http://localhost/mail/anna@alfa.example/book HTTP/1.1\r\nx-key: chiave\r\n\r\n",
+        (404, "not-found\n"),
+    ),
+    (
+        "OPTIONS * HTTP/1.1\r\nx-key: chiave\r\n\r\n",
+        (404, "not-found\n"),
+    ),
+    (
+        "GET / HTTP/1.1\r\nx-key: chiave\r\n\r\n",
+        (404, "not-found\n"),
+    ),
+    (
+        "GET /mail/ HTTP/1.1\r\nx-key: chiave\r\n\r\n",
+        (404, "not-found\n"),
+    ),
+    (
+        "GET /mail/anna@alfa.example HTTP/1.1\r\nx-key: chiave\r\n\r\n",
+        (404, "not-found\n"),
+    ),
+    (
+        "GET /mail/anna@alfa.example/ HTTP/1.1\r\nx-key: chiave\r\n\r\n",
+        (404, "not-found\n"),
+    ),
+    (
+        "GET /mail/anna@alfa.example/book/ HTTP/1.1\r\nx-key: chiave\r\n\r\n",
+        (404, "not-found\n"),
+    ),
+    (
+        "GET //mail/anna@alfa.example/book HTTP/1.1\r\nx-key: chiave\r\n\r\n",
+        (404, "not-found\n"),
+    ),
+    (
+        "GET /Mail/anna@alfa.example/book HTTP/1.1\r\nx-key: chiave\r\n\r\n",
+        (404, "not-found\n"),
+    ),
+    // an address that is none
+    (
+        "GET /mail/anna/book HTTP/1.1\r\nx-key: chiave\r\n\r\n",
+        (404, "not-found\n"),
+    ),
+    (
+        "GET /mail//book HTTP/1.1\r\nx-key: chiave\r\n\r\n",
+        (404, "not-found\n"),
+    ),
+    // places: one spelling, of at most nine digits
+    (
+        "GET /mail/anna@alfa.example/items/ HTTP/1.1\r\nx-key: chiave\r\n\r\n",
+        (404, "not-found\n"),
+    ),
+    (
+        "GET /mail/anna@alfa.example/items/8 HTTP/1.1\r\nx-key: chiave\r\n\r\n",
+        (404, "not-found\n"),
+    ),
+    (
+        "PUT /mail/anna@alfa.example/items/999999999 HTTP/1.1\r\nx-key: chiave\r\n\r\n",
+        (405, "method\n"),
+    ),
+    (
+        "PUT /mail/anna@alfa.example/items/1000000000 HTTP/1.1\r\nx-key: chiave\r\n\r\n",
+        (404, "not-found\n"),
+    ),
+    (
+        "PUT /mail/anna@alfa.example/items/07 HTTP/1.1\r\nx-key: chiave\r\n\r\n",
+        (404, "not-found\n"),
+    ),
+    (
+        "PUT /mail/anna@alfa.example/items/+7 HTTP/1.1\r\nx-key: chiave\r\n\r\n",
+        (404, "not-found\n"),
+    ),
+];
+
+// Fields, in submissions that have nothing else wrong.
+const FIELDS: [Row; 29] = [
+    // names in capitals, and blanks round values
+    (
+        "POST /mail/anna@alfa.example/submit HTTP/1.1\r\nX-KEY:chiave\r\nX-Path: \t bob@beta.example \t\r\nContent-LENGTH:  5 \r\n\r\nSalve",
+        (201, "accepted pec.0000007@alfa.example\n"),
+    ),
+    // the first key counts
+    (
+        "POST /mail/anna@alfa.example/submit HTTP/1.1\r\nx-key: chiave\r\nx-key: x\r\nx-path: bob@beta.example\r\ncontent-length: 5\r\n\r\nSalve",
+        (201, "accepted pec.0000007@alfa.example\n"),
+    ),
+    (
+        "POST /mail/anna@alfa.example/submit HTTP/1.1\r\nx-key: x\r\nx-key: chiave\r\nx-path: bob@beta.example\r\ncontent-length: 5\r\n\r\nSalve",
+        (403, "wrong-key\n"),
+    ),
+    (
+        "POST /mail/anna@alfa.example/submit HTTP/1.1\r\nx-key:\r\nx-path: bob@beta.example\r\ncontent-length: 5\r\n\r\nSalve",
+        (403, "wrong-key\n"),
+    ),
+    (
+        "POST /mail/anna@alfa.example/submit HTTP/1.1\r\nx-keys: chiave\r\nx-path: bob@beta.example\r\ncontent-length: 5\r\n\r\nSalve",
+        (401, "no-key\n"),
+    ),
+    // lengths
+    (
+        "POST /mail/anna@alfa.example/submit HTTP/1.1\r\nx-key: chiave\r\nx-path: bob@beta.example\r\ncontent-length: 0000000005\r\n\r\nSalve",
+        (201, "accepted pec.0000007@alfa.example\n"),
+    ),
+    (
+        "POST /mail/anna@alfa.example/submit HTTP/1.1\r\nx-key: chiave\r\nx-path: bob@beta.example\r\ncontent-length: 00000000005\r\n\r\nSalve",
+        (411, "length\n"),
+    ),
+    (
+        "POST /mail/anna@alfa.example/submit HTTP/1.1\r\nx-key: chiave\r\nx-path: bob@beta.example\r\ncontent-length: 0\r\n\r\nSalve",
+        (201, "accepted pec.0000007@alfa.example\n"),
+    ),
+    (
+        "POST /mail/anna@alfa.example/submit HTTP/1.1\r\nx-key: chiave\r\nx-path: bob@beta.example\r\ncontent-length: 10\r\n\r\n0123456789",
+        (201, "accepted pec.0000007@alfa.example\n"),
+    ),
+    (
+        "POST /mail/anna@alfa.example/submit HTTP/1.1\r\nx-key: chiave\r\nx-path: bob@beta.example\r\ncontent-length: 9999999999\r\n\r\nSalve",
+        (413, "too-large\n"),
+    ),
+    (
+        "POST /mail/anna@alfa.example/submit HTTP/1.1\r\nx-key: chiave\r\nx-path: bob@beta.example\r\ncontent-length: 99999999999\r\n\r\nSalve",
+        (411, "length\n"),
+    ),
+    (
+        "POST /mail/anna@alfa.example/submit HTTP/1.1\r\nx-key: chiave\r\nx-path: bob@beta.example\r\ncontent-length: +5\r\n\r\nSalve",
+        (411, "length\n"),
+    ),
+    (
+        "POST /mail/anna@alfa.example/submit HTTP/1.1\r\nx-key: chiave\r\nx-path: bob@beta.example\r\ncontent-length: -5\r\n\r\nSalve",
+        (411, "length\n"),
+    ),
+    (
+        "POST /mail/anna@alfa.example/submit HTTP/1.1\r\nx-key: chiave\r\nx-path: bob@beta.example\r\ncontent-length: 5 5\r\n\r\nSalve",
+        (411, "length\n"),
+    ),
+    (
+        "POST /mail/anna@alfa.example/submit HTTP/1.1\r\nx-key: chiave\r\nx-path: bob@beta.example\r\ncontent-length: 5, 5\r\n\r\nSalve",
+        (411, "length\n"),
+    ),
+    (
+        "POST /mail/anna@alfa.example/submit HTTP/1.1\r\nx-key: chiave\r\nx-path: bob@beta.example\r\ncontent-length: 0x5\r\n\r\nSalve",
+        (411, "length\n"),
+    ),
+    (
+        "POST /mail/anna@alfa.example/submit HTTP/1.1\r\nx-key: chiave\r\nx-path: bob@beta.example\r\ncontent-length:\r\n\r\nSalve",
+        (411, "length\n"),
+    ),
+    (
+        "POST /mail/anna@alfa.example/submit HTTP/1.1\r\nx-key: chiave\r\nx-path: bob@beta.example\r\ncontent-length: 5\r\ncontent-length: 5\r\n\r\nSalve",
+        (411, "length\n"),
+    ),
+    (
+        "POST /mail/anna@alfa.example/submit HTTP/1.1\r\nx-key: chiave\r\nx-path: bob@beta.example\r\ncontent-length: 5\r\ntransfer-encoding: chunked\r\n\r\nSalve",
+        (411, "length\n"),
+    ),
+    (
+        "POST /mail/anna@alfa.example/submit HTTP/1.1\r\nx-key: chiave\r\nx-path: bob@beta.example\r\nTransfer-Encoding: identity\r\n\r\n5\r\nSalve\r\n0\r\n\r\n",
+        (411, "length\n"),
+    ),
+    // paths
+    (
+        "POST /mail/anna@alfa.example/submit HTTP/1.1\r\nx-key: chiave\r\nx-path: bob@beta.example , \tBOB@beta.example\r\ncontent-length: 5\r\n\r\nSalve",
+        (201, "accepted pec.0000007@alfa.example\n"),
+    ),
+    (
+        "POST /mail/anna@alfa.example/submit HTTP/1.1\r\nx-key: chiave\r\nx-path:\r\ncontent-length: 5\r\n\r\nSalve",
+        (400, "bad-request\n"),
+    ),
+    (
+        "POST /mail/anna@alfa.example/submit HTTP/1.1\r\nx-key: chiave\r\nx-path: ,\r\ncontent-length: 5\r\n\r\nSalve",
+        (400, "bad-request\n"),
+    ),
+    (
+        "POST /mail/anna@alfa.example/submit HTTP/1.1\r\nx-key: chiave\r\nx-path: bob@beta.example,\r\ncontent-length: 5\r\n\r\nSalve",
+        (400, "bad-request\n"),
+    ),
+    (
+        "POST /mail/anna@alfa.example/submit HTTP/1.1\r\nx-key: chiave\r\nx-path: bob@beta.example bob@beta.example\r\ncontent-length: 5\r\n\r\nSalve",
+        (400, "bad-request\n"),
+    ),
+    (
+        "POST /mail/anna@alfa.example/submit HTTP/1.1\r\nx-key: chiave\r\nx-path: bob@beta.example\r\nx-path: bob@beta.example\r\ncontent-length: 5\r\n\r\nSalve",
+        (400, "bad-request\n"),
+    ),
+    // a body behind what is asked, and a second request
+    (
+        "GET /mail/anna@alfa.example/book HTTP/1.1\r\nx-key: chiave\r\ncontent-length: 5\r\n\r\nSalve",
+        (200, "book 0\n"),
+    ),
+    (
+        "POST /mail/anna@alfa.example/submit HTTP/1.1\r\nx-key: chiave\r\nx-path: bob@beta.example\r\ncontent-length: 5\r\n\r\nSalve, Bob",
+        (201, "accepted pec.0000007@alfa.example\n"),
+    ),
+    (
+        "GET /mail/anna@alfa.example/book HTTP/1.1\r\nx-key: chiave\r\n\r\nGET /mail/anna@alfa.example/submit HTTP/1.1\r\nx-key: chiave\r\n\r\n",
+        (200, "book 0\n"),
+    ),
+];
+
+// Heads in whole.
+const HEADS: [Row; 10] = [
+    // empty lines in front, and lines that end with LF alone
+    (
+        "\r\n\nGET /mail/anna@alfa.example/book HTTP/1.1\nx-key: chiave\n\n",
+        (200, "book 0\n"),
+    ),
+    // version 1.0
+    (
+        "GET /mail/anna@alfa.example/book HTTP/1.0\r\nx-key: chiave\r\n\r\n",
+        (200, "book 0\n"),
+    ),
+    // other versions
+    (
+        "GET /mail/anna@alfa.example/book HTTP/2.0\r\nx-key: chiave\r\n\r\n",
+        (400, "bad-request\n"),
+    ),
+    (
+        "GET /mail/anna@alfa.example/book\r\nx-key: chiave\r\n\r\n",
+        (400, "bad-request\n"),
+    ),
+    // a line that isn't a field
+    (
+        "GET /mail/anna@alfa.example/book HTTP/1.1\r\nx-key\r\n\r\n",
+        (400, "bad-request\n"),
+    ),
+    // a blank behind a name, or in front of one
+    (
+        "GET /mail/anna@alfa.example/book HTTP/1.1\r\nx-key : chiave\r\n\r\n",
+        (400, "bad-request\n"),
+    ),
+    (
+        "GET /mail/anna@alfa.example/book HTTP/1.1\r\n x-key: chiave\r\n\r\n",
+        (400, "bad-request\n"),
+    ),
+    // nothing
+    ("", (400, "bad-request\n")),
+    ("\r\n\r\n\r\n", (400, "bad-request\n")),
+    // bytes that aren't ASCII in the method
+    (
+        "G\u{e9}T /mail/anna@alfa.example/book HTTP/1.1\r\nx-key: chiave\r\n\r\n",
+        (400, "bad-request\n"),
+    ),
+];
+
+/// The place of the first row that is answered otherwise, in pieces of any size; none where each is answered so.
+fn first_wrong(alloc: Global, rows: &[Row]) -> Result<Option<usize>, Fail> {
+    for (place, (request, wanted)) in rows.iter().enumerate() {
+        let whole = is_answered(alloc, Mood::Accepts, request.as_bytes(), 4096, *wanted)?;
+        let in_bytes = is_answered(alloc, Mood::Accepts, request.as_bytes(), 1, *wanted)?;
+        if !whole || !in_bytes {
+            return Ok(Some(place));
+        }
+    }
+    Ok(None)
+}
+
+#[test]
+fn a_request_is_answered_by_the_first_row(rt: HostRuntime) -> Result<(), Fail> {
+    assert_eq!(rt; first_wrong(rt.alloc(), &ROWS)?, None);
+    Ok(())
+}
+
+#[test]
+fn a_target_is_a_route_as_it_stands(rt: HostRuntime) -> Result<(), Fail> {
+    assert_eq!(rt; first_wrong(rt.alloc(), &TARGETS)?, None);
+    Ok(())
+}
+
+#[test]
+fn fields_are_found_by_their_names(rt: HostRuntime) -> Result<(), Fail> {
+    assert_eq!(rt; first_wrong(rt.alloc(), &FIELDS)?, None);
+    Ok(())
+}
+
+#[test]
+fn a_head_is_read_as_a_whole(rt: HostRuntime) -> Result<(), Fail> {
+    assert_eq!(rt; first_wrong(rt.alloc(), &HEADS)?, None);
+    Ok(())
+}
+
+const SUBMISSION: &[u8] =
+    b"POST /mail/anna@alfa.example/submit HTTP/1.1\r\nx-key: chiave\r\nx-path: bob@beta.example, carl@beta.example\r\ncontent-length: 5\r\n\r\nSalve";
+
+// How the desk answers a submission, and what is written.
+const SUBMITTED: [(Mood, (u16, &str)); 8] = [
+    (Mood::Accepts, (201, "accepted pec.0000007@alfa.example\n")),
+    (
+        Mood::Declines,
+        (422, "not-accepted pec.0000007@alfa.example forward-path\n"),
+    ),
+    (Mood::Down, (503, "down\n")),
+    (Mood::ClockBack, (409, "clock-back 1704186000\n")),
+    (Mood::Full, (507, "full\n")),
+    (Mood::JournalFull, (507, "journal-full\n")),
+    (Mood::DiskFault, (503, "fault disk\n")),
+    (Mood::NoMemory, (500, "no-memory\n")),
+];
+
+#[test]
+fn a_submission_is_answered_by_the_desk(rt: HostRuntime) -> Result<(), Fail> {
+    for (mood, wanted) in SUBMITTED {
+        assert!(rt; is_answered(rt.alloc(), mood, SUBMISSION, 4096, wanted)?);
+    }
+    let exchange = serve(rt.alloc(), Mood::Accepts, SUBMISSION, 7, NEVER)?;
+    assert_eq!(rt; exchange.desk.submissions, 1);
+    assert_eq!(rt; exchange.desk.addresses, 2);
+    assert_eq!(rt; exchange.desk.message.as_slice(), b"Salve".as_slice());
+    Ok(())
+}
+
+const ITEM: &[u8] = b"GET /mail/anna@alfa.example/items/7 HTTP/1.1\r\nx-key: chiave\r\n\r\n";
+
+#[test]
+fn an_item_is_a_message(rt: HostRuntime) -> Result<(), Fail> {
+    let exchange = serve(rt.alloc(), Mood::Accepts, ITEM, 4096, NEVER)?;
+    let wanted = answer(
+        rt.alloc(),
+        "message/rfc822",
+        (200, "From: a@b\r\n\r\nSalve"),
+    )?;
+    assert_eq!(rt; exchange.wire.written.as_slice(), wanted.as_bytes());
+    assert!(rt; is_answered(rt.alloc(), Mood::Down, ITEM, 4096, (503, "down\n"))?);
+    assert!(rt; is_answered(rt.alloc(), Mood::NoMemory, ITEM, 4096, (500, "no-memory\n"))?);
+    Ok(())
+}
+
+// A submission that ends too early isn't handed in, wherever it ends.
+#[test]
+fn each_cut_of_a_submission_is_refused(rt: HostRuntime) -> Result<(), Fail> {
+    for end in 0..SUBMISSION.len() {
+        let exchange = serve(rt.alloc(), Mood::Accepts, &SUBMISSION[..end], 4096, NEVER)?;
+        assert_eq!(rt; exchange.served, Served::Answered(400));
+        assert_eq!(rt; exchange.desk.submissions, 0);
+    }
+    Ok(())
+}
+
+#[test]
+fn a_path_has_at_most_1000_addresses(rt: HostRuntime) -> Result<(), Fail> {
+    let taken = submission_to(rt.alloc(), 1000)?;
+    let exchange = serve(rt.alloc(), Mood::Accepts, &taken, 4096, NEVER)?;
+    assert_eq!(rt; exchange.served, Served::Answered(201));
+    assert_eq!(rt; exchange.desk.addresses, 1000);
+    let refused = submission_to(rt.alloc(), 1001)?;
+    assert!(rt;
+        is_answered(
+            rt.alloc(),
+            Mood::Accepts,
+            &refused,
+            4096,
+            (400, "bad-request\n")
+        )?
+    );
+    Ok(())
+}
+
+/// A submission with so many addresses in its path, of which there is one.
+fn submission_to(alloc: Global, count: u32) -> Result<Vec<u8>, Fail> {
+    let mut request = Vec::from_slice(
+        alloc,
+        b"POST /mail/anna@alfa.example/submit HTTP/1.1\r\nx-key: chiave\r\ncontent-length: 0\r\nx-path: a@b",
+    )?;
+    for _ in 1..count {
+        request.extend_from_slice(b",a@b")?;
+    }
+    request.extend_from_slice(b"\r\n\r\n")?;
+    Ok(request)
+}
