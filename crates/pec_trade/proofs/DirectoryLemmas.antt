@@ -12,7 +12,7 @@ use Rattle.pec_types.specs.AddressReading.{domain_of}
 use Rattle.pec_types.specs.Bytes.{Bytes}
 use Rattle.pec_directory.specs.Directory.{Account, Kept, Provider, account_home, account_of, accounts_of, home_of, is_account_of, is_number, manager_of, manages, providers_of}
 use Rattle.pec_directory.specs.Fields.{greatest_limit, is_name, is_name_byte, longest_name}
-use Rattle.pec_directory.specs.Lawful.{AreNext, AreNextAccounts, IsLawful, IsNext}
+use Rattle.pec_directory.specs.Lawful.{AreNext, AreNextAccounts, IsLawful, IsNext, provider_with}
 use Rattle.pec_seal.specs.Seals.{Seals}
 use Rattle.pec_letters.specs.Fitting.{Fits}
 use Rattle.pec_points.specs.Case.{limit_in, limit_of}
@@ -91,16 +91,16 @@ limit_small providers n lawful = by (slice_get providers n) refl
 abbrev IsLower : Account → Type 0
 IsLower account = IsLowerAddress account.address
 
-all_lower : (earlier : List Provider) (receipts : Bytes) (domains : List Bytes) (before accounts : List Account) → AreNextAccounts earlier receipts domains before accounts
+all_lower : (earlier : List Provider) (provider : Provider) (accounts : List Account) → AreNextAccounts earlier provider accounts
     → AllByRecursion IsLower accounts
-all_lower earlier receipts domains before [] next = tt
-all_lower earlier receipts domains before (account ∷ accounts) next =
-    (next.0.address, all_lower earlier receipts domains (before ++ account ∷ []) accounts next.1)
+all_lower earlier provider [] next = tt
+all_lower earlier provider (account ∷ accounts) next =
+    (next.0.address, all_lower earlier (provider_with provider (provider.accounts ++ account ∷ [])) accounts next.1)
 
 accounts_lower : (earlier providers : List Provider) → AreNext earlier providers → AllByRecursion IsLower (accounts_of providers)
 accounts_lower earlier [] next = tt
 accounts_lower earlier (p ∷ providers) next =
-    all_joined IsLower p.accounts (accounts_of providers) (all_lower earlier p.receipts p.domains [] p.accounts next.0.accounts)
+    all_joined IsLower p.accounts (accounts_of providers) (all_lower earlier (provider_with p []) p.accounts next.0.accounts)
     (accounts_lower (earlier ++ p ∷ []) providers next.1)
 
 account_at : (number : ℕ) (found : Option Account) (home : Option ℕ) → is_number number (cond (is_some found) home None) ≡ true
