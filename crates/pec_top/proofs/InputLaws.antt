@@ -5,7 +5,7 @@ use Rattle.std.proofs.lemmas.Iterator.Adapters.{position_from-zero}
 use Rattle.std.proofs.lemmas.List.{length-take-le}
 use Rattle.std.specs.List.{position_from}
 use Rattle.pec_outside.specs.Flow.{behind}
-use Rattle.pec_outside.proofs.FlowLemmas.{behind-append}
+use Rattle.pec_top.proofs.FlowLemmas.{behind-append}
 use Rattle.pec_top.specs.Input.{first_piece, after_piece, has_feed, IsEnded, IsFound}
 use Rattle.pec_top.specs.declared.input.Found.{Found}
 use Rattle.pec_top.specs.declared.input.Found.TheVariants.{Line, Long}

@@ -1,3 +1,4 @@
+mod FlowLemmas
 mod InputLaws
 mod LedgerLaws
 mod LineGrammarLaws

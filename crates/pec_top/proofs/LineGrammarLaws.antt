@@ -12,7 +12,7 @@ use Rattle.pec_directory.specs.Directory.{Provider, named}
 use Rattle.pec_types.specs.Address.{IsAddress, lowered}
 use Rattle.pec_types.specs.declared.moments.TheConstants.{END_OF_TIME}
 use Rattle.pec_top.proofs.NumberLaws.{decimal_spelled, number_printed, number_read}
-use Rattle.pec_top.proofs.PathGrammarLaws.{address_again, address_read, no_space_in, no_space_path, path_again, path_read}
+use Rattle.pec_top.proofs.PathGrammarLaws.{AddressLaws, address_again, address_read, no_space_in, no_space_path, path_again, path_read}
 use Rattle.pec_top.proofs.WordLaws.{IsCut, Lacks, Led, led, lacks_by, last_again, last_read, word_again, word_read}
 use Rattle.pec_top.specs.Commands.{Command, submit, book, Submission, address_in, book_at, command_of, message_of, moment_of, submission_of, submit_at}
 use Rattle.pec_top.specs.LineGrammar.{IsCommand, IsPath, IsSubmission}
@@ -66,27 +66,27 @@ abbrev put_together : ℕ → Option ℕ → Option (List ℕ) → Option (List 
 put_together provider moment sender path message = moment >>= λ at. sender >>= λ from. path >>= λ along. message >>= λ bytes.
     Some (record { provider = provider; moment = at; sender = from; path = along; message = bytes })
 
-means_so : (provider : ℕ) (moment sender path message : List ℕ) (s : Submission) (at : Option ℕ) (from : Option (List ℕ)) (along : Option (List (List ℕ))) (bytes : Option (List ℕ))
+means_so : AddressLaws → (provider : ℕ) (moment sender path message : List ℕ) (s : Submission) (at : Option ℕ) (from : Option (List ℕ)) (along : Option (List (List ℕ))) (bytes : Option (List ℕ))
     → moment_of moment ≡ at → address_in sender ≡ from → path_of path ≡ along → message_of message ≡ bytes → put_together provider at from along bytes ≡ Some s → Means provider moment sender path message s
-means_so provider moment sender path message s None from along bytes m a p b e = absurd cc
-means_so provider moment sender path message s (Some at) None along bytes m a p b e = absurd cc
-means_so provider moment sender path message s (Some at) (Some from) None bytes m a p b e = absurd cc
-means_so provider moment sender path message s (Some at) (Some from) (Some along) None m a p b e = absurd cc
-means_so provider moment sender path message s (Some at) (Some from) (Some along) (Some bytes) m a p b e =
+means_so laws provider moment sender path message s None from along bytes m a p b e = absurd cc
+means_so laws provider moment sender path message s (Some at) None along bytes m a p b e = absurd cc
+means_so laws provider moment sender path message s (Some at) (Some from) None bytes m a p b e = absurd cc
+means_so laws provider moment sender path message s (Some at) (Some from) (Some along) None m a p b e = absurd cc
+means_so laws provider moment sender path message s (Some at) (Some from) (Some along) (Some bytes) m a p b e =
     subst (λ x. Means provider moment sender path message x) (same_Some _ _ e)
     (record {
       provider_is = refl;
       moment_text = (moment_read moment at m).0;
       moment_is = (moment_read moment at m).1;
-      sender_is = (address_read sender from a).0;
-      sender_kept = (address_read sender from a).1;
-      path_is = path_read path along p;
+      sender_is = (address_read laws sender from a).0;
+      sender_kept = (address_read laws sender from a).1;
+      path_is = path_read laws path along p;
       message_is = message_read message bytes b;
     })
 
-submission_read : (provider : ℕ) (moment sender path message : List ℕ) (s : Submission) → submission_of provider moment sender path message ≡ Some s → Means provider moment sender path message s
+submission_read : AddressLaws → (provider : ℕ) (moment sender path message : List ℕ) (s : Submission) → submission_of provider moment sender path message ≡ Some s → Means provider moment sender path message s
 unfolding submission_of
-submission_read provider moment sender path message s e = means_so provider moment sender path message s (moment_of moment) (address_in sender) (path_of path) (message_of message) refl refl refl refl e
+submission_read laws provider moment sender path message s e = means_so laws provider moment sender path message s (moment_of moment) (address_in sender) (path_of path) (message_of message) refl refl refl refl e
 
 -- The words behind `submit`.
 
@@ -160,9 +160,9 @@ words_read providers text command e =
 
 -- Lines.
 
-submit_says : (providers : List Provider) (line text : List ℕ) (command : Command) → line ≡ codes "submit" ++ 32 ∷ text → HasWords providers text command → IsCommand providers line command
-submit_says providers line text command parts words =
-    let means : Means words.provider words.moment words.sender words.path words.message words.submission = submission_read _ _ _ _ _ _ words.read in
+submit_says : AddressLaws → (providers : List Provider) (line text : List ℕ) (command : Command) → line ≡ codes "submit" ++ 32 ∷ text → HasWords providers text command → IsCommand providers line command
+submit_says laws providers line text command parts words =
+    let means : Means words.provider words.moment words.sender words.path words.message words.submission = submission_read laws _ _ _ _ _ _ words.read in
     subst (λ c. IsCommand providers line c) words.command_is
     (record {
       name = words.name;
@@ -186,77 +186,77 @@ booked address = Some (book address)
 abbrev book_word : List ℕ → Option Command
 book_word word = address_in word >>= booked
 
-book_says : (providers : List Provider) (line text : List ℕ) (command : Command) → line ≡ codes "book" ++ 32 ∷ text → book_at text ≡ Some command → IsCommand providers line command
+book_says : AddressLaws → (providers : List Provider) (line text : List ℕ) (command : Command) → line ≡ codes "book" ++ 32 ∷ text → book_at text ≡ Some command → IsCommand providers line command
 unfolding book_at
-book_says providers line text command parts e =
+book_says laws providers line text command parts e =
     let word : Led (last_word text) book_word command = led _ _ _ e in
     let account : Led (address_in word.found) booked command = led _ _ _ word.leads in
-    let is : IsAddress word.found × (account.found ≡ lowered word.found) = address_read word.found account.found account.is in
+    let is : IsAddress word.found × (account.found ≡ lowered word.found) = address_read laws word.found account.found account.is in
     subst (λ c. IsCommand providers line c) (same_Some _ _ account.leads)
     (record { address = word.found; line_is = parts ∙ ap (λ t. codes "book" ++ 32 ∷ t) (last_read text word.found word.is).0; address_is = is.0; account_is = is.1 })
 
-by_verb : (providers : List Provider) (line verb text : List ℕ) (command : Command) (x y : Bool) → bytes_eq verb (codes "submit") ≡ x → bytes_eq verb (codes "book") ≡ y → line ≡ verb ++ 32 ∷ text
+by_verb : AddressLaws → (providers : List Provider) (line verb text : List ℕ) (command : Command) (x y : Bool) → bytes_eq verb (codes "submit") ≡ x → bytes_eq verb (codes "book") ≡ y → line ≡ verb ++ 32 ∷ text
     → cond x (submit_at providers text) (cond y (book_at text) None) ≡ Some command → IsCommand providers line command
-by_verb providers line verb text command true y s b parts e =
-    submit_says providers line text command (parts ∙ ap (λ v. v ++ 32 ∷ text) ((bytes_eq-Decides verb (codes "submit")).0 s)) (words_read providers text command e)
-by_verb providers line verb text command false true s b parts e =
-    book_says providers line text command (parts ∙ ap (λ v. v ++ 32 ∷ text) ((bytes_eq-Decides verb (codes "book")).0 b)) e
-by_verb providers line verb text command false false s b parts e = absurd cc
+by_verb laws providers line verb text command true y s b parts e =
+    submit_says laws providers line text command (parts ∙ ap (λ v. v ++ 32 ∷ text) ((bytes_eq-Decides verb (codes "submit")).0 s)) (words_read providers text command e)
+by_verb laws providers line verb text command false true s b parts e =
+    book_says laws providers line text command (parts ∙ ap (λ v. v ++ 32 ∷ text) ((bytes_eq-Decides verb (codes "book")).0 b)) e
+by_verb laws providers line verb text command false false s b parts e = absurd cc
 
 abbrev with_verb : List Provider → List ℕ × List ℕ → Option Command
 with_verb providers verb = cond (bytes_eq verb.0 (codes "submit")) (submit_at providers verb.1) (cond (bytes_eq verb.0 (codes "book")) (book_at verb.1) None)
 
-pub line_read : (providers : List Provider) (line : List ℕ) (command : Command) → command_of providers line ≡ Some command → IsCommand providers line command
+pub line_read : AddressLaws → (providers : List Provider) (line : List ℕ) (command : Command) → command_of providers line ≡ Some command → IsCommand providers line command
 unfolding command_of
-line_read providers line command e =
+line_read laws providers line command e =
     let verb : Led (word_at line) (with_verb providers) command = led _ _ _ e in
-    by_verb providers line verb.found.0 verb.found.1 command (bytes_eq verb.found.0 (codes "submit")) (bytes_eq verb.found.0 (codes "book")) refl refl (word_read line verb.found verb.is).parts verb.leads
+    by_verb laws providers line verb.found.0 verb.found.1 command (bytes_eq verb.found.0 (codes "submit")) (bytes_eq verb.found.0 (codes "book")) refl refl (word_read line verb.found verb.is).parts verb.leads
 
 -- And back.
 
-submission_again : (providers : List Provider) (line : List ℕ) (s : Submission) (is : IsSubmission providers line s)
+submission_again : AddressLaws → (providers : List Provider) (line : List ℕ) (s : Submission) (is : IsSubmission providers line s)
     → submission_of s.provider (decimal s.moment) is.sender is.path is.base64 ≡ Some s
 unfolding submission_of
-submission_again providers line s is =
-    rw (moment_again s.moment is.moment_is, address_again is.sender s.sender is.sender_is is.sender_kept, path_again is.path s.path is.path_is, message_again is.base64 s.message is.message_is) refl
+submission_again laws providers line s is =
+    rw (moment_again s.moment is.moment_is, address_again laws is.sender s.sender is.sender_is is.sender_kept, path_again laws is.path s.path is.path_is, message_again is.base64 s.message is.message_is) refl
 
-submit_again : (providers : List Provider) (line : List ℕ) (s : Submission) (is : IsSubmission providers line s)
+submit_again : AddressLaws → (providers : List Provider) (line : List ℕ) (s : Submission) (is : IsSubmission providers line s)
     → submit_at providers (is.name ++ 32 ∷ (decimal s.moment ++ 32 ∷ (is.sender ++ 32 ∷ (is.path ++ 32 ∷ is.base64)))) ≡ Some (submit s)
 unfolding submit_at
-submit_again providers line s is =
+submit_again laws providers line s is =
     rw (
       word_again is.name (decimal s.moment ++ 32 ∷ (is.sender ++ 32 ∷ (is.path ++ 32 ∷ is.base64))) is.name_is_word,
       is.provider_is,
       word_again (decimal s.moment) (is.sender ++ 32 ∷ (is.path ++ 32 ∷ is.base64)) (no_space_decimal s.moment is.moment_is),
-      word_again is.sender (is.path ++ 32 ∷ is.base64) (no_space_in is.sender is.sender_is),
-      word_again is.path is.base64 (no_space_path is.path s.path is.path_is),
+      word_again is.sender (is.path ++ 32 ∷ is.base64) (no_space_in laws is.sender is.sender_is),
+      word_again is.path is.base64 (no_space_path laws is.path s.path is.path_is),
       last_again is.base64 is.base64_is_word,
-      submission_again providers line s is,
+      submission_again laws providers line s is,
     ) refl
 
-pub line_again : (providers : List Provider) (line : List ℕ) (command : Command) → IsCommand providers line command → command_of providers line ≡ Some command
+pub line_again : AddressLaws → (providers : List Provider) (line : List ℕ) (command : Command) → IsCommand providers line command → command_of providers line ≡ Some command
 unfolding command_of book_at
-line_again providers line (submit s) is =
+line_again laws providers line (submit s) is =
     ap (command_of providers) is.line_is
     ∙ rw (word_again (codes "submit") (is.name ++ 32 ∷ (decimal s.moment ++ 32 ∷ (is.sender ++ 32 ∷ (is.path ++ 32 ∷ is.base64)))) (lacks_by (λ b. not (eqb b 32)) 32 refl (codes "submit") refl))
-    (submit_again providers line s is)
-line_again providers line (book account) is =
+    (submit_again laws providers line s is)
+line_again laws providers line (book account) is =
     ap (command_of providers) is.line_is
     ∙ rw (
       word_again (codes "book") is.address (lacks_by (λ b. not (eqb b 32)) 32 refl (codes "book") refl),
-      last_again is.address (no_space_in is.address is.address_is),
-      address_again is.address account is.address_is is.account_is,
+      last_again is.address (no_space_in laws is.address is.address_is),
+      address_again laws is.address account is.address_is is.account_is,
     ) refl
 
-pub one_command : (providers : List Provider) (line : List ℕ) (first other : Command) → IsCommand providers line first → IsCommand providers line other → first ≡ other
-one_command providers line first other a b = same_Some first other (sym (line_again providers line first a) ∙ line_again providers line other b)
+pub one_command : AddressLaws → (providers : List Provider) (line : List ℕ) (first other : Command) → IsCommand providers line first → IsCommand providers line other → first ≡ other
+one_command laws providers line first other a b = same_Some first other (sym (line_again laws providers line first a) ∙ line_again laws providers line other b)
 
-no_command : (providers : List Provider) (line : List ℕ) (said : Option Command) → command_of providers line ≡ said → ((command : Command) → IsCommand providers line command → ⊥) → said ≡ None
-no_command providers line None e none = refl
-no_command providers line (Some command) e none = absurd (none command (line_read providers line command e))
+no_command : AddressLaws → (providers : List Provider) (line : List ℕ) (said : Option Command) → command_of providers line ≡ said → ((command : Command) → IsCommand providers line command → ⊥) → said ≡ None
+no_command laws providers line None e none = refl
+no_command laws providers line (Some command) e none = absurd (none command (line_read laws providers line command e))
 
-pub refused_line : (providers : List Provider) (line : List ℕ) → ((command : Command) → IsCommand providers line command → ⊥) → command_of providers line ≡ None
-refused_line providers line none = no_command providers line (command_of providers line) refl none
+pub refused_line : AddressLaws → (providers : List Provider) (line : List ℕ) → ((command : Command) → IsCommand providers line command → ⊥) → command_of providers line ≡ None
+refused_line laws providers line none = no_command laws providers line (command_of providers line) refl none
 
-pub says_none : (providers : List Provider) (line : List ℕ) → command_of providers line ≡ None → (command : Command) → IsCommand providers line command → ⊥
-says_none providers line none command is = none-some command (sym none ∙ line_again providers line command is)
+pub says_none : AddressLaws → (providers : List Provider) (line : List ℕ) → command_of providers line ≡ None → (command : Command) → IsCommand providers line command → ⊥
+says_none laws providers line none command is = none-some command (sym none ∙ line_again laws providers line command is)

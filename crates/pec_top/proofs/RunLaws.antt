@@ -2,7 +2,7 @@
 use Rattle.std.proofs.Common.{◌≡◌, ℕ, ◌+◌, ◌<◌, ◌⊎◌, Bool, true, false, cond, ltb, ◌||◌, List, [], ◌∷◌, ◌++◌, length, Option, Some, None, option_map, IfSome, codes, refl, sym, ◌∙◌, ap, subst, arith, append_assoc, append-nil, lt-ltb, length-append}
 use Rattle.std.proofs.lemmas.Slice.Eq.{bytes_eq-Decides}
 use Rattle.pec_outside.specs.Flow.{behind, followed_by, WrotePart}
-use Rattle.pec_outside.proofs.FlowLemmas.{wrote_nothing, wrote_more, wrote_part, wrote_last}
+use Rattle.pec_top.proofs.FlowLemmas.{wrote_nothing, wrote_more, wrote_part, wrote_last}
 use Rattle.pec_directory.specs.Directory.{Provider}
 use Rattle.pec_top.specs.Input.{IsAtEnd, IsEnded, IsFound}
 use Rattle.pec_top.specs.Lines.{raw_lines, content_of, HasNoEnd}

@@ -11,7 +11,10 @@ use crate::reading::{last_word, next_word};
 use base64::DecodeAllocError;
 use base64::engine::general_purpose::STANDARD;
 use pec_directory::Directory;
-use pec_types::{Address, Moment, NoMemory, Text8};
+use pec_types::{
+    Address, Moment, NoMemory, Text8, an_address_is_told_exactly, lower_addresses_pass,
+    what_is_read_is_in_lower_case,
+};
 use std::alloc::Global;
 
 /// A message that is handed in at the provider of this number.
@@ -59,7 +62,11 @@ pub fn a_line_says_one_command()
     ensures read { (providers : List Provider) (line : List ℕ) (command : commands.Command) → (command_of providers line ≡ Some command) ↔ IsCommand providers line command }
     ensures none { (providers : List Provider) (line : List ℕ) → (command_of providers line ≡ None) ↔ ((command : commands.Command) → IsCommand providers line command → ⊥) }
     ensures one { (providers : List Provider) (line : List ℕ) (first other : commands.Command) → IsCommand providers line first → IsCommand providers line other → first ≡ other }
-{}
+{
+    an_address_is_told_exactly();
+    what_is_read_is_in_lower_case();
+    lower_addresses_pass();
+}
 
 #[tactic(auto, unfolding(crate::specs::Commands::submit_at))]
 fn read_submit(

@@ -1,5 +1,5 @@
 use Rattle.std.proofs.Common.{◌≡◌, ℕ, List, Option, Some, sym, ◌∙◌, ap, subst}
-use Rattle.pec_outside.proofs.FlowLemmas.{on_err}
+use Rattle.pec_top.proofs.FlowLemmas.{on_err}
 use Rattle.pec_outside.specs.Flow.{behind, WrotePart}
 use Rattle.pec_top.specs.Directory.{opened_of}
 use Rattle.pec_top.specs.Lines.{raw_lines}

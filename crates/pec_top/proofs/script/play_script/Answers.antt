@@ -1,5 +1,5 @@
 use Rattle.std.proofs.Common.{◌≡◌, ◌+◌, ◌≤◌, Some, None, ◌∙◌, ap, arith, rules}
-use Rattle.pec_outside.proofs.FlowLemmas.{on_err}
+use Rattle.pec_top.proofs.FlowLemmas.{on_err}
 use Rattle.pec_directory.specs.Directory.{providers_of}
 use Rattle.pec_outside.specs.Flow.{followed_by}
 use Rattle.pec_top.specs.Transcript.{line_bytes, script_lines}
