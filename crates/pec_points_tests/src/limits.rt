@@ -11,56 +11,56 @@ const NO: bool = false;
 
 const YES: bool = true;
 
+/// Seconds since the acceptance; charged, warned, noticed, known; what is due.
+const TIMES: [(u32, bool, bool, bool, bool, Due); 34] = [
+    // No limit has passed.
+    (0, NO, NO, NO, NO, Due::Nothing),
+    (43_199, NO, NO, NO, NO, Due::Nothing),
+    // 12 hours: the warning, where nobody took charge and nothing was said.
+    (43_200, NO, NO, NO, NO, Due::Warning),
+    (43_201, NO, NO, NO, NO, Due::Warning),
+    (43_200, YES, NO, NO, NO, Due::Nothing),
+    (43_200, NO, YES, NO, NO, Due::Nothing),
+    (43_200, NO, NO, YES, NO, Due::Nothing),
+    (43_200, NO, NO, NO, YES, Due::Nothing),
+    // The last second before the notice.
+    (79_199, NO, NO, NO, NO, Due::Warning),
+    (79_199, YES, NO, NO, NO, Due::Nothing),
+    (79_199, NO, YES, NO, NO, Due::Nothing),
+    // 22 hours: the notice in place of the warning, whoever took charge and whatever was warned of.
+    (79_200, NO, NO, NO, NO, Due::Notice),
+    (79_200, YES, NO, NO, NO, Due::Notice),
+    (79_200, NO, YES, NO, NO, Due::Notice),
+    (79_200, YES, YES, NO, NO, Due::Notice),
+    (79_200, NO, NO, YES, NO, Due::Nothing),
+    (79_200, NO, YES, YES, NO, Due::Nothing),
+    (79_200, NO, NO, NO, YES, Due::Nothing),
+    (79_201, NO, NO, NO, NO, Due::Notice),
+    // 24 hours: exactly then the notice isn't late.
+    (86_399, NO, NO, NO, NO, Due::Notice),
+    (86_400, NO, NO, NO, NO, Due::Notice),
+    (86_401, NO, NO, NO, NO, Due::LateNotice),
+    (86_401, YES, NO, NO, NO, Due::LateNotice),
+    (86_401, NO, YES, NO, NO, Due::LateNotice),
+    (86_401, YES, YES, NO, NO, Due::LateNotice),
+    (86_401, NO, NO, YES, NO, Due::Nothing),
+    (86_401, NO, YES, YES, NO, Due::Nothing),
+    (86_401, NO, NO, NO, YES, Due::Nothing),
+    (86_401, YES, YES, YES, YES, Due::Nothing),
+    // Long after.
+    (2_398_258_799, NO, NO, NO, NO, Due::LateNotice),
+    (2_398_258_799, YES, YES, NO, NO, Due::LateNotice),
+    (2_398_258_799, NO, NO, YES, NO, Due::Nothing),
+    (2_398_258_799, NO, NO, NO, YES, Due::Nothing),
+    (2_398_258_799, YES, YES, YES, NO, Due::Nothing),
+];
+
 #[test]
 fn what_is_due_goes_by_the_time_table(rt: HostRuntime) -> Result<(), Fail> {
-    // Seconds since the acceptance; charged, warned, noticed, known; what is due.
-    let rows: [(u32, bool, bool, bool, bool, Due); 34] = [
-        // No limit has passed.
-        (0, NO, NO, NO, NO, Due::Nothing),
-        (43_199, NO, NO, NO, NO, Due::Nothing),
-        // 12 hours: the warning, where nobody took charge and nothing was said.
-        (43_200, NO, NO, NO, NO, Due::Warning),
-        (43_201, NO, NO, NO, NO, Due::Warning),
-        (43_200, YES, NO, NO, NO, Due::Nothing),
-        (43_200, NO, YES, NO, NO, Due::Nothing),
-        (43_200, NO, NO, YES, NO, Due::Nothing),
-        (43_200, NO, NO, NO, YES, Due::Nothing),
-        // The last second before the notice.
-        (79_199, NO, NO, NO, NO, Due::Warning),
-        (79_199, YES, NO, NO, NO, Due::Nothing),
-        (79_199, NO, YES, NO, NO, Due::Nothing),
-        // 22 hours: the notice in place of the warning, whoever took charge and whatever was warned of.
-        (79_200, NO, NO, NO, NO, Due::Notice),
-        (79_200, YES, NO, NO, NO, Due::Notice),
-        (79_200, NO, YES, NO, NO, Due::Notice),
-        (79_200, YES, YES, NO, NO, Due::Notice),
-        (79_200, NO, NO, YES, NO, Due::Nothing),
-        (79_200, NO, YES, YES, NO, Due::Nothing),
-        (79_200, NO, NO, NO, YES, Due::Nothing),
-        (79_201, NO, NO, NO, NO, Due::Notice),
-        // 24 hours: exactly then the notice isn't late.
-        (86_399, NO, NO, NO, NO, Due::Notice),
-        (86_400, NO, NO, NO, NO, Due::Notice),
-        (86_401, NO, NO, NO, NO, Due::LateNotice),
-        (86_401, YES, NO, NO, NO, Due::LateNotice),
-        (86_401, NO, YES, NO, NO, Due::LateNotice),
-        (86_401, YES, YES, NO, NO, Due::LateNotice),
-        (86_401, NO, NO, YES, NO, Due::Nothing),
-        (86_401, NO, YES, YES, NO, Due::Nothing),
-        (86_401, NO, NO, NO, YES, Due::Nothing),
-        (86_401, YES, YES, YES, YES, Due::Nothing),
-        // Long after.
-        (2_398_258_799, NO, NO, NO, NO, Due::LateNotice),
-        (2_398_258_799, YES, YES, NO, NO, Due::LateNotice),
-        (2_398_258_799, NO, NO, YES, NO, Due::Nothing),
-        (2_398_258_799, NO, NO, NO, YES, Due::Nothing),
-        (2_398_258_799, YES, YES, YES, NO, Due::Nothing),
-    ];
     let accepted = Moment::new(ACCEPTED).expect(&rt, "a moment");
-    for (past, charged, warned, noticed, known, want) in rows {
+    for (past, charged, warned, noticed, known, want) in TIMES {
         let now = Moment::new(ACCEPTED + u64::from(past)).expect(&rt, "a moment");
-        let due = timed(now, accepted, charged, warned, noticed, known);
-        assert_eq!(rt; due, want, "{past} {charged} {warned} {noticed} {known}");
+        assert_eq!(rt; timed(now, accepted, charged, warned, noticed, known), want);
     }
     Ok(())
 }

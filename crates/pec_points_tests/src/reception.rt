@@ -1,19 +1,16 @@
 //! Reception: in single rows, and over every combination of what a provider can see, against the rows as data.
 
+use crate::reception::Change::{Again, Astray, ForOneAt, Nothing, Of, SealedBy, Unknown, WithRoom};
 use pec_points::{Arrived, Reception, receive};
-use pec_types::{Address, Letter, MsgId};
+use pec_types::{Address, AddressFault, Letter, MsgId};
 use std::alloc::Global;
 use std::test::Fail;
 
 /// The provider that receives. The others are 1 and 2.
 const ME: u32 = 0;
 
-const NO: bool = false;
-
-const YES: bool = true;
-
 /// What stands in a frame.
-#[derive(Clone, Copy, Debug, PartialEq, Eq)]
+#[derive(Clone, Copy)]
 enum Kind {
     Envelope,
     Charge,
@@ -23,7 +20,7 @@ enum Kind {
 }
 
 /// What is seen of a frame, in words that can be counted through. A charge is always that of provider 1.
-#[derive(Clone, Copy, Debug, PartialEq, Eq)]
+#[derive(Clone, Copy)]
 struct Seen {
     kind: Kind,
     sealer: u32,
@@ -35,23 +32,24 @@ struct Seen {
     rooms: u32,
 }
 
-fn letter(alloc: Global, kind: Kind) -> Result<Option<Letter>, Fail> {
+/// The letter of a kind. All of them name the same message, and the charge is that of provider 1.
+fn letter_of(alloc: Global, kind: Kind) -> Result<Option<Letter>, AddressFault> {
     let id = MsgId {
         provider: ME,
         number: 7,
     };
-    let recipient = Address::read(alloc, b"b@b".as_slice())?;
-    match kind {
-        Kind::Envelope => Ok(Some(Letter::Envelope { id, to: ME })),
-        Kind::Charge => Ok(Some(Letter::Charge { id, by: 1 })),
-        Kind::Outcome => Ok(Some(Letter::Outcome { id, recipient })),
-        Kind::Ack => Ok(Some(Letter::Ack { id, recipient })),
-        Kind::Other => Ok(None),
-    }
+    let recipient = Address::read(alloc, b"b@b")?;
+    Ok(match kind {
+        Kind::Envelope => Some(Letter::Envelope { id, to: ME }),
+        Kind::Charge => Some(Letter::Charge { id, by: 1 }),
+        Kind::Outcome => Some(Letter::Outcome { id, recipient }),
+        Kind::Ack => Some(Letter::Ack { id, recipient }),
+        Kind::Other => None,
+    })
 }
 
-fn reception(alloc: Global, seen: Seen) -> Result<Reception, Fail> {
-    let letter = letter(alloc, seen.kind)?;
+fn reception_of(alloc: Global, seen: Seen) -> Result<Reception, AddressFault> {
+    let letter = letter_of(alloc, seen.kind)?;
     let arrived = Arrived {
         letter,
         sealer: seen.sealer,
@@ -65,31 +63,33 @@ fn reception(alloc: Global, seen: Seen) -> Result<Reception, Fail> {
     Ok(receive(ME, &arrived))
 }
 
-/// Two rows of the table as data: the letter, who has to have sealed it, what has to be this provider's own, and what is done
-/// where it is new. Where it was received before it is a repeat.
-type Rows = (Kind, Sealer, Own, Reception);
-
-#[derive(Clone, Copy, Debug, PartialEq, Eq)]
+/// Who has to have sealed the letter.
+#[derive(Clone, Copy)]
 enum Sealer {
     Id,
     Charger,
     Home,
 }
 
-#[derive(Clone, Copy, Debug, PartialEq, Eq)]
+/// What has to be this provider's own.
+#[derive(Clone, Copy)]
 enum Own {
     Any,
     Id,
     Home,
 }
 
-/// Rows 2 to 9.
-const ROWS: [Rows; 4] = [
-    (Kind::Envelope, Sealer::Id, Own::Any, Reception::Take),
-    (Kind::Charge, Sealer::Charger, Own::Id, Reception::Charge),
-    (Kind::Outcome, Sealer::Home, Own::Id, Reception::Outcome),
-    (Kind::Ack, Sealer::Id, Own::Home, Reception::Ack),
-];
+/// Rows 2 to 9 as data, two for each kind: who has to have sealed the letter, what has to be this provider's own, and
+/// what is done where it is new. Where it was received before it is a repeat.
+fn row_of(kind: Kind) -> Option<(Sealer, Own, Reception)> {
+    match kind {
+        Kind::Envelope => Some((Sealer::Id, Own::Any, Reception::Take)),
+        Kind::Charge => Some((Sealer::Charger, Own::Id, Reception::Charge)),
+        Kind::Outcome => Some((Sealer::Home, Own::Id, Reception::Outcome)),
+        Kind::Ack => Some((Sealer::Id, Own::Home, Reception::Ack)),
+        Kind::Other => None,
+    }
+}
 
 /// The provider that has to have sealed the letter, where there is one.
 fn wanted(sealer: Sealer, seen: Seen) -> Option<u32> {
@@ -109,23 +109,27 @@ fn is_own(own: Own, seen: Seen) -> bool {
     }
 }
 
-/// What the rows as data answer.
-fn by_rows(seen: Seen) -> Reception {
-    for (kind, sealer, own, new) in ROWS {
-        if kind == seen.kind
-            && wanted(sealer, seen) == Some(seen.sealer)
-            && is_own(own, seen)
-            && (seen.row || kind == Kind::Envelope)
-            && seen.path
-        {
-            return if seen.done { Reception::Repeat } else { new };
-        }
-    }
+/// What rows 10 and 11 answer on anything else.
+fn otherwise(seen: Seen) -> Reception {
     if seen.rooms > 0 {
         Reception::Anomaly
     } else {
         Reception::Drop
     }
+}
+
+/// What the rows as data answer.
+fn by_rows(seen: Seen) -> Reception {
+    let Some((sealer, own, new)) = row_of(seen.kind) else {
+        return otherwise(seen);
+    };
+    if wanted(sealer, seen) != Some(seen.sealer) || !is_own(own, seen) {
+        return otherwise(seen);
+    }
+    if !seen.path || !(seen.row || matches!(seen.kind, Kind::Envelope)) {
+        return otherwise(seen);
+    }
+    if seen.done { Reception::Repeat } else { new }
 }
 
 /// How many combinations there are: letters, sealers, providers of ids, homes, paths, rows, done or not, rooms.
@@ -157,14 +161,19 @@ fn combination(number: u32) -> Seen {
 fn every_combination_is_received_by_the_rows(rt: HostRuntime) -> Result<(), Fail> {
     for number in 0..COMBINATIONS {
         let seen = combination(number);
-        let answer = reception(rt.alloc(), seen)?;
-        assert_eq!(rt; answer, by_rows(seen), "{seen:?}");
+        assert_eq!(rt; reception_of(rt.alloc(), seen)?, by_rows(seen));
     }
     Ok(())
 }
 
-/// A frame that is all that its row wants, at a provider where no account has room.
-fn fitting(kind: Kind, sealer: u32, id_provider: u32, home: Option<u32>) -> Seen {
+/// The frame of a kind that is all that its row wants, at a provider where no account has room.
+fn fitting(kind: Kind) -> Seen {
+    let (sealer, id_provider, home) = match kind {
+        Kind::Envelope | Kind::Other => (1, 1, None),
+        Kind::Charge => (1, ME, None),
+        Kind::Outcome => (2, ME, Some(2)),
+        Kind::Ack => (1, 1, Some(ME)),
+    };
     Seen {
         kind,
         sealer,
@@ -177,96 +186,93 @@ fn fitting(kind: Kind, sealer: u32, id_provider: u32, home: Option<u32>) -> Seen
     }
 }
 
-/// The same frame again.
-fn again(seen: Seen) -> Seen {
-    Seen { done: true, ..seen }
+/// What may be otherwise in a frame.
+#[derive(Clone, Copy)]
+enum Change {
+    Nothing,
+    /// It comes again.
+    Again,
+    SealedBy(u32),
+    /// The id is that of this provider.
+    Of(u32),
+    /// The recipient is at home there, or nowhere.
+    ForOneAt(Option<u32>),
+    /// It comes along another path.
+    Astray,
+    /// What the letter speaks of isn't there.
+    Unknown,
+    /// An account in the path has room.
+    WithRoom,
 }
 
-fn sealed_by(sealer: u32, seen: Seen) -> Seen {
-    Seen { sealer, ..seen }
-}
-
-/// The id is that of this provider.
-fn of(id_provider: u32, seen: Seen) -> Seen {
-    Seen {
-        id_provider,
-        ..seen
+/// The frame, with this otherwise.
+fn changed(seen: Seen, change: Change) -> Seen {
+    match change {
+        Change::Nothing => seen,
+        Change::Again => Seen { done: true, ..seen },
+        Change::SealedBy(sealer) => Seen { sealer, ..seen },
+        Change::Of(id_provider) => Seen {
+            id_provider,
+            ..seen
+        },
+        Change::ForOneAt(home) => Seen { home, ..seen },
+        Change::Astray => Seen {
+            path: false,
+            ..seen
+        },
+        Change::Unknown => Seen { row: false, ..seen },
+        Change::WithRoom => Seen { rooms: 1, ..seen },
     }
 }
 
-/// The recipient is at home there, or nowhere.
-fn for_one_at(home: Option<u32>, seen: Seen) -> Seen {
-    Seen { home, ..seen }
-}
-
-/// Along another path.
-fn astray(seen: Seen) -> Seen {
-    Seen {
-        path: false,
-        ..seen
-    }
-}
-
-/// What the letter speaks of isn't there.
-fn unknown(seen: Seen) -> Seen {
-    Seen { row: false, ..seen }
-}
-
-fn with_room(seen: Seen) -> Seen {
-    Seen { rooms: 1, ..seen }
-}
+/// A fitting frame of this kind, two things that are otherwise, and what is done with it.
+const NEAR_MISSES: [(Kind, [Change; 2], Reception); 30] = [
+    // Rows 2 and 3: an envelope, and the same again. Nothing need be there before, and a provider may write to itself.
+    (Kind::Envelope, [Nothing, Nothing], Reception::Take),
+    (Kind::Envelope, [Again, Nothing], Reception::Repeat),
+    (Kind::Envelope, [Unknown, Nothing], Reception::Take),
+    (Kind::Envelope, [SealedBy(ME), Of(ME)], Reception::Take),
+    // Not the provider of the id sealed it; the path isn't that of the recipients here.
+    (Kind::Envelope, [SealedBy(2), Nothing], Reception::Drop),
+    (Kind::Envelope, [Astray, Nothing], Reception::Drop),
+    (Kind::Envelope, [Astray, Again], Reception::Drop),
+    // Rows 4 and 5: a charge, and the same again.
+    (Kind::Charge, [Nothing, Nothing], Reception::Charge),
+    (Kind::Charge, [Again, Nothing], Reception::Repeat),
+    // In another's name; of another's message; without pairs there; not to the receipt address.
+    (Kind::Charge, [SealedBy(ME), Nothing], Reception::Drop),
+    (Kind::Charge, [Of(2), Nothing], Reception::Drop),
+    (Kind::Charge, [Unknown, Nothing], Reception::Drop),
+    (Kind::Charge, [Astray, Nothing], Reception::Drop),
+    // Rows 6 and 7: an outcome, and the same again.
+    (Kind::Outcome, [Nothing, Nothing], Reception::Outcome),
+    (Kind::Outcome, [Again, Nothing], Reception::Repeat),
+    // Not the recipient's provider sealed it, or there is none; of another's message; of no pair; not to the sender.
+    (Kind::Outcome, [SealedBy(1), Nothing], Reception::Drop),
+    (Kind::Outcome, [SealedBy(ME), Nothing], Reception::Drop),
+    (Kind::Outcome, [ForOneAt(None), Nothing], Reception::Drop),
+    (Kind::Outcome, [Of(1), Nothing], Reception::Drop),
+    (Kind::Outcome, [Unknown, Nothing], Reception::Drop),
+    (Kind::Outcome, [Astray, Nothing], Reception::Drop),
+    // Rows 8 and 9: an acknowledgement, and the same again.
+    (Kind::Ack, [Nothing, Nothing], Reception::Ack),
+    (Kind::Ack, [Again, Nothing], Reception::Repeat),
+    // Not the provider of the id sealed it; for a recipient elsewhere; not decided; not to the receipt address.
+    (Kind::Ack, [SealedBy(2), Nothing], Reception::Drop),
+    (Kind::Ack, [ForOneAt(Some(1)), Nothing], Reception::Drop),
+    (Kind::Ack, [Unknown, Nothing], Reception::Drop),
+    (Kind::Ack, [Astray, Nothing], Reception::Drop),
+    // Rows 10 and 11: anything else, with room and without.
+    (Kind::Other, [WithRoom, Nothing], Reception::Anomaly),
+    (Kind::Envelope, [Astray, WithRoom], Reception::Anomaly),
+    (Kind::Other, [Nothing, Nothing], Reception::Drop),
+];
 
 #[test]
 fn each_row_answers_and_its_near_misses_fall_to_the_last_two(rt: HostRuntime) -> Result<(), Fail> {
-    let envelope = fitting(Kind::Envelope, 1, 1, None);
-    let charge = fitting(Kind::Charge, 1, ME, None);
-    let outcome = fitting(Kind::Outcome, 2, ME, Some(2));
-    let ack = fitting(Kind::Ack, 1, 1, Some(ME));
-    let other = fitting(Kind::Other, 1, 1, None);
-    let rows: [(Seen, Reception); 30] = [
-        // Rows 2 and 3: an envelope, and the same again. Nothing need be there before, and a provider may write to itself.
-        (envelope, Reception::Take),
-        (again(envelope), Reception::Repeat),
-        (unknown(envelope), Reception::Take),
-        (of(ME, sealed_by(ME, envelope)), Reception::Take),
-        // Not the provider of the id sealed it; the path isn't that of the recipients here.
-        (sealed_by(2, envelope), Reception::Drop),
-        (astray(envelope), Reception::Drop),
-        (again(astray(envelope)), Reception::Drop),
-        // Rows 4 and 5: a charge, and the same again.
-        (charge, Reception::Charge),
-        (again(charge), Reception::Repeat),
-        // In another's name; of another's message; without pairs there; not to the receipt address.
-        (sealed_by(ME, charge), Reception::Drop),
-        (of(2, charge), Reception::Drop),
-        (unknown(charge), Reception::Drop),
-        (astray(charge), Reception::Drop),
-        // Rows 6 and 7: an outcome, and the same again.
-        (outcome, Reception::Outcome),
-        (again(outcome), Reception::Repeat),
-        // Not the recipient's provider sealed it, or there is none; of another's message; of no pair; not to the sender.
-        (sealed_by(1, outcome), Reception::Drop),
-        (sealed_by(ME, outcome), Reception::Drop),
-        (for_one_at(None, outcome), Reception::Drop),
-        (of(1, outcome), Reception::Drop),
-        (unknown(outcome), Reception::Drop),
-        (astray(outcome), Reception::Drop),
-        // Rows 8 and 9: an acknowledgement, and the same again.
-        (ack, Reception::Ack),
-        (again(ack), Reception::Repeat),
-        // Not the provider of the id sealed it; for a recipient elsewhere; not decided; not to the receipt address.
-        (sealed_by(2, ack), Reception::Drop),
-        (for_one_at(Some(1), ack), Reception::Drop),
-        (unknown(ack), Reception::Drop),
-        (astray(ack), Reception::Drop),
-        // Rows 10 and 11: anything else, with room and without.
-        (with_room(other), Reception::Anomaly),
-        (with_room(astray(envelope)), Reception::Anomaly),
-        (other, Reception::Drop),
-    ];
-    for (seen, want) in rows {
-        let answer = reception(rt.alloc(), seen)?;
-        assert_eq!(rt; answer, want, "{seen:?}");
+    for (kind, [first, second], want) in NEAR_MISSES {
+        let seen = changed(changed(fitting(kind), first), second);
+        assert_eq!(rt; reception_of(rt.alloc(), seen)?, want);
     }
     Ok(())
 }
