@@ -1,0 +1,45 @@
+-- What is answered on an entry by the directory's own trade is so for each trade of the directory.
+use Rattle.std.proofs.Common.{◌≡◌, ℕ, ◌≤◌, true, List, length, refl, sym, ap, subst, ◌∙◌, arith, Result, Ok, Err, Some}
+use Rattle.std.specs.Str.{bytes_eq}
+use Rattle.std.specs.Cmp.Lexicographic.{bytes_decides}
+use Rattle.pec_types.specs.Bytes.{Bytes}
+use Rattle.pec_types.specs.declared.messages.Facts.{Facts}
+use Rattle.pec_records.specs.Entry.{most_addresses}
+use Rattle.pec_records.specs.declared.entries.Entry.{Entry}
+use Rattle.pec_directory.specs.Directory.{Kept}
+use Rattle.pec_ledger.specs.Half.{Half}
+use Rattle.pec_ledger.specs.OfDirectory.{IsOf, facts_in}
+use Rattle.pec_ledger.specs.Own.{IsFrom, Own}
+use Rattle.pec_ledger.specs.Steps.{moment_of, size_of}
+use Rattle.pec_ledger.specs.Trade.{Trade}
+use Rattle.pec_shelf.specs.Prepared.{Prepared, Prepares, Takes, prepared, rows_of}
+use Rattle.pec_shelf.specs.Settled.{settled}
+use Rattle.pec_shelf.specs.declared.faults.PrepareFault.{PrepareFault}
+use Rattle.pec_shelf.specs.declared.faults.PrepareFault.TheVariants as faults
+use Rattle.pec_shelf.proofs.TradeLemmas.{from_settled, into_settled}
+
+pub at_entry : (trade : Trade) (me : ℕ) (half : Half) (entry other : Entry) (answer : Result Prepared PrepareFault) → entry ≡ other → Takes trade me half other answer
+    → Takes trade me half entry answer
+at_entry trade me half entry other answer is takes = subst (λ (e : Entry). Takes trade me half e answer) (sym is) takes
+
+figures : (ready : Prepared) (moment size : ℕ) → moment ≡ ready.adds.moment → size ≡ ready.adds.size
+    → record ready { adds = record ready.adds { moment = moment; size = size } } ≡ ready
+figures ready moment size m s = rw (m, s) refl
+
+pub ready_is : (kept : List Kept) (trade : Trade) (me : ℕ) (half : Half) (entry : Entry) (rows ready : Prepared) (moment size : ℕ) → IsOf kept trade
+    → Takes (settled kept trade) me half entry (Ok rows) → ready ≡ record rows { adds = record rows.adds { moment = moment; size = size } } → moment ≡ moment_of entry
+    → size ≡ size_of entry → half.last ≤ moment → Prepares trade me half entry (Ok ready)
+ready_is kept trade me half entry rows ready moment size of takes is m s l =
+    let own = from_settled kept trade (λ (t : Trade). Own t me half entry × (rows ≡ rows_of (prepared t me half entry))) of takes in (
+      record { own = own.0; in_time = subst (λ (n : ℕ). half.last ≤ n) m l },
+      is ∙ ap (λ (r : Prepared). record r { adds = record r.adds { moment = moment; size = size } }) own.1 ∙ figures (prepared trade me half entry) moment size m s,
+    )
+
+pub fault_is : (kept : List Kept) (trade : Trade) (me : ℕ) (half : Half) (entry : Entry) (fault : PrepareFault) → IsOf kept trade
+    → Takes (settled kept trade) me half entry (Err fault) → Prepares trade me half entry (Err fault)
+fault_is kept trade me half entry faults.NotAStep of never = λ step. never (into_settled kept trade (λ (t : Trade). Own t me half entry) of step.own)
+fault_is kept trade me half entry faults.NoMemory of never = tt
+
+pub from_is : (kept : List Kept) (trade : Trade) (me : ℕ) (sender message : Bytes) (facts : Facts) → facts_in message ≡ Some facts → bytes_eq facts.sender sender ≡ true
+    → length facts.recipients ≤ most_addresses → IsFrom (settled kept trade) me sender message
+from_is kept trade me sender message facts are sent few = record { facts = facts; are = are; sent = (bytes_decides facts.sender sender).0 sent; few = few }

@@ -1,0 +1,111 @@
+-- What an entry is prepared as: `Prepared`, all that it adds; and what is answered on an entry, `Prepares`: exactly the
+-- steps of the provider's half are taken. RFC 6109, sections 3.1 to 3.4, within this project's profile.
+use Rattle.std.specs.Prelude.{◌≡◌, ℕ, ◌+◌, ◌^◌, ◌<◌, ◌≤◌, List, [], ◌++◌, map, length, Result, Ok, Err}
+use Rattle.pec_types.specs.declared.mailboxes.Mark.{Mark as Told}
+use Rattle.pec_records.specs.declared.entries.Entry.{Entry}
+use Rattle.pec_ledger.specs.Half.{Adds, Half, Mark, joined}
+use Rattle.pec_ledger.specs.Own.{Own}
+use Rattle.pec_ledger.specs.Steps.{adds, messages_by, moment_of, notice_by}
+use Rattle.pec_ledger.specs.Trade.{Trade}
+use Rattle.pec_shelf.specs.Seen.{IsFor, Seen, certified_by}
+use Rattle.pec_shelf.specs.declared.certified.Certified.{Certified}
+use Rattle.pec_shelf.specs.declared.faults.PrepareFault.{PrepareFault}
+use Rattle.pec_shelf.specs.declared.faults.PrepareFault.TheVariants as faults
+
+-- An entry that was prepared: what it adds to the half, and the certified recipients of the message that it adds.
+pub record Prepared : Type 0 where
+  pub adds : Adds
+  pub certified : List (List Certified)
+
+-- The entry may follow: it meets its own condition in the half, and its moment isn't before the greatest.
+pub record IsStep (trade : Trade) (me : ℕ) (half : Half) (entry : Entry) : Type 0 where
+  pub own : Own trade me half entry
+  pub in_time : half.last ≤ moment_of entry
+
+-- What an entry is prepared as.
+abbrev pub prepared : Trade → ℕ → Half → Entry → Prepared
+prepared trade me half entry = record {
+  adds = adds trade me half entry;
+  certified = map (certified_by trade) (messages_by trade me half entry);
+}
+
+-- what adds no row
+abbrev pub nothing : Prepared
+nothing = record {
+  adds = record {
+    moment = 0;
+    size = 0;
+    messages = [];
+    charged = [];
+    marks = [];
+    known = [];
+    taken = [];
+    decided = [];
+    acked = [];
+    items = [];
+  };
+  certified = [];
+}
+
+-- the rows alone, without a moment and without bytes
+abbrev pub rows_of : Prepared → Prepared
+rows_of ready = record { adds = record ready.adds { moment = 0; size = 0 }; certified = ready.certified }
+
+-- What is answered on an entry whose moment isn't before the greatest: its rows, exactly where it meets its own condition.
+abbrev pub Takes : Trade → ℕ → Half → Entry → Result Prepared PrepareFault → Type 0
+Takes trade me half entry (Ok ready) = Own trade me half entry × (ready ≡ rows_of (prepared trade me half entry))
+Takes trade me half entry (Err faults.NotAStep) = Own trade me half entry → ⊥
+Takes trade me half entry (Err faults.NoMemory) = Unit {0}
+
+-- What is answered on an entry: it is prepared exactly where it is a step. Want of memory is free.
+abbrev pub Prepares : Trade → ℕ → Half → Entry → Result Prepared PrepareFault → Type 0
+Prepares trade me half entry (Ok ready) = IsStep trade me half entry × (ready ≡ prepared trade me half entry)
+Prepares trade me half entry (Err faults.NotAStep) = IsStep trade me half entry → ⊥
+Prepares trade me half entry (Err faults.NoMemory) = Unit {0}
+
+-- None of the lists that a prepared entry adds is longer than this.
+pub record AreWithin (ready : Prepared) (room : ℕ) : Type 0 where
+  pub messages : length ready.adds.messages ≤ room
+  pub certified : length ready.certified ≤ room
+  pub charged : length ready.adds.charged ≤ room
+  pub marks : length ready.adds.marks ≤ room
+  pub known : length ready.adds.known ≤ room
+  pub taken : length ready.adds.taken ≤ room
+  pub decided : length ready.adds.decided ≤ room
+  pub acked : length ready.adds.acked ≤ room
+  pub items : length ready.adds.items ≤ room
+
+-- The shelf has memory for what was prepared, and its figures stay below 2 to the 64.
+pub record HasRoomFor (shelf : Seen) (ready : Prepared) : Type 0 where
+  pub lists : AreWithin ready shelf.room
+  pub entries : shelf.half.entries + 1 < 2 ^ 64
+  pub bytes : shelf.half.end + ready.adds.size < 2 ^ 64
+
+-- What was prepared came from this shelf, as it is: some entry, a step of a trade whose homes the shelf keeps, is
+-- prepared so.
+pub record CameFrom (shelf : Seen) (ready : Prepared) : Type 0 where
+  pub trade : Trade
+  pub entry : Entry
+  pub for : IsFor trade shelf
+  pub step : IsStep trade shelf.me shelf.half entry
+  pub is : ready ≡ prepared trade shelf.me shelf.half entry
+
+-- The shelf is the old one with what was prepared.
+pub record Goes (old new : Seen) (ready : Prepared) : Type 0 where
+  pub me : new.me ≡ old.me
+  pub half : new.half ≡ joined old.half ready.adds
+  pub certified : new.certified ≡ old.certified ++ ready.certified
+
+-- what was prepared, with marks and their notices
+abbrev pub with_marks : Half → Prepared → List Mark → Prepared
+with_marks half ready marks = record {
+  adds = record ready.adds {
+    marks = ready.adds.marks ++ marks;
+    items = ready.adds.items ++ map (notice_by half) marks;
+  };
+  certified = ready.certified;
+}
+
+-- a mark, as a clock call tells it
+abbrev pub told : Mark → Told
+told mark = record { id = mark.pair.id; recipient = mark.pair.recipient; due = mark.due }

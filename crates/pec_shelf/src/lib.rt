@@ -1,0 +1,23 @@
+//! One provider's half of the ledger: facts, places and numbers, and no bytes of messages. An entry is prepared first,
+//! which takes memory and changes nothing, and then committed, which takes none and can't fail.
+#![tactic(auto)]
+
+mod appending;
+mod booking;
+mod boxes;
+mod certified;
+mod faults;
+mod inbox;
+mod laws;
+mod lookups;
+mod outbox;
+mod owing;
+mod ready;
+mod rows;
+mod shelf;
+
+pub use certified::Certified;
+pub use faults::PrepareFault;
+pub use laws::{a_directory_has_a_trade, what_is_kept_goes_on};
+pub use ready::Ready;
+pub use shelf::Shelf;

@@ -1,0 +1,162 @@
+ghost use Rattle.std.specs.Prelude.{◌≡◌, ◌<◌, ◌≤◌, [], length, option_map, slice_get, unwrap_or, Some, MatchOption, IsTrue, ◌↔◌};
+ghost use Rattle.std.specs.List.{list_any};
+ghost use Rattle.pec_types.specs.declared.messages.TheConstants.{MESSAGES};
+ghost use Rattle.pec_ledger.specs.Half.{Message};
+ghost use Rattle.pec_ledger.specs.Lookups.{Accepted, HasPair, HasPairsAt, accepted_at, charged_of, counted, decided_of, is_acked, known_of, notice_of, taken_of, warning_of};
+ghost use Rattle.pec_ledger.specs.Pairs.{id_of, pair_of};
+ghost use Rattle.pec_ledger.specs.Trade.{Trade};
+ghost use Rattle.pec_shelf.specs.Lines.{is_for};
+ghost use Rattle.pec_shelf.specs.Seen.{IsFor};
+ghost use Rattle.pec_shelf.specs.Sides.{certified_of_rows, messages_of};
+
+use crate::certified::Certified;
+use crate::owing::has_pairs_at;
+use crate::rows::{ChargeRow, FateRow, KnownRow, MarkRow, MessageRow, TakenRow};
+use crate::shelf::Shelf;
+use pec_types::{Address, MESSAGES, MsgId};
+
+/// What the half says of a message, an id or a pair. None of these takes memory.
+impl Shelf {
+    /// The number of the provider.
+    pub(crate) fn me(&self) -> u32
+        ensures { result ≡ self.now.me }
+    {
+        self.me
+    }
+
+    /// The greatest moment of an entry, in seconds.
+    pub(crate) fn last(&self) -> u64
+        ensures { result ≡ self.now.half.last }
+    {
+        self.last
+    }
+
+    /// The message of a number.
+    pub(crate) fn message(&self, number: u64) -> Option<&MessageRow>
+        ensures message { option_map (λ row. row.now.message) result ≡ slice_get self.now.half.messages number }
+        ensures certified { option_map (λ row. row.now.certified) result ≡ slice_get self.now.certified number }
+    {
+        self.outbox.message(number)
+    }
+
+    /// All messages, in order of number.
+    pub(crate) fn messages(&self) -> &[MessageRow]
+        ensures messages { messages_of result.now ≡ self.now.half.messages }
+        ensures certified { certified_of_rows result.now ≡ self.now.certified }
+        ensures few { length result.now ≤ MESSAGES }
+    {
+        self.outbox.messages()
+    }
+
+    /// What a provider said of taking charge of a message.
+    pub(crate) fn charge(&self, id: MsgId, by: u32) -> Option<&ChargeRow>
+        ensures { option_map (λ row. row.now) result ≡ charged_of self.now.half id by }
+    {
+        self.outbox.charge(id, by)
+    }
+
+    pub(crate) fn warning(&self, id: MsgId, recipient: &Address) -> Option<&MarkRow>
+        ensures { option_map (λ row. row.now) result ≡ warning_of self.now.half (pair_of id recipient.now) }
+    {
+        self.outbox.warning(id, recipient)
+    }
+
+    pub(crate) fn notice(&self, id: MsgId, recipient: &Address) -> Option<&MarkRow>
+        ensures { option_map (λ row. row.now) result ≡ notice_of self.now.half (pair_of id recipient.now) }
+    {
+        self.outbox.notice(id, recipient)
+    }
+
+    pub(crate) fn known(&self, id: MsgId, recipient: &Address) -> Option<&KnownRow>
+        ensures { option_map (λ row. row.now) result ≡ known_of self.now.half (pair_of id recipient.now) }
+    {
+        self.outbox.known(id, recipient)
+    }
+
+    pub(crate) fn taken(&self, id: MsgId) -> Option<&TakenRow>
+        ensures { option_map (λ row. row.now) result ≡ taken_of self.now.half id }
+    {
+        self.inbox.taken(id)
+    }
+
+    pub(crate) fn fate(&self, id: MsgId, recipient: &Address) -> Option<&FateRow>
+        ensures { option_map (λ row. row.now) result ≡ decided_of self.now.half (pair_of id recipient.now) }
+    {
+        self.inbox.fate(id, recipient)
+    }
+
+    /// All decisions, in order.
+    pub(crate) fn decided(&self) -> &[FateRow]
+        ensures { result.now ≡ self.now.half.decided }
+    {
+        self.inbox.all_decided()
+    }
+
+    pub(crate) fn is_acked(&self, id: MsgId, recipient: &Address) -> bool
+        ensures { result ≡ is_acked self.now.half (pair_of id recipient.now) }
+    {
+        self.inbox.is_acked(id, recipient)
+    }
+
+    /// The account that submitted the message of a number, where there is one.
+    pub(crate) fn submitter(&self, number: u64) -> Option<&Address>
+        ensures { option_map (λ address. address.now) result
+            ≡ option_map (λ (message : Message). message.sender) (slice_get self.now.half.messages number) }
+    {
+        let row = self.outbox.message(number)?;
+        Some(row.sender())
+    }
+
+    /// The certified recipients of the message of a number: none where it isn't there.
+    pub(crate) fn certified(&self, number: u64) -> &[Certified]
+        ensures { result.now ≡ unwrap_or (slice_get self.now.certified number) [] }
+    {
+        match self.outbox.message(number) {
+            Some(row) => row.certified(),
+            None => &[],
+        }
+    }
+
+    /// Whether a number is that of an accepted message with pairs at a provider.
+    pub(crate) fn has_pairs(&self, number: u64, by: u32) -> bool
+        ensures { (trade : Trade) → IsFor trade self.now → IsTrue result
+            ↔ ((message : Accepted) × (accepted_at self.now.half number ≡ Some message) × HasPairsAt trade message by) }
+    {
+        has_pairs_at(by, self.certified(number))
+    }
+
+    /// Whether a number is that of an accepted message with a pair of this recipient.
+    pub(crate) fn has_pair(&self, number: u64, recipient: &Address) -> bool
+        ensures { (trade : Trade) → IsFor trade self.now → IsTrue result
+            ↔ ((message : Accepted) × (accepted_at self.now.half number ≡ Some message) × HasPair trade message recipient.now) }
+    {
+        is_certified(recipient, self.certified(number))
+    }
+
+    /// The id of the next message, where there may be one more.
+    pub(crate) fn next_id(&self) -> Option<MsgId>
+        ensures { MatchOption result (MESSAGES ≤ length self.now.half.messages)
+            (λ id. (length self.now.half.messages < MESSAGES) × (id ≡ id_of self.now.me (length self.now.half.messages))) }
+    {
+        let number = self.outbox.messages().len() as u64;
+        if number >= MESSAGES {
+            return None;
+        }
+        Some(MsgId {
+            provider: self.me,
+            number,
+        })
+    }
+}
+
+/// Whether the address is that of a certified recipient.
+fn is_certified(address: &Address, recipients: &[Certified]) -> bool
+    ensures { result ≡ list_any (is_for address.now) recipients.now }
+{
+    for recipient in recipients {
+        if recipient.is_for(address) {
+            return true;
+        }
+    }
+    false
+}

@@ -1,0 +1,213 @@
+ghost use Rattle.std.specs.Prelude.{◌≡◌, ◌+◌, ◌^◌, ◌<◌, ◌≤◌, [], map, find, is_none, option_map, slice_get, IfOk, OnOk};
+ghost use Rattle.std.specs.Option.{option_and_then};
+ghost use Rattle.pec_ledger.specs.Books.{book, mailbox_lines};
+ghost use Rattle.pec_ledger.specs.Due.{due_letters};
+ghost use Rattle.pec_ledger.specs.Half.{Message, Posted, Taken};
+ghost use Rattle.pec_ledger.specs.Lookups.{counted, decided_of, mailbox, taken_of};
+ghost use Rattle.pec_ledger.specs.OfDirectory.{IsOf};
+ghost use Rattle.pec_ledger.specs.Pairs.{Pair, pair_of};
+ghost use Rattle.pec_ledger.specs.Trade.{Trade};
+ghost use Rattle.pec_shelf.specs.Prepared.{CameFrom, Goes, HasRoomFor, Prepares, told};
+ghost use Rattle.pec_shelf.specs.Seen.{HoldsAs, IsFor, IsNew};
+ghost use Rattle.pec_shelf.specs.Undecided.{next_undecided, pairs_taken};
+
+use crate::booking::book_lines;
+use crate::boxes::Boxes;
+use crate::inbox::Inbox;
+use crate::outbox::Outbox;
+use crate::owing::owed;
+use crate::ready::Ready;
+use crate::rows::TakenRow;
+use pec_types::{Address, BookLine, Facts, ItemLine, Letter, Mark, MsgId, NoMemory};
+use std::alloc::Global;
+use std::marker::Model;
+
+/// One provider's half of the ledger: facts, places and numbers, and no bytes of messages.
+#[derive(Drop)]
+pub struct Shelf {
+    pub(crate) alloc: Global,
+    pub(crate) me: u32,
+    pub(crate) entries: u64,
+    pub(crate) last: u64,
+    pub(crate) end: u64,
+    pub(crate) outbox: Outbox,
+    pub(crate) inbox: Inbox,
+    pub(crate) boxes: Boxes,
+}
+
+impl Model for Shelf {
+    ghost use Rattle.std.specs.Prelude.{◌≤◌, length, min};
+    ghost use Rattle.pec_types.specs.declared.messages.TheConstants.{MESSAGES};
+    ghost use Rattle.pec_shelf.specs.Seen.{Seen};
+    ghost use Rattle.pec_shelf.specs.Sides.{certified_of_rows, messages_of};
+
+    ghost Value = { Seen };
+
+    ghost view = { λ shelf. record {
+      me = shelf.me;
+      half = record {
+        entries = shelf.entries;
+        last = shelf.last;
+        end = shelf.end;
+        messages = messages_of shelf.outbox.messages;
+        charged = shelf.outbox.charged;
+        marks = shelf.outbox.marks;
+        known = shelf.outbox.known;
+        taken = shelf.inbox.taken;
+        decided = shelf.inbox.decided;
+        acked = shelf.inbox.acked;
+        items = shelf.boxes.items;
+      };
+      certified = certified_of_rows shelf.outbox.messages;
+      room = min shelf.outbox.room (min shelf.inbox.room shelf.boxes.room);
+    } };
+
+    ghost invariant = { λ shelf. length shelf.outbox.messages ≤ MESSAGES };
+}
+
+impl Shelf {
+    /// The shelf of a provider before its first entry. It takes no memory.
+    pub fn new(alloc: Global, me: u32) -> Shelf
+        ensures { IsNew me result }
+    {
+        Shelf {
+            alloc,
+            me,
+            entries: 0,
+            last: 0,
+            end: 8,
+            outbox: Outbox::new(alloc),
+            inbox: Inbox::new(alloc),
+            boxes: Boxes::new(alloc),
+        }
+    }
+
+    /// Takes in what was prepared with this shelf as it is, and gives the marks of a clock call, in order of number and
+    /// recipients: of every other entry none. It takes no memory and can't fail.
+    pub fn commit(&mut self, ready: Ready) -> Vec<Mark>
+        requires came { CameFrom self.old ready }
+        requires room { HasRoomFor self.old ready }
+        ensures after { Goes self.old self.new ready }
+        ensures marks { result.items ≡ map told ready.adds.marks }
+    {
+        self.entries += 1;
+        self.last = self.last.max(ready.moment);
+        self.end += ready.size;
+        self.outbox.add(ready.sent);
+        self.inbox.add(ready.received);
+        self.boxes.add(ready.items);
+        ready.answer
+    }
+
+    /// The facts of this provider's accepted message of a number. It takes no memory.
+    pub fn facts(&self, number: u64) -> Option<&Facts>
+        ensures { option_map (λ facts. facts.now) result
+            ≡ option_and_then (λ (message : Message). message.facts) (slice_get self.now.half.messages number) }
+    {
+        self.outbox.message(number)?.facts()
+    }
+
+    /// How many items of an account take room: envelopes and anomalies. It takes no memory.
+    pub fn counted(&self, account: &Address) -> u64
+        ensures { result ≡ counted self.now.half account.now }
+    {
+        self.boxes.counted(account)
+    }
+
+    /// The number of the entry by which the message of a number was accepted or refused. It takes no memory.
+    pub fn own(&self, number: u64) -> Option<u64>
+        ensures { result ≡ option_map (λ (message : Message). message.entry) (slice_get self.now.half.messages number) }
+    {
+        let row = self.outbox.message(number)?;
+        Some(row.entry())
+    }
+
+    /// The number of the entry by which an id was taken here. It takes no memory.
+    pub fn took(&self, id: MsgId) -> Option<u64>
+        ensures { result ≡ option_map (λ (taken : Taken). taken.entry) (taken_of self.now.half id) }
+    {
+        let row = self.taken(id)?;
+        Some(row.entry())
+    }
+
+    /// The number of the entry by which the item at a place of an account's mailbox, counted from 0, was placed. It
+    /// takes no memory.
+    pub fn source(&self, account: &Address, place: u32) -> Option<u64>
+        ensures { result ≡ option_map (λ (posted : Posted). posted.entry) (slice_get (mailbox self.now.half account.now) place) }
+    {
+        self.boxes.source(account, place)
+    }
+
+    /// What this provider owes another one beside answers: outcomes that nobody acknowledged, in order of decision, and
+    /// then envelopes of messages of which nothing was heard, in order of number; no more than there is room for.
+    pub fn due(&self, to: u32, room: usize) -> Result<Vec<Letter>, NoMemory>
+        ensures { (trade : Trade) → IsFor trade self.now
+            → IfOk result (λ letters. letters.items ≡ due_letters trade self.now.me self.now.half to room []) }
+    {
+        let mut letters = owed(self, to, self.messages())?;
+        letters.truncate(room);
+        Ok(letters)
+    }
+
+    /// The first taken pair, in order of taking and of recipients, that isn't decided. It takes no memory.
+    pub fn next_undecided(&self) -> Option<(MsgId, &Address)>
+        ensures { option_map (λ pair. pair_of pair.0 pair.1.now) result ≡ next_undecided self.now.half }
+    {
+        first_undecided(self, self.inbox.all_taken())
+    }
+
+    /// The book of an account of this provider: a line for each of its accepted messages and certified recipients, in
+    /// order of number and recipients.
+    pub fn book(&self, account: &Address) -> Result<Vec<BookLine>, NoMemory>
+        ensures { (trade : Trade) → IsFor trade self.now
+            → IfOk result (λ lines. lines.items ≡ book trade self.now.me self.now.half account.now) }
+    {
+        let lines = book_lines(self, self.me(), account, self.messages())?;
+        Ok(lines)
+    }
+
+    /// The lines of an account's mailbox, in order of placing.
+    #[tactic(auto, unfolding(pec_ledger::specs::Books::mailbox_lines))]
+    pub fn items(&self, account: &Address) -> Result<Vec<ItemLine>, NoMemory>
+        ensures { IfOk result (λ lines. lines.items ≡ mailbox_lines self.now.half account.now) }
+    {
+        let lines = self.boxes.lines(self.alloc, account)?;
+        Ok(lines)
+    }
+}
+
+/// The first pair of these rows that isn't decided.
+fn first_undecided<'a>(shelf: &Shelf, rows: &'a [TakenRow]) -> Option<(MsgId, &'a Address)>
+    ensures { option_map (λ pair. pair_of pair.0 pair.1.now) result
+        ≡ find (λ (pair : Pair). is_none (decided_of shelf.now.half pair)) (pairs_taken rows.now) }
+{
+    for row in rows {
+        match pair_of_row(shelf, row) {
+            Some(pair) => return Some(pair),
+            None => {}
+        }
+    }
+    None
+}
+
+/// The first pair of a row that isn't decided.
+fn pair_of_row<'a>(shelf: &Shelf, row: &'a TakenRow) -> Option<(MsgId, &'a Address)>
+    ensures { option_map (λ pair. pair_of pair.0 pair.1.now) result
+        ≡ find (λ (pair : Pair). is_none (decided_of shelf.now.half pair)) (map (pair_of row.now.id) row.now.recipients) }
+{
+    let recipient = undecided_of(shelf, row.id(), row.recipients())?;
+    Some((row.id(), recipient))
+}
+
+/// The first of these recipients for whom a message isn't decided.
+fn undecided_of<'a>(shelf: &Shelf, id: MsgId, recipients: &'a [Address]) -> Option<&'a Address>
+    ensures { option_map (λ address. pair_of id address.now) result
+        ≡ find (λ (pair : Pair). is_none (decided_of shelf.now.half pair)) (map (pair_of id) recipients.now) }
+{
+    for recipient in recipients {
+        if shelf.fate(id, recipient).is_none() {
+            return Some(recipient);
+        }
+    }
+    None
+}
