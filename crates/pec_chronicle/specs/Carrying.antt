@@ -1,5 +1,5 @@
--- How entries over a disk go on from call to call: `GoesOn`, and `CarriesOn`, which says it of the list, of the disk, and of
--- every moment at which a crash may come. Both are free of any trade: `May` says which entry may follow a list.
+-- How entries over a disk go on from call to call: `GoesOn`, and `CarriesOn`, which says it of the list, of the disk,
+-- and of every moment at which a crash may come. Both are free of any trade: `May` says which entry may follow a list.
 -- This project's profile.
 use Rattle.std.specs.Prelude.{◌≡◌, Bool, List, [], ◌∷◌, ◌++◌, Option}
 use Rattle.pec_outside.specs.DiskModel.{Sight, LeavesOnly}
@@ -28,8 +28,8 @@ NothingMay list entry = ⊥
 abbrev pub ThisMay : List Entry → Entry → Following
 ThisMay here this list entry = (list ≡ here) × (entry ≡ this)
 
--- A list that goes on from this one: it stands first, then the interrupted entry or nothing, then further entries, each of
--- which may follow.
+-- A list that goes on from this one: it stands first, then the interrupted entry or nothing, then further entries, each
+-- of which may follow.
 pub record GoesOn (May : Following) (old : List Entry) (interrupted : Option Entry) (list : List Entry) : Type 0 where
   pub choice : Bool
   pub further : List Entry
@@ -40,9 +40,10 @@ pub record GoesOn (May : Following) (old : List Entry) (interrupted : Option Ent
 abbrev pub IsImage : Following → List Entry → Option Entry → Bytes → Type 0
 IsImage May old interrupted bytes = (list : List Entry) × GoesOn May old interrupted list × IsJournalOf list bytes
 
--- From the old value to the new one: the entries go on, whichever choice of the interrupted one; what is kept stands on the
--- disk again; and at any moment between them a crash leaves the journal of entries that go on from the old ones.
+-- From the old value to the new one: the entries go on, whichever choice of the interrupted one; what is kept stands on
+-- the disk again; and at any moment between them a crash leaves the journal of entries that go on from the old ones.
 pub record CarriesOn {D : Type 0} (sight : D → Sight) (May : Following) (old new : ChronicleState D) : Type 0 where
-  pub list : Stands sight old → (choice : Bool) → GoesOn May old.entries old.interrupted (new.entries ++ chosen choice new.interrupted)
+  pub list : Stands sight old → (choice : Bool)
+      → GoesOn May old.entries old.interrupted (new.entries ++ chosen choice new.interrupted)
   pub stands : Stands sight old → Stands sight new
   pub images : Stands sight old → LeavesOnly (sight old.disk) (sight new.disk) (IsImage May old.entries old.interrupted)

@@ -12,7 +12,8 @@ use Rattle.pec_chronicle.specs.Carrying.{AllFollow, CarriesOn, Following, GoesOn
 
 -- ---- entries that follow
 
-pub follow_and : (May : Following) (list first second : List Entry) → AllFollow May list first → AllFollow May (list ++ first) second
+pub follow_and : (May : Following) (list first second : List Entry) → AllFollow May list first
+    → AllFollow May (list ++ first) second
     → AllFollow May list (first ++ second)
 follow_and May list [] second here rest = subst (λ (l : List Entry). AllFollow May l second) (append-nil list) rest
 follow_and May list (e ∷ es) second here rest = (
@@ -24,7 +25,8 @@ follow_and May list (e ∷ es) second here rest = (
 pub follow_wider : (May Wider : Following) → ((list : List Entry) (entry : Entry) → May list entry → Wider list entry)
     → (list further : List Entry) → AllFollow May list further → AllFollow Wider list further
 follow_wider May Wider wider list [] follow = tt
-follow_wider May Wider wider list (e ∷ es) follow = (wider list e follow.0, follow_wider May Wider wider (with_entry list e) es follow.1)
+follow_wider May Wider wider list (e ∷ es) follow =
+    (wider list e follow.0, follow_wider May Wider wider (with_entry list e) es follow.1)
 
 -- ---- lists that go on
 
@@ -39,7 +41,8 @@ goes_nowhere May old interrupted choice = record {
 }
 
 -- what goes on from a list that went on goes on from the first
-pub goes_on_from : (May : Following) (old : List Entry) (interrupted : Option Entry) (mid : List Entry) (also : Option Entry) (list : List Entry)
+pub goes_on_from : (May : Following) (old : List Entry) (interrupted : Option Entry) (mid : List Entry)
+    (also : Option Entry) (list : List Entry)
     → ((choice : Bool) → GoesOn May old interrupted (mid ++ chosen choice also)) → GoesOn May mid also list
     → GoesOn May old interrupted list
 goes_on_from May old interrupted mid also list before after =
@@ -60,7 +63,8 @@ goes_on_from May old interrupted mid also list before after =
     }
 
 pub goes_wider : (May Wider : Following) → ((list : List Entry) (entry : Entry) → May list entry → Wider list entry)
-    → (old : List Entry) (interrupted : Option Entry) (list : List Entry) → GoesOn May old interrupted list → GoesOn Wider old interrupted list
+    → (old : List Entry) (interrupted : Option Entry) (list : List Entry) → GoesOn May old interrupted list
+    → GoesOn Wider old interrupted list
 goes_wider May Wider wider old interrupted list goes = record {
   choice = goes.choice;
   further = goes.further;
@@ -88,7 +92,8 @@ module _ {D : Type 0} (sight : D → Sight) where
   }
 
   -- one stretch of calls behind another
-  pub carries_and_then : (May : Following) (old mid new : ChronicleState D) → CarriesOn sight May old mid → CarriesOn sight May mid new
+  pub carries_and_then : (May : Following) (old mid new : ChronicleState D) → CarriesOn sight May old mid
+      → CarriesOn sight May mid new
       → CarriesOn sight May old new
   carries_and_then May old mid new first second = record {
     list = λ stands choice. goes_on_from May old.entries old.interrupted mid.entries mid.interrupted _
@@ -102,7 +107,8 @@ module _ {D : Type 0} (sight : D → Sight) where
   }
 
   -- what may follow may follow in a wider sense, too
-  pub carries_wider : (May Wider : Following) → ((list : List Entry) (entry : Entry) → May list entry → Wider list entry)
+  pub carries_wider : (May Wider : Following)
+      → ((list : List Entry) (entry : Entry) → May list entry → Wider list entry)
       → (old new : ChronicleState D) → CarriesOn sight May old new → CarriesOn sight Wider old new
   carries_wider May Wider wider old new carries = record {
     list = λ stands choice. goes_wider May Wider wider old.entries old.interrupted _ (carries.list stands choice);
@@ -113,7 +119,8 @@ module _ {D : Type 0} (sight : D → Sight) where
   }
 
   -- a call that appends nothing carries on, whatever may follow
-  pub carries_nothing : (May : Following) (old new : ChronicleState D) → CarriesOn sight NothingMay old new → CarriesOn sight May old new
+  pub carries_nothing : (May : Following) (old new : ChronicleState D) → CarriesOn sight NothingMay old new
+      → CarriesOn sight May old new
   carries_nothing May = carries_wider NothingMay May (λ list entry none. absurd none)
 
   -- an append carries on, where its entry may follow

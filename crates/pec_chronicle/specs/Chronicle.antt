@@ -1,5 +1,5 @@
--- A provider's entries over its disk as contracts see them. The headlines are `IsJournalOf`, which bytes are the journal
--- of entries, and `Stands`: what is on the disk, now and after a crash. This project's profile.
+-- A provider's entries over its disk as contracts see them. The headlines are `IsJournalOf`, which bytes are the
+-- journal of entries, and `Stands`: what is on the disk, now and after a crash. This project's profile.
 use Rattle.std.specs.Prelude.{◌≡◌, ℕ, ◌<◌, ◌≤◌, Bool, false, true, List, ◌∷◌, ◌++◌, length, map, Option}
 use Rattle.std.specs.List.{All}
 use Rattle.pec_outside.specs.DiskModel.{Sight}

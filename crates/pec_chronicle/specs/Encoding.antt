@@ -1,4 +1,5 @@
--- An entry as the bytes that it is in a journal, beside which it is kept where its message begins. This project's profile.
+-- An entry as the bytes that it is in a journal, beside which it is kept where its message begins. This project's
+-- profile.
 use Rattle.std.specs.Prelude.{◌≡◌, ℕ, ◌-◌, length, Option, Result, Ok, Err}
 use Rattle.std.specs.Option.{option_map}
 use Rattle.pec_types.specs.Bytes.{Bytes}

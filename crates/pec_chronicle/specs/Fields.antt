@@ -29,7 +29,8 @@ pub record IsPast (entries : List Entry) (interrupted : Option Entry) : Type 0 w
   pub also : IfSome interrupted CanBeWritten
 
 -- What is true of every chronicle: its entries can be written, and while it is up the journal takes more.
-pub record IsChronicle {D : Type 0} (drive : Drive D) (entries : List Entry) (interrupted : Option Entry) (down : Bool) : Type 0 where
+pub record IsChronicle {D : Type 0} (drive : Drive D) (entries : List Entry) (interrupted : Option Entry) (down : Bool)
+    : Type 0 where
   pub past : IsPast entries interrupted
   pub whole : down ≡ false → interrupted ≡ None
   pub ready : down ≡ false → IsReady drive

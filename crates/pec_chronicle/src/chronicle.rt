@@ -54,7 +54,7 @@ impl<D> Model for Chronicle<D> {
       places = vec_capacity chronicle.entries - vec_len chronicle.entries;
     } };
 
-    ghost invariant = { λ chronicle. IsChronicle chronicle.drive chronicle.entries.items chronicle.interrupted chronicle.down };
+    ghost invariant = { λ kept. IsChronicle kept.drive kept.entries.items kept.interrupted kept.down };
 }
 
 impl<D> Chronicle<D> {
@@ -154,20 +154,23 @@ impl<D> Chronicle<D> {
 }
 
 impl<D: Disk> Chronicle<D> {
-    /// Makes the journal on an empty disk, with this entry. A crash during the call may leave a disk that holds bytes and is
-    /// no journal. With a fault the disk comes back; one that was empty may hold bytes then.
+    /// Makes the journal on an empty disk, with this entry. A crash during the call may leave a disk that holds bytes
+    /// and is no journal. With a fault the disk comes back; one that was empty may hold bytes then.
     pub fn create(alloc: Global, disk: D, start: &Entry) -> Result<Chronicle<D>, (CreateFault, D)>
         requires { IsWithinLimits start.now }
-        ensures created { IfOk result (λ made. (made.entries ≡ start.now ∷ []) × (made.interrupted ≡ None) × (made.down ≡ false)) }
+        ensures created { IfOk result (λ made. (made.entries ≡ start.now ∷ []) × (made.interrupted ≡ None)
+            × (made.down ≡ false)) }
         ensures stands { D.tells → IfOk result (λ made. Stands D.sight made) }
 
         // Not empty exactly where the disk holds a byte, unless the size can't be told; it then stays as it is.
         ensures empty { D.tells → OnOk result (length (D.sight disk).seen ≡ 0) }
         ensures not_empty { D.tells → IfErr result (λ fault. fault.0 ≡ create.NotEmpty →
             (length (D.sight disk).seen ≢ 0) × Rests (D.sight disk) (D.sight fault.1)) }
-        ensures as_it_was { D.tells → length (D.sight disk).seen ≢ 0 → IfErr result (λ fault. Rests (D.sight disk) (D.sight fault.1)) }
+        ensures as_it_was { D.tells → length (D.sight disk).seen ≢ 0 →
+            IfErr result (λ fault. Rests (D.sight disk) (D.sight fault.1)) }
 
-        ensures disk_fault { IfErr result (λ fault. fault.0 ≡ create.DiskFault → HasRisen (D.faults disk) (D.faults fault.1)) }
+        ensures disk_fault { IfErr result (λ fault. fault.0 ≡ create.DiskFault →
+            HasRisen (D.faults disk) (D.faults fault.1)) }
         ensures later { IfOk result (λ made. D.faults disk ≤ D.faults made.disk) }
         ensures later_err { IfErr result (λ fault. D.faults disk ≤ D.faults fault.1) }
     {
@@ -186,10 +189,13 @@ impl<D: Disk> Chronicle<D> {
     ) -> Result<Chronicle<D>, (CreateFault, D)>
         requires limits { IsWithinLimits start.now }
         requires fresh { (journal.end ≡ length header) × (journal.spent ≡ false) }
-        ensures created { IfOk result (λ made. (made.entries ≡ start.now ∷ []) × (made.interrupted ≡ None) × (made.down ≡ false)) }
-        ensures stands { D.tells → Keeps (D.sight journal.disk) [] journal.end → IfOk result (λ made. Stands D.sight made) }
+        ensures created { IfOk result (λ made. (made.entries ≡ start.now ∷ []) × (made.interrupted ≡ None)
+            × (made.down ≡ false)) }
+        ensures stands { D.tells → Keeps (D.sight journal.disk) [] journal.end →
+            IfOk result (λ made. Stands D.sight made) }
         ensures not_empty { IfErr result (λ fault. fault.0 ≢ create.NotEmpty) }
-        ensures disk_fault { IfErr result (λ fault. fault.0 ≡ create.DiskFault → HasRisen (D.faults journal.disk) (D.faults fault.1)) }
+        ensures disk_fault { IfErr result (λ fault. fault.0 ≡ create.DiskFault →
+            HasRisen (D.faults journal.disk) (D.faults fault.1)) }
         ensures later { IfOk result (λ made. D.faults journal.disk ≤ D.faults made.disk) }
         ensures later_err { IfErr result (λ fault. D.faults journal.disk ≤ D.faults fault.1) }
     {
@@ -206,10 +212,12 @@ impl<D: Disk> Chronicle<D> {
         requires up { self.old.down ≡ false }
         requires whole { self.old.interrupted ≡ None }
         requires near { self.old.end ≡ length header }
-        ensures put { OnOk result ((self.new.entries ≡ with_entry self.old.entries start.now) × (self.new.interrupted ≡ None) × (self.new.down ≡ false)) }
+        ensures put { OnOk result ((self.new.entries ≡ with_entry self.old.entries start.now)
+            × (self.new.interrupted ≡ None) × (self.new.down ≡ false)) }
         ensures stands { D.tells → Stands D.sight self.old → Stands D.sight self.new }
         ensures not_empty { IsErrOf result create.NotEmpty → ⊥ }
-        ensures disk_fault { IsErrOf result create.DiskFault → HasRisen (D.faults self.old.disk) (D.faults self.new.disk) }
+        ensures disk_fault { IsErrOf result create.DiskFault →
+            HasRisen (D.faults self.old.disk) (D.faults self.new.disk) }
         ensures later { D.faults self.old.disk ≤ D.faults self.new.disk }
     {
         let encoded = match self.reserve(alloc, start) {
@@ -256,11 +264,13 @@ impl<D: Disk> Chronicle<D> {
           places = self.new.places;
         }) }
 
-        // Each fault comes exactly there, the first that applies, but for the disk's, which comes only after a fault of it.
+        // Each fault comes exactly there, the first that applies, but for the disk's, which comes only after a fault of
+        // it.
         ensures down { IsErrOf result append.Down ↔ (self.old.down ≡ true) }
         ensures full { IsErrOf result append.JournalFull ↔ (self.old.down ≡ false)
             × (JOURNAL_LIMIT < self.old.end + framing + length (entry_text entry)) }
-        ensures disk_fault { IsErrOf result append.DiskFault → HasRisen (D.faults self.old.disk) (D.faults self.new.disk) }
+        ensures disk_fault { IsErrOf result append.DiskFault →
+            HasRisen (D.faults self.old.disk) (D.faults self.new.disk) }
         ensures later { D.faults self.old.disk ≤ D.faults self.new.disk }
 
         // After a fault of the disk it is down, and keeps the entry aside. After any other it is as it was.
@@ -270,7 +280,8 @@ impl<D: Disk> Chronicle<D> {
           disk = self.new.disk;
           spare = self.new.spare;
         } }
-        ensures refused { IfErr result (λ fault. fault ≢ append.DiskFault → self.new ≡ record self.old { spare = self.new.spare }) }
+        ensures refused { IfErr result (λ fault. fault ≢ append.DiskFault →
+            self.new ≡ record self.old { spare = self.new.spare }) }
     {
         a_disk_is_so::<D>();
         if self.down {

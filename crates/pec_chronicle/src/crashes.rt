@@ -92,8 +92,8 @@ impl<D> Chronicle<D> {
 }
 
 impl<D: Disk> Chronicle<D> {
-    /// Crashes the disk, which is one of this depot's and this provider's: it reads then as a crash may have left it, and
-    /// the entries are down over it. It takes no memory.
+    /// Crashes the disk, which is one of this depot's and this provider's: it reads then as a crash may have left it,
+    /// and the entries are down over it. It takes no memory.
     pub fn crash<P: Depot<D = D>>(self, depot: &mut P, provider: u32) -> Chronicle<D>
         requires { provider < depot_places }
         ensures down { result ≡ down_over (past_of self) result.disk }
@@ -110,21 +110,23 @@ impl<D: Disk> Chronicle<D> {
         past.over(depot.crash(provider, disk))
     }
 
-    /// Opens the entries on the disk again, after a crash or a fault: they are the entries before, with the interrupted one
-    /// or without it. They are answered once, too, for the caller to go through; until it has, it keeps what was known
-    /// before, to go `back_to`. With a fault the entries are what they were, down.
+    /// Opens the entries on the disk again, after a crash or a fault: they are the entries before, with the interrupted
+    /// one or without it. They are answered once, too, for the caller to go through, and beside them what was known
+    /// before, by which it can go `back_to` there. With a fault the entries are what they were, down.
     pub fn restart(
         self,
         alloc: Global,
     ) -> Result<(Chronicle<D>, Vec<Entry>, Past), (OpenFault, Chronicle<D>)>
         ensures found { D.tells → Stands D.sight self → IfOk result (λ read.
             (choice : Bool) × (read.0.entries ≡ self.entries ++ chosen choice self.interrupted)) }
-        ensures entries { IfOk result (λ read. (read.0.entries ≡ read.1.items) × (read.0.interrupted ≡ None) × (read.0.down ≡ false)) }
+        ensures entries { IfOk result (λ read. (read.0.entries ≡ read.1.items) × (read.0.interrupted ≡ None)
+            × (read.0.down ≡ false)) }
         ensures past { IfOk result (λ read. read.2 ≡ past_of self) }
         ensures carries { D.tells → IfOk result (λ read. CarriesOn D.sight NothingMay self read.0) }
 
         // Going back carries on, too.
-        ensures back { D.tells → IfOk result (λ read. CarriesOn D.sight NothingMay self (down_over (past_of self) read.0.disk)) }
+        ensures back { D.tells →
+            IfOk result (λ read. CarriesOn D.sight NothingMay self (down_over (past_of self) read.0.disk)) }
 
         ensures down { IfErr result (λ fault. fault.1 ≡ down_over (past_of self) fault.1.disk) }
         ensures carries_err { D.tells → IfErr result (λ fault. CarriesOn D.sight NothingMay self fault.1) }
@@ -132,7 +134,8 @@ impl<D: Disk> Chronicle<D> {
         // What a chronicle stands on is never refused as bad.
         ensures refused { D.tells → Stands D.sight self → IfErr result (λ fault.
             (n : ℕ) → (fault.0 ≢ faults.NotAJournal n) × (fault.0 ≢ faults.BadEntry n)) }
-        ensures disk_fault { IfErr result (λ fault. fault.0 ≡ faults.DiskFault → HasRisen (D.faults self.disk) (D.faults fault.1.disk)) }
+        ensures disk_fault { IfErr result (λ fault. fault.0 ≡ faults.DiskFault →
+            HasRisen (D.faults self.disk) (D.faults fault.1.disk)) }
         ensures later { IfOk result (λ read. D.faults self.disk ≤ D.faults read.0.disk) }
         ensures later_err { IfErr result (λ fault. D.faults self.disk ≤ D.faults fault.1.disk) }
     {

@@ -61,18 +61,22 @@ impl<D: Disk> Drive<D> {
         requires short { length bytes.now ≤ longest_entry }
         requires room { length bytes.now ≤ spare_in self.old }
 
-        ensures any_moment { D.tells → (entries : List (List ℕ)) → Keeps (D.sight (disk_in self.old)) entries (end_in self.old) →
+        ensures any_moment { D.tells → (entries : List (List ℕ)) →
+            Keeps (D.sight (disk_in self.old)) entries (end_in self.old) →
             LeavesOnly (D.sight (disk_in self.old)) (D.sight (disk_in self.new)) (IsBeforeOrAfter entries bytes.now) }
-        ensures ok { D.tells → (entries : List (List ℕ)) → Keeps (D.sight (disk_in self.old)) entries (end_in self.old) →
+        ensures ok { D.tells → (entries : List (List ℕ)) →
+            Keeps (D.sight (disk_in self.old)) entries (end_in self.old) →
             OnOk result (Keeps (D.sight (disk_in self.new)) (entries ++ bytes.now ∷ []) (end_in self.new)) }
         ensures after { OnOk result (end_in self.new ≡ end_in self.old + framing + length bytes.now) }
         ensures ready { OnOk result (IsReady self.new) }
 
         ensures up { IsErrOf result append.Down → ⊥ }
-        ensures full { IsErrOf result append.JournalFull ↔ (JOURNAL_LIMIT < end_in self.old + framing + length bytes.now) }
+        ensures full { IsErrOf result append.JournalFull ↔
+            (JOURNAL_LIMIT < end_in self.old + framing + length bytes.now) }
         ensures same { IsErrOf result append.JournalFull →
             (disk_in self.new ≡ disk_in self.old) × (end_in self.new ≡ end_in self.old) × IsReady self.new }
-        ensures disk_fault { IsErrOf result append.DiskFault → HasRisen (D.faults (disk_in self.old)) (D.faults (disk_in self.new)) }
+        ensures disk_fault { IsErrOf result append.DiskFault →
+            HasRisen (D.faults (disk_in self.old)) (D.faults (disk_in self.new)) }
         ensures broken { IsErrOf result append.DiskFault → end_in self.new ≡ end_in self.old }
         ensures later { D.faults (disk_in self.old) ≤ D.faults (disk_in self.new) }
     {

@@ -46,7 +46,8 @@ impl Encoded {
     pub(crate) fn decode(alloc: Global, bytes: Vec<u8>) -> Result<(Encoded, Entry), EntryFault>
         ensures is { IfOk result (λ read. IsEntry read.1 bytes.items) }
         ensures same { IfOk result (λ read. read.0 ≡ read.1) }
-        ensures none { IfErr result (λ fault. fault ≢ faults.NoMemory → (entry : Entry) → IsEntry entry bytes.items → ⊥) }
+        ensures none { IfErr result (λ fault. fault ≢ faults.NoMemory → (entry : Entry) → IsEntry entry bytes.items →
+            ⊥) }
     {
         let entry = decode(alloc, &bytes)?;
         Ok((Encoded::of(bytes, &entry), entry))
@@ -76,8 +77,8 @@ impl Encoded {
         Text8::of(self.bytes)
     }
 
-    /// The message that the entry holds, if it holds one: that which was submitted, or the envelope or receipt that came.
-    /// It takes no memory.
+    /// The message that the entry holds, if it holds one: that which was submitted, or the envelope or receipt that
+    /// came. It takes no memory.
     pub(crate) fn body(&self) -> Option<&[u8]>
         ensures { option_map (λ body. body.now) result ≡ body_of self.now }
     {

@@ -20,7 +20,8 @@ pub fn a_journal_ends_behind_its_entries()
 
 /// Bytes are the journal of one list of entries at most.
 pub fn a_disk_holds_one_list()
-    ensures { (one other : List Entry) (bytes : List ℕ) → IsJournalOf one bytes → IsJournalOf other bytes → one ≡ other }
+    ensures { (one other : List Entry) (bytes : List ℕ) → IsJournalOf one bytes → IsJournalOf other bytes →
+        one ≡ other }
 {
     one_entry();
     a_file_has_one_list();

@@ -1,5 +1,6 @@
-//! One provider's entries over its disk: each outlives a crash from the moment on that its append is answered, and after a
-//! crash they are there again, with the entry whose append was cut off or without it. It knows nothing of what an entry means.
+//! One provider's entries over its disk: each outlives a crash from the moment on that its append is answered, and
+//! after a crash they are there again, with the entry whose append was cut off or without it. It knows nothing of what
+//! an entry means.
 #![tactic(auto)]
 
 mod chronicle;

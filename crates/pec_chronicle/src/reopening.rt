@@ -30,18 +30,21 @@ pub struct Unopened<D> {
 }
 
 impl<D: Disk> Chronicle<D> {
-    /// The entries on a disk, which is first made durable as it reads; they are answered once, too, for the caller to go
-    /// through. It writes nothing, reads each entry once, and takes time and memory in proportion to the file. With a fault
-    /// the disk comes back.
+    /// The entries on a disk, which is first made durable as it reads; they are answered once, too, for the caller to
+    /// go through. It writes nothing, reads each entry once, and takes time and memory in proportion to the file. With
+    /// a fault the disk comes back.
     pub fn reopen(alloc: Global, disk: D) -> Result<(Chronicle<D>, Vec<Entry>), Unopened<D>>
         // What was opened is the journal on the disk, and a crash leaves it.
-        ensures opened { D.tells → IfOk result (λ read. IsJournalOf read.0.entries (D.sight disk).seen × Stands D.sight read.0) }
-        ensures entries { IfOk result (λ read. (read.0.entries ≡ read.1.items) × (read.0.interrupted ≡ None) × (read.0.down ≡ false)) }
+        ensures opened { D.tells →
+            IfOk result (λ read. IsJournalOf read.0.entries (D.sight disk).seen × Stands D.sight read.0) }
+        ensures entries { IfOk result (λ read. (read.0.entries ≡ read.1.items) × (read.0.interrupted ≡ None)
+            × (read.0.down ≡ false)) }
 
         // Where the disk holds the journal of entries it is these, and the disk isn't refused.
         ensures list { D.tells → (entries : List AnEntry) → IsJournalOf entries (D.sight disk).seen →
             IfOk result (λ read. read.0.entries ≡ entries) }
-        ensures refused { D.tells → (entries : List AnEntry) → IsJournalOf entries (D.sight disk).seen → IfErr result (λ unopened.
+        ensures refused { D.tells → (entries : List AnEntry) → IsJournalOf entries (D.sight disk).seen →
+            IfErr result (λ unopened.
             (n : ℕ) → (unopened.fault ≢ faults.NotAJournal n) × (unopened.fault ≢ faults.BadEntry n)) }
 
         // The place is that at which the bytes are no journal file; the number that of the first entry that is none.
@@ -52,7 +55,8 @@ impl<D: Disk> Chronicle<D> {
 
         ensures stays { D.tells → IfOk result (λ read. Stays (D.sight disk) (D.sight read.0.disk)) }
         ensures stays_err { D.tells → IfErr result (λ unopened. Stays (D.sight disk) (D.sight unopened.disk)) }
-        ensures disk_fault { IfErr result (λ unopened. unopened.fault ≡ faults.DiskFault → HasRisen (D.faults disk) (D.faults unopened.disk)) }
+        ensures disk_fault { IfErr result (λ unopened. unopened.fault ≡ faults.DiskFault →
+            HasRisen (D.faults disk) (D.faults unopened.disk)) }
         ensures later { IfOk result (λ read. D.faults disk ≤ D.faults read.0.disk) }
         ensures later_err { IfErr result (λ unopened. D.faults disk ≤ D.faults unopened.disk) }
     {
@@ -74,10 +78,13 @@ impl<D: Disk> Chronicle<D> {
         places: &[Place],
     ) -> Result<(Chronicle<D>, Vec<Entry>), Unopened<D>>
         requires { journal.spent ≡ false }
-        ensures stands { D.tells → (texts : List Bytes) → Keeps (D.sight journal.disk) texts journal.end → places.now ≡ places_of texts →
+        ensures stands { D.tells → (texts : List Bytes) → Keeps (D.sight journal.disk) texts journal.end →
+            places.now ≡ places_of texts →
             IfOk result (λ read. IsJournalOf read.0.entries (D.sight journal.disk).seen × Stands D.sight read.0) }
-        ensures entries { IfOk result (λ read. (read.0.entries ≡ read.1.items) × (read.0.interrupted ≡ None) × (read.0.down ≡ false)) }
-        ensures bad_entry { D.tells → (texts : List Bytes) → Keeps (D.sight journal.disk) texts journal.end → places.now ≡ places_of texts →
+        ensures entries { IfOk result (λ read. (read.0.entries ≡ read.1.items) × (read.0.interrupted ≡ None)
+            × (read.0.down ≡ false)) }
+        ensures bad_entry { D.tells → (texts : List Bytes) → Keeps (D.sight journal.disk) texts journal.end →
+            places.now ≡ places_of texts →
             IfErr result (λ unopened. (number : ℕ) → unopened.fault ≡ faults.BadEntry number →
             StopsAtBad number unopened.entries.items texts) }
         ensures not_a_journal { IfErr result (λ unopened. (place : ℕ) → unopened.fault ≢ faults.NotAJournal place) }
@@ -116,14 +123,17 @@ fn read_all<D: Disk>(
     requires entries { entries.old.items ≡ [] }
     ensures same { OnOk result (kept.new.items ≡ entries.new.items) }
     ensures written { All CanBeWritten entries.new.items }
-    ensures texts { D.tells → (texts : List Bytes) → IsFile texts (D.sight journal.old.disk).seen → places.now ≡ places_of texts →
+    ensures texts { D.tells → (texts : List Bytes) → IsFile texts (D.sight journal.old.disk).seen →
+        places.now ≡ places_of texts →
         OnOk result (map entry_text entries.new.items ≡ texts) }
-    ensures bad_entry { D.tells → (texts : List Bytes) → IsFile texts (D.sight journal.old.disk).seen → places.now ≡ places_of texts →
+    ensures bad_entry { D.tells → (texts : List Bytes) → IsFile texts (D.sight journal.old.disk).seen →
+        places.now ≡ places_of texts →
         (number : ℕ) → IsErrOf result (faults.BadEntry number) → StopsAtBad number entries.new.items texts }
     ensures not_a_journal { (place : ℕ) → IsErrOf result (faults.NotAJournal place) → ⊥ }
     ensures stays { D.tells → Stays (D.sight journal.old.disk) (D.sight journal.new.disk) }
     ensures journal { journal.new ≡ record journal.old { disk = journal.new.disk } }
-    ensures disk_fault { IsErrOf result faults.DiskFault → HasRisen (D.faults journal.old.disk) (D.faults journal.new.disk) }
+    ensures disk_fault { IsErrOf result faults.DiskFault →
+        HasRisen (D.faults journal.old.disk) (D.faults journal.new.disk) }
     ensures later { D.faults journal.old.disk ≤ D.faults journal.new.disk }
 {
     entries_stand_at_their_places();
@@ -144,7 +154,8 @@ fn read_entry<D: Disk>(
 ) -> Result<(Encoded, Entry), OpenFault>
     ensures same { IfOk result (λ read. read.0 ≡ read.1) }
     ensures can { IfOk result (λ read. CanBeWritten read.1) }
-    ensures is { D.tells → (texts : List Bytes) (text : Bytes) → IsFile texts (D.sight journal.old.disk).seen → StandsAt place text texts →
+    ensures is { D.tells → (texts : List Bytes) (text : Bytes) → IsFile texts (D.sight journal.old.disk).seen →
+        StandsAt place text texts →
         IfOk result (λ read. IsEntry read.1 text) }
     ensures bad_entry { D.tells → (texts : List Bytes) (text : Bytes) → IsFile texts (D.sight journal.old.disk).seen →
         StandsAt place text texts → (bad : ℕ) → IsErrOf result (faults.BadEntry bad) →
@@ -153,7 +164,8 @@ fn read_entry<D: Disk>(
     ensures not_a_journal { (at : ℕ) → IsErrOf result (faults.NotAJournal at) → ⊥ }
     ensures rests { D.tells → Rests (D.sight journal.old.disk) (D.sight journal.new.disk) }
     ensures journal { journal.new ≡ record journal.old { disk = journal.new.disk } }
-    ensures disk_fault { IsErrOf result faults.DiskFault → HasRisen (D.faults journal.old.disk) (D.faults journal.new.disk) }
+    ensures disk_fault { IsErrOf result faults.DiskFault →
+        HasRisen (D.faults journal.old.disk) (D.faults journal.new.disk) }
     ensures later { D.faults journal.old.disk ≤ D.faults journal.new.disk }
 {
     let bytes = journal.read(alloc, place)?;
