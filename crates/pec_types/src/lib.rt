@@ -19,7 +19,9 @@ mod texts;
 mod turns;
 mod words;
 
-pub use addresses::{Address, AddressFault, an_address_is_told_exactly, what_is_read_is_in_lower_case};
+pub use addresses::{
+    Address, AddressFault, an_address_is_told_exactly, what_is_read_is_in_lower_case,
+};
 pub use disputes::{Disputed, LetterFault};
 pub use faults::NoMemory;
 pub use frames::Frame;
