@@ -1,6 +1,7 @@
 -- What tests of lists mean.
-use Rattle.std.proofs.Common.{◌≡◌, ◌↔◌, ℕ, Bool, true, false, cond, not, ◌&&◌, ◌||◌, List, [], ◌∷◌, refl, sym, ap, ◌∙◌, IsTrue, All, Option, Some, None, IsSome, is_some, is_none}
+use Rattle.std.proofs.Common.{◌≡◌, ◌↔◌, ℕ, zero, suc, ◌<◌, ◌==◌, arith, Bool, true, false, cond, not, ◌&&◌, ◌||◌, List, [], ◌∷◌, refl, sym, ap, ◌∙◌, IsTrue, All, Option, Some, None, IsSome, is_some, is_none}
 use Rattle.std.specs.List.{find, list_all, list_any}
+use Rattle.std.specs.Option.{option_map}
 use Rattle.std.specs.Str.{bytes_eq}
 use Rattle.std.specs.Cmp.Lexicographic.{bytes_decides}
 use Rattle.std.proofs.lemmas.Bool.{cases_Bool, false≢true}
@@ -71,3 +72,15 @@ all_is p xs b e = (λ t. all_pass p xs (sym e ∙ of_truth b t), λ a. truth b (
 
 pub differ_is : (xs : Path) (b : Bool) → b ≡ all_differ xs → IsTrue b ↔ AllDiffer xs
 differ_is xs b e = (λ t. differ xs (sym e ∙ of_truth b t), λ d. truth b (e ∙ differ_back xs d))
+
+pub not_false : (b : Bool) → not b ≡ false → b ≡ true
+not_false true e = refl
+not_false false e = absurd (false≢true (sym e))
+
+pub not_empty : (n : ℕ) (b : Bool) → b ≡ (n == 0) → b ≡ false → 0 < n
+not_empty zero b e f = absurd (false≢true (sym f ∙ e))
+not_empty (suc n) b e f = omega arith
+
+pub missing : {X Y : Type 0} (o : Option X) (f : X → Y) (t : Option Y) (b : Bool) → option_map f o ≡ t → b ≡ is_some o → b ≡ false → t ≡ None
+missing None f t b e s n = sym e
+missing (Some x) f t b e s n = absurd (false≢true (sym n ∙ s))

@@ -2,6 +2,8 @@
 //! which takes memory and changes nothing, and then committed, which takes none and can't fail.
 #![tactic(auto)]
 
+mod accounts;
+mod anomalies;
 mod appending;
 mod booking;
 mod boxes;
@@ -10,11 +12,18 @@ mod faults;
 mod inbox;
 mod laws;
 mod lookups;
+mod marking;
 mod outbox;
 mod owing;
+mod preparing;
+mod reading;
 mod ready;
+mod receipts;
+mod receptions;
 mod rows;
 mod shelf;
+mod sizes;
+mod submissions;
 
 pub use certified::Certified;
 pub use faults::PrepareFault;

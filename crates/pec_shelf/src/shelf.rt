@@ -6,6 +6,7 @@ ghost use Rattle.pec_ledger.specs.Half.{Message, Posted, Taken};
 ghost use Rattle.pec_ledger.specs.Lookups.{counted, decided_of, mailbox, taken_of};
 ghost use Rattle.pec_ledger.specs.OfDirectory.{IsOf};
 ghost use Rattle.pec_ledger.specs.Pairs.{Pair, pair_of};
+ghost use Rattle.pec_ledger.specs.Steps.{size_of};
 ghost use Rattle.pec_ledger.specs.Trade.{Trade};
 ghost use Rattle.pec_shelf.specs.Prepared.{CameFrom, Goes, HasRoomFor, Prepares, told};
 ghost use Rattle.pec_shelf.specs.Seen.{HoldsAs, IsFor, IsNew};
@@ -13,11 +14,16 @@ ghost use Rattle.pec_shelf.specs.Undecided.{next_undecided, pairs_taken};
 
 use crate::booking::book_lines;
 use crate::boxes::Boxes;
+use crate::faults::PrepareFault;
 use crate::inbox::Inbox;
 use crate::outbox::Outbox;
 use crate::owing::owed;
+use crate::preparing::{moment_of, rows_of};
 use crate::ready::Ready;
 use crate::rows::TakenRow;
+use crate::sizes::size_of;
+use pec_directory::Directory;
+use pec_records::Entry;
 use pec_types::{Address, BookLine, Facts, ItemLine, Letter, Mark, MsgId, NoMemory};
 use std::alloc::Global;
 use std::marker::Model;
@@ -80,6 +86,24 @@ impl Shelf {
             inbox: Inbox::new(alloc),
             boxes: Boxes::new(alloc),
         }
+    }
+
+    /// Prepares an entry, and makes room for what it adds: nothing that is seen changes. All entries of one shelf are
+    /// prepared with one directory.
+    pub fn prepare(&mut self, directory: &Directory, entry: &Entry) -> Result<Ready, PrepareFault>
+        requires { (trade : Trade) → IsOf directory.now trade → IsFor trade self.old }
+        // An entry is prepared exactly where it is a step of this provider's half, and then as what it adds.
+        ensures exact { (trade : Trade) → IsOf directory.now trade
+            → Prepares trade self.old.me self.old.half entry.now result }
+        ensures room { IfOk result (HasRoomFor self.new) }
+        ensures same { HoldsAs self.old self.new }
+    {
+        let ready = match self.prepared(directory, entry) {
+            Ok(ready) => ready,
+            Err(fault) => return Err(fault),
+        };
+        self.reserve(ready.rows())?;
+        Ok(ready)
     }
 
     /// Takes in what was prepared with this shelf as it is, and gives the marks of a clock call, in order of number and
@@ -173,6 +197,50 @@ impl Shelf {
     {
         let lines = self.boxes.lines(self.alloc, account)?;
         Ok(lines)
+    }
+
+    /// What an entry is prepared as.
+    fn prepared(&self, directory: &Directory, entry: &Entry) -> Result<Ready, PrepareFault>
+        requires { (trade : Trade) → IsOf directory.now trade → IsFor trade self.now }
+        ensures exact { (trade : Trade) → IsOf directory.now trade
+            → Prepares trade self.now.me self.now.half entry.now result }
+        ensures entries { IfOk result (λ _. self.now.half.entries + 1 < 2 ^ 64) }
+        ensures bytes { IfOk result (λ ready. self.now.half.end + ready.adds.size < 2 ^ 64) }
+    {
+        let moment = moment_of(entry);
+        if moment < self.last() {
+            return Err(PrepareFault::NotAStep);
+        }
+        let size = self.size(entry)?;
+        match rows_of(self, directory, entry) {
+            Ok(rows) => Ok(rows.with_figures(moment, size)),
+            Err(fault) => Err(fault),
+        }
+    }
+
+    /// How many bytes longer an entry makes the journal, as long as 64 bits tell its length and its entries: no memory
+    /// holds more.
+    fn size(&self, entry: &Entry) -> Result<u64, NoMemory>
+        ensures size { IfOk result (λ size. size ≡ size_of entry.now) }
+        ensures entries { OnOk result (self.now.half.entries + 1 < 2 ^ 64) }
+        ensures bytes { IfOk result (λ size. self.now.half.end + size < 2 ^ 64) }
+    {
+        let size = size_of(entry).ok_or(NoMemory)?;
+        if self.entries == u64::MAX || self.end > u64::MAX - size {
+            return Err(NoMemory);
+        }
+        Ok(size)
+    }
+
+    /// Makes room for so many further rows in each list.
+    fn reserve(&mut self, rows: usize) -> Result<(), NoMemory>
+        ensures room { OnOk result (rows ≤ self.new.room) }
+        ensures same { HoldsAs self.old self.new }
+    {
+        self.outbox.reserve(rows)?;
+        self.inbox.reserve(rows)?;
+        self.boxes.reserve(rows)?;
+        Ok(())
     }
 }
 

@@ -1,0 +1,87 @@
+ghost use Rattle.std.specs.Prelude.{◌≡◌};
+ghost use Rattle.pec_ledger.specs.Trade.{Trade};
+ghost use Rattle.pec_ledger.specs.Steps.{moment_of};
+ghost use Rattle.pec_shelf.specs.Prepared.{Takes};
+ghost use Rattle.pec_shelf.specs.Seen.{IsFor};
+ghost use Rattle.pec_shelf.specs.Settled.{settled};
+
+use crate::anomalies::anomaly;
+use crate::faults::PrepareFault;
+use crate::marking::ticked;
+use crate::ready::Ready;
+use crate::receptions::{acked, charged, decided, learned, took};
+use crate::shelf::Shelf;
+use crate::submissions::{accepted, not_accepted, start};
+use pec_directory::Directory;
+use pec_records::Entry;
+
+/// What an entry adds, without its moment and its size, where it meets its own condition.
+pub(crate) fn rows_of(
+    shelf: &Shelf,
+    directory: &Directory,
+    entry: &Entry,
+) -> Result<Ready, PrepareFault>
+    ensures { (trade : Trade) → IsFor (settled directory.now trade) shelf.now
+        → Takes (settled directory.now trade) shelf.now.me shelf.now.half entry.now result }
+{
+    match entry {
+        Entry::Start { provider, digest } => start(shelf, directory, *provider, digest),
+        Entry::Accepted {
+            moment,
+            sender,
+            message,
+        } => accepted(shelf, directory, *moment, sender, message.bytes()),
+        Entry::NotAccepted {
+            moment,
+            sender,
+            cause,
+            path,
+            ..
+        } => not_accepted(shelf, directory, *moment, sender, *cause, path.as_slice()),
+        Entry::Took {
+            moment,
+            id,
+            message,
+        } => took(shelf, directory, *moment, *id, message.bytes()),
+        Entry::Decided {
+            moment,
+            id,
+            recipient,
+            decision,
+        } => decided(shelf, directory, *moment, *id, recipient, *decision),
+        Entry::Charged { moment, id, by } => charged(shelf, *moment, *id, *by),
+        Entry::Learned {
+            moment,
+            id,
+            recipient,
+            decision,
+            decided,
+            ..
+        } => learned(shelf, *moment, *id, recipient, *decision, *decided),
+        Entry::Acked { id, recipient, .. } => acked(shelf, *id, recipient),
+        Entry::Ticked { moment } => ticked(shelf, *moment),
+        Entry::Anomaly {
+            moment,
+            accounts,
+            ..
+        } => anomaly(shelf, directory, *moment, accounts.as_slice()),
+    }
+}
+
+/// The moment of an entry, in seconds; the first entry of a journal has none.
+pub(crate) fn moment_of(entry: &Entry) -> u64
+    ensures { result ≡ moment_of entry.now }
+{
+    match entry {
+        Entry::Start { .. } => 0,
+        Entry::Accepted { moment, .. } => moment.seconds(),
+        Entry::NotAccepted { moment, .. } => moment.seconds(),
+        Entry::Took { moment, .. } => moment.seconds(),
+        Entry::Decided { moment, .. } => moment.seconds(),
+        Entry::Charged { moment, .. } => moment.seconds(),
+        Entry::Learned { moment, .. } => moment.seconds(),
+        Entry::Acked { moment, .. } => moment.seconds(),
+        Entry::Ticked { moment } => moment.seconds(),
+        Entry::Anomaly { moment, .. } => moment.seconds(),
+    }
+}
