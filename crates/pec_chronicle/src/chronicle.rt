@@ -160,6 +160,7 @@ impl<D: Disk> Chronicle<D> {
         requires { IsWithinLimits start.now }
         ensures created { IfOk result (λ made. (made.entries ≡ start.now ∷ []) × (made.interrupted ≡ None)
             × (made.down ≡ false)) }
+        ensures ended { IfOk result (λ made. made.end ≡ length header + framing + length (entry_text start.now)) }
         ensures stands { D.tells → IfOk result (λ made. Stands D.sight made) }
 
         // Not empty exactly where the disk holds a byte, unless the size can't be told; it then stays as it is.
@@ -191,6 +192,7 @@ impl<D: Disk> Chronicle<D> {
         requires fresh { (journal.end ≡ length header) × (journal.spent ≡ false) }
         ensures created { IfOk result (λ made. (made.entries ≡ start.now ∷ []) × (made.interrupted ≡ None)
             × (made.down ≡ false)) }
+        ensures ended { IfOk result (λ made. made.end ≡ length header + framing + length (entry_text start.now)) }
         ensures stands { D.tells → Keeps (D.sight journal.disk) [] journal.end →
             IfOk result (λ made. Stands D.sight made) }
         ensures not_empty { IfErr result (λ fault. fault.0 ≢ create.NotEmpty) }
@@ -214,6 +216,7 @@ impl<D: Disk> Chronicle<D> {
         requires near { self.old.end ≡ length header }
         ensures put { OnOk result ((self.new.entries ≡ with_entry self.old.entries start.now)
             × (self.new.interrupted ≡ None) × (self.new.down ≡ false)) }
+        ensures ended { OnOk result (self.new.end ≡ length header + framing + length (entry_text start.now)) }
         ensures stands { D.tells → Stands D.sight self.old → Stands D.sight self.new }
         ensures not_empty { IsErrOf result create.NotEmpty → ⊥ }
         ensures disk_fault { IsErrOf result create.DiskFault →

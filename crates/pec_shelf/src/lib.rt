@@ -9,6 +9,7 @@ mod booking;
 mod boxes;
 mod certified;
 mod faults;
+mod figures;
 mod inbox;
 mod laws;
 mod lookups;

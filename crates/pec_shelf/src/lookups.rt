@@ -18,14 +18,14 @@ use pec_types::{Address, MESSAGES, MsgId};
 /// What the half says of a message, an id or a pair. None of these takes memory.
 impl Shelf {
     /// The number of the provider.
-    pub(crate) fn me(&self) -> u32
+    pub fn me(&self) -> u32
         ensures { result ≡ self.now.me }
     {
         self.me
     }
 
     /// The greatest moment of an entry, in seconds.
-    pub(crate) fn last(&self) -> u64
+    pub fn last(&self) -> u64
         ensures { result ≡ self.now.half.last }
     {
         self.last

@@ -1,0 +1,4 @@
+pub mod Agreeing
+pub mod BeginningLemmas
+pub mod CarryLemmas
+pub mod OpeningLemmas

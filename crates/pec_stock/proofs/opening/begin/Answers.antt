@@ -1,0 +1,15 @@
+use Rattle.std.proofs.Common.{subst, sym, ℕ, ◌∷◌, [], ◌∙◌}
+use Rattle.pec_stock.specs.Stock.{IsOwn}
+use Rattle.pec_stock.proofs.BeginningLemmas.{agree_with, end_begun}
+use Rattle.pec_stock.proofs.opening.begin.Goals as goal
+
+pub returns-in-Ok-create-clause-agree : goal.returns-in-Ok-create-clause-agree
+returns-in-Ok-create-clause-agree g c =
+    let some = c.a_directory_has_a_trade.ensures c.args.directory.now in
+    let made = c.in-Ok-create.ensures in (
+      c.in-Ok.ensures.me,
+      agree_with c.args.directory.now c.in-Ok-create.chronicle c.in-Ok.shelf (c.in-Ok.start ∷ []) c.in-Ok.ensures.holds
+          (λ trade of. subst (λ (me : ℕ). IsOwn trade me (c.in-Ok.start ∷ [])) (sym c.in-Ok.ensures.me) (c.in-Ok.ensures.own trade of))
+          made.created.0 made.created.1
+          (made.ended ∙ end_begun c.args.directory.now c.in-Ok.shelf c.in-Ok.start some.0 some.1 c.in-Ok.ensures.holds),
+    )

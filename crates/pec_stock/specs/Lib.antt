@@ -1,0 +1,4 @@
+pub mod Entering
+pub mod Opening
+pub mod Stock
+pub mod Stocking

@@ -1,0 +1,40 @@
+-- A provider's stock: its entries over its disk and its half of the ledger. `Agree` says that they are one provider's. This
+-- project's profile.
+use Rattle.std.specs.Prelude.{◌≡◌, ℕ, ◌<◌, Bool, false, List, ◌++◌, None}
+use Rattle.pec_types.specs.declared.moments.TheConstants.{END_OF_TIME}
+use Rattle.pec_directory.specs.Directory.{Kept}
+use Rattle.pec_records.specs.declared.entries.Entry.{Entry}
+use Rattle.pec_ledger.specs.Along.{AllAlong}
+use Rattle.pec_ledger.specs.Half.{empty}
+use Rattle.pec_ledger.specs.Ledger.{Begins}
+use Rattle.pec_ledger.specs.Network.{chosen}
+use Rattle.pec_ledger.specs.OfDirectory.{IsOf}
+use Rattle.pec_ledger.specs.Steps.{half, step}
+use Rattle.pec_ledger.specs.Trade.{Trade}
+use Rattle.pec_shelf.specs.Prepared.{IsStep}
+use Rattle.pec_shelf.specs.Seen.{IsFor, Seen}
+use Rattle.pec_chronicle.specs.Chronicle.{ChronicleState}
+
+-- The half of a shelf is what these entries of its provider come to, in every world of the directory.
+pub record Holds (kept : List Kept) (shelf : Seen) (list : List Entry) : Type 0 where
+  pub is_half : (trade : Trade) → IsOf kept trade → shelf.half ≡ half trade shelf.me list
+  pub homes : (trade : Trade) → IsOf kept trade → IsFor trade shelf
+  pub in_range : shelf.half.last < END_OF_TIME
+
+-- Each entry is a step of the half before it.
+abbrev pub AreSteps : Trade → ℕ → List Entry → Type 0
+AreSteps trade me list = AllAlong (step trade me) (IsStep trade me) empty list
+
+-- These are entries of a provider's journal: they begin with its Start, and each is a step of the half before it.
+pub record IsOwn (trade : Trade) (me : ℕ) (list : List Entry) : Type 0 where
+  pub begins : Begins list
+  pub steps : AreSteps trade me list
+
+-- A shelf and entries over a disk are one provider's: the half is what the entries come to, and the journal ends where it
+-- says while it is up; an interrupted entry is there only while it is down, and would be one of the provider's too.
+pub record Agree {D : Type 0} (kept : List Kept) (chronicle : ChronicleState D) (shelf : Seen) : Type 0 where
+  pub holds : Holds kept shelf chronicle.entries
+  pub ends : chronicle.down ≡ false → chronicle.end ≡ shelf.half.end
+  pub whole : chronicle.down ≡ false → chronicle.interrupted ≡ None
+  pub own : (trade : Trade) → IsOf kept trade → (choice : Bool)
+      → IsOwn trade shelf.me (chronicle.entries ++ chosen choice chronicle.interrupted)

@@ -1,0 +1,227 @@
+ghost use Rattle.std.specs.Prelude.{◌≡◌, ◌≢◌, ℕ, ◌≤◌, List, [], ◌∷◌, false, length, map, None, IfOk, OnOk, IfErr};
+ghost use Rattle.pec_outside.specs.DiskModel.{Rests, Stays};
+ghost use Rattle.pec_outside.specs.Flow.{HasRisen};
+ghost use Rattle.pec_directory.specs.Canonical.{digest_of};
+ghost use Rattle.pec_directory.specs.Directory.{providers_of};
+ghost use Rattle.pec_journal.specs.JournalFile.{front};
+ghost use Rattle.pec_records.specs.Entry.{entry_text};
+ghost use Rattle.pec_records.specs.declared.entries.Entry.{Entry as SomeEntry};
+ghost use Rattle.pec_records.specs.declared.entries.Entry.TheVariants as entries;
+ghost use Rattle.pec_ledger.specs.Ledger.{Begins};
+ghost use Rattle.pec_ledger.specs.OfDirectory.{IsOf};
+ghost use Rattle.pec_ledger.specs.Trade.{Trade};
+ghost use Rattle.pec_chronicle.specs.Chronicle.{IsJournalOf, Stands};
+ghost use Rattle.pec_chronicle.specs.declared.faults.CreateFault.TheVariants as create;
+ghost use Rattle.pec_stock.specs.Opening.{CutOff, IsOutside, IsUnfit, NotOwn, WhyNot};
+ghost use Rattle.pec_stock.specs.Stock.{Agree, Holds, IsOwn};
+ghost use Rattle.pec_stock.specs.declared.faults.ReopenFault.TheVariants as reopen;
+
+use crate::faults::ReopenFault;
+use crate::stocking::{take_all, take_in};
+use pec_chronicle::{Chronicle, CreateFault, OpenFault, Unopened};
+use pec_directory::Directory;
+use pec_outside::Disk;
+use pec_records::Entry;
+use pec_shelf::{PrepareFault, Shelf, a_directory_has_a_trade};
+use pec_types::NoMemory;
+use std::alloc::Global;
+
+/// The stock of a provider on an empty disk: its journal is made, with its Start. A crash during the call may leave a disk
+/// that holds bytes and is no journal. With a fault the disk comes back; one that was empty may hold bytes then.
+pub fn begin<D: Disk>(
+    alloc: Global,
+    directory: &Directory,
+    me: u32,
+    disk: D,
+) -> Result<(Chronicle<D>, Shelf), (CreateFault, D)>
+    ensures created { IfOk result (λ made. (made.0.entries ≡ entries.Start me (digest_of (providers_of directory.now)) ∷ [])
+        × (made.0.interrupted ≡ None) × (made.0.down ≡ false)) }
+    ensures agree { IfOk result (λ made. (made.1.me ≡ me) × Agree directory.now made.0 made.1) }
+    ensures stands { D.tells → IfOk result (λ made. Stands D.sight made.0) }
+
+    // Not empty exactly where the disk holds a byte, unless the size can't be told; it then stays as it is.
+    ensures empty { D.tells → OnOk result (length (D.sight disk).seen ≡ 0) }
+    ensures not_empty { D.tells → IfErr result (λ fault. fault.0 ≡ create.NotEmpty →
+        (length (D.sight disk).seen ≢ 0) × Rests (D.sight disk) (D.sight fault.1)) }
+    ensures as_it_was { D.tells → length (D.sight disk).seen ≢ 0 → IfErr result (λ fault. Rests (D.sight disk) (D.sight fault.1)) }
+    ensures disk_fault { IfErr result (λ fault. fault.0 ≡ create.DiskFault → HasRisen (D.faults disk) (D.faults fault.1)) }
+    ensures later { IfOk result (λ made. D.faults disk ≤ D.faults made.0.disk) }
+    ensures later_err { IfErr result (λ fault. D.faults disk ≤ D.faults fault.1) }
+{
+    a_directory_has_a_trade();
+    match started(alloc, directory, me) {
+        Ok((start, shelf)) => match Chronicle::create(alloc, disk, &start) {
+            Ok(chronicle) => Ok((chronicle, shelf)),
+            Err(fault) => Err(fault),
+        },
+        Err(NoMemory) => Err((CreateFault::NoMemory, disk)),
+    }
+}
+
+// The first entry of a provider's journal, and the half behind it.
+fn started(alloc: Global, directory: &Directory, me: u32) -> Result<(Entry, Shelf), NoMemory>
+    ensures start { IfOk result (λ made. made.0 ≡ entries.Start me (digest_of (providers_of directory.now))) }
+    ensures me { IfOk result (λ made. made.1.me ≡ me) }
+    ensures holds { IfOk result (λ made. Holds directory.now made.1 (made.0 ∷ [])) }
+    ensures own { IfOk result (λ made. (trade : Trade) → IsOf directory.now trade → IsOwn trade me (made.0 ∷ [])) }
+{
+    a_directory_has_a_trade();
+    let digest = directory.digest(alloc)?;
+    let start = Entry::Start {
+        provider: me,
+        digest,
+    };
+    let mut shelf = Shelf::new(alloc, me);
+    match take_in(&mut shelf, directory, &start) {
+        Ok(()) => Ok((start, shelf)),
+        Err(PrepareFault::NoMemory) => Err(NoMemory),
+        Err(PrepareFault::NotAStep) => unreachable!(),
+    }
+}
+
+/// The stock of a provider over the journal on a disk, which is first made durable as it reads. It writes nothing, reads
+/// each entry once, and takes time and memory in proportion to the journal. With a fault the disk comes back.
+pub fn open<D: Disk>(
+    alloc: Global,
+    directory: &Directory,
+    me: u32,
+    disk: D,
+) -> Result<(Chronicle<D>, Shelf), (ReopenFault, D)>
+    ensures agree { IfOk result (λ made. (made.1.me ≡ me) × Agree directory.now made.0 made.1) }
+    ensures up { IfOk result (λ made. (made.0.down ≡ false) × (made.0.interrupted ≡ None)) }
+    ensures opened { D.tells → IfOk result (λ made. IsJournalOf made.0.entries (D.sight disk).seen × Stands D.sight made.0) }
+    ensures own { D.tells → (trade : Trade) (list : List SomeEntry) → IsOf directory.now trade → IsOwn trade me list
+        → IsJournalOf list (D.sight disk).seen → IfErr result (λ refused. IsOutside refused.0) }
+    ensures unfit { D.tells → (trade : Trade) → IsOf directory.now trade
+        → IfErr result (λ refused. IsUnfit trade me (D.sight disk).seen refused.0) }
+    ensures stays { D.tells → IfOk result (λ made. Stays (D.sight disk) (D.sight made.0.disk)) }
+    ensures stays_err { D.tells → IfErr result (λ refused. Stays (D.sight disk) (D.sight refused.1)) }
+    ensures disk_fault { IfErr result (λ refused. refused.0 ≡ reopen.DiskFault → HasRisen (D.faults disk) (D.faults refused.1)) }
+    ensures later { IfOk result (λ made. D.faults disk ≤ D.faults made.0.disk) }
+    ensures later_err { IfErr result (λ refused. D.faults disk ≤ D.faults refused.1) }
+{
+    a_directory_has_a_trade();
+    match Chronicle::reopen(alloc, disk) {
+        Ok((chronicle, entries)) => opened(alloc, directory, me, chronicle, &entries),
+        Err(unopened) => Err(refused(alloc, directory, me, unopened)),
+    }
+}
+
+// The stock over entries that were read, where they are the provider's own.
+fn opened<D>(
+    alloc: Global,
+    directory: &Directory,
+    me: u32,
+    chronicle: Chronicle<D>,
+    entries: &[Entry],
+) -> Result<(Chronicle<D>, Shelf), (ReopenFault, D)>
+    requires entries { chronicle.entries ≡ entries.now }
+    requires up { (chronicle.down ≡ false) × (chronicle.interrupted ≡ None) }
+    ensures same { IfOk result (λ made. made.0 ≡ chronicle) }
+    ensures disk { IfErr result (λ refused. refused.1 ≡ chronicle.disk) }
+    ensures agree { IfOk result (λ made. (made.1.me ≡ me) × Agree directory.now made.0 made.1) }
+    ensures not_own { chronicle.end ≡ length (front (map entry_text entries.now)) → (trade : Trade) → IsOf directory.now trade
+        → IfErr result (λ refused. NotOwn trade me entries.now refused.0) }
+    ensures no_disk_fault { IfErr result (λ refused. refused.0 ≢ reopen.DiskFault) }
+{
+    a_directory_has_a_trade();
+    let shelf = match judge(alloc, directory, me, entries) {
+        Ok(shelf) => shelf,
+        Err(fault) => return Err((fault, chronicle.into_parts().0)),
+    };
+    // A disk that tells what it holds has them end where the half says.
+    let end = chronicle.end();
+    if end != shelf.end() {
+        return Err((ReopenFault::NotAJournal(end), chronicle.into_parts().0));
+    }
+    Ok((chronicle, shelf))
+}
+
+// Why no entries were opened.
+fn refused<D>(
+    alloc: Global,
+    directory: &Directory,
+    me: u32,
+    unopened: Unopened<D>,
+) -> (ReopenFault, D)
+    ensures why { WhyNot directory.now me unopened.fault unopened.entries.items result.0 }
+    ensures disk { result.1 ≡ unopened.disk }
+{
+    let Unopened {
+        fault,
+        entries,
+        disk,
+    } = unopened;
+    (why(alloc, directory, me, fault, &entries), disk)
+}
+
+fn why(
+    alloc: Global,
+    directory: &Directory,
+    me: u32,
+    fault: OpenFault,
+    entries: &[Entry],
+) -> ReopenFault
+    ensures { WhyNot directory.now me fault entries.now result }
+{
+    match fault {
+        OpenFault::DiskFault => ReopenFault::DiskFault,
+        OpenFault::NotAJournal(place) => ReopenFault::NotAJournal(place),
+        OpenFault::BadEntry(number) => cut_off(alloc, directory, me, entries, number),
+        OpenFault::NoMemory => ReopenFault::NoMemory,
+    }
+}
+
+// Behind the entries of a journal, so many, bytes stand that are none.
+fn cut_off(
+    alloc: Global,
+    directory: &Directory,
+    me: u32,
+    entries: &[Entry],
+    number: u64,
+) -> ReopenFault
+    ensures { CutOff directory.now me number entries.now result }
+{
+    match judge(alloc, directory, me, entries) {
+        Ok(_) => ReopenFault::BadEntry(number),
+        Err(fault) => fault,
+    }
+}
+
+// The half behind entries, where they are the provider's own.
+fn judge(
+    alloc: Global,
+    directory: &Directory,
+    me: u32,
+    entries: &[Entry],
+) -> Result<Shelf, ReopenFault>
+    ensures me { IfOk result (λ shelf. shelf.me ≡ me) }
+    ensures holds { IfOk result (λ shelf. Holds directory.now shelf entries.now) }
+    ensures own { (trade : Trade) → IsOf directory.now trade → OnOk result (IsOwn trade me entries.now) }
+    ensures not_own { (trade : Trade) → IsOf directory.now trade → IfErr result (NotOwn trade me entries.now) }
+{
+    if let Err(fault) = begins(alloc, directory, entries) {
+        return Err(fault);
+    }
+    let mut shelf = Shelf::new(alloc, me);
+    match take_all(&mut shelf, directory, entries) {
+        Ok(()) => Ok(shelf),
+        Err((PrepareFault::NotAStep, number)) => Err(ReopenFault::BadEntry(number as u64)),
+        Err((PrepareFault::NoMemory, _)) => Err(ReopenFault::NoMemory),
+    }
+}
+
+// Whether entries begin with the Start of a journal of this directory.
+fn begins(alloc: Global, directory: &Directory, entries: &[Entry]) -> Result<(), ReopenFault>
+    ensures begins { OnOk result (Begins entries.now) }
+    ensures not_own { (trade : Trade) (me : ℕ) → IsOf directory.now trade → IfErr result (NotOwn trade me entries.now) }
+{
+    let Some(Entry::Start { digest, .. }) = entries.first() else {
+        return Err(ReopenFault::BadEntry(0));
+    };
+    let given = directory.digest(alloc)?;
+    if digest.as_slice() != given.as_slice() {
+        return Err(ReopenFault::OtherDirectory(*digest, given));
+    }
+    Ok(())
+}
