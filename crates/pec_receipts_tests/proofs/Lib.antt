@@ -1,0 +1,1 @@
+-- No lemmas: the functions of tests need measures alone.
