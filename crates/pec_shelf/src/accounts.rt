@@ -55,7 +55,7 @@ pub(crate) fn may_decide(
 }
 
 /// An account of the provider has room.
-fn has_room(shelf: &Shelf, directory: &Directory, account: &Address) -> bool
+pub(crate) fn has_room(shelf: &Shelf, directory: &Directory, account: &Address) -> bool
     ensures { result ≡ has_room_at (providers_of directory.now) shelf.now.me shelf.now.half account.now }
 {
     directory.is_account_of(shelf.me, account) && shelf.counted(account) < quota(directory, account)

@@ -2,17 +2,20 @@ ghost use Rattle.std.specs.Prelude.{◌≡◌, ◌<◌, ◌≤◌, [], length, o
 ghost use Rattle.std.specs.List.{list_any};
 ghost use Rattle.pec_types.specs.declared.messages.TheConstants.{MESSAGES};
 ghost use Rattle.pec_ledger.specs.Half.{Message};
-ghost use Rattle.pec_ledger.specs.Lookups.{Accepted, HasPair, HasPairsAt, accepted_at, charged_of, counted, decided_of, is_acked, known_of, notice_of, taken_of, warning_of};
+ghost use Rattle.pec_ledger.specs.Lookups.{Accepted, HasPair, HasPairsAt, accepted_at, charged_of, counted, decided_of, has_room, is_acked, known_of, notice_of, taken_of, warning_of};
+ghost use Rattle.pec_ledger.specs.OfDirectory.{IsOf};
 ghost use Rattle.pec_ledger.specs.Pairs.{id_of, pair_of};
 ghost use Rattle.pec_ledger.specs.Trade.{Trade};
 ghost use Rattle.pec_shelf.specs.Lines.{is_for};
 ghost use Rattle.pec_shelf.specs.Seen.{IsFor};
 ghost use Rattle.pec_shelf.specs.Sides.{certified_of_rows, messages_of};
 
+use crate::accounts::has_room;
 use crate::certified::Certified;
 use crate::owing::has_pairs_at;
 use crate::rows::{ChargeRow, FateRow, KnownRow, MarkRow, MessageRow, TakenRow};
 use crate::shelf::Shelf;
+use pec_directory::Directory;
 use pec_types::{Address, MESSAGES, MsgId};
 
 /// What the half says of a message, an id or a pair. None of these takes memory.
@@ -32,7 +35,7 @@ impl Shelf {
     }
 
     /// The message of a number.
-    pub(crate) fn message(&self, number: u64) -> Option<&MessageRow>
+    pub fn message(&self, number: u64) -> Option<&MessageRow>
         ensures message { option_map (λ row. row.now.message) result ≡ slice_get self.now.half.messages number }
         ensures certified { option_map (λ row. row.now.certified) result ≡ slice_get self.now.certified number }
     {
@@ -49,7 +52,7 @@ impl Shelf {
     }
 
     /// What a provider said of taking charge of a message.
-    pub(crate) fn charge(&self, id: MsgId, by: u32) -> Option<&ChargeRow>
+    pub fn charge(&self, id: MsgId, by: u32) -> Option<&ChargeRow>
         ensures { option_map (λ row. row.now) result ≡ charged_of self.now.half id by }
     {
         self.outbox.charge(id, by)
@@ -67,19 +70,22 @@ impl Shelf {
         self.outbox.notice(id, recipient)
     }
 
-    pub(crate) fn known(&self, id: MsgId, recipient: &Address) -> Option<&KnownRow>
+    /// What is known here of the outcome of a pair of this provider.
+    pub fn known(&self, id: MsgId, recipient: &Address) -> Option<&KnownRow>
         ensures { option_map (λ row. row.now) result ≡ known_of self.now.half (pair_of id recipient.now) }
     {
         self.outbox.known(id, recipient)
     }
 
-    pub(crate) fn taken(&self, id: MsgId) -> Option<&TakenRow>
+    /// How an id was taken here.
+    pub fn taken(&self, id: MsgId) -> Option<&TakenRow>
         ensures { option_map (λ row. row.now) result ≡ taken_of self.now.half id }
     {
         self.inbox.taken(id)
     }
 
-    pub(crate) fn fate(&self, id: MsgId, recipient: &Address) -> Option<&FateRow>
+    /// What was decided here on a pair.
+    pub fn fate(&self, id: MsgId, recipient: &Address) -> Option<&FateRow>
         ensures { option_map (λ row. row.now) result ≡ decided_of self.now.half (pair_of id recipient.now) }
     {
         self.inbox.fate(id, recipient)
@@ -92,7 +98,8 @@ impl Shelf {
         self.inbox.all_decided()
     }
 
-    pub(crate) fn is_acked(&self, id: MsgId, recipient: &Address) -> bool
+    /// Whether the provider of the message said that it knows the outcome of a pair.
+    pub fn is_acked(&self, id: MsgId, recipient: &Address) -> bool
         ensures { result ≡ is_acked self.now.half (pair_of id recipient.now) }
     {
         self.inbox.is_acked(id, recipient)
@@ -118,7 +125,7 @@ impl Shelf {
     }
 
     /// Whether a number is that of an accepted message with pairs at a provider.
-    pub(crate) fn has_pairs(&self, number: u64, by: u32) -> bool
+    pub fn has_pairs(&self, number: u64, by: u32) -> bool
         ensures { (trade : Trade) → IsFor trade self.now → IsTrue result
             ↔ ((message : Accepted) × (accepted_at self.now.half number ≡ Some message) × HasPairsAt trade message by) }
     {
@@ -126,15 +133,24 @@ impl Shelf {
     }
 
     /// Whether a number is that of an accepted message with a pair of this recipient.
-    pub(crate) fn has_pair(&self, number: u64, recipient: &Address) -> bool
+    pub fn has_pair(&self, number: u64, recipient: &Address) -> bool
         ensures { (trade : Trade) → IsFor trade self.now → IsTrue result
             ↔ ((message : Accepted) × (accepted_at self.now.half number ≡ Some message) × HasPair trade message recipient.now) }
     {
         is_certified(recipient, self.certified(number))
     }
 
+    /// Whether the address is an account of this provider, and fewer of its items take room than its quota allows.
+    pub fn has_room(&self, directory: &Directory, account: &Address) -> bool
+        ensures { (trade : Trade) → IsOf directory.now trade
+            → result ≡ has_room trade self.now.me self.now.half account.now }
+    {
+        let room = has_room(self, directory, account);
+        room
+    }
+
     /// The id of the next message, where there may be one more.
-    pub(crate) fn next_id(&self) -> Option<MsgId>
+    pub fn next_id(&self) -> Option<MsgId>
         ensures { MatchOption result (MESSAGES ≤ length self.now.half.messages)
             (λ id. (length self.now.half.messages < MESSAGES) × (id ≡ id_of self.now.me (length self.now.half.messages))) }
     {

@@ -1,4 +1,5 @@
-ghost use Rattle.std.specs.Prelude.{◌≡◌};
+ghost use Rattle.std.specs.Prelude.{◌≡◌, ◌<◌};
+ghost use Rattle.pec_types.specs.declared.moments.TheConstants.{END_OF_TIME};
 ghost use Rattle.pec_ledger.specs.Trade.{Trade};
 ghost use Rattle.pec_ledger.specs.Steps.{moment_of};
 ghost use Rattle.pec_shelf.specs.Prepared.{Takes};
@@ -68,9 +69,10 @@ pub(crate) fn rows_of(
     }
 }
 
-/// The moment of an entry, in seconds; the first entry of a journal has none.
-pub(crate) fn moment_of(entry: &Entry) -> u64
-    ensures { result ≡ moment_of entry.now }
+/// The moment of an entry, in seconds; the first entry of a journal has none, and stands at 0. It takes no memory.
+pub fn moment_of(entry: &Entry) -> u64
+    ensures value { result ≡ moment_of entry.now }
+    ensures below { result < END_OF_TIME }
 {
     match entry {
         Entry::Start { .. } => 0,

@@ -14,7 +14,7 @@ use std::marker::Model;
 
 /// A message that was submitted here, accepted where it has facts, and its certified recipients in their order.
 #[derive(Drop)]
-pub(crate) struct MessageRow {
+pub struct MessageRow {
     pub(crate) moment: Moment,
     pub(crate) sender: Address,
     pub(crate) facts: Option<Facts>,
@@ -43,31 +43,36 @@ impl Model for MessageRow {
 }
 
 impl MessageRow {
-    pub(crate) fn moment(&self) -> Moment
+    /// When it was accepted or refused.
+    pub fn moment(&self) -> Moment
         ensures { result ≡ self.now.message.moment }
     {
         self.moment
     }
 
-    pub(crate) fn sender(&self) -> &Address
+    /// The account that handed it in.
+    pub fn sender(&self) -> &Address
         ensures { result.now ≡ self.now.message.sender }
     {
         &self.sender
     }
 
-    pub(crate) fn facts(&self) -> Option<&Facts>
+    /// What its head says, where it was accepted.
+    pub fn facts(&self) -> Option<&Facts>
         ensures { option_map (λ facts. facts.now) result ≡ self.now.message.facts }
     {
         self.facts.as_ref()
     }
 
-    pub(crate) fn entry(&self) -> u64
+    /// The number of the entry by which it came, from 0.
+    pub fn entry(&self) -> u64
         ensures { result ≡ self.now.message.entry }
     {
         self.entry
     }
 
-    pub(crate) fn certified(&self) -> &[Certified]
+    /// Its certified recipients, in their order.
+    pub fn certified(&self) -> &[Certified]
         ensures { result.now ≡ self.now.certified }
     {
         self.certified.as_slice()
@@ -76,7 +81,7 @@ impl MessageRow {
 
 /// A provider took charge of a message of this provider.
 #[derive(Drop)]
-pub(crate) struct ChargeRow {
+pub struct ChargeRow {
     pub(crate) id: MsgId,
     pub(crate) by: u32,
     pub(crate) moment: Moment,
@@ -110,7 +115,7 @@ impl Model for MarkRow {
 
 /// The outcome of a pair of this provider is known.
 #[derive(Drop)]
-pub(crate) struct KnownRow {
+pub struct KnownRow {
     pub(crate) id: MsgId,
     pub(crate) recipient: Address,
     pub(crate) decision: Decision,
@@ -134,7 +139,7 @@ impl Model for KnownRow {
 
 /// An envelope was taken for these recipients, which are at home here.
 #[derive(Drop)]
-pub(crate) struct TakenRow {
+pub struct TakenRow {
     pub(crate) id: MsgId,
     pub(crate) moment: Moment,
     pub(crate) recipients: Items<Address>,
@@ -151,7 +156,7 @@ impl Model for TakenRow {
 
 /// What was decided on a pair whose recipient is at home here.
 #[derive(Drop)]
-pub(crate) struct FateRow {
+pub struct FateRow {
     pub(crate) id: MsgId,
     pub(crate) recipient: Address,
     pub(crate) decision: Decision,
@@ -237,7 +242,8 @@ impl ChargeRow {
         same_id(id, self.id) && by == self.by
     }
 
-    pub(crate) fn moment(&self) -> Moment
+    /// When the charge was received.
+    pub fn moment(&self) -> Moment
         ensures { result ≡ self.now.moment }
     {
         self.moment
@@ -274,19 +280,22 @@ impl KnownRow {
         same_pair(id, recipient, self.id, &self.recipient)
     }
 
-    pub(crate) fn decision(&self) -> Decision
+    /// What was decided.
+    pub fn decision(&self) -> Decision
         ensures { result ≡ self.now.decision }
     {
         self.decision
     }
 
-    pub(crate) fn decided(&self) -> Moment
+    /// When it was decided there.
+    pub fn decided(&self) -> Moment
         ensures { result ≡ self.now.decided }
     {
         self.decided
     }
 
-    pub(crate) fn moment(&self) -> Moment
+    /// When it became known here.
+    pub fn moment(&self) -> Moment
         ensures { result ≡ self.now.moment }
     {
         self.moment
@@ -300,25 +309,29 @@ impl TakenRow {
         same_id(id, self.id)
     }
 
-    pub(crate) fn id(&self) -> MsgId
+    /// The id of the message.
+    pub fn id(&self) -> MsgId
         ensures { result ≡ self.now.id }
     {
         self.id
     }
 
-    pub(crate) fn moment(&self) -> Moment
+    /// When it was taken.
+    pub fn moment(&self) -> Moment
         ensures { result ≡ self.now.moment }
     {
         self.moment
     }
 
-    pub(crate) fn recipients(&self) -> &[Address]
+    /// Its certified recipients that are at home here, in their order.
+    pub fn recipients(&self) -> &[Address]
         ensures { result.now ≡ self.now.recipients }
     {
         self.recipients.as_slice()
     }
 
-    pub(crate) fn entry(&self) -> u64
+    /// The number of the entry by which it was taken, from 0.
+    pub fn entry(&self) -> u64
         ensures { result ≡ self.now.entry }
     {
         self.entry
@@ -332,25 +345,29 @@ impl FateRow {
         same_pair(id, recipient, self.id, &self.recipient)
     }
 
-    pub(crate) fn id(&self) -> MsgId
+    /// The id of the message.
+    pub fn id(&self) -> MsgId
         ensures { result ≡ self.now.pair.id }
     {
         self.id
     }
 
-    pub(crate) fn recipient(&self) -> &Address
+    /// The recipient.
+    pub fn recipient(&self) -> &Address
         ensures { result.now ≡ self.now.pair.recipient }
     {
         &self.recipient
     }
 
-    pub(crate) fn decision(&self) -> Decision
+    /// What was decided.
+    pub fn decision(&self) -> Decision
         ensures { result ≡ self.now.decision }
     {
         self.decision
     }
 
-    pub(crate) fn moment(&self) -> Moment
+    /// When it was decided.
+    pub fn moment(&self) -> Moment
         ensures { result ≡ self.now.moment }
     {
         self.moment

@@ -11,12 +11,11 @@ ghost use Rattle.pec_shelf.specs.Seen.{HoldsAs, IsFor};
 ghost use Rattle.pec_stock.specs.Entering.{AreMarks, Entered, Failed, OnlyMay, Steps};
 ghost use Rattle.pec_stock.specs.Stock.{Agree};
 
-use crate::moments::moment_of;
 use pec_chronicle::{AppendFault, Chronicle, Encoded};
 use pec_directory::Directory;
 use pec_outside::Disk;
 use pec_records::Entry;
-use pec_shelf::{PrepareFault, Ready, Shelf, what_is_kept_goes_on};
+use pec_shelf::{PrepareFault, Ready, Shelf, moment_of, what_is_kept_goes_on};
 use pec_types::{Mark, NoMemory, ProviderFault};
 use std::alloc::Global;
 
@@ -56,7 +55,7 @@ pub fn enter<D: Disk>(
     Ok(shelf.commit(ready))
 }
 
-// An entry that is a step is prepared, unless memory runs out.
+/// An entry that is a step is prepared, unless memory runs out.
 fn prepared(shelf: &mut Shelf, directory: &Directory, entry: &Entry) -> Result<Ready, NoMemory>
     requires homes { (trade : Trade) → IsOf directory.now trade → IsFor trade shelf.old }
     requires step { Steps directory.now shelf.old entry.now }
@@ -73,7 +72,7 @@ fn prepared(shelf: &mut Shelf, directory: &Directory, entry: &Entry) -> Result<R
     }
 }
 
-// Appends an entry for which there is room in memory, where the journal is up.
+/// Appends an entry for which there is room in memory, where the journal is up.
 #[tactic(auto, unfolding(pec_ledger::specs::Steps::size_of))]
 fn append<D: Disk>(chronicle: &mut Chronicle<D>, entry: Encoded) -> Result<(), ProviderFault>
     requires up { chronicle.old.down ≡ false }

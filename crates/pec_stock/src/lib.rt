@@ -5,7 +5,6 @@
 
 mod entering;
 mod faults;
-mod moments;
 mod opening;
 mod stocking;
 

@@ -58,7 +58,7 @@ pub fn begin<D: Disk>(
     }
 }
 
-// The first entry of a provider's journal, and the half behind it.
+/// The first entry of a provider's journal, and the half behind it.
 fn started(alloc: Global, directory: &Directory, me: u32) -> Result<(Entry, Shelf), NoMemory>
     ensures start { IfOk result (λ made. made.0 ≡ entries.Start me (digest_of (providers_of directory.now))) }
     ensures me { IfOk result (λ made. made.1.me ≡ me) }
@@ -107,7 +107,7 @@ pub fn open<D: Disk>(
     }
 }
 
-// The stock over entries that were read, where they are the provider's own.
+/// The stock over entries that were read, where they are the provider's own.
 fn opened<D>(
     alloc: Global,
     directory: &Directory,
@@ -137,7 +137,7 @@ fn opened<D>(
     Ok((chronicle, shelf))
 }
 
-// Why no entries were opened.
+/// Why no entries were opened.
 fn refused<D>(
     alloc: Global,
     directory: &Directory,
@@ -172,7 +172,7 @@ fn why(
     }
 }
 
-// Behind the entries of a journal, so many, bytes stand that are none.
+/// Behind the entries of a journal, so many, bytes stand that are none.
 fn cut_off(
     alloc: Global,
     directory: &Directory,
@@ -188,7 +188,7 @@ fn cut_off(
     }
 }
 
-// The half behind entries, where they are the provider's own.
+/// The half behind entries, where they are the provider's own.
 fn judge(
     alloc: Global,
     directory: &Directory,
@@ -211,7 +211,7 @@ fn judge(
     }
 }
 
-// Whether entries begin with the Start of a journal of this directory.
+/// Whether entries begin with the Start of a journal of this directory.
 fn begins(alloc: Global, directory: &Directory, entries: &[Entry]) -> Result<(), ReopenFault>
     ensures begins { OnOk result (Begins entries.now) }
     ensures not_own { (trade : Trade) (me : ℕ) → IsOf directory.now trade → IfErr result (NotOwn trade me entries.now) }

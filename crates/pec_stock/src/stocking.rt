@@ -10,13 +10,14 @@ ghost use Rattle.pec_shelf.specs.declared.faults.PrepareFault.TheVariants as pre
 ghost use Rattle.pec_stock.specs.Stock.{Holds};
 ghost use Rattle.pec_stock.specs.Stocking.{AllSteps, StepsUpTo};
 
-use crate::moments::moment_of;
 use pec_directory::Directory;
 use pec_records::Entry;
-use pec_shelf::{PrepareFault, Shelf, a_directory_has_a_trade, what_is_kept_goes_on};
+use pec_shelf::{
+    PrepareFault, Shelf, a_directory_has_a_trade, moment_of, what_is_kept_goes_on,
+};
 
-// Takes entries in, one after another, as far as each is a step of the half before it. With a fault the answer tells how
-// many were taken in.
+/// Takes entries in, one after another, as far as each is a step of the half before it. With a fault the answer tells how
+/// many were taken in.
 pub(crate) fn take_all(
     shelf: &mut Shelf,
     directory: &Directory,
@@ -37,7 +38,7 @@ pub(crate) fn take_all(
     Ok(())
 }
 
-// Takes an entry in, where it is a step of the half.
+/// Takes an entry in, where it is a step of the half.
 pub(crate) fn take_in(
     shelf: &mut Shelf,
     directory: &Directory,

@@ -9,7 +9,7 @@ returns-in-Ok-clause-exact c =
     let in_time : c.args.self.now.half.last ≤ c.moment_of-moment.result = omega (arith, c.last.ensures) in
     λ trade of.
     ready_is c.args.directory.now trade c.args.self.now.me c.args.self.now.half c.args.entry.now c.in-Ok.rows c.with_figures.result c.moment_of-moment.result c.in_ok-size.size of
-    (c.in-Ok.ensures trade (c.requires (settled c.args.directory.now trade) (settled_of c.args.directory.now trade))) c.with_figures.ensures c.moment_of-moment.ensures
+    (c.in-Ok.ensures trade (c.requires (settled c.args.directory.now trade) (settled_of c.args.directory.now trade))) c.with_figures.ensures c.moment_of-moment.ensures.value
     c.in_ok-size.ensures.size in_time
 
 pub returns-in-Err-clause-exact : goal.returns-in-Err-clause-exact
