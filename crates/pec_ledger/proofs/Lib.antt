@@ -10,6 +10,7 @@ pub mod Places
 pub mod GuaranteeLemmas
 pub mod Beginning
 pub mod Backing
+pub mod Originals
 pub mod Moments
 pub mod Arrivals
 pub mod TableLemmas

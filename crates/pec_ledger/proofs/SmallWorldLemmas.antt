@@ -198,6 +198,7 @@ small_is_trade = record {
   receipt_seen = receipt_seen;
   refusal_seen = λ id moment sender cause path message me l n a s f range. refl;
   anomaly_seen = λ p entry moment message me l range. refl;
+  nothing_seen = refl;
   seen_opens = λ message seen e. ap is_some e;
   frames = frames_back;
 }

@@ -1,7 +1,7 @@
 -- What is true of the world that the ledger asks: `IsTrade`. Each law names who has to prove it: the directory, heads,
 -- admission, letters, receipts, seals and frames. They have premises, which journals that are Fit always meet: without them no
 -- world would meet all laws.
-use Rattle.std.specs.Prelude.{◌≡◌, ℕ, ◌<◌, ◌≤◌, true, length, Contains, Option, Some, None, IsSome, IsTrue}
+use Rattle.std.specs.Prelude.{◌≡◌, ℕ, ◌<◌, ◌≤◌, true, [], length, Contains, Option, Some, None, IsSome, IsTrue}
 use Rattle.std.specs.Option.{option_and_then}
 use Rattle.pec_types.specs.Bytes.{Bytes, Path}
 use Rattle.pec_types.specs.Message.{Id}
@@ -106,7 +106,8 @@ pub record IsTrade (trade : Trade) : Type 0 where
       → letter_in trade me (trade.refusal_text id moment sender cause path message) ≡ None
   pub anomaly_seen : (provider entry moment : ℕ) (message : Bytes) (me : ℕ) → provider < trade.providers
       → moment < END_OF_TIME → letter_in trade me (trade.anomaly_text provider entry moment message) ≡ None
-  -- Seals: what is seen opens.
+  -- Seals: what is seen opens, and nothing is seen in a text of no bytes.
+  pub nothing_seen : trade.view [] ≡ None
   pub seen_opens : (message : Bytes) (seen : Seen) → trade.view message ≡ Some seen → trade.opens message ≡ true
   -- Frames: what was framed stands in the frame.
   pub frames : (path : Path) (message frame : Bytes) → trade.framed path message ≡ Some frame

@@ -5,13 +5,15 @@ ghost use Rattle.pec_types.specs.declared.letters.Letter.{Letter as SomeLetter};
 ghost use Rattle.pec_types.specs.declared.letters.Letter.TheVariants as letters;
 ghost use Rattle.pec_types.specs.declared.messages.Decision.{Decision as SomeDecision};
 ghost use Rattle.pec_types.specs.declared.receipts.Kind.TheVariants as kinds;
+ghost use Rattle.pec_records.specs.declared.entries.Entry.{Entry};
 ghost use Rattle.pec_ledger.specs.Half.{Fate, Known, Posted, Taken};
 ghost use Rattle.pec_ledger.specs.Items.{IsItemText, item_text};
 ghost use Rattle.pec_ledger.specs.Ledger.{accepted_in, body_at, Fit, HasOriginal, IsAckText, IsChargeText, IsDecidedSo, IsEnvelopeText, IsLicensed, IsLicensedText, IsOutcomeText, Journals, ledger};
-ghost use Rattle.pec_ledger.specs.Lookups.{Accepted, addresses_of, decided_of, HasPairsAt, known_of, outcome_kind, taken_of};
+ghost use Rattle.pec_ledger.specs.Lookups.{Accepted, accepted_at, addresses_of, decided_of, HasPairsAt, known_of, outcome_kind, taken_of};
 ghost use Rattle.pec_ledger.specs.Network.{IsGenuineText};
 ghost use Rattle.pec_ledger.specs.Own.{IsOwnPair, IsTakenPair};
 ghost use Rattle.pec_ledger.specs.Pairs.{Pair, pair_of};
+ghost use Rattle.pec_ledger.specs.Steps.{half};
 ghost use Rattle.pec_ledger.specs.Trade.{Receipt, SeenEnvelope, SeenReceipt, Trade};
 ghost use Rattle.pec_ledger.specs.TradeLaws.{IsTrade, letter_in};
 
@@ -44,6 +46,14 @@ pub fn rows_have_their_texts()
         → IsLicensedText trade journals letter a → IsLicensedText trade journals letter b → a ≡ b }
     ensures items { (trade : Trade) (journals : Journals) → Fit trade journals → (provider : ℕ) (posted : Posted)
         → Contains (ledger trade journals provider).items posted → IsSome (item_text trade provider (journals provider) posted) }
+{}
+
+/// In every journal, whatever else it holds, an accepted message has its original at its entry, and its row has the facts
+/// of that.
+pub fn an_accepted_message_has_its_original()
+    ensures { (trade : Trade) (provider : ℕ) (journal : List Entry) (number : ℕ) (message : Accepted)
+        → accepted_at (half trade provider journal) number ≡ Some message
+        → (original : Bytes) × (body_at journal message.entry ≡ Some original) × (trade.facts original ≡ Some message.facts) }
 {}
 
 /// What a reader sees in a licensed text is its letter, with the moment of its row. The text of an item is that of a

@@ -15,7 +15,9 @@ pub use examples::{
     a_world_is_there, books_of_the_examples, marks_of_the_examples, the_premises_are_met,
 };
 pub use guarantees::the_guarantees;
-pub use letters::{arrivals_are_true, rows_have_their_texts, texts_are_seen};
+pub use letters::{
+    an_accepted_message_has_its_original, arrivals_are_true, rows_have_their_texts, texts_are_seen,
+};
 pub use licences::licences_stand;
 pub use tables::{
     the_books, the_decisions, the_due_letters, the_time_table, what_an_entry_changes,
