@@ -2,7 +2,7 @@
 use Rattle.std.proofs.Common.{◌≡◌, ℕ, ◌<◌, List, [], ◌∷◌, Bool, true, false, inl, length, refl, ap, sym, subst, ◌∙◌, arith, Option, Some, None}
 use Rattle.std.specs.Prelude.{Contains, ◌==◌, if◌then◌else◌}
 use Rattle.std.specs.List.{cons_option, filter_map}
-use Rattle.std.specs.Option.{option_and_then, option_map}
+use Rattle.std.specs.Option.{option_and_then}
 use Rattle.std.proofs.lemmas.Bool.{eqb-true}
 use Rattle.std.proofs.lemmas.List.Elements.{All-cons, All-nil}
 use Rattle.std.proofs.lemmas.Option.{none-some, same_Some}
@@ -17,11 +17,11 @@ use Rattle.pec_ledger.specs.Half.{Fate, Known, Taken}
 use Rattle.pec_ledger.specs.Ledger.{HasOriginal, IsEnvelopeText, IsLicensed, IsLicensedText, Journals, accepted_in, body_at, ledger}
 use Rattle.pec_ledger.specs.Lookups.{Accepted, HasPairsAt, accepted_at, addresses_of, at_home, decided_of, is_home, known_of, taken_of}
 use Rattle.pec_ledger.specs.Network.{AreGenuine, IsGenuine}
-use Rattle.pec_ledger.specs.Pairs.{Pair, pair_of}
+use Rattle.pec_ledger.specs.Pairs.{Pair, pair_of, same_id}
 use Rattle.pec_ledger.specs.Steps.{half}
 use Rattle.pec_ledger.specs.Trade.{Framed, Seen, SeenEnvelope, Trade}
 use Rattle.pec_ledger.specs.TradeLaws.{IsTrade}
-use Rattle.pec_plays.specs.Frames.{ack_of, charge_of, composed, due_frames, envelope_of, frame_of, original_in, original_taken, outcome_of, to_home, to_sender, unless_nobody}
+use Rattle.pec_plays.specs.Frames.{ack_of, charge_of, composed, due_frames, envelope_of, frame_of, original_in, original_taken, outcome_of, to_home, to_sender, unless_empty, unless_nobody}
 use Rattle.pec_plays.proofs.ListLemmas.{from_filter, home_is}
 
 -- what the ledger's laws say of rows and their texts, in journals that are Fit
@@ -40,13 +40,18 @@ both : {A B : Type 0} (f : A → Option B) (o : Option A) (y : B) → option_and
 both f None y e = absurd (none-some y e)
 both f (Some x) y e = (x, refl, e)
 
-mapped : {A B : Type 0} (f : A → B) (o : Option A) (y : B) → option_map f o ≡ Some y → (x : A) × (o ≡ Some x) × (f x ≡ y)
-mapped f None y e = absurd (none-some y e)
-mapped f (Some x) y e = (x, refl, same_Some (f x) y e)
-
 where_true : {X : Type 0} (b : Bool) (o : Option X) (y : X) → (if b then o else None) ≡ Some y → (b ≡ true) × (o ≡ Some y)
 where_true true o y e = (refl, e)
 where_true false o y e = absurd (none-some y e)
+
+where_false : {X : Type 0} (b : Bool) (o : Option X) (y : X) → (if b then None else o) ≡ Some y → o ≡ Some y
+where_false true o y e = absurd (none-some y e)
+where_false false o y e = e
+
+text_is : (path : Path) (text : Bytes) (f : Framed) → unless_empty path text ≡ Some f → f.message ≡ text
+text_is path text f e =
+    let made : Framed = record { path = path; message = text }
+    in ap (λ (x : Framed). x.message) (sym (same_Some made f (where_false (length text == 0) (Some made) f e)))
 
 module _ (trade : Trade) (world : IsTrade trade) (J : Journals) (laws : TextLaws trade J) (p : ℕ) where
   abbrev Licensed : Bytes → Type 0
@@ -54,7 +59,7 @@ module _ (trade : Trade) (world : IsTrade trade) (J : Journals) (laws : TextLaws
 
   somebody : (path : Path) (text : Bytes) (f : Framed) → unless_nobody path text ≡ Some f → (0 < length path) × (f.message ≡ text)
   somebody [] text f e = absurd (none-some f e)
-  somebody (a ∷ path) text f e = (omega arith, ap (λ (x : Framed). x.message) (sym (same_Some (let x : Framed = record { path = a ∷ path; message = text } in x) f e)))
+  somebody (a ∷ path) text f e = (omega arith, text_is (a ∷ path) text f e)
 
   some_pair : (to : ℕ) (m : Accepted) (xs : Path) → at_home trade to (addresses_of m.facts) ≡ xs → 0 < length xs → HasPairsAt trade m to
   some_pair to m [] e l = absurd (omega arith)
@@ -85,23 +90,23 @@ module _ (trade : Trade) (world : IsTrade trade) (J : Journals) (laws : TextLaws
       )
 
   -- the original in the envelope that was taken is that of the message
-  seen_original : (seen : Option Seen) (id : Id) (moment : ℕ) (original other : Bytes) → seen ≡ Some (SeenEnvelope id moment original) → original_in seen ≡ Some other → original ≡ other
-  seen_original seen id moment original other e f = same_Some original other (sym (ap original_in e) ∙ f)
+  seen_original : (seen : Option Seen) (id : Id) (moment : ℕ) (original other : Bytes) → seen ≡ Some (SeenEnvelope id moment original) → original_in id seen ≡ Some other → original ≡ other
+  seen_original seen id moment original other e f = same_Some original other (where_true (same_id id id) (Some original) other (sym (ap (original_in id) e) ∙ f)).1
 
-  taken_original : (id : Id) (row : Taken) (original : Bytes) → taken_of (ledger trade J p) id ≡ Some row → original_taken trade p (J p) row ≡ Some original
+  taken_original : (id : Id) (row : Taken) (original : Bytes) → taken_of (ledger trade J p) id ≡ Some row → original_taken trade p (J p) id row ≡ Some original
       → (m : Accepted) × HasOriginal trade J id m original
   taken_original id row original taken e =
       let envelope = laws.takings p id row taken
-      in let made = both (λ (bytes : Bytes). original_in (trade.view bytes)) (body_at (J p) row.entry) original e
+      in let made = both (λ (bytes : Bytes). original_in id (trade.view bytes)) (body_at (J p) row.entry) original e
       in let same : made.0 ≡ envelope.0 = same_bytes (body_at (J p) row.entry) made.0 envelope.0 made.1 envelope.1
-      in let seen : original_in (trade.view envelope.0) ≡ Some original = subst (λ (b : Bytes). original_in (trade.view b) ≡ Some original) same made.2
+      in let seen : original_in id (trade.view envelope.0) ≡ Some original = subst (λ (b : Bytes). original_in id (trade.view b) ≡ Some original) same made.2
       in let is = envelope.2
       in let equal = seen_original (trade.view envelope.0) id is.message.moment is.original original (laws.envelopes id p envelope.0 is) seen
       in (is.message, subst (λ (o : Bytes). HasOriginal trade J id is.message o) equal is.is)
 
   charge_licensed : (id : Id) (row : Taken) (f : Framed) → taken_of (ledger trade J p) id ≡ Some row → charge_of trade p (J p) id row ≡ Some f → Licensed f.message
   charge_licensed id row f taken e =
-      let made = mapped _ (original_taken trade p (J p) row) f e
+      let made = both _ (original_taken trade p (J p) id row) f e
       in let has = taken_original id row made.0 taken made.1
       in (
         letters.Charge id p,
@@ -111,18 +116,18 @@ module _ (trade : Trade) (world : IsTrade trade) (J : Journals) (laws : TextLaws
           is = has.1;
           row = row;
           taken = taken;
-          text = ap (λ (x : Framed). x.message) (sym made.2);
+          text = text_is _ _ f made.2;
         },
       )
 
   to_its_sender : (text : Bytes) (facts : Option Facts) (f : Framed) → to_sender trade p (J p) text facts ≡ Some f → f.message ≡ text
   to_its_sender text None f e = absurd (none-some f e)
-  to_its_sender text (Some facts) f e = ap (λ (x : Framed). x.message) (sym (same_Some (let x : Framed = record { path = facts.sender ∷ []; message = text } in x) f e))
+  to_its_sender text (Some facts) f e = text_is (facts.sender ∷ []) text f e
 
   outcome_licensed : (id : Id) (recipient : Bytes) (fate : Fate) (row : Taken) (f : Framed) → decided_of (ledger trade J p) (pair_of id recipient) ≡ Some fate
       → taken_of (ledger trade J p) id ≡ Some row → outcome_of trade p (J p) id recipient fate row ≡ Some f → Licensed f.message
   outcome_licensed id recipient fate row f decided taken e =
-      let made = both _ (original_taken trade p (J p) row) f e
+      let made = both _ (original_taken trade p (J p) id row) f e
       in let has = taken_original id row made.0 taken made.1
       in (
         letters.Outcome id recipient,
@@ -140,7 +145,7 @@ module _ (trade : Trade) (world : IsTrade trade) (J : Journals) (laws : TextLaws
 
   to_its_home : (text : Bytes) (home : Option ℕ) (f : Framed) → to_home trade p (J p) text home ≡ Some f → f.message ≡ text
   to_its_home text None f e = absurd (none-some f e)
-  to_its_home text (Some q) f e = ap (λ (x : Framed). x.message) (sym (same_Some (let x : Framed = record { path = trade.receipts q ∷ []; message = text } in x) f e))
+  to_its_home text (Some q) f e = text_is (trade.receipts q ∷ []) text f e
 
   ack_licensed : (id : Id) (recipient : Bytes) (row : Known) (m : Accepted) (f : Framed) → id.provider ≡ p → known_of (ledger trade J p) (pair_of id recipient) ≡ Some row
       → accepted_at (ledger trade J p) id.number ≡ Some m → ack_of trade p (J p) id recipient row m ≡ Some f → Licensed f.message

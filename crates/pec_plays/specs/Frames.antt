@@ -1,8 +1,8 @@
 -- The frames that a provider puts: each due letter that it composes in its own name, from its own journal (`frame_of`).
 -- RFC 6109, section 3, within this project's profile.
-use Rattle.std.specs.Prelude.{◌≡◌, ℕ, ◌==◌, Contains, List, [], ◌∷◌, if◌then◌else◌, Option, Some, None}
+use Rattle.std.specs.Prelude.{◌≡◌, ℕ, ◌==◌, Contains, List, [], ◌∷◌, length, if◌then◌else◌, Option, Some, None}
 use Rattle.std.specs.List.{filter_map}
-use Rattle.std.specs.Option.{option_and_then, option_map}
+use Rattle.std.specs.Option.{option_and_then}
 use Rattle.pec_types.specs.Bytes.{Bytes, Path}
 use Rattle.pec_types.specs.Message.{Id}
 use Rattle.pec_types.specs.declared.letters.Letter.{Letter}
@@ -11,23 +11,27 @@ use Rattle.pec_types.specs.declared.messages.Facts.{Facts}
 use Rattle.pec_types.specs.declared.receipts.Kind.TheVariants as kinds
 use Rattle.pec_records.specs.declared.entries.Entry.{Entry}
 use Rattle.pec_ledger.specs.Due.{due_letters}
-use Rattle.pec_ledger.specs.Half.{Fate, Known, Taken}
+use Rattle.pec_ledger.specs.Half.{Fate, Half, Known, Taken}
 use Rattle.pec_ledger.specs.Ledger.{body_at}
 use Rattle.pec_ledger.specs.Lookups.{Accepted, accepted_at, addresses_of, at_home, decided_of, known_of, outcome_kind, taken_of}
-use Rattle.pec_ledger.specs.Pairs.{pair_of}
+use Rattle.pec_ledger.specs.Pairs.{pair_of, same_id}
 use Rattle.pec_ledger.specs.Steps.{half}
 use Rattle.pec_ledger.specs.Trade.{Framed, Seen, SeenEnvelope, SeenReceipt, Trade}
+
+-- a letter that can't be composed, of which the text is `[]`, isn't put
+abbrev pub unless_empty : Path → Bytes → Option Framed
+unless_empty path text = if length text == 0 then None else Some (record { path = path; message = text })
 
 -- a letter for nobody isn't put
 abbrev pub unless_nobody : Path → Bytes → Option Framed
 unless_nobody [] text = None
-unless_nobody (address ∷ path) text = Some (record { path = address ∷ path; message = text })
+unless_nobody (address ∷ path) text = unless_empty (address ∷ path) text
 
--- the original in an envelope
-abbrev pub original_in : Option Seen → Option Bytes
-original_in None = None
-original_in (Some (SeenReceipt receipt)) = None
-original_in (Some (SeenEnvelope id moment original)) = Some original
+-- the original in an envelope of this message
+abbrev pub original_in : Id → Option Seen → Option Bytes
+original_in id None = None
+original_in id (Some (SeenReceipt receipt)) = None
+original_in id (Some (SeenEnvelope other moment original)) = if same_id id other then Some original else None
 
 module _ (trade : Trade) (provider : ℕ) (journal : List Entry) where
   -- ---- envelopes
@@ -41,30 +45,29 @@ module _ (trade : Trade) (provider : ℕ) (journal : List Entry) where
 
   -- ---- receipts on what was taken: the original is the one in the envelope
 
-  abbrev pub original_taken : Taken → Option Bytes
-  original_taken row = option_and_then (λ (envelope : Bytes). original_in (trade.view envelope)) (body_at journal row.entry)
+  abbrev pub original_taken : Id → Taken → Option Bytes
+  original_taken id row =
+      option_and_then (λ (envelope : Bytes). original_in id (trade.view envelope)) (body_at journal row.entry)
 
   abbrev pub charge_of : Id → Taken → Option Framed
   charge_of id row =
-      option_map
+      option_and_then
       (λ (original : Bytes).
-      record {
-        path = trade.receipts id.provider ∷ [];
-        message = trade.receipt_text
-            (record {
-              kind = kinds.Charge;
-              id = id;
-              by = provider;
-              moment = row.moment;
-              recipient = None;
-            }) original;
-      })
-      (original_taken row)
+      unless_empty (trade.receipts id.provider ∷ [])
+      (trade.receipt_text
+      (record {
+        kind = kinds.Charge;
+        id = id;
+        by = provider;
+        moment = row.moment;
+        recipient = None;
+      }) original))
+      (original_taken id row)
 
   -- along the path of the original's sender
   abbrev pub to_sender : Bytes → Option Facts → Option Framed
   to_sender text None = None
-  to_sender text (Some facts) = Some (record { path = facts.sender ∷ []; message = text })
+  to_sender text (Some facts) = unless_empty (facts.sender ∷ []) text
 
   abbrev pub outcome_of : Id → Bytes → Fate → Taken → Option Framed
   outcome_of id recipient fate row =
@@ -80,13 +83,13 @@ module _ (trade : Trade) (provider : ℕ) (journal : List Entry) where
         recipient = Some recipient;
       }) original)
       (trade.facts original))
-      (original_taken row)
+      (original_taken id row)
 
   -- ---- acknowledgements
 
   abbrev pub to_home : Bytes → Option ℕ → Option Framed
   to_home text None = None
-  to_home text (Some home) = Some (record { path = trade.receipts home ∷ []; message = text })
+  to_home text (Some home) = unless_empty (trade.receipts home ∷ []) text
 
   abbrev pub ack_of : Id → Bytes → Known → Accepted → Option Framed
   ack_of id recipient known message =
@@ -106,23 +109,23 @@ module _ (trade : Trade) (provider : ℕ) (journal : List Entry) where
 
   -- ---- all letters
 
-  -- The path and the text of a letter, where the provider has what it is composed of.
-  abbrev pub composed : Letter → Option Framed
-  composed (letters.Envelope id to) =
-      if id.provider == provider then option_and_then (envelope_of id to) (accepted_at (half trade provider journal) id.number)
-      else None
-  composed (letters.Charge id by) =
-      if by == provider then option_and_then (charge_of id) (taken_of (half trade provider journal) id) else None
-  composed (letters.Outcome id recipient) =
-      option_and_then
-      (λ (fate : Fate). option_and_then (outcome_of id recipient fate) (taken_of (half trade provider journal) id))
-      (decided_of (half trade provider journal) (pair_of id recipient))
-  composed (letters.Ack id recipient) =
+  -- The path and the text of a letter, where the provider, of which this is the half, has what it is composed of.
+  abbrev pub composed_by : Half → Letter → Option Framed
+  composed_by half (letters.Envelope id to) =
+      if id.provider == provider then option_and_then (envelope_of id to) (accepted_at half id.number) else None
+  composed_by half (letters.Charge id by) =
+      if by == provider then option_and_then (charge_of id) (taken_of half id) else None
+  composed_by half (letters.Outcome id recipient) =
+      option_and_then (λ (fate : Fate). option_and_then (outcome_of id recipient fate) (taken_of half id))
+      (decided_of half (pair_of id recipient))
+  composed_by half (letters.Ack id recipient) =
       if id.provider == provider
-      then option_and_then
-      (λ (known : Known). option_and_then (ack_of id recipient known) (accepted_at (half trade provider journal) id.number))
-      (known_of (half trade provider journal) (pair_of id recipient))
+      then option_and_then (λ (known : Known). option_and_then (ack_of id recipient known) (accepted_at half id.number))
+      (known_of half (pair_of id recipient))
       else None
+
+  abbrev pub composed : Letter → Option Framed
+  composed letter = composed_by (half trade provider journal) letter
 
   -- The frame of a letter, unless it is too long.
   unfoldable pub frame_of : Letter → Option Bytes
