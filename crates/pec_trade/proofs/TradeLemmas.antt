@@ -26,7 +26,7 @@ use Rattle.pec_trade.proofs.FactsLemmas.{recipients_differ, recipients_in}
 use Rattle.pec_trade.proofs.FrameLemmas.{Frames, framed_back}
 use Rattle.pec_trade.proofs.NoticeLemmas.{Notices, anomaly_unseen, refusal_unseen}
 use Rattle.pec_trade.proofs.ReceiptLemmas.{Receipts, seen_as}
-use Rattle.pec_trade.proofs.SeenLemmas.{id_is, opens, the_envelope}
+use Rattle.pec_trade.proofs.SeenLemmas.{id_is, nothing_seen, opens, the_envelope}
 use Rattle.pec_trade.proofs.SentLemmas.{Sending, sent_as}
 
 -- what the laws of all parts say of a sealer
@@ -69,6 +69,7 @@ module _ (seals : Seals) (parts : Parts seals) (kept : List Kept) (lawful : IsLa
             refusal_unseen seals parts.notices kept lawful id moment sender cause path message within below is some few before me;
         anomaly_seen = λ provider entry moment message me within before.
             anomaly_unseen seals parts.notices kept lawful provider entry moment message before me;
+        nothing_seen = nothing_seen seals (providers_of kept);
         seen_opens = opens seals (providers_of kept);
         frames = framed_back parts.frames;
       }

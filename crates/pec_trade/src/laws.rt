@@ -1,4 +1,4 @@
-ghost use Rattle.std.specs.Prelude.{◌≡◌, ◌↔◌, ◌<◌, ◌≤◌, ◌^◌, ℕ, List, [], None, Some, length, true};
+ghost use Rattle.std.specs.Prelude.{◌≡◌, ◌↔◌, ◌<◌, ◌≤◌, ◌^◌, ℕ, List, [], None, Some, length, true, Ok};
 ghost use Rattle.std.specs.List.{AllByRecursion};
 ghost use Rattle.pec_types.specs.Address.{IsLowerAddress};
 ghost use Rattle.pec_types.specs.Bytes.{Bytes, Path};
@@ -14,6 +14,8 @@ ghost use Rattle.pec_frames.specs.Frames.{HasFrame, frame_text};
 ghost use Rattle.pec_letters.specs.Anomalies.{anomaly_text};
 ghost use Rattle.pec_letters.specs.Envelopes.{IsEnvelope, envelope_text};
 ghost use Rattle.pec_letters.specs.Fitting.{Fits};
+ghost use Rattle.pec_letters.specs.Seen.{Seen};
+ghost use Rattle.pec_letters.specs.SeenReading.{view};
 ghost use Rattle.pec_receipts.specs.Receipts.{CanBeGiven, IsReceipt, receipt_text};
 ghost use Rattle.pec_receipts.specs.declared.receipts.Receipt.{Receipt as Given};
 ghost use Rattle.pec_points.specs.Admission.{IsAccepted, IsCause};
@@ -137,6 +139,14 @@ pub fn the_texts_are_a_trade<S: Sealer>()
     what_is_given_is_seen::<S>();
     an_envelope_is_no_receipt::<S>();
     a_message_has_one_answer();
+}
+
+/// The facts of what is seen as an envelope are those of its original's head.
+pub fn an_envelope_is_seen_with_its_facts<S: Sealer>()
+    ensures { (sealer : S) (providers : List Provider) (text : Bytes) (seen : Seen)
+        → view (S.seals sealer) providers text ≡ Ok seen → facts_in seen.original ≡ Some seen.facts }
+{
+    a_text_is_one_envelope::<S>();
 }
 
 /// What a trade of a directory says is what the parts say, of which it is made: for whoever computes its fields.

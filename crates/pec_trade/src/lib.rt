@@ -5,4 +5,6 @@
 
 mod laws;
 
-pub use laws::{a_trade_says_what_its_parts_say, the_texts_are_a_trade};
+pub use laws::{
+    a_trade_says_what_its_parts_say, an_envelope_is_seen_with_its_facts, the_texts_are_a_trade,
+};
