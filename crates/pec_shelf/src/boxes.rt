@@ -71,12 +71,12 @@ impl Boxes {
         counted_in(self.items.as_slice(), account)
     }
 
-    /// The number of the entry by which the item at a place of an account's mailbox came. It takes no memory.
-    pub(crate) fn source(&self, account: &Address, place: u32) -> Option<u64>
-        ensures { result ≡ option_map (λ (posted : Posted). posted.entry)
-            (slice_get (filter (λ (posted : Posted). bytes_eq account.now posted.account) self.now.items) place) }
+    /// The item at a place of an account's mailbox. It takes no memory.
+    pub(crate) fn at(&self, account: &Address, place: u32) -> Option<&PostedRow>
+        ensures { option_map (λ row. row.now) result
+            ≡ slice_get (filter (λ (posted : Posted). bytes_eq account.now posted.account) self.now.items) place }
     {
-        source_in(self.items.as_slice(), account, place)
+        at_in(self.items.as_slice(), account, place)
     }
 
     /// The lines of an account's mailbox, in order of placing.
@@ -102,15 +102,15 @@ fn counted_in(rows: &[PostedRow], account: &Address) -> u64
     count
 }
 
-fn source_in(rows: &[PostedRow], account: &Address, place: u32) -> Option<u64>
-    ensures { result ≡ option_map (λ (posted : Posted). posted.entry)
-        (slice_get (filter (λ (posted : Posted). bytes_eq account.now posted.account) rows.now) place) }
+fn at_in<'a>(rows: &'a [PostedRow], account: &Address, place: u32) -> Option<&'a PostedRow>
+    ensures { option_map (λ row. row.now) result
+        ≡ slice_get (filter (λ (posted : Posted). bytes_eq account.now posted.account) rows.now) place }
 {
     let mut before = place;
     for row in rows {
         if row.is_in(account) {
             if before == 0 {
-                return Some(row.entry());
+                return Some(row);
             }
             before -= 1;
         }

@@ -31,5 +31,5 @@ pub use faults::PrepareFault;
 pub use laws::{a_directory_has_a_trade, what_is_kept_goes_on};
 pub use preparing::moment_of;
 pub use ready::Ready;
-pub use rows::{ChargeRow, FateRow, KnownRow, MessageRow, TakenRow};
+pub use rows::{ChargeRow, FateRow, KnownRow, MessageRow, Placed, PostedRow, TakenRow};
 pub use shelf::Shelf;

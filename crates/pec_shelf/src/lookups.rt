@@ -2,7 +2,7 @@ ghost use Rattle.std.specs.Prelude.{◌≡◌, ◌<◌, ◌≤◌, [], length, o
 ghost use Rattle.std.specs.List.{list_any};
 ghost use Rattle.pec_types.specs.declared.messages.TheConstants.{MESSAGES};
 ghost use Rattle.pec_ledger.specs.Half.{Message};
-ghost use Rattle.pec_ledger.specs.Lookups.{Accepted, HasPair, HasPairsAt, accepted_at, charged_of, counted, decided_of, has_room, is_acked, known_of, notice_of, taken_of, warning_of};
+ghost use Rattle.pec_ledger.specs.Lookups.{Accepted, HasPair, HasPairsAt, accepted_at, charged_of, counted, decided_of, has_room, is_acked, known_of, mailbox, notice_of, taken_of, warning_of};
 ghost use Rattle.pec_ledger.specs.OfDirectory.{IsOf};
 ghost use Rattle.pec_ledger.specs.Pairs.{id_of, pair_of};
 ghost use Rattle.pec_ledger.specs.Trade.{Trade};
@@ -13,7 +13,7 @@ ghost use Rattle.pec_shelf.specs.Sides.{certified_of_rows, messages_of};
 use crate::accounts::has_room;
 use crate::certified::Certified;
 use crate::owing::has_pairs_at;
-use crate::rows::{ChargeRow, FateRow, KnownRow, MarkRow, MessageRow, TakenRow};
+use crate::rows::{ChargeRow, FateRow, KnownRow, MarkRow, MessageRow, PostedRow, TakenRow};
 use crate::shelf::Shelf;
 use pec_directory::Directory;
 use pec_types::{Address, MESSAGES, MsgId};
@@ -96,6 +96,13 @@ impl Shelf {
         ensures { result.now ≡ self.now.half.decided }
     {
         self.inbox.all_decided()
+    }
+
+    /// The item at a place of an account's mailbox, counted from 0.
+    pub fn posted(&self, account: &Address, place: u32) -> Option<&PostedRow>
+        ensures { option_map (λ row. row.now) result ≡ slice_get (mailbox self.now.half account.now) place }
+    {
+        self.boxes.at(account, place)
     }
 
     /// Whether the provider of the message said that it knows the outcome of a pair.

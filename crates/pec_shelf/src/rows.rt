@@ -193,20 +193,23 @@ impl Model for AckedRow {
 
 /// An item of a mailbox.
 #[derive(Drop)]
-pub(crate) enum Placed {
+pub enum Placed {
+    /// The envelope of a message.
     Envelope(MsgId),
+    /// A receipt or a notice, with the moment of the entry by which it came.
     Receipt {
         kind: Kind,
         id: MsgId,
         recipient: Option<Address>,
         moment: Moment,
     },
+    /// A message that no provider could have sent, with the moment of its entry.
     Anomaly(Moment),
 }
 
 /// An item as it was placed in a mailbox.
 #[derive(Drop)]
-pub(crate) struct PostedRow {
+pub struct PostedRow {
     pub(crate) account: Address,
     pub(crate) item: Placed,
     pub(crate) entry: u64,
@@ -400,10 +403,18 @@ impl PostedRow {
         }
     }
 
-    pub(crate) fn entry(&self) -> u64
+    /// The number of the entry by which it came, from 0.
+    pub fn entry(&self) -> u64
         ensures { result ≡ self.now.entry }
     {
         self.entry
+    }
+
+    /// The item itself.
+    pub fn item(&self) -> &Placed
+        ensures { item_shown result.now ≡ self.now.item }
+    {
+        &self.item
     }
 
     /// The item as a line: what it is, and the message and the recipient that it names.

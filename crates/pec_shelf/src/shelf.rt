@@ -159,7 +159,8 @@ impl Shelf {
     pub fn source(&self, account: &Address, place: u32) -> Option<u64>
         ensures { result ≡ option_map (λ (posted : Posted). posted.entry) (slice_get (mailbox self.now.half account.now) place) }
     {
-        self.boxes.source(account, place)
+        let row = self.posted(account, place)?;
+        Some(row.entry())
     }
 
     /// What this provider owes another one beside answers: outcomes that nobody acknowledged, in order of decision, and
