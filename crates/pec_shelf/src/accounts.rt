@@ -13,9 +13,9 @@ use crate::shelf::Shelf;
 use pec_directory::Directory;
 use pec_types::{Address, Decision, Refusal};
 
-/// How many items an account may have, none where the address is no account.
+/// How many items an account may have, none where the address is no account. It takes no memory.
 #[tactic(auto, unfolding(pec_ledger::specs::OfDirectory::quota_of))]
-fn quota(directory: &Directory, address: &Address) -> u64
+pub fn quota(directory: &Directory, address: &Address) -> u64
     ensures { result ≡ quota_of (providers_of directory.now) address.now }
 {
     match directory.account(address) {
@@ -100,8 +100,8 @@ fn all_differ(addresses: &[Address]) -> bool
     true
 }
 
-/// Whether the address is one of these.
-pub(crate) fn is_among(address: &Address, addresses: &[Address]) -> bool
+/// Whether the address is one of these. It takes no memory.
+pub fn is_among(address: &Address, addresses: &[Address]) -> bool
     ensures any { result ≡ list_any (bytes_eq address.now) addresses.now }
     ensures among { IsTrue result ↔ Contains addresses.now address.now }
 {

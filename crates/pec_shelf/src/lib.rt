@@ -26,6 +26,7 @@ mod shelf;
 mod sizes;
 mod submissions;
 
+pub use accounts::{is_among, quota};
 pub use certified::Certified;
 pub use faults::PrepareFault;
 pub use laws::{a_directory_has_a_trade, what_is_kept_goes_on};

@@ -1,8 +1,8 @@
-ghost use Rattle.std.specs.Prelude.{◌≡◌, ◌<◌, ◌≤◌, [], length, option_map, slice_get, unwrap_or, Some, MatchOption, IsTrue, ◌↔◌};
+ghost use Rattle.std.specs.Prelude.{◌≡◌, ◌<◌, ◌≤◌, [], length, option_map, slice_get, unwrap_or, Some, MatchOption, IfOk, IsTrue, ◌↔◌};
 ghost use Rattle.std.specs.List.{list_any};
 ghost use Rattle.pec_types.specs.declared.messages.TheConstants.{MESSAGES};
 ghost use Rattle.pec_ledger.specs.Half.{Message};
-ghost use Rattle.pec_ledger.specs.Lookups.{Accepted, HasPair, HasPairsAt, accepted_at, charged_of, counted, decided_of, has_room, is_acked, known_of, mailbox, notice_of, taken_of, warning_of};
+ghost use Rattle.pec_ledger.specs.Lookups.{Accepted, HasPair, HasPairsAt, accepted_at, at_home, charged_of, counted, decided_of, has_room, is_acked, known_of, mailbox, notice_of, taken_of, warning_of};
 ghost use Rattle.pec_ledger.specs.OfDirectory.{IsOf};
 ghost use Rattle.pec_ledger.specs.Pairs.{id_of, pair_of};
 ghost use Rattle.pec_ledger.specs.Trade.{Trade};
@@ -13,12 +13,13 @@ ghost use Rattle.pec_shelf.specs.Sides.{certified_of_rows, messages_of};
 use crate::accounts::has_room;
 use crate::certified::Certified;
 use crate::owing::has_pairs_at;
+use crate::reading::recipients_here;
 use crate::rows::{ChargeRow, FateRow, KnownRow, MarkRow, MessageRow, PostedRow, TakenRow};
 use crate::shelf::Shelf;
 use pec_directory::Directory;
-use pec_types::{Address, MESSAGES, MsgId};
+use pec_types::{Address, MESSAGES, MsgId, NoMemory};
 
-/// What the half says of a message, an id or a pair. None of these takes memory.
+/// What the half says of a message, an id or a pair. None of these takes memory but `named_here`.
 impl Shelf {
     /// The number of the provider.
     pub fn me(&self) -> u32
@@ -154,6 +155,20 @@ impl Shelf {
     {
         let room = has_room(self, directory, account);
         room
+    }
+
+    /// Those of the addresses in the `To` and the `Cc` of a sealed message that are at home at this provider: none where it
+    /// has no head, or where a field is no list.
+    pub fn named_here(
+        &self,
+        directory: &Directory,
+        message: &[u8],
+    ) -> Result<Vec<Address>, NoMemory>
+        ensures { (trade : Trade) → IsOf directory.now trade
+            → IfOk result (λ here. here.items ≡ at_home trade self.now.me (trade.envelope_recipients message.now)) }
+    {
+        let here = recipients_here(self.alloc, directory, self.me, message)?;
+        Ok(here)
     }
 
     /// The id of the next message, where there may be one more.
