@@ -1,4 +1,4 @@
--- Each command but a round keeps a state Sound.
+-- Each command but a round leads to a state that may come next.
 use Rattle.std.proofs.Common.{◌≡◌, ℕ, zero, suc, ◌+◌, ◌<◌, ◌≤◌, List, [], ◌∷◌, ◌++◌, Bool, true, false, inl, inr, length, take, drop, refl, ap, sym, subst, ◌∙◌, arith, nat_lt, Option, Some, None}
 use Rattle.std.specs.Prelude.{All, IsSome, slice_index_or, slice_set, slice_get, if◌then◌else◌}
 use Rattle.std.proofs.lemmas.Bool.{cases_eq, cases_lt, ltb-false, ltb-true}
@@ -14,7 +14,7 @@ use Rattle.pec_records.specs.declared.entries.Entry.{Entry}
 use Rattle.pec_records.specs.declared.entries.Entry.TheVariants as entries
 use Rattle.pec_ledger.specs.Half.{Half}
 use Rattle.pec_ledger.specs.Ledger.{Follows, Journals, Meets}
-use Rattle.pec_ledger.specs.Network.{AreGenuine, IsGenuine, Site, Sound, frames_between, journal_at, journals_of, site_at, Stays, Appends, Fails, Restarts}
+use Rattle.pec_ledger.specs.Network.{AreGenuine, IsGenuine, IsNext, Site, Sound, frames_between, journal_at, journals_of, site_at, Stays, Appends, Fails, Restarts}
 use Rattle.pec_ledger.specs.Own.{Own}
 use Rattle.pec_ledger.specs.Steps.{half, moment_of}
 use Rattle.pec_ledger.specs.Trade.{Trade}
@@ -23,7 +23,7 @@ use Rattle.pec_plays.specs.Commands.{Answer, Luck, Played, append, appended, ask
 use Rattle.pec_plays.specs.Rounds.{link_size, with_waiting}
 use Rattle.pec_plays.specs.Steps.{has_no_room}
 use Rattle.pec_plays.specs.Turns.{broken, last_of}
-use Rattle.pec_plays.proofs.SiteLemmas.{StateLaws, none_interrupted, sound_with}
+use Rattle.pec_plays.proofs.SiteLemmas.{StateLaws, next_as_it_was, next_with, none_interrupted}
 
 -- ---- the entry of a submission
 
@@ -57,60 +57,61 @@ module _ (trade : Trade) (world : IsTrade trade) (laws : StateLaws trade) where
       → Follows trade (journals_of sites) p (half trade p (journal_at sites p)) (entry ∷ [])
   one_follows sites p entry meets = (meets, tt)
 
-  sound_appended : (fails : Bool) (sites : List Site) (p : ℕ) (entry : Entry) (answer : Answer) → Sound trade sites → (site_at sites p).up ≡ true
-      → Meets trade (journals_of sites) p (half trade p (journal_at sites p)) entry → Sound trade (appended fails sites p entry answer).after
-  sound_appended true sites p entry answer sound up meets =
-      sound_with trade laws sites p (broken (site_at sites p) (Some entry)) sound
+  next_appended : (fails : Bool) (sites : List Site) (p : ℕ) (entry : Entry) (answer : Answer) → Sound trade sites → (site_at sites p).up ≡ true
+      → Meets trade (journals_of sites) p (half trade p (journal_at sites p)) entry → IsNext trade sites (appended fails sites p entry answer).after
+  next_appended true sites p entry answer sound up meets =
+      next_with trade laws sites p (broken (site_at sites p) (Some entry)) sound
       (λ new e.
       Fails [] entry (none_interrupted trade laws sites p sound up) (ap (λ (s : Site). s.interrupted) e) (ap (λ (s : Site). s.up) e)
       (ap (λ (s : Site). s.journal) e ∙ sym (append-nil (journal_at sites p))) (one_follows sites p entry meets))
       (λ from. sound.genuine from p)
-  sound_appended false sites p entry answer sound up meets =
-      sound_with trade laws sites p (with_entry (site_at sites p) entry) sound
+  next_appended false sites p entry answer sound up meets =
+      next_with trade laws sites p (with_entry (site_at sites p) entry) sound
       (λ new e.
       Appends (entry ∷ []) (none_interrupted trade laws sites p sound up)
       (ap (λ (s : Site). s.interrupted) e ∙ none_interrupted trade laws sites p sound up)
       (ap (λ (s : Site). s.journal) e) (one_follows sites p entry meets))
       (λ from. sound.genuine from p)
 
-  by_test : (b : Bool) (x y : Played) → (b ≡ true → Sound trade x.after) → (b ≡ false → Sound trade y.after) → Sound trade (if b then x else y).after
-  by_test true x y taken passed = taken refl
-  by_test false x y taken passed = passed refl
+  by_test : (sites : List Site) (b : Bool) (x y : Played) → (b ≡ true → IsNext trade sites x.after) → (b ≡ false → IsNext trade sites y.after)
+      → IsNext trade sites (if b then x else y).after
+  by_test sites true x y taken passed = taken refl
+  by_test sites false x y taken passed = passed refl
 
-  sound_append : (luck : Luck) (sites : List Site) (p : ℕ) (entry : Entry) (answer : Answer) → Sound trade sites → (site_at sites p).up ≡ true
-      → Meets trade (journals_of sites) p (half trade p (journal_at sites p)) entry → Sound trade (append trade luck sites p entry answer).after
-  sound_append luck sites p entry answer sound up meets =
-      by_test (has_no_room trade p (journal_at sites p) entry) _ (appended luck.fails sites p entry answer) (λ e. sound)
-      (λ e. sound_appended luck.fails sites p entry answer sound up meets)
+  next_append : (luck : Luck) (sites : List Site) (p : ℕ) (entry : Entry) (answer : Answer) → Sound trade sites → (site_at sites p).up ≡ true
+      → Meets trade (journals_of sites) p (half trade p (journal_at sites p)) entry → IsNext trade sites (append trade luck sites p entry answer).after
+  next_append luck sites p entry answer sound up meets =
+      by_test sites (has_no_room trade p (journal_at sites p) entry) _ (appended luck.fails sites p entry answer) (λ e. next_as_it_was trade laws sites sound)
+      (λ e. next_appended luck.fails sites p entry answer sound up meets)
 
-  sound_at_work : (sites : List Site) (p now : ℕ) (done : Played) → Sound trade sites
-      → ((site_at sites p).up ≡ true → last_of trade p (journal_at sites p) ≤ now → Sound trade done.after) → Sound trade (at_work trade sites p now done).after
-  sound_at_work sites p now done sound more =
-      by_test (site_at sites p).up _ _
-      (λ up. by_test (nat_lt now (last_of trade p (journal_at sites p))) _ done (λ e. sound)
+  next_at_work : (sites : List Site) (p now : ℕ) (done : Played) → Sound trade sites
+      → ((site_at sites p).up ≡ true → last_of trade p (journal_at sites p) ≤ now → IsNext trade sites done.after) → IsNext trade sites (at_work trade sites p now done).after
+  next_at_work sites p now done sound more =
+      by_test sites (site_at sites p).up _ _
+      (λ up. by_test sites (nat_lt now (last_of trade p (journal_at sites p))) _ done (λ e. next_as_it_was trade laws sites sound)
       (λ e. more up (ltb-false now (last_of trade p (journal_at sites p)) e)))
-      (λ e. sound)
+      (λ e. next_as_it_was trade laws sites sound)
 
   -- ---- submissions
 
-  pub sound_submitted : (luck : Luck) (sites : List Site) (p now : ℕ) (sender : Bytes) (path : Path) (message : Bytes) → Sound trade sites
-      → 0 < length path → length path ≤ most_addresses → now < END_OF_TIME → Sound trade (submitted trade luck sites p now sender path message).after
-  sound_submitted luck sites p now sender path message sound some few range =
-      by_test (trade.is_account p sender) _ _
-      (λ account. sound_at_work sites p now _ sound
-      (λ up time. by_test (nat_lt (messages_at trade sites p) MESSAGES) _ _
-      (λ room. sound_append luck sites p (entry_by (trade.cause p sender path message) now sender path message) _ sound up
+  pub next_submitted : (luck : Luck) (sites : List Site) (p now : ℕ) (sender : Bytes) (path : Path) (message : Bytes) → Sound trade sites
+      → 0 < length path → length path ≤ most_addresses → now < END_OF_TIME → IsNext trade sites (submitted trade luck sites p now sender path message).after
+  next_submitted luck sites p now sender path message sound some few range =
+      by_test sites (trade.is_account p sender) _ _
+      (λ account. next_at_work sites p now _ sound
+      (λ up time. by_test sites (nat_lt (messages_at trade sites p) MESSAGES) _ _
+      (λ room. next_append luck sites p (entry_by (trade.cause p sender path message) now sender path message) _ sound up
       (entry_meets trade world p now (journal_at sites p) (journals_of sites) sender path message (trade.cause p sender path message) refl account
       (ltb-true (messages_at trade sites p) MESSAGES room) some few time range))
-      (λ e. sound)))
-      (λ e. sound)
+      (λ e. next_as_it_was trade laws sites sound)))
+      (λ e. next_as_it_was trade laws sites sound)
 
   -- ---- clock calls
 
-  pub sound_ticked : (luck : Luck) (sites : List Site) (p now : ℕ) → Sound trade sites → now < END_OF_TIME → Sound trade (ticked trade luck sites p now).after
-  sound_ticked luck sites p now sound range =
-      sound_at_work sites p now _ sound
-      (λ up time. sound_append luck sites p (entries.Ticked now) _ sound up (record { own = tt; in_time = time; in_range = range; joint = tt }))
+  pub next_ticked : (luck : Luck) (sites : List Site) (p now : ℕ) → Sound trade sites → now < END_OF_TIME → IsNext trade sites (ticked trade luck sites p now).after
+  next_ticked luck sites p now sound range =
+      next_at_work sites p now _ sound
+      (λ up time. next_append luck sites p (entries.Ticked now) _ sound up (record { own = tt; in_time = time; in_range = range; joint = tt }))
 
   -- ---- links
 
@@ -126,45 +127,45 @@ module _ (trade : Trade) (world : IsTrade trade) (laws : StateLaws trade) where
       ]
 
   -- other frames on one link
-  sound_frames : (sites : List Site) (from to : ℕ) (frames : List Bytes) → Sound trade sites → AreGenuine trade (journals_of sites) frames
-      → Sound trade (with_frames sites from to frames)
-  sound_frames sites from to frames sound good =
-      sound_with trade laws sites to (with_waiting (site_at sites to) (slice_set (site_at sites to).waiting from frames)) sound
+  next_frames : (sites : List Site) (from to : ℕ) (frames : List Bytes) → Sound trade sites → AreGenuine trade (journals_of sites) frames
+      → IsNext trade sites (with_frames sites from to frames)
+  next_frames sites from to frames sound good =
+      next_with trade laws sites to (with_waiting (site_at sites to) (slice_set (site_at sites to).waiting from frames)) sound
       (λ new e.
       Stays (ap (λ (s : Site). s.journal) e) (ap (λ (s : Site). s.interrupted) e)
       (λ some. ap (λ (s : Site). s.up) e ∙ sound.down to (subst (λ (i : Option Entry). IsSome i) (ap (λ (s : Site). s.interrupted) e) some)))
       (λ k. put_genuine (journals_of sites) (site_at sites to).waiting from k frames good (sound.genuine k to))
 
-  pub sound_lost : (sites : List Site) (from to place : ℕ) → Sound trade sites → Sound trade (lost sites from to place).after
-  sound_lost sites from to place sound =
+  pub next_lost : (sites : List Site) (from to place : ℕ) → Sound trade sites → IsNext trade sites (lost sites from to place).after
+  next_lost sites from to place sound =
       let frames = frames_between sites from to
-      in by_test (nat_lt place (length frames)) _ _
-      (λ e. sound_frames sites from to (take place frames ++ drop (place + 1) frames) sound
+      in by_test sites (nat_lt place (length frames)) _ _
+      (λ e. next_frames sites from to (take place frames ++ drop (place + 1) frames) sound
       (All-append (IsGenuine trade (journals_of sites)) (take place frames) (drop (place + 1) frames)
       (All-take (IsGenuine trade (journals_of sites)) place frames (sound.genuine from to))
       (All-drop (IsGenuine trade (journals_of sites)) (place + 1) frames (sound.genuine from to))))
-      (λ e. sound)
+      (λ e. next_as_it_was trade laws sites sound)
 
   at_place : {X : Type 0} (P : X → Type 0) (xs : List X) (n : ℕ) (x : X) → All P xs → slice_get xs n ≡ Some x → P x
   at_place P [] n x all e = absurd (none-some x e)
   at_place P (y ∷ xs) zero x all e = subst P (same_Some y x e) (all 0 y (omega arith))
   at_place P (y ∷ xs) (suc n) x all e = at_place P xs n x (λ k d l. all (suc k) d (omega arith)) e
 
-  sound_one_more : (sites : List Site) (from to : ℕ) (frame : Bytes) (answer : Answer) → Sound trade sites → IsGenuine trade (journals_of sites) frame
-      → Sound trade (with_frames sites from to (frames_between sites from to ++ frame ∷ []))
-  sound_one_more sites from to frame answer sound good =
-      sound_frames sites from to (frames_between sites from to ++ frame ∷ []) sound
+  next_one_more : (sites : List Site) (from to : ℕ) (frame : Bytes) (answer : Answer) → Sound trade sites → IsGenuine trade (journals_of sites) frame
+      → IsNext trade sites (with_frames sites from to (frames_between sites from to ++ frame ∷ []))
+  next_one_more sites from to frame answer sound good =
+      next_frames sites from to (frames_between sites from to ++ frame ∷ []) sound
       (All-push (IsGenuine trade (journals_of sites)) (frames_between sites from to) frame (sound.genuine from to) good)
 
-  pub sound_put_again : (sites : List Site) (from to place : ℕ) (found : Option Bytes) → slice_get (frames_between sites from to) place ≡ found
-      → Sound trade sites → Sound trade (put_again sites from to found).after
-  sound_put_again sites from to place None e sound = sound
-  sound_put_again sites from to place (Some frame) e sound =
-      by_test (nat_lt (length (frames_between sites from to)) link_size) _ _
-      (λ room. sound_frames sites from to (frames_between sites from to ++ frame ∷ []) sound
+  pub next_put_again : (sites : List Site) (from to place : ℕ) (found : Option Bytes) → slice_get (frames_between sites from to) place ≡ found
+      → Sound trade sites → IsNext trade sites (put_again sites from to found).after
+  next_put_again sites from to place None e sound = next_as_it_was trade laws sites sound
+  next_put_again sites from to place (Some frame) e sound =
+      by_test sites (nat_lt (length (frames_between sites from to)) link_size) _ _
+      (λ room. next_frames sites from to (frames_between sites from to ++ frame ∷ []) sound
       (All-push (IsGenuine trade (journals_of sites)) (frames_between sites from to) frame (sound.genuine from to)
       (at_place (IsGenuine trade (journals_of sites)) (frames_between sites from to) place frame (sound.genuine from to) e)))
-      (λ full. sound)
+      (λ full. next_as_it_was trade laws sites sound)
 
   swapped_genuine : (J : Journals) (place : ℕ) (frames : List Bytes) (b : Bool) (after : List Bytes)
       → (if b then Some (take place frames ++ take 1 (drop (place + 1) frames) ++ take 1 (drop place frames) ++ drop (place + 2) frames) else None) ≡ Some after
@@ -180,42 +181,42 @@ module _ (trade : Trade) (world : IsTrade trade) (laws : StateLaws trade) where
       (All-drop P (place + 2) frames good))
   swapped_genuine J place frames false after e good = absurd (none-some after e)
 
-  pub sound_swapped : (sites : List Site) (from to place : ℕ) (found : Option (List Bytes)) → swapped_at place (frames_between sites from to) ≡ found
-      → Sound trade sites → Sound trade (swapped sites from to found).after
-  sound_swapped sites from to place None e sound = sound
-  sound_swapped sites from to place (Some frames) e sound =
-      sound_frames sites from to frames sound
+  pub next_swapped : (sites : List Site) (from to place : ℕ) (found : Option (List Bytes)) → swapped_at place (frames_between sites from to) ≡ found
+      → Sound trade sites → IsNext trade sites (swapped sites from to found).after
+  next_swapped sites from to place None e sound = next_as_it_was trade laws sites sound
+  next_swapped sites from to place (Some frames) e sound =
+      next_frames sites from to frames sound
       (swapped_genuine (journals_of sites) place (frames_between sites from to) (nat_lt (place + 1) (length (frames_between sites from to))) frames e (sound.genuine from to))
 
-  pub sound_injected : (sites : List Site) (from to : ℕ) (frame : Bytes) → Sound trade sites → IsGenuine trade (journals_of sites) frame
-      → Sound trade (injected sites from to frame).after
-  sound_injected sites from to frame sound good =
-      by_test (nat_lt (length (frames_between sites from to)) link_size) _ _
-      (λ room. sound_frames sites from to (frames_between sites from to ++ frame ∷ []) sound
+  pub next_injected : (sites : List Site) (from to : ℕ) (frame : Bytes) → Sound trade sites → IsGenuine trade (journals_of sites) frame
+      → IsNext trade sites (injected sites from to frame).after
+  next_injected sites from to frame sound good =
+      by_test sites (nat_lt (length (frames_between sites from to)) link_size) _ _
+      (λ room. next_frames sites from to (frames_between sites from to ++ frame ∷ []) sound
       (All-push (IsGenuine trade (journals_of sites)) (frames_between sites from to) frame (sound.genuine from to) good))
-      (λ full. sound)
+      (λ full. next_as_it_was trade laws sites sound)
 
   -- ---- crashes
 
-  pub sound_crashed : (sites : List Site) (p : ℕ) → Sound trade sites → Sound trade (with_site sites p (stopped_site (site_at sites p)))
-  sound_crashed sites p sound =
-      sound_with trade laws sites p (stopped_site (site_at sites p)) sound
+  pub next_crashed : (sites : List Site) (p : ℕ) → Sound trade sites → IsNext trade sites (with_site sites p (stopped_site (site_at sites p)))
+  next_crashed sites p sound =
+      next_with trade laws sites p (stopped_site (site_at sites p)) sound
       (λ new e.
       Stays (ap (λ (s : Site). s.journal) e) (ap (λ (s : Site). s.interrupted) e) (λ some. ap (λ (s : Site). s.up) e))
       (λ from. sound.genuine from p)
 
-  pub sound_restarted : (luck : Luck) (sites : List Site) (p : ℕ) → Sound trade sites → Sound trade (restarted luck sites p (site_at sites p)).after
-  sound_restarted luck sites p sound =
-      by_test (site_at sites p).up _ _ (λ e. sound)
-      (λ down. by_test luck.fails _ _ (λ e. sound)
-      (λ e. sound_with trade laws sites p (restarted_site luck.found (site_at sites p)) sound
+  pub next_restarted : (luck : Luck) (sites : List Site) (p : ℕ) → Sound trade sites → IsNext trade sites (restarted luck sites p (site_at sites p)).after
+  next_restarted luck sites p sound =
+      by_test sites (site_at sites p).up _ _ (λ e. next_as_it_was trade laws sites sound)
+      (λ down. by_test sites luck.fails _ _ (λ e. next_as_it_was trade laws sites sound)
+      (λ e. next_with trade laws sites p (restarted_site luck.found (site_at sites p)) sound
       (λ new f. Restarts luck.found (ap (λ (s : Site). s.journal) f) (ap (λ (s : Site). s.interrupted) f))
       (λ from. sound.genuine from p)))
 
   -- ---- what accounts are shown
 
-  pub sound_asked : (sites : List Site) (show : ℕ → Half → Played) (found : Option ℕ) → Sound trade sites
-      → ((provider : ℕ) (half : Half) → (show provider half).after ≡ sites) → Sound trade (asked sites show trade found).after
-  sound_asked sites show None sound same = sound
-  sound_asked sites show (Some p) sound same =
-      by_test (site_at sites p).up _ _ (λ up. subst (Sound trade) (sym (same p (half trade p (journal_at sites p)))) sound) (λ down. sound)
+  pub next_asked : (sites : List Site) (show : ℕ → Half → Played) (found : Option ℕ) → Sound trade sites
+      → ((provider : ℕ) (half : Half) → (show provider half).after ≡ sites) → IsNext trade sites (asked sites show trade found).after
+  next_asked sites show None sound same = next_as_it_was trade laws sites sound
+  next_asked sites show (Some p) sound same =
+      by_test sites (site_at sites p).up _ _ (λ up. subst (IsNext trade sites) (sym (same p (half trade p (journal_at sites p)))) (next_as_it_was trade laws sites sound)) (λ down. next_as_it_was trade laws sites sound)

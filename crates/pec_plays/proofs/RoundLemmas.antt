@@ -12,7 +12,7 @@ use Rattle.pec_types.specs.declared.turns.ProviderFault.TheVariants as faults
 use Rattle.pec_types.specs.declared.moments.TheConstants.{END_OF_TIME}
 use Rattle.pec_records.specs.declared.entries.Entry.{Entry}
 use Rattle.pec_ledger.specs.Ledger.{Fit, Follows, Journals}
-use Rattle.pec_ledger.specs.Network.{AreGenuine, FollowsState, Happens, IsGenuine, Site, Sound, frames_between, interrupted_at, is_up, journal_at, journals_of, site_at, Stays, Appends, Fails}
+use Rattle.pec_ledger.specs.Network.{AreGenuine, FollowsState, Happens, IsGenuine, IsNext, Site, Sound, frames_between, interrupted_at, is_up, journal_at, journals_of, site_at, Stays, Appends, Fails}
 use Rattle.pec_ledger.specs.Steps.{half}
 use Rattle.pec_ledger.specs.Trade.{Trade}
 use Rattle.pec_ledger.specs.TradeLaws.{IsTrade}
@@ -281,13 +281,13 @@ module _ (trade : Trade) (world : IsTrade trade) (laws : StateLaws trade) (sites
               (waits_on to (frames_between sites from to) (sound.genuine from to))
         ]
 
-    pub sound_rounded : Sound trade (rounded trade now cuts sites).sites
+    pub next_rounded : IsNext trade sites (rounded trade now cuts sites).sites
     unfolding rounded turns_of
-    sound_rounded = laws.next sites after sound (record {
+    next_rounded = record {
       count = after_length trade now cuts sites;
       each = λ p. laws.each sites after p (each_happens p);
       genuine = frames_after;
-    })
+    }
 
     put_for : (from to : ℕ) → length (slice_index_or (slice_index_or (outs_of turns) from []) to []) ≤ rooms_of sites from to
     put_for from to =

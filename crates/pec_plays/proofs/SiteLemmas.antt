@@ -49,24 +49,27 @@ module _ (trade : Trade) (laws : StateLaws trade) where
   goes_on old new p (Restarts found journal after) = (chosen found (interrupted_at old p), journal)
 
   -- a state in which each provider went on, and every frame is genuine as it was before
-  pub sound_behind : (old new : List Site) → Sound trade old → length new ≡ length old → ((p : ℕ) → Happens trade old new p)
-      → ((from to : ℕ) → AreGenuine trade (journals_of old) (frames_between new from to)) → Sound trade new
-  sound_behind old new sound count each genuine =
-      laws.next old new sound
-      (record {
-        count = count;
-        each = λ p. laws.each old new p (each p);
-        genuine = λ from to.
-            laws.frames (journals_of old) (journals_of new) (λ p. goes_on old new p (each p)) (frames_between new from to) (genuine from to);
-      })
+  pub next_behind : (old new : List Site) → length new ≡ length old → ((p : ℕ) → Happens trade old new p)
+      → ((from to : ℕ) → AreGenuine trade (journals_of old) (frames_between new from to)) → IsNext trade old new
+  next_behind old new count each genuine = record {
+    count = count;
+    each = λ p. laws.each old new p (each p);
+    genuine = λ from to.
+        laws.frames (journals_of old) (journals_of new) (λ p. goes_on old new p (each p)) (frames_between new from to) (genuine from to);
+  }
+
+  -- nothing changed
+  pub next_as_it_was : (sites : List Site) → Sound trade sites → IsNext trade sites sites
+  next_as_it_was sites sound =
+      next_behind sites sites refl (λ q. stays_as_it_was sites sites q sound refl) sound.genuine
 
   -- one provider changed
-  pub sound_with : (sites : List Site) (p : ℕ) (site : Site) → Sound trade sites
+  pub next_with : (sites : List Site) (p : ℕ) (site : Site) → Sound trade sites
       → ((new : List Site) → site_at new p ≡ site → Happens trade sites new p)
-      → ((from : ℕ) → AreGenuine trade (journals_of sites) (slice_index_or site.waiting from [])) → Sound trade (with_site sites p site)
-  sound_with sites p site sound happens genuine =
+      → ((from : ℕ) → AreGenuine trade (journals_of sites) (slice_index_or site.waiting from [])) → IsNext trade sites (with_site sites p site)
+  next_with sites p site sound happens genuine =
       let new = with_site sites p site
-      in sound_behind sites new sound (put_length sites p site)
+      in next_behind sites new (put_length sites p site)
       (λ q. elim (put_cases sites p q site) [
         | inl same ↦ subst (λ (k : ℕ). Happens trade sites new k) (sym same.0)
             (happens new (subst (λ (k : ℕ). site_at new k ≡ site) same.0 same.1))

@@ -11,17 +11,17 @@ use Rattle.pec_ledger.specs.Half.{Half, Posted}
 use Rattle.pec_ledger.specs.Items.{item_text}
 use Rattle.pec_ledger.specs.Ledger.{Fit, Journals}
 use Rattle.pec_ledger.specs.Lookups.{mailbox}
-use Rattle.pec_ledger.specs.Network.{FollowsState, Site, Sound, frames_between, journal_at, journals_of}
+use Rattle.pec_ledger.specs.Network.{FollowsState, IsNext, Site, Sound, frames_between, journal_at, journals_of}
 use Rattle.pec_ledger.specs.Trade.{Trade}
 use Rattle.pec_ledger.specs.TradeLaws.{IsTrade}
 use Rattle.pec_plays.specs.Commands.{Command, Luck, Submit, Tick, Round, Lose, Repeat, Swap, Inject, Crash, Restart, Book, Mailbox, Show, Lines, Items, account_home, answers, played, shown, shown_bytes, swapped_at}
 use Rattle.pec_plays.specs.Scripts.{AllUnforged, IsUnforged, LinksAreShort, ShortAlong, SoundAlong, script}
 use Rattle.pec_plays.specs.Steps.{Step}
 use Rattle.pec_plays.specs.Turns.{Cut, Whole, Fails, Full, Stops, cut_turn, entries_of, entry_at, events_of}
-use Rattle.pec_plays.proofs.CommandLemmas.{sound_asked, sound_crashed, sound_injected, sound_lost, sound_put_again, sound_restarted, sound_submitted, sound_swapped, sound_ticked}
+use Rattle.pec_plays.proofs.CommandLemmas.{next_asked, next_crashed, next_injected, next_lost, next_put_again, next_restarted, next_submitted, next_swapped, next_ticked}
 use Rattle.pec_plays.proofs.FrameLemmas.{TextLaws}
 use Rattle.pec_plays.proofs.PlanLemmas.{parted}
-use Rattle.pec_plays.proofs.RoundLemmas.{short_rounded, sound_rounded}
+use Rattle.pec_plays.proofs.RoundLemmas.{next_rounded, short_rounded}
 use Rattle.pec_plays.proofs.ShortLemmas.{short_asked, short_crashed, short_injected, short_lost, short_put_again, short_restarted, short_submitted, short_swapped, short_ticked}
 use Rattle.pec_plays.proofs.SiteLemmas.{StateLaws}
 use Rattle.pec_plays.proofs.StepLemmas.{ArrivalLaws}
@@ -42,29 +42,34 @@ module _ (trade : Trade) (world : IsTrade trade) (laws : LedgerLaws trade) where
   shows_nothing_new sites p None = refl
   shows_nothing_new sites p (Some posted) = bytes_show_nothing_new sites (item_text trade p (journal_at sites p) posted)
 
+  pub next_played : (luck : Luck) (sites : List Site) (command : Command) → Sound trade sites → IsUnforged trade sites command
+      → IsNext trade sites (played trade luck sites command).after
+  unfolding played
+  next_played luck sites (Submit p now sender path message) sound given =
+      next_submitted trade world laws.states luck sites p now sender path message sound given.0 given.1 given.2
+  next_played luck sites (Tick p now) sound given = next_ticked trade world laws.states luck sites p now sound given
+  next_played luck sites (Round now) sound given =
+      next_rounded trade world laws.states sites sound (laws.arrivals (journals_of sites) sound.fit) (laws.images sites sound) laws.texts now given luck.cuts
+  next_played luck sites (Lose from to place) sound given = next_lost trade world laws.states sites from to place sound
+  next_played luck sites (Repeat from to place) sound given =
+      next_put_again trade world laws.states sites from to place (slice_get (frames_between sites from to) place) refl sound
+  next_played luck sites (Swap from to place) sound given =
+      next_swapped trade world laws.states sites from to place (swapped_at place (frames_between sites from to)) refl sound
+  next_played luck sites (Inject from to frame) sound given = next_injected trade world laws.states sites from to frame sound given
+  next_played luck sites (Crash p) sound given = next_crashed trade world laws.states sites p sound
+  next_played luck sites (Restart p) sound given = next_restarted trade world laws.states luck sites p sound
+  next_played luck sites (Book address) sound given =
+      next_asked trade world laws.states sites (λ (p : ℕ) (h : Half). answers sites (Lines (book trade p h address))) (account_home trade address (trade.home address)) sound (λ p h. refl)
+  next_played luck sites (Mailbox address) sound given =
+      next_asked trade world laws.states sites (λ (p : ℕ) (h : Half). answers sites (Items (mailbox_lines h address))) (account_home trade address (trade.home address)) sound (λ p h. refl)
+  next_played luck sites (Show address place) sound given =
+      next_asked trade world laws.states sites (λ (p : ℕ) (h : Half). shown trade sites p (slice_get (mailbox h address) place)) (account_home trade address (trade.home address)) sound
+      (λ p h. shows_nothing_new sites p (slice_get (mailbox h address) place))
+
   pub sound_played : (luck : Luck) (sites : List Site) (command : Command) → Sound trade sites → IsUnforged trade sites command
       → Sound trade (played trade luck sites command).after
-  unfolding played
-  sound_played luck sites (Submit p now sender path message) sound given =
-      sound_submitted trade world laws.states luck sites p now sender path message sound given.0 given.1 given.2
-  sound_played luck sites (Tick p now) sound given = sound_ticked trade world laws.states luck sites p now sound given
-  sound_played luck sites (Round now) sound given =
-      sound_rounded trade world laws.states sites sound (laws.arrivals (journals_of sites) sound.fit) (laws.images sites sound) laws.texts now given luck.cuts
-  sound_played luck sites (Lose from to place) sound given = sound_lost trade world laws.states sites from to place sound
-  sound_played luck sites (Repeat from to place) sound given =
-      sound_put_again trade world laws.states sites from to place (slice_get (frames_between sites from to) place) refl sound
-  sound_played luck sites (Swap from to place) sound given =
-      sound_swapped trade world laws.states sites from to place (swapped_at place (frames_between sites from to)) refl sound
-  sound_played luck sites (Inject from to frame) sound given = sound_injected trade world laws.states sites from to frame sound given
-  sound_played luck sites (Crash p) sound given = sound_crashed trade world laws.states sites p sound
-  sound_played luck sites (Restart p) sound given = sound_restarted trade world laws.states luck sites p sound
-  sound_played luck sites (Book address) sound given =
-      sound_asked trade world laws.states sites (λ (p : ℕ) (h : Half). answers sites (Lines (book trade p h address))) (account_home trade address (trade.home address)) sound (λ p h. refl)
-  sound_played luck sites (Mailbox address) sound given =
-      sound_asked trade world laws.states sites (λ (p : ℕ) (h : Half). answers sites (Items (mailbox_lines h address))) (account_home trade address (trade.home address)) sound (λ p h. refl)
-  sound_played luck sites (Show address place) sound given =
-      sound_asked trade world laws.states sites (λ (p : ℕ) (h : Half). shown trade sites p (slice_get (mailbox h address) place)) (account_home trade address (trade.home address)) sound
-      (λ p h. shows_nothing_new sites p (slice_get (mailbox h address) place))
+  sound_played luck sites command sound given =
+      laws.states.next sites (played trade luck sites command).after sound (next_played luck sites command sound given)
 
   pub sound_at_end : (lucks : List Luck) (sites : List Site) (commands : List Command) → Sound trade sites → AllUnforged trade lucks sites commands
       → Sound trade (script trade lucks sites commands).after

@@ -10,7 +10,7 @@ ghost use Rattle.pec_ledger.specs.Ledger.{Fit, Journals, ledger};
 ghost use Rattle.pec_ledger.specs.Lookups.{decided_of, known_of, taken_of};
 ghost use Rattle.pec_ledger.specs.Tables.{IsOwedEnvelope, IsOwedOutcome};
 ghost use Rattle.pec_plays.specs.Frames.{composed, due_frames};
-ghost use Rattle.pec_ledger.specs.Network.{AreGenuine, Site, Sound};
+ghost use Rattle.pec_ledger.specs.Network.{AreGenuine, IsNext, Site, Sound};
 ghost use Rattle.pec_ledger.specs.Own.{IsTakenPair};
 ghost use Rattle.pec_ledger.specs.Pairs.{Pair, pair_of};
 ghost use Rattle.pec_ledger.specs.Steps.{half};
@@ -33,6 +33,9 @@ use pec_ledger::{
 pub fn a_network_stays_sound()
     ensures commands { (trade : Trade) → IsTrade trade → (luck : Luck) (sites : List Site) (command : Command)
         → Sound trade sites → IsUnforged trade sites command → Sound trade (played trade luck sites command).after }
+    // what it appends may follow in the ledger as the command begins, and what waits behind it is genuine
+    ensures goes_on { (trade : Trade) → IsTrade trade → (luck : Luck) (sites : List Site) (command : Command)
+        → Sound trade sites → IsUnforged trade sites command → IsNext trade sites (played trade luck sites command).after }
     ensures scripts { (trade : Trade) → IsTrade trade → (lucks : List Luck) (sites : List Site) (commands : List Command)
         → Sound trade sites → AllUnforged trade lucks sites commands → SoundAlong trade lucks sites commands }
     ensures ends { (trade : Trade) → IsTrade trade → (lucks : List Luck) (sites : List Site) (commands : List Command)

@@ -2,7 +2,7 @@
 use Rattle.pec_ledger.specs.Trade.{Trade}
 use Rattle.pec_ledger.specs.TradeLaws.{IsTrade}
 use Rattle.pec_plays.proofs.KeptLemmas.{kept_along}
-use Rattle.pec_plays.proofs.SoundLemmas.{LedgerLaws, short_along, sound_along, sound_at_end, sound_played}
+use Rattle.pec_plays.proofs.SoundLemmas.{LedgerLaws, next_played, short_along, sound_along, sound_at_end, sound_played}
 use Rattle.pec_plays.proofs.soundness.a_network_stays_sound.Goals as goal
 
 pub returns : goal.returns
@@ -29,6 +29,7 @@ returns c =
       };
     }
     in record {
+      goes_on = λ trade world luck sites command sound given. next_played trade world (laws trade world) luck sites command sound given;
       commands = λ trade world luck sites command sound given. sound_played trade world (laws trade world) luck sites command sound given;
       guarantees = λ trade world lucks sites commands sound given.
           kept_along trade
