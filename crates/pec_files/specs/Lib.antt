@@ -1,0 +1,4 @@
+pub mod Files
+pub mod Folders
+pub mod Names
+pub mod Standings
