@@ -3,6 +3,7 @@ pub mod KeptLemmas
 pub mod ListLemmas
 pub mod LoopLemmas
 pub mod OwnLemmas
+pub mod PairLemmas
 pub mod SizeLemmas
 pub mod StepLemmas
 pub mod TradeLemmas

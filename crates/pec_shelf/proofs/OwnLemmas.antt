@@ -97,7 +97,7 @@ met trade test (r ∷ rs) a home e t c =
 
 -- ---- the message of a number
 
-kept_at : (trade : Trade) (shelf : Seen) (n : ℕ) → IsFor trade shelf → slice_get shelf.certified n ≡ option_map (certified_by trade) (slice_get shelf.half.messages n)
+pub kept_at : (trade : Trade) (shelf : Seen) (n : ℕ) → IsFor trade shelf → slice_get shelf.certified n ≡ option_map (certified_by trade) (slice_get shelf.half.messages n)
 kept_at trade shelf n for = ap (λ c. slice_get c n) for ∙ slice_get-map (certified_by trade) shelf.half.messages n
 
 abbrev as_accepted : Message → Facts → Accepted

@@ -1,5 +1,6 @@
 pub mod Lines
 pub mod Longest
+pub mod PairRows
 pub mod Prepared
 pub mod Rows
 pub mod Seen
