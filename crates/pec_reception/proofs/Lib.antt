@@ -1,0 +1,11 @@
+pub mod AccountLemmas
+pub mod ArrivalLemmas
+pub mod FrameLemmas
+pub mod LetterLemmas
+pub mod MailboxLemmas
+pub mod NextLemmas
+pub mod OtherLemmas
+pub mod PairLemmas
+pub mod PathLemmas
+pub mod SightLemmas
+pub mod TableLemmas

@@ -1,0 +1,3 @@
+pub mod Shows
+pub mod Standings
+pub mod Views

@@ -1,0 +1,45 @@
+-- What is to be done, beside the steps of pec_plays: `Shows` for one step, `ShowsNext` for the next pair that has to be
+-- decided, `Answers` for what may be a letter. RFC 6109, sections 3.1 to 3.3, within this project's profile.
+use Rattle.std.specs.Prelude.{◌≡◌, ℕ, List, [], ◌∷◌, Option, Some, None, IfSome}
+use Rattle.std.specs.Option.{option_to_list}
+use Rattle.pec_records.specs.Entry.{IsWithinLimits}
+use Rattle.pec_records.specs.declared.entries.Entry.{Entry}
+use Rattle.pec_ledger.specs.Along.{AllAlong}
+use Rattle.pec_ledger.specs.Half.{empty}
+use Rattle.pec_ledger.specs.Pairs.{Pair}
+use Rattle.pec_ledger.specs.Steps.{step}
+use Rattle.pec_ledger.specs.Trade.{Framed, Trade}
+use Rattle.pec_plays.specs.Decisions.{decide, undecided}
+use Rattle.pec_plays.specs.Reception.{otherwise}
+use Rattle.pec_plays.specs.Steps.{Step}
+use Rattle.pec_shelf.specs.Prepared.{IsStep}
+use Rattle.pec_reception.specs.declared.received.Received.{Received}
+
+-- What is to be done is what the step does: its entry, what is told, and what is owed. Whether the journal has room is
+-- its own affair.
+abbrev pub Shows : Received → Step → Type 0
+Shows received step =
+    (received.entry ≡ step.entry) × (received.event ≡ step.event) × (option_to_list received.owed ≡ step.owed)
+
+-- Each entry is a step of the half before it.
+abbrev pub AreSteps : Trade → ℕ → List Entry → Type 0
+AreSteps trade me list = AllAlong (step trade me) (IsStep trade me) empty list
+
+-- Nothing is undecided; or this is done with the first undecided pair.
+abbrev pub ShowsNext : Trade → ℕ → ℕ → List Entry → Option Received → Type 0
+ShowsNext trade me moment journal None = undecided trade me journal ≡ []
+ShowsNext trade me moment journal (Some received) =
+    (pair : Pair) × (pairs : List Pair) × (undecided trade me journal ≡ pair ∷ pairs)
+    × Shows received (decide trade me moment journal pair)
+
+-- What is to be done is what the step does; where nothing is answered, the step is that of anything else.
+abbrev pub Answers : Trade → ℕ → ℕ → List Entry → Framed → Step → Option Received → Type 0
+Answers trade me moment journal framed step None = step ≡ otherwise trade me moment journal framed
+Answers trade me moment journal framed step (Some received) = Shows received step
+
+-- the entry, if there is one, is within the program's limits
+abbrev pub IsLimited : Received → Type 0
+IsLimited received = IfSome received.entry IsWithinLimits
+
+abbrev pub AreLimited : Option Received → Type 0
+AreLimited found = IfSome found IsLimited
