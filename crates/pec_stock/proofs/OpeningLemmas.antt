@@ -28,7 +28,7 @@ use Rattle.pec_shelf.specs.Prepared.{IsStep}
 use Rattle.pec_shelf.specs.Seen.{Seen}
 use Rattle.pec_stock.specs.declared.faults.ReopenFault.{ReopenFault}
 use Rattle.pec_stock.specs.declared.faults.ReopenFault.TheVariants as faults
-use Rattle.pec_stock.specs.Opening.{IsBad, IsCutOff, IsElsewhere, IsOutside, IsUnfit, NotOwn, ReadsTo, StopsAt, WhyNot}
+use Rattle.pec_stock.specs.Opening.{IsBad, IsCutOff, IsElsewhere, IsOutside, IsUnfit, NotOwn, ReadsTo, StopsAt, WhyNot, as_reopened}
 use Rattle.pec_stock.specs.Stock.{AreSteps, Holds, IsOwn}
 use Rattle.pec_stock.specs.Stocking.{AllSteps}
 use Rattle.pec_stock.proofs.Agreeing.{steps_push}
@@ -247,3 +247,11 @@ why_disk kept me opening.DiskFault list answer some of is disk = refl
 why_disk kept me (opening.NotAJournal place) list answer some of is disk = absurd (subst IsOutside (sym disk ∙ is) tt)
 why_disk kept me (opening.BadEntry number) list answer some of is disk = absurd (cut_is_not_disk some me list number answer disk (is some of))
 why_disk kept me opening.NoMemory list answer some of is disk = absurd (subst Wants (sym is ∙ disk) tt)
+
+-- ---- a stock that is opened again
+
+pub outside_by : (fault : OpenFault) → ((n : ℕ) → (fault ≢ opening.NotAJournal n) × (fault ≢ opening.BadEntry n)) → IsOutside (as_reopened fault)
+outside_by opening.DiskFault not = tt
+outside_by (opening.NotAJournal place) not = absurd ((not place).0 refl)
+outside_by (opening.BadEntry number) not = absurd ((not number).1 refl)
+outside_by opening.NoMemory not = tt

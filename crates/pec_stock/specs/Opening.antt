@@ -25,6 +25,13 @@ IsOutside faults.DiskFault = Unit {0}
 IsOutside faults.NoMemory = Unit {0}
 IsOutside _ = ⊥
 
+-- the fault of a stock that was to be opened again, by that of its entries
+abbrev pub as_reopened : OpenFault → ReopenFault
+as_reopened opening.DiskFault = faults.DiskFault
+as_reopened (opening.NotAJournal place) = faults.NotAJournal place
+as_reopened (opening.BadEntry number) = faults.BadEntry number
+as_reopened opening.NoMemory = faults.NoMemory
+
 -- ---- entries
 
 -- The entries before this number are steps, and the one of this number isn't.

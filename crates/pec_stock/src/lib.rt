@@ -6,8 +6,10 @@
 mod entering;
 mod faults;
 mod opening;
+mod restarting;
 mod stocking;
 
 pub use entering::{enter, stands_still};
 pub use faults::ReopenFault;
 pub use opening::{begin, open};
+pub use restarting::restart;

@@ -124,17 +124,38 @@ fn opened<D>(
         → IfErr result (λ refused. NotOwn trade me entries.now refused.0) }
     ensures no_disk_fault { IfErr result (λ refused. refused.0 ≢ reopen.DiskFault) }
 {
+    match whole(alloc, directory, me, chronicle.end(), entries) {
+        Ok(shelf) => Ok((chronicle, shelf)),
+        Err(fault) => Err((fault, chronicle.into_parts().0)),
+    }
+}
+
+/// The half behind all entries of a journal that ends there, in bytes, where they are the provider's own.
+pub(crate) fn whole(
+    alloc: Global,
+    directory: &Directory,
+    me: u32,
+    end: u64,
+    entries: &[Entry],
+) -> Result<Shelf, ReopenFault>
+    ensures me { IfOk result (λ shelf. shelf.me ≡ me) }
+    ensures holds { IfOk result (λ shelf. Holds directory.now shelf entries.now) }
+    ensures ends { IfOk result (λ shelf. end ≡ shelf.half.end) }
+    ensures own { (trade : Trade) → IsOf directory.now trade → OnOk result (IsOwn trade me entries.now) }
+    ensures not_own { end ≡ length (front (map entry_text entries.now)) → (trade : Trade) → IsOf directory.now trade
+        → IfErr result (NotOwn trade me entries.now) }
+    ensures no_disk_fault { IfErr result (λ fault. fault ≢ reopen.DiskFault) }
+{
     a_directory_has_a_trade();
     let shelf = match judge(alloc, directory, me, entries) {
         Ok(shelf) => shelf,
-        Err(fault) => return Err((fault, chronicle.into_parts().0)),
+        Err(fault) => return Err(fault),
     };
     // A disk that tells what it holds has them end where the half says.
-    let end = chronicle.end();
     if end != shelf.end() {
-        return Err((ReopenFault::NotAJournal(end), chronicle.into_parts().0));
+        return Err(ReopenFault::NotAJournal(end));
     }
-    Ok((chronicle, shelf))
+    Ok(shelf)
 }
 
 /// Why no entries were opened.

@@ -12,9 +12,7 @@ ghost use Rattle.pec_stock.specs.Stocking.{AllSteps, StepsUpTo};
 
 use pec_directory::Directory;
 use pec_records::Entry;
-use pec_shelf::{
-    PrepareFault, Shelf, a_directory_has_a_trade, moment_of, what_is_kept_goes_on,
-};
+use pec_shelf::{PrepareFault, Shelf, a_directory_has_a_trade, moment_of, what_is_kept_goes_on};
 
 /// Takes entries in, one after another, as far as each is a step of the half before it. With a fault the answer tells how
 /// many were taken in.
