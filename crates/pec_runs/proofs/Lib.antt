@@ -1,0 +1,13 @@
+pub mod BeginningLemmas
+pub mod ClimbLemmas
+pub mod CutLemmas
+pub mod HeadlineLemmas
+pub mod LineLemmas
+pub mod NextLemmas
+pub mod PlaceLemmas
+pub mod ResumeLemmas
+pub mod RunLemmas
+pub mod StageLemmas
+pub mod StatusLemmas
+pub mod StepLemmas
+pub mod TextLemmas

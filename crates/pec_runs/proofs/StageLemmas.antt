@@ -1,0 +1,68 @@
+-- A run that begins has its words, its directory and its script.
+use Rattle.std.proofs.Common.{◌≡◌, List, Bool, true, false, length, refl, ap, sym, ◌∙◌, nat_lt, Option, Some, None, Result, Ok, Err}
+use Rattle.std.specs.Prelude.{if◌then◌else◌}
+use Rattle.pec_types.specs.Bytes.{Bytes}
+use Rattle.pec_directory.specs.Directory.{Provider}
+use Rattle.pec_directory.specs.declared.faults.DirectoryFault.{DirectoryFault}
+use Rattle.pec_runs.specs.Endings as ends
+use Rattle.pec_runs.specs.Happened.{Over, Begun, by_directory, by_form, by_script, directory_in, longest_directory, stage_of}
+use Rattle.pec_runs.specs.Inputs.{Parts}
+use Rattle.pec_runs.specs.Openings.{Form, form_in}
+use Rattle.pec_runs.specs.ScriptLines.{Script, script_of}
+
+-- what a run that begins has
+pub record HasAll (words : List Bytes) (early : Bool) (parts : Parts) (form : Form) (script : Script) : Type 0 where
+  pub words_are : form_in words ≡ Some form
+  pub late : early ≡ false
+  pub short : nat_lt longest_directory (length parts.directory) ≡ false
+  pub providers : List Provider
+  pub lines : List Bytes
+  pub directory : directory_in parts.directory ≡ Ok providers
+  pub lines_are : parts.script ≡ Some lines
+  pub script_is : script ≡ script_of providers 1 lines
+
+same_form : (a b : Form) (x y : Script) → Begun a x ≡ Begun b y → a ≡ b
+same_form a b x y e = cc
+
+same_script : (a b : Form) (x y : Script) → Begun a x ≡ Begun b y → x ≡ y
+same_script a b x y e = cc
+
+module _ (words : List Bytes) (early : Bool) (parts : Parts) (form : Form) (script : Script) where
+  by_read : (asked : Form) (lines : List Bytes) (told : Result (List Provider) DirectoryFault) → form_in words ≡ Some asked → early ≡ false
+      → nat_lt longest_directory (length parts.directory) ≡ false → parts.script ≡ Some lines → directory_in parts.directory ≡ told
+      → by_directory asked lines told ≡ Begun form script → HasAll words early parts form script
+  by_read asked lines (Err fault) w l s c d e = cc
+  by_read asked lines (Ok providers) w l s c d e = record {
+    words_are = w ∙ ap (λ (f : Form). Some f) (same_form asked form (script_of providers 1 lines) script e);
+    late = l;
+    short = s;
+    providers = providers;
+    lines = lines;
+    directory = d;
+    lines_are = c;
+    script_is = sym (same_script asked form (script_of providers 1 lines) script e);
+  }
+
+  by_lines : (asked : Form) (found : Option (List Bytes)) → form_in words ≡ Some asked → early ≡ false
+      → nat_lt longest_directory (length parts.directory) ≡ false → parts.script ≡ found
+      → by_script asked parts.directory found ≡ Begun form script → HasAll words early parts form script
+  by_lines asked None w l s c e = cc
+  by_lines asked (Some lines) w l s c e = by_read asked lines (directory_in parts.directory) w l s c refl e
+
+  by_length : (asked : Form) (long : Bool) → form_in words ≡ Some asked → early ≡ false
+      → nat_lt longest_directory (length parts.directory) ≡ long
+      → (if long then Over ends.LongDirectory else by_script asked parts.directory parts.script) ≡ Begun form script
+      → HasAll words early parts form script
+  by_length asked true w l s e = cc
+  by_length asked false w l s e = by_lines asked parts.script w l s refl e
+
+  by_words : (soon : Bool) (found : Option Form) → early ≡ soon → form_in words ≡ found → by_form soon parts found ≡ Begun form script
+      → HasAll words early parts form script
+  by_words true None l w e = cc
+  by_words false None l w e = cc
+  by_words true (Some asked) l w e = cc
+  by_words false (Some asked) l w e = by_length asked (nat_lt longest_directory (length parts.directory)) w l refl e
+
+  pub has_all : stage_of words early parts ≡ Begun form script → HasAll words early parts form script
+  unfolding stage_of
+  has_all e = by_words early (form_in words) refl refl e

@@ -1,0 +1,113 @@
+-- What happened in a run, `Happened`: what stood in its input, in which world it played, which journals it had, and how
+-- its commands went; and what it comes to, `outcome_of`. This project's profile.
+use Rattle.std.specs.Prelude.{◌≡◌, ℕ, nat_lt, Bool, true, false, List, [], length, Option, Some, None, Result, Ok, Err, if◌then◌else◌}
+use Rattle.std.specs.Str.{is_utf8}
+use Rattle.pec_types.specs.Bytes.{Bytes}
+use Rattle.pec_directory.specs.Directory.{Kept, Provider, providers_of}
+use Rattle.pec_directory.specs.Lawful.{IsLawful}
+use Rattle.pec_directory.specs.Walk.{directory_of}
+use Rattle.pec_directory.specs.declared.faults.DirectoryFault.{DirectoryFault}
+use Rattle.pec_directory.specs.declared.faults.DirectoryFault.TheVariants.{NotToml}
+use Rattle.pec_seal.specs.Hmac.{hmac_seals}
+use Rattle.pec_seal.specs.Seals.{Seals}
+use Rattle.pec_house.specs.Keys.{keys_of, names_of}
+use Rattle.pec_ledger.specs.Trade.{Trade}
+use Rattle.pec_ledger.specs.TradeLaws.{IsTrade}
+use Rattle.pec_plays.specs.Commands.{Luck}
+use Rattle.pec_trade.specs.TradeOf.{trade_of}
+use Rattle.pec_runs.specs.Endings.{End}
+use Rattle.pec_runs.specs.Endings as ends
+use Rattle.pec_runs.specs.Inputs.{Parts}
+use Rattle.pec_runs.specs.Openings.{Form, Next, NoMore, Holds, Unfits, Fails, Stops, Opening, form_in, next_of, opened_all}
+use Rattle.pec_runs.specs.Plays.{Finish, Outcome, Rest, outcome_from}
+use Rattle.pec_runs.specs.Plays as plays
+use Rattle.pec_runs.specs.ScriptLines.{Script, script_of}
+
+-- ---- the directory
+
+-- bytes of a directory at most
+abbrev pub longest_directory : ℕ
+longest_directory = 1048576
+
+-- The providers that the bytes of a directory say, or its first fault. Bytes that are no UTF-8 are no TOML.
+unfoldable pub directory_in : Bytes → Result (List Provider) DirectoryFault
+directory_in bytes = if is_utf8 bytes then directory_of bytes else Err NotToml
+
+-- The directory as it is kept, and those who seal for its providers.
+pub record Setting : Type 0 where
+  pub kept : List Kept
+  pub seals : Seals
+
+-- the world of a setting
+abbrev pub trade_in : Setting → Trade
+trade_in setting = trade_of setting.kept setting.seals
+
+abbrev pub providers_in : Setting → List Provider
+providers_in setting = providers_of setting.kept
+
+-- The setting is that of these providers: they are kept, each seals with its own name and key, and their world meets all
+-- laws of the trade.
+pub record IsSetting (providers : List Provider) (setting : Setting) : Type 0 where
+  pub kept : providers_in setting ≡ providers
+  pub lawful : IsLawful providers
+  pub seals : setting.seals ≡ hmac_seals (names_of providers) (keys_of providers)
+  pub world : IsTrade (trade_in setting)
+
+-- ---- what happened
+
+pub record Happened : Type 0 where
+  pub parts : Parts
+  pub early : Bool  -- it was stopped before a disk was asked for
+  pub setting : Setting
+  pub opening : Opening
+  pub lucks : List Luck  -- one for each command that was played
+  pub rest : Rest
+
+-- How far a run comes without its disks: it ends; it is stopped; or it begins, in one of its forms, with a script.
+pub data Stage : Type 0 where
+  Over : (end : End) → Stage
+  Halted : Stage
+  Begun : (form : Form) (script : Script) → Stage
+
+abbrev pub by_directory : Form → List Bytes → Result (List Provider) DirectoryFault → Stage
+by_directory form lines (Err fault) = Over (ends.DirectoryRefused fault)
+by_directory form lines (Ok providers) = Begun form (script_of providers 1 lines)
+
+abbrev pub by_script : Form → Bytes → Option (List Bytes) → Stage
+by_script form directory None = Over ends.NoScript
+by_script form directory (Some lines) = by_directory form lines (directory_in directory)
+
+abbrev pub by_form : Bool → Parts → Option Form → Stage
+by_form early parts None = Over ends.Usage
+by_form true parts (Some form) = Halted
+by_form false parts (Some form) =
+    if nat_lt longest_directory (length parts.directory) then Over ends.LongDirectory
+    else by_script form parts.directory parts.script
+
+-- The words first, then the directory's length, the script's mark, and the directory itself.
+unfoldable pub stage_of : List Bytes → Bool → Parts → Stage
+stage_of words early parts = by_form early parts (form_in words)
+
+-- an outcome without a command
+abbrev pub nothing_played : Trade → Opening → Finish → Outcome
+nothing_played trade opening finish =
+    record { answers = []; after = opened_all trade opening.journals; finish = finish }
+
+abbrev pub by_next : Trade → Opening → List Luck → Rest → Script → Next → Outcome
+by_next trade opening lucks rest script NoMore = outcome_from trade lucks rest (opened_all trade opening.journals) script
+by_next trade opening lucks rest script Holds =
+    nothing_played trade opening (plays.Ends (ends.NotEmpty (next_of opening)))
+by_next trade opening lucks rest script (Unfits unfit) =
+    nothing_played trade opening (plays.Ends (ends.NotFit (next_of opening) unfit))
+by_next trade opening lucks rest script Fails = nothing_played trade opening plays.Fails
+by_next trade opening lucks rest script Stops = nothing_played trade opening plays.Stops
+
+abbrev pub outcome_at : Happened → Stage → Outcome
+outcome_at happened (Over end) = record { answers = []; after = []; finish = plays.Ends end }
+outcome_at happened Halted = record { answers = []; after = []; finish = plays.Stops }
+outcome_at happened (Begun form script) =
+    by_next (trade_in happened.setting) happened.opening happened.lucks happened.rest script happened.opening.next
+
+-- What a run comes to.
+unfoldable pub outcome_of : List Bytes → Happened → Outcome
+outcome_of words happened = outcome_at happened (stage_of words happened.early happened.parts)

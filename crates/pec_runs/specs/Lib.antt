@@ -1,0 +1,13 @@
+pub mod AnswerLines
+pub mod Endings
+pub mod Happened
+pub mod Headline
+pub mod Inputs
+pub mod Openings
+pub mod Plays
+pub mod Ran
+pub mod Reaching
+pub mod Resuming
+pub mod ScriptLines
+pub mod Statuses
+pub mod Writing

@@ -1,0 +1,148 @@
+-- How a script is played from a state: with a luck for each command, until the script ends, something stops the run, or it
+-- strays. The headlines are `Outcome`, `outcome_from`, and `MayPlay`, which says what devices have to do with it. This
+-- project's profile.
+use Rattle.std.specs.Prelude.{◌≡◌, ◌≢◌, ℕ, ◌+◌, ◌-◌, ◌^◌, ◌<◌, ◌≤◌, ◌==◌, Bool, false, true, ◌&&◌, List, [], ◌∷◌, ◌++◌, length, slice_get, All, Option, Some, if◌then◌else◌}
+use Rattle.pec_types.specs.Bytes.{Bytes}
+use Rattle.pec_types.specs.declared.turns.ProviderFault.{ProviderFault}
+use Rattle.pec_types.specs.declared.turns.ProviderFault.TheVariants as faults
+use Rattle.pec_types.specs.declared.turns.Turn.{Turn}
+use Rattle.pec_directory.specs.Directory.{Provider}
+use Rattle.pec_ledger.specs.Along.{times}
+use Rattle.pec_ledger.specs.Network.{Site, is_up}
+use Rattle.pec_ledger.specs.Trade.{Trade}
+use Rattle.pec_plays.specs.Commands.{Answer, Command, Luck, Refuses, Restart, Round, Submit, Tick, Turns, played}
+use Rattle.pec_plays.specs.Possible.{MayMeet}
+use Rattle.pec_plays.specs.Scripts.{script}
+use Rattle.pec_runs.specs.AnswerLines.{answers_text}
+use Rattle.pec_runs.specs.Endings.{End, end_text}
+use Rattle.pec_runs.specs.ScriptLines.{Script}
+
+-- ---- outcomes
+
+-- Behind the commands that were played: the script's end; or the run was stopped, by a device or for want of memory; or it
+-- strayed, for a disk that doesn't tell what it holds gave a journal back, of which nothing is known.
+pub data Rest : Type 0 where
+  ToTheEnd : Rest
+  Stopped : Rest
+  Strayed : Rest
+
+-- How a run finishes.
+pub data Finish : Type 0 where
+  Ends : (end : End) → Finish
+  Stops : Finish  -- stopped on its way
+  Fails : Finish  -- stopped while journals were made or opened, by a device
+  Strays : Finish
+
+-- What a run answers, the state behind it, and how it finishes.
+pub record Outcome : Type 0 where
+  pub answers : List Answer
+  pub after : List Site
+  pub finish : Finish
+
+abbrev pub onto_outcome : Answer → Outcome → Outcome
+onto_outcome answer outcome =
+    record { answers = answer ∷ outcome.answers; after = outcome.after; finish = outcome.finish }
+
+-- a script is at its end where each of its commands had its luck
+abbrev pub at_end : List Luck → List Command → End → Finish
+at_end [] [] end = Ends end
+at_end [] (command ∷ commands) end = Stops
+at_end (luck ∷ lucks) [] end = Stops
+at_end (luck ∷ lucks) (command ∷ commands) end = at_end lucks commands end
+
+abbrev pub finish_of : Rest → List Luck → Script → Finish
+finish_of ToTheEnd lucks script = at_end lucks script.commands script.end
+finish_of Stopped lucks script = Stops
+finish_of Strayed lucks script = Strays
+
+-- What a script comes to from a state, with these lucks for its first commands.
+abbrev pub outcome_from : Trade → List Luck → Rest → List Site → Script → Outcome
+outcome_from trade lucks rest sites written = record {
+  answers = (script trade lucks sites written.commands).answers;
+  after = (script trade lucks sites written.commands).after;
+  finish = finish_of rest lucks written;
+}
+
+-- ---- bytes
+
+abbrev pub finish_text : List Provider → Finish → Bytes
+finish_text providers (Ends end) = end_text providers end
+finish_text providers Stops = []
+finish_text providers Fails = []
+finish_text providers Strays = []
+
+-- The bytes of an outcome: the lines of its answers, and the last line of its end.
+abbrev pub outcome_text : List Provider → Outcome → Bytes
+outcome_text providers outcome = answers_text providers outcome.answers ++ finish_text providers outcome.finish
+
+-- ---- faults of disks
+
+abbrev pub is_disk_fault : Option ProviderFault → Bool
+is_disk_fault (Some faults.DiskFault) = true
+is_disk_fault _ = false
+
+-- how many of these turns tell a fault of the provider's disk
+abbrev pub faults_in : ℕ → List Turn → ℕ
+faults_in provider turns = times (λ (turn : Turn). (turn.provider == provider) && is_disk_fault turn.ended) turns
+
+-- whether a refusal of a call at one provider tells a fault of another's disk, or of its own
+abbrev pub faults_at : ℕ → ℕ → Answer → ℕ
+faults_at provider asked (Refuses faults.DiskFault) = if asked == provider then 1 else 0
+faults_at provider asked _ = 0
+
+-- How many faults of a provider's disk an answer tells.
+abbrev pub faults_by : ℕ → Command → Answer → ℕ
+faults_by provider (Submit asked moment sender path message) answer = faults_at provider asked answer
+faults_by provider (Tick asked moment) answer = faults_at provider asked answer
+faults_by provider (Restart asked) answer = faults_at provider asked answer
+faults_by provider (Round moment) (Turns turns) = faults_in provider turns
+faults_by provider _ _ = 0
+
+-- How many faults of a provider's disk are told in all.
+abbrev pub faults_told : ℕ → List Command → List Answer → ℕ
+faults_told provider [] answers = 0
+faults_told provider (command ∷ commands) [] = 0
+faults_told provider (command ∷ commands) (answer ∷ answers) =
+    faults_by provider command answer + faults_told provider commands answers
+
+-- A count of faults, which never falls, rose by so many at least. At its greatest value it stays.
+abbrev pub RoseBy : ℕ → ℕ → ℕ → Type 0
+RoseBy number before now = (before ≤ now) × (now < 2 ^ 64 - 1 → before + number ≤ now)
+
+-- ---- what may be
+
+-- The commands may meet these lucks.
+abbrev pub AllMeet : Trade → List Luck → List Site → List Command → Type 0
+AllMeet trade [] sites commands = Unit {0}
+AllMeet trade (luck ∷ lucks) sites [] = Unit {0}
+AllMeet trade (luck ∷ lucks) sites (command ∷ commands) =
+    MayMeet trade luck sites command × AllMeet trade lucks (played trade luck sites command).after commands
+
+-- No turn that an answer tells ended for want of memory, since that stops the run.
+abbrev pub HasMemory : Answer → Type 0
+HasMemory (Turns turns) = All (λ (turn : Turn). turn.ended ≢ Some faults.NoMemory) turns
+HasMemory _ = Unit {0}
+
+-- A run strays only where disks don't tell what they hold, in a restart of a provider that is down.
+pub record MayStray (tells : Type 0) (sites : List Site) (next : Option Command) : Type 0 where
+  pub untold : tells → ⊥
+  pub provider : ℕ
+  pub restarts : next ≡ Some (Restart provider)
+  pub down : is_up sites provider ≡ false
+
+abbrev pub StraysSo : Type 0 → List Site → Option Command → Rest → Type 0
+StraysSo tells sites next Strayed = MayStray tells sites next
+StraysSo tells sites next _ = Unit {0}
+
+-- A script may be played so from a state, while the counts of faults of disks rise from some to others: each command may
+-- meet its luck, no memory was missing in what is told, and each fault that is told of a disk raised that disk's count.
+pub record MayPlay (trade : Trade) (tells : Type 0) (sites : List Site) (from upto : ℕ → ℕ) (written : Script)
+    (lucks : List Luck) (rest : Rest) : Type 0 where
+  pub enough : length lucks ≤ length written.commands
+  pub meet : AllMeet trade lucks sites written.commands
+  pub memory : All HasMemory (script trade lucks sites written.commands).answers
+  pub counts : (provider : ℕ)
+      → RoseBy (faults_told provider written.commands (script trade lucks sites written.commands).answers)
+      (from provider) (upto provider)
+  pub strays : StraysSo tells (script trade lucks sites written.commands).after
+      (slice_get written.commands (length lucks)) rest

@@ -1,0 +1,19 @@
+-- A run that is cut in two: what it leaves, and what a run that resumes begins with. This project's profile.
+use Rattle.std.specs.Prelude.{◌≡◌, List, map}
+use Rattle.std.specs.List.{AllByRecursion}
+use Rattle.pec_records.specs.declared.entries.Entry.{Entry}
+use Rattle.pec_ledger.specs.Network.{Site}
+use Rattle.pec_ledger.specs.Trade.{Trade}
+use Rattle.pec_runs.specs.Openings.{opened, opened_all}
+
+-- A state as one begins with: each provider is up, nothing is interrupted, and nothing waits on a link.
+abbrev pub IsAtRest : Trade → List Site → Type 0
+IsAtRest trade sites = AllByRecursion (λ (site : Site). site ≡ opened trade site.journal) sites
+
+-- the journals of a state
+abbrev pub journals_left : List Site → List (List Entry)
+journals_left sites = map (λ (site : Site). site.journal) sites
+
+-- The state that begins with the journals of another.
+abbrev pub resumed : Trade → List Site → List Site
+resumed trade sites = opened_all trade (journals_left sites)

@@ -1,0 +1,15 @@
+//! What a run of the program is, and what it writes. There is no code here: each function is a law, whose contract is the
+//! statement.
+#![tactic(auto)]
+
+mod climbing;
+mod headline;
+mod resuming;
+mod runs;
+mod writing;
+
+pub use climbing::a_script_is_played_line_by_line;
+pub use headline::the_books_belong_to_the_ledger;
+pub use resuming::{a_resumed_run_begins_where_the_last_left, a_script_may_be_cut};
+pub use runs::a_runs_books_belong_to_the_ledger;
+pub use writing::{a_status_says_what_was_written, answers_are_whole_lines};
