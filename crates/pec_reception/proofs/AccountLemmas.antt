@@ -1,6 +1,7 @@
--- The accounts in a path that have room, found one after the other: each address is looked at once, and one that was found
--- isn't found again.
-use Rattle.std.proofs.Common.{◌≡◌, ℕ, ◌+◌, ◌<◌, ◌≤◌, [], ◌∷◌, ◌++◌, Bool, true, false, not, ◌&&◌, ◌||◌, cond, length, drop, get_or, refl, ap, sym, subst, ◌∙◌, append_assoc, append-nil}
+-- The accounts in a path that have room, found one after the other: each address is looked at once, and one that was
+-- found isn't found again.
+use Rattle.std.proofs.Common.{◌≡◌, ℕ, ◌+◌, ◌<◌, ◌≤◌, [], ◌∷◌, ◌++◌, Bool, true, false, not, ◌&&◌, ◌||◌, cond, length}
+use Rattle.std.proofs.Common.{drop, get_or, refl, ap, sym, subst, ◌∙◌, append_assoc, append-nil}
 use Rattle.std.specs.Prelude.{filter}
 use Rattle.std.specs.List.{list_any}
 use Rattle.std.specs.Str.{bytes_eq}
@@ -23,10 +24,12 @@ more_in room found rest = filter (is_more room found) (each_once bytes_eq rest)
 -- one filter behind another
 both_head : (x : Bytes) (xs ys : Path) (p : Bytes → Bool) (q r : Bool) → cond q (p x) false ≡ r → filter p xs ≡ ys
     → filter p (cond q (x ∷ xs) xs) ≡ cond r (x ∷ ys) ys
-both_head x xs ys p true r e rest = ap (λ t. cond t (x ∷ filter p xs) (filter p xs)) e ∙ ap (λ (zs : Path). cond r (x ∷ zs) zs) rest
+both_head x xs ys p true r e rest = ap (λ t. cond t (x ∷ filter p xs) (filter p xs)) e
+    ∙ ap (λ (zs : Path). cond r (x ∷ zs) zs) rest
 both_head x xs ys p false r e rest = rest ∙ ap (λ t. cond t (x ∷ ys) ys) e
 
-both : (p q r : Bytes → Bool) → ((x : Bytes) → cond (q x) (p x) false ≡ r x) → (xs : Path) → filter p (filter q xs) ≡ filter r xs
+both : (p q r : Bytes → Bool) → ((x : Bytes) → cond (q x) (p x) false ≡ r x) → (xs : Path)
+    → filter p (filter q xs) ≡ filter r xs
 both p q r same [] = refl
 both p q r same (x ∷ xs) = both_head x (filter q xs) (filter r xs) p (q x) (r x) (same x) (both p q r same xs)
 
@@ -36,12 +39,14 @@ equal_turned a b =
     (λ e. sym ((bytes_eq-Decides b a).0 e), λ e. (bytes_eq-Decides b a).1 (sym e))
 
 -- an address that is none leaves all that are equal to it out
-left_out : (room : Bytes → Bool) (found : Path) (x : Bytes) → is_more room found x ≡ false → (y : Bytes) (t : Bool) → bytes_eq x y ≡ t
+left_out : (room : Bytes → Bool) (found : Path) (x : Bytes) → is_more room found x ≡ false → (y : Bytes) (t : Bool)
+    → bytes_eq x y ≡ t
     → cond (not t) (is_more room found y) false ≡ is_more room found y
 left_out room found x none y true e = sym (ap (is_more room found) (sym ((bytes_eq-Decides x y).0 e)) ∙ none)
 left_out room found x none y false e = refl
 
-tests_agree : (among same room : Bool) → cond (not same) (not among && room) false ≡ (not (among || (same || false)) && room)
+tests_agree : (among same room : Bool) → cond (not same) (not among && room) false ≡
+    (not (among || (same || false)) && room)
 tests_agree true true room = refl
 tests_agree true false room = refl
 tests_agree false true room = refl
@@ -58,11 +63,15 @@ found_again room found x y =
 next_of : (room : Bytes → Bool) (found : Path) (x : Bytes) (xs : Path) (t : Bool) → is_more room found x ≡ t
     → more_in room found (x ∷ xs) ≡ cond t (x ∷ more_in room (found ++ x ∷ []) xs) (more_in room found xs)
 next_of room found x xs true e =
-    ap (λ t. cond t (x ∷ filter (is_more room found) (filter (λ y. not (bytes_eq x y)) (each_once bytes_eq xs))) (filter (is_more room found) (filter (λ y. not (bytes_eq x y)) (each_once bytes_eq xs)))) e
-    ∙ ap (λ (ys : Path). x ∷ ys) (both (is_more room found) (λ y. not (bytes_eq x y)) (is_more room (found ++ x ∷ [])) (found_again room found x) (each_once bytes_eq xs))
+    ap (λ t. cond t (x ∷ filter (is_more room found) (filter (λ y. not (bytes_eq x y)) (each_once bytes_eq xs)))
+    (filter (is_more room found) (filter (λ y. not (bytes_eq x y)) (each_once bytes_eq xs)))) e
+    ∙ ap (λ (ys : Path). x ∷ ys) (both (is_more room found) (λ y. not (bytes_eq x y)) (is_more room (found ++ x ∷ []))
+    (found_again room found x) (each_once bytes_eq xs))
 next_of room found x xs false e =
-    ap (λ t. cond t (x ∷ filter (is_more room found) (filter (λ y. not (bytes_eq x y)) (each_once bytes_eq xs))) (filter (is_more room found) (filter (λ y. not (bytes_eq x y)) (each_once bytes_eq xs)))) e
-    ∙ both (is_more room found) (λ y. not (bytes_eq x y)) (is_more room found) (λ y. left_out room found x e y (bytes_eq x y) refl) (each_once bytes_eq xs)
+    ap (λ t. cond t (x ∷ filter (is_more room found) (filter (λ y. not (bytes_eq x y)) (each_once bytes_eq xs)))
+    (filter (is_more room found) (filter (λ y. not (bytes_eq x y)) (each_once bytes_eq xs)))) e
+    ∙ both (is_more room found) (λ y. not (bytes_eq x y)) (is_more room found)
+    (λ y. left_out room found x e y (bytes_eq x y) refl) (each_once bytes_eq xs)
 
 -- ---- the loop
 
@@ -73,7 +82,8 @@ FindsAll room path found rest = filter room (each_once bytes_eq path) ≡ found 
 pub finds_all : (room : Bytes → Bool) (path : Path) → FindsAll room path [] path
 finds_all room path = refl
 
-found_one : (room : Bytes → Bool) (path found : Path) (i : ℕ) (x : Bytes) → i < length path → x ≡ get_or path i x → is_more room found x ≡ true
+found_one : (room : Bytes → Bool) (path found : Path) (i : ℕ) (x : Bytes) → i < length path → x ≡ get_or path i x
+    → is_more room found x ≡ true
     → FindsAll room path found (drop i path) → FindsAll room path (found ++ x ∷ []) (drop (i + 1) path)
 found_one room path found i x l e more all =
     all ∙ ap (λ (ys : Path). found ++ ys)
@@ -82,7 +92,8 @@ found_one room path found i x l e more all =
     ∙ next_of room found x (drop (i + 1) path) true more)
     ∙ sym (append_assoc found (x ∷ []) (more_in room (found ++ x ∷ []) (drop (i + 1) path)))
 
-found_none : (room : Bytes → Bool) (path found : Path) (i : ℕ) (x : Bytes) → i < length path → x ≡ get_or path i x → is_more room found x ≡ false
+found_none : (room : Bytes → Bool) (path found : Path) (i : ℕ) (x : Bytes) → i < length path → x ≡ get_or path i x
+    → is_more room found x ≡ false
     → FindsAll room path found (drop i path) → FindsAll room path found (drop (i + 1) path)
 found_none room path found i x l e none all =
     all ∙ ap (λ (ys : Path). found ++ ys)
@@ -90,21 +101,26 @@ found_none room path found i x l e none all =
     ∙ ap (λ (y : Bytes). more_in room found (y ∷ drop (i + 1) path)) (sym e)
     ∙ next_of room found x (drop (i + 1) path) false none)
 
-found_next_by : (room : Bytes → Bool) (path found new : Path) (i : ℕ) (x : Bytes) → i < length path → x ≡ get_or path i x
+found_next_by : (room : Bytes → Bool) (path found new : Path) (i : ℕ) (x : Bytes) → i < length path
+    → x ≡ get_or path i x
     → (t : Bool) → is_more room found x ≡ t → new ≡ found ++ cond t (x ∷ []) []
     → FindsAll room path found (drop i path) → FindsAll room path new (drop (i + 1) path)
 found_next_by room path found new i x l e true t is all =
     subst (λ (xs : Path). FindsAll room path xs (drop (i + 1) path)) (sym is) (found_one room path found i x l e t all)
 found_next_by room path found new i x l e false t is all =
-    subst (λ (xs : Path). FindsAll room path xs (drop (i + 1) path)) (sym (is ∙ append-nil found)) (found_none room path found i x l e t all)
+    subst (λ (xs : Path). FindsAll room path xs (drop (i + 1) path)) (sym (is ∙ append-nil found))
+    (found_none room path found i x l e t all)
 
 -- one address was looked at
-pub found_next : (room : Bytes → Bool) (path found new : Path) (i : ℕ) (x : Bytes) → i < length path → x ≡ get_or path i x
+pub found_next : (room : Bytes → Bool) (path found new : Path) (i : ℕ) (x : Bytes) → i < length path
+    → x ≡ get_or path i x
     → new ≡ found ++ filter (is_more room found) (x ∷ [])
     → FindsAll room path found (drop i path) → FindsAll room path new (drop (i + 1) path)
-found_next room path found new i x l e is all = found_next_by room path found new i x l e (is_more room found x) refl is all
+found_next room path found new i x l e is all = found_next_by room path found new i x l e
+    (is_more room found x) refl is all
 
-pub found_all : (room : Bytes → Bool) (path found : Path) (i : ℕ) → length path ≤ i → FindsAll room path found (drop i path)
+pub found_all : (room : Bytes → Bool) (path found : Path) (i : ℕ) → length path ≤ i
+    → FindsAll room path found (drop i path)
     → found ≡ filter room (each_once bytes_eq path)
 found_all room path found i l all =
     sym (all ∙ ap (λ (rest : Path). found ++ more_in room found rest) (drop_of_length-le path l) ∙ append-nil found)

@@ -42,10 +42,12 @@ is_there f (Some x) row there e rows = e ∙ ap is_some rows
 pub receipts_path : (trade : Trade) (me number : ℕ) (framed path : Path) (fits : Bool) → path ≡ framed → number ≡ me
     → fits ≡ same_path path (trade.receipts number ∷ []) → fits ≡ same_path framed (trade.receipts me ∷ [])
 receipts_path trade me number framed path fits p n e =
-    e ∙ ap (λ (x : Path). same_path x (trade.receipts number ∷ [])) p ∙ ap (λ (k : ℕ). same_path framed (trade.receipts k ∷ [])) n
+    e ∙ ap (λ (x : Path). same_path x (trade.receipts number ∷ [])) p
+    ∙ ap (λ (k : ℕ). same_path framed (trade.receipts k ∷ [])) n
 
 -- Each is given as the code has it: numbers and copies that are those of the receipt.
-module _ (trade : Trade) (me : ℕ) (journal : List Entry) (framed : Framed) (h : Half) (is : h ≡ half trade me journal) where
+module _ (trade : Trade) (me : ℕ) (journal : List Entry) (framed : Framed) (h : Half)
+    (is : h ≡ half trade me journal) where
   abbrev pub envelope_in : Id → ℕ → ℕ → Bool → Bool → Arrived
   envelope_in id to provider fits had = record {
     letter = Some (letters.Envelope id to);
@@ -95,17 +97,24 @@ module _ (trade : Trade) (me : ℕ) (journal : List Entry) (framed : Framed) (h 
     accounts_with_room = 0;
   }
 
-  pub outcome_seen : (receipt : Receipt) (recipient copy : Bytes) (by provider number : ℕ) (home : Option ℕ) (fits there had : Bool)
-      → copy ≡ recipient → by ≡ receipt.by → provider ≡ receipt.id.provider → number ≡ receipt.id.number → home ≡ trade.home recipient
-      → fits ≡ is_senders_path framed.path (accepted_at h number) → there ≡ has_pair trade recipient (accepted_at h number)
+  pub outcome_seen : (receipt : Receipt) (recipient copy : Bytes) (by provider number : ℕ) (home : Option ℕ)
+      (fits there had : Bool)
+      → copy ≡ recipient → by ≡ receipt.by → provider ≡ receipt.id.provider → number ≡ receipt.id.number
+      → home ≡ trade.home recipient
+      → fits ≡ is_senders_path framed.path (accepted_at h number) → there ≡ has_pair trade recipient
+      (accepted_at h number)
       → had ≡ is_some (known_of h (pair_of receipt.id recipient))
       → named_in (letters.Outcome receipt.id copy) by provider home fits there had
       ≡ unasked (an_outcome trade me journal framed receipt (Some recipient))
-  outcome_seen receipt recipient copy by provider number home fits there had c b p n w x y z = rw (w, x, y, z, c, b, p, n, is) refl
+  outcome_seen receipt recipient copy by provider number home fits there had c b p n w x y z = rw
+      (w, x, y, z, c, b, p, n, is) refl
 
-  pub ack_seen : (receipt : Receipt) (recipient copy : Bytes) (by provider : ℕ) (home : Option ℕ) (fits there had : Bool)
+  pub ack_seen : (receipt : Receipt) (recipient copy : Bytes) (by provider : ℕ) (home : Option ℕ)
+      (fits there had : Bool)
       → copy ≡ recipient → by ≡ receipt.by → provider ≡ receipt.id.provider → home ≡ trade.home recipient
-      → fits ≡ same_path framed.path (trade.receipts me ∷ []) → there ≡ is_some (decided_of h (pair_of receipt.id recipient))
+      → fits ≡ same_path framed.path (trade.receipts me ∷ [])
+      → there ≡ is_some (decided_of h (pair_of receipt.id recipient))
       → had ≡ is_acked h (pair_of receipt.id recipient)
-      → named_in (letters.Ack receipt.id copy) by provider home fits there had ≡ unasked (an_ack trade me journal framed receipt (Some recipient))
+      → named_in (letters.Ack receipt.id copy) by provider home fits there had ≡ unasked
+      (an_ack trade me journal framed receipt (Some recipient))
   ack_seen receipt recipient copy by provider home fits there had c b p w x y z = rw (w, x, y, z, c, b, p, is) refl

@@ -11,7 +11,8 @@ same_length [] (address ∷ path) read = absurd read
 same_length (entry ∷ entries) [] read = absurd read
 same_length (entry ∷ entries) (address ∷ path) read = omega (arith, same_length entries path read.1)
 
-is_within : (text : Bytes) (path : Path) (place : ℕ) → IsFrame text path place → IsWithin (record { path = path; message = drop place text })
+is_within : (text : Bytes) (path : Path) (place : ℕ) → IsFrame text path place
+    → IsWithin (record { path = path; message = drop place text })
 is_within text path place frame = record {
   path = omega (arith, same_length frame.entries path frame.read, frame.few);
   message = omega (arith, length-drop place text, frame.has_line.short);
@@ -20,4 +21,5 @@ is_within text path place frame = record {
 pub reads_within : (text : Bytes) (path : Path) (place : ℕ) → IsFrame text path place
     → IsWithin (record { path = path; message = take (length text - place) (drop place text) })
 reads_within text path place frame =
-    subst (λ (message : Bytes). IsWithin (record { path = path; message = message })) (sym (take_rest text place)) (is_within text path place frame)
+    subst (λ (message : Bytes). IsWithin (record { path = path; message = message })) (sym (take_rest text place))
+    (is_within text path place frame)

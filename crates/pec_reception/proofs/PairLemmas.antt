@@ -1,5 +1,6 @@
 -- Whether a message has pairs, as a test: what the shelf answers is what pec_plays asks.
-use Rattle.std.proofs.Common.{◌≡◌, ◌↔◌, ℕ, zero, suc, ◌<◌, List, [], ◌∷◌, Bool, true, false, ◌||◌, ◌⊎◌, inl, inr, cond, length, refl, ap, sym, subst, ◌∙◌, arith, Option, Some, None}
+use Rattle.std.proofs.Common.{◌≡◌, ◌↔◌, ℕ, zero, suc, ◌<◌, List, [], ◌∷◌, Bool, true, false, ◌||◌, ◌⊎◌, inl, inr, cond}
+use Rattle.std.proofs.Common.{length, refl, ap, sym, subst, ◌∙◌, arith, Option, Some, None}
 use Rattle.std.specs.Prelude.{Contains, IsTrue, is_some}
 use Rattle.std.specs.List.{list_any}
 use Rattle.std.specs.Str.{bytes_eq}
@@ -31,7 +32,8 @@ some_address (b ∷ addresses) a e = by_test (bytes_eq a b) refl e (some_address
   where
     by_test : (t : Bool) → bytes_eq a b ≡ t → (t || list_any (bytes_eq a) addresses) ≡ true
         → (list_any (bytes_eq a) addresses ≡ true → Contains addresses a) → Contains (b ∷ addresses) a
-    by_test true t e more = subst (λ (x : Bytes). Contains (b ∷ addresses) x) (sym ((bytes_eq-Decides a b).0 t)) (contains_here b addresses)
+    by_test true t e more = subst (λ (x : Bytes). Contains (b ∷ addresses) x) (sym ((bytes_eq-Decides a b).0 t))
+        (contains_here b addresses)
     by_test false t e more = contains_there b addresses a (more e)
 
 or_right : (a b : Bool) → b ≡ true → (a || b) ≡ true
@@ -62,7 +64,8 @@ module _ (trade : Trade) (by : ℕ) where
   some_at [] l = absurd (omega arith)
   some_at (a ∷ addresses) l = by_test (is_home by (trade.home a)) refl l (some_at addresses)
     where
-      by_test : (t : Bool) → is_home by (trade.home a) ≡ t → 0 < length (cond t (a ∷ at_home trade by addresses) (at_home trade by addresses))
+      by_test : (t : Bool) → is_home by (trade.home a) ≡ t
+          → 0 < length (cond t (a ∷ at_home trade by addresses) (at_home trade by addresses))
           → (0 < length (at_home trade by addresses) → SomeAt addresses) → SomeAt (a ∷ addresses)
       by_test true e l more = (a, contains_here a addresses, home_is (trade.home a) e)
       by_test false e l more = ((more l).0, contains_there a addresses (more l).0 (more l).1, (more l).2)
@@ -70,40 +73,53 @@ module _ (trade : Trade) (by : ℕ) where
   at_some : (addresses : Path) → SomeAt addresses → 0 < length (at_home trade by addresses)
   at_some [] some = absurd (contains_none some.0 some.1)
   at_some (a ∷ addresses) some =
-      by_test (is_home by (trade.home a)) refl (contains_cases a addresses some.0 some.1) (λ there. at_some addresses (some.0, there, some.2))
+      by_test (is_home by (trade.home a)) refl (contains_cases a addresses some.0 some.1)
+      (λ there. at_some addresses (some.0, there, some.2))
     where
       by_test : (t : Bool) → is_home by (trade.home a) ≡ t → (a ≡ some.0) ⊎ Contains addresses some.0
           → (Contains addresses some.0 → 0 < length (at_home trade by addresses))
           → 0 < length (cond t (a ∷ at_home trade by addresses) (at_home trade by addresses))
       by_test true e c more = omega arith
-      by_test false e (inl same) more = absurd (false≢true (sym e ∙ home_again (trade.home a) (ap trade.home same ∙ some.2)))
+      by_test false e (inl same) more = absurd
+          (false≢true (sym e ∙ home_again (trade.home a) (ap trade.home same ∙ some.2)))
       by_test false e (inr there) more = more there
 
 abbrev PairsIn : Trade → ℕ → Option Accepted → Type 0
 PairsIn trade by found = (message : Accepted) × (found ≡ Some message) × HasPairsAt trade message by
 
-pub pairs_same : (trade : Trade) (by : ℕ) (found : Option Accepted) (r : Bool) → (IsTrue r ↔ PairsIn trade by found) → r ≡ has_pairs_at trade by found
-pairs_same trade by found r is = same_from_decides {P = PairsIn trade by found} r (has_pairs_at trade by found) is (decides found)
+pub pairs_same : (trade : Trade) (by : ℕ) (found : Option Accepted) (r : Bool) → (IsTrue r ↔ PairsIn trade by found)
+    → r ≡ has_pairs_at trade by found
+pairs_same trade by found r is = same_from_decides {P = PairsIn trade by found} r (has_pairs_at trade by found) is
+    (decides found)
   where
     decides : (found : Option Accepted) → (has_pairs_at trade by found ≡ true) ↔ PairsIn trade by found
     decides None = (λ e. absurd (false≢true e), λ pairs. absurd (none-some pairs.0 pairs.1))
     decides (Some m) = (
-      λ e. (m, refl, some_at trade by (addresses_of m.facts) (ltb-true 0 (length (at_home trade by (addresses_of m.facts))) e)),
+      λ e. (
+        m,
+        refl,
+        some_at trade by (addresses_of m.facts)
+            (ltb-true 0 (length (at_home trade by (addresses_of m.facts))) e),
+      ),
       λ pairs. lt-ltb 0 (length (at_home trade by (addresses_of m.facts)))
-          (at_some trade by (addresses_of m.facts) (subst (λ (x : Accepted). HasPairsAt trade x by) (sym (same_Some m pairs.0 pairs.1)) pairs.2)),
+          (at_some trade by (addresses_of m.facts) (subst (λ (x : Accepted). HasPairsAt trade x by)
+          (sym (same_Some m pairs.0 pairs.1)) pairs.2)),
     )
 
 abbrev PairIn : Trade → Bytes → Option Accepted → Type 0
 PairIn trade recipient found = (message : Accepted) × (found ≡ Some message) × HasPair trade message recipient
 
-pub pair_same : (trade : Trade) (recipient : Bytes) (found : Option Accepted) (r : Bool) → (IsTrue r ↔ PairIn trade recipient found) → r ≡ has_pair trade recipient found
-pair_same trade recipient found r is = same_from_decides {P = PairIn trade recipient found} r (has_pair trade recipient found) is (decides found)
+pub pair_same : (trade : Trade) (recipient : Bytes) (found : Option Accepted) (r : Bool)
+    → (IsTrue r ↔ PairIn trade recipient found) → r ≡ has_pair trade recipient found
+pair_same trade recipient found r is = same_from_decides {P = PairIn trade recipient found} r
+    (has_pair trade recipient found) is (decides found)
   where
     decides : (found : Option Accepted) → (has_pair trade recipient found ≡ true) ↔ PairIn trade recipient found
     decides None = (λ e. absurd (false≢true e), λ pair. absurd (none-some pair.0 pair.1))
     decides (Some m) = (
       λ e.
-          let parts = and_parts (list_any (bytes_eq recipient) (addresses_of m.facts)) (is_some (trade.home recipient)) e
+          let parts = and_parts (list_any (bytes_eq recipient) (addresses_of m.facts))
+          (is_some (trade.home recipient)) e
           in (m, refl, (some_address (addresses_of m.facts) recipient parts.0, parts.1)),
       λ pair.
           let has = subst (λ (x : Accepted). HasPair trade x recipient) (sym (same_Some m pair.0 pair.1)) pair.2

@@ -17,7 +17,8 @@ use Rattle.pec_reception.specs.declared.received.Received.{Received}
 use Rattle.pec_reception.specs.declared.sights.Sight.TheVariants as sights
 
 module _ (trade : Trade) (me now : ℕ) (journal : List Entry) where
-  no_frame : (frame : Bytes) → None ≡ trade.unframed frame → arrive trade me now journal frame ≡ passes events.Dropped []
+  no_frame : (frame : Bytes) → None ≡ trade.unframed frame
+      → arrive trade me now journal frame ≡ passes events.Dropped []
   unfolding arrive
   no_frame frame e = ap (by_frame trade me now journal) (sym e)
 
@@ -26,21 +27,31 @@ module _ (trade : Trade) (me now : ℕ) (journal : List Entry) where
   unfolding arrive
   a_frame frame framed e = ap (by_frame trade me now journal) (sym e)
 
-  pub an_envelope : (framed : Framed) (seen : Option Seen) (id : Id) → Some (sights.Envelope id) ≡ option_map sight_of seen
+  pub an_envelope : (framed : Framed) (seen : Option Seen) (id : Id)
+      → Some (sights.Envelope id) ≡ option_map sight_of seen
       → by_seen trade me now journal framed seen
-      ≡ envelope_rows trade me now journal framed id (envelope_fits trade me framed) (taken_of (half trade me journal) id)
+      ≡ envelope_rows trade me now journal framed id (envelope_fits trade me framed)
+      (taken_of (half trade me journal) id)
   an_envelope framed None id e = absurd (cc)
   an_envelope framed (Some (SeenEnvelope other moment original)) id e =
       let same : other ≡ id = cc
-      in ap (λ (i : Id). envelope_rows trade me now journal framed i (envelope_fits trade me framed) (taken_of (half trade me journal) i)) same
+      in ap (λ (i : Id). envelope_rows trade me now journal framed i (envelope_fits trade me framed)
+      (taken_of (half trade me journal) i)) same
   an_envelope framed (Some (SeenReceipt receipt)) id e = absurd (cc)
 
-  pub a_receipt : (framed : Framed) (seen : Option Seen) (view : ReceiptView) → Some (sights.Receipt view) ≡ option_map sight_of seen
+  pub a_receipt : (framed : Framed) (seen : Option Seen) (view : ReceiptView)
+      → Some (sights.Receipt view) ≡ option_map sight_of seen
       → by_seen trade me now journal framed seen ≡ by_receipt trade me now journal framed (stated view) view.kind
   a_receipt framed None view e = absurd (cc)
   a_receipt framed (Some (SeenEnvelope other moment original)) view e = absurd (cc)
   a_receipt framed (Some (SeenReceipt receipt)) view e =
-      let seen : ReceiptView = record { kind = receipt.kind; id = receipt.id; by = receipt.by; moment = receipt.moment; recipient = receipt.recipient }
+      let seen : ReceiptView = record {
+        kind = receipt.kind;
+        id = receipt.id;
+        by = receipt.by;
+        moment = receipt.moment;
+        recipient = receipt.recipient;
+      }
       in let same : seen ≡ view = cc
       in ap (λ (v : ReceiptView). by_receipt trade me now journal framed (stated v) v.kind) same
 
@@ -51,21 +62,28 @@ module _ (trade : Trade) (me now : ℕ) (journal : List Entry) where
   nothing framed (Some (SeenReceipt receipt)) e = absurd (cc)
 
   -- what is answered on the letter in a frame is done with the frame
-  pub shows_letter : (frame : Bytes) (framed : Framed) (found : Option Received) (received : Received) → Some framed ≡ trade.unframed frame
-      → Answers trade me now journal framed (by_seen trade me now journal framed (trade.view framed.message)) found → found ≡ Some received
+  pub shows_letter : (frame : Bytes) (framed : Framed) (found : Option Received) (received : Received)
+      → Some framed ≡ trade.unframed frame
+      → Answers trade me now journal framed (by_seen trade me now journal framed (trade.view framed.message)) found
+      → found ≡ Some received
       → Shows received (arrive trade me now journal frame)
   shows_letter frame framed found received e answers is =
       subst (λ (s : Step). Shows received s) (sym (a_frame frame framed e))
-      (subst (λ (o : Option Received). Answers trade me now journal framed (by_seen trade me now journal framed (trade.view framed.message)) o) is answers)
+      (subst (λ (o : Option Received). Answers trade me now journal framed (by_seen trade me now journal framed
+      (trade.view framed.message)) o) is answers)
 
-  pub shows_other : (frame : Bytes) (framed : Framed) (found : Option Received) (received : Received) → Some framed ≡ trade.unframed frame
-      → Answers trade me now journal framed (by_seen trade me now journal framed (trade.view framed.message)) found → found ≡ None
+  pub shows_other : (frame : Bytes) (framed : Framed) (found : Option Received) (received : Received)
+      → Some framed ≡ trade.unframed frame
+      → Answers trade me now journal framed (by_seen trade me now journal framed (trade.view framed.message)) found
+      → found ≡ None
       → Shows received (otherwise trade me now journal framed) → Shows received (arrive trade me now journal frame)
   shows_other frame framed found received e answers is shows =
-      let same = subst (λ (o : Option Received). Answers trade me now journal framed (by_seen trade me now journal framed (trade.view framed.message)) o) is answers
+      let same = subst (λ (o : Option Received). Answers trade me now journal framed
+      (by_seen trade me now journal framed (trade.view framed.message)) o) is answers
       in subst (λ (s : Step). Shows received s) (sym (a_frame frame framed e ∙ same)) shows
 
   pub shows_nothing : (frame : Bytes) (received given : Received) → None ≡ trade.unframed frame → received ≡ given
       → Shows given (passes events.Dropped []) → Shows received (arrive trade me now journal frame)
   shows_nothing frame received given e r shows =
-      subst (λ (x : Received). Shows x (arrive trade me now journal frame)) (sym r) (subst (λ (s : Step). Shows given s) (sym (no_frame frame e)) shows)
+      subst (λ (x : Received). Shows x (arrive trade me now journal frame)) (sym r)
+      (subst (λ (s : Step). Shows given s) (sym (no_frame frame e)) shows)

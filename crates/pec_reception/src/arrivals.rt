@@ -21,8 +21,8 @@ use pec_shelf::Shelf;
 use pec_types::{Address, Letter, MsgId, NoMemory};
 use std::alloc::Global;
 
-/// What is seen of the envelope of a message. Here and below nobody asks which accounts have room: that takes long, and it
-/// makes a difference for what is no letter alone.
+/// What is seen of the envelope of a message. Here and below nobody asks which accounts have room: that takes long,
+/// and it makes a difference for what is no letter alone.
 pub(crate) fn envelope(
     alloc: Global,
     directory: &Directory,
@@ -30,9 +30,11 @@ pub(crate) fn envelope(
     framed: &Framed<'_>,
     id: MsgId,
 ) -> Result<Arrived, NoMemory>
-    ensures { (seals : Seals) (journal : List Entry) → shelf.now.half ≡ half (trade_of directory.now seals) shelf.now.me journal
+    ensures { (seals : Seals) (journal : List Entry) →
+        let trade = trade_of directory.now seals in
+        shelf.now.half ≡ half trade shelf.now.me journal
         → IfOk result (λ arrived. arrived
-        ≡ unasked (an_envelope (trade_of directory.now seals) shelf.now.me journal (framed_shown framed.now) id)) }
+        ≡ unasked (an_envelope trade shelf.now.me journal (framed_shown framed.now) id)) }
 {
     let here = shelf.named_here(directory, framed.message)?;
     Ok(Arrived {
@@ -55,8 +57,10 @@ pub(crate) fn charge(
     view: &ReceiptView,
 ) -> Arrived
     requires homes { (trade : Trade) → IsOf directory.now trade → IsFor trade shelf.now }
-    ensures { (seals : Seals) (journal : List Entry) → shelf.now.half ≡ half (trade_of directory.now seals) shelf.now.me journal
-        → result ≡ unasked (a_charge (trade_of directory.now seals) shelf.now.me journal (framed_shown framed.now) (stated view.now)) }
+    ensures { (seals : Seals) (journal : List Entry) →
+        let trade = trade_of directory.now seals in
+        shelf.now.half ≡ half trade shelf.now.me journal
+        → result ≡ unasked (a_charge trade shelf.now.me journal (framed_shown framed.now) (stated view.now)) }
 {
     Arrived {
         letter: Some(Letter::Charge {
@@ -83,9 +87,11 @@ pub(crate) fn outcome(
     recipient: &Address,
 ) -> Result<Arrived, NoMemory>
     requires homes { (trade : Trade) → IsOf directory.now trade → IsFor trade shelf.now }
-    ensures { (seals : Seals) (journal : List Entry) → shelf.now.half ≡ half (trade_of directory.now seals) shelf.now.me journal
-        → IfOk result (λ arrived. arrived
-        ≡ unasked (an_outcome (trade_of directory.now seals) shelf.now.me journal (framed_shown framed.now) (stated view.now) (Some recipient.now))) }
+    ensures { (seals : Seals) (journal : List Entry) →
+        let trade = trade_of directory.now seals in
+        shelf.now.half ≡ half trade shelf.now.me journal
+        → IfOk result (λ arrived. arrived ≡ unasked (an_outcome trade shelf.now.me journal (framed_shown framed.now)
+        (stated view.now) (Some recipient.now))) }
 {
     Ok(Arrived {
         letter: Some(Letter::Outcome {
@@ -111,9 +117,11 @@ pub(crate) fn ack(
     view: &ReceiptView,
     recipient: &Address,
 ) -> Result<Arrived, NoMemory>
-    ensures { (seals : Seals) (journal : List Entry) → shelf.now.half ≡ half (trade_of directory.now seals) shelf.now.me journal
-        → IfOk result (λ arrived. arrived
-        ≡ unasked (an_ack (trade_of directory.now seals) shelf.now.me journal (framed_shown framed.now) (stated view.now) (Some recipient.now))) }
+    ensures { (seals : Seals) (journal : List Entry) →
+        let trade = trade_of directory.now seals in
+        shelf.now.half ≡ half trade shelf.now.me journal
+        → IfOk result (λ arrived. arrived ≡ unasked (an_ack trade shelf.now.me journal (framed_shown framed.now)
+        (stated view.now) (Some recipient.now))) }
 {
     Ok(Arrived {
         letter: Some(Letter::Ack {
@@ -133,7 +141,8 @@ pub(crate) fn ack(
 /// The accepted message of a number has pairs at a provider.
 fn has_pairs_at(directory: &Directory, shelf: &Shelf, number: u64, by: u32) -> bool
     requires homes { (trade : Trade) → IsOf directory.now trade → IsFor trade shelf.now }
-    ensures { (trade : Trade) → IsOf directory.now trade → result ≡ has_pairs_at trade by (accepted_at shelf.now.half number) }
+    ensures { (trade : Trade) → IsOf directory.now trade
+        → result ≡ has_pairs_at trade by (accepted_at shelf.now.half number) }
 {
     let there = shelf.has_pairs(number, by);
     there
@@ -142,7 +151,8 @@ fn has_pairs_at(directory: &Directory, shelf: &Shelf, number: u64, by: u32) -> b
 /// The accepted message of a number has a pair of this recipient.
 fn has_pair(directory: &Directory, shelf: &Shelf, number: u64, recipient: &Address) -> bool
     requires homes { (trade : Trade) → IsOf directory.now trade → IsFor trade shelf.now }
-    ensures { (trade : Trade) → IsOf directory.now trade → result ≡ has_pair trade recipient.now (accepted_at shelf.now.half number) }
+    ensures { (trade : Trade) → IsOf directory.now trade
+        → result ≡ has_pair trade recipient.now (accepted_at shelf.now.half number) }
 {
     let there = shelf.has_pair(number, recipient);
     there

@@ -17,8 +17,9 @@ use pec_shelf::Shelf;
 use pec_types::{Address, Event, Moment, MsgId, NoMemory};
 use std::alloc::Global;
 
-/// What is to be done with the next pair that was taken and isn't decided: it is decided, by the table of decisions (RFC
-/// 6109, section 3.3, within this project's profile). `None` says that no pair is undecided.
+/// What is to be done with the next pair that was taken and isn't decided: it is decided, by the table of decisions
+/// (RFC 6109, section 3.3, within this project's profile). `None` says that no pair is undecided.
+/// Want of memory is the only error, and changes nothing.
 pub fn decide(
     alloc: Global,
     directory: &Directory,
@@ -27,7 +28,8 @@ pub fn decide(
 ) -> Result<Option<Received>, NoMemory>
     // Whatever steps the half comes from: it is what they decide next.
     ensures exact { (trade : Trade) → IsOf directory.now trade
-        → (journal : List SomeEntry) → AreSteps trade shelf.now.me journal → shelf.now.half ≡ half trade shelf.now.me journal
+        → (journal : List SomeEntry) → AreSteps trade shelf.now.me journal
+        → shelf.now.half ≡ half trade shelf.now.me journal
         → IfOk result (ShowsNext trade shelf.now.me moment journal) }
     ensures limits { IfOk result (λ next. IfSome next (λ received. IfSome received.entry IsWithinLimits)) }
 {
@@ -47,11 +49,13 @@ fn decided(
     id: MsgId,
     recipient: &Address,
 ) -> Result<Received, NoMemory>
-    ensures exact { (trade : Trade) → IsOf directory.now trade → IfOk result (λ received. received ≡ record {
-      entry = Some (entries.Decided moment id recipient.now (decision_at trade shelf.now.me shelf.now.half recipient.now));
-      event = events.Decided id recipient.now (decision_at trade shelf.now.me shelf.now.half recipient.now);
-      owed = None;
-    }) }
+    ensures exact { (trade : Trade) → IsOf directory.now trade →
+        let decision = decision_at trade shelf.now.me shelf.now.half recipient.now in
+        IfOk result (λ received. received ≡ record {
+          entry = Some (entries.Decided moment id recipient.now decision);
+          event = events.Decided id recipient.now decision;
+          owed = None;
+        }) }
     ensures limits { IfOk result IsLimited }
 {
     let decision = decision_on(directory, shelf, recipient);

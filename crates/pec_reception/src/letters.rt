@@ -7,11 +7,12 @@ ghost use Rattle.pec_ledger.specs.Lookups.{charged_of, taken_of};
 ghost use Rattle.pec_ledger.specs.OfDirectory.{IsOf};
 ghost use Rattle.pec_ledger.specs.Steps.{half};
 ghost use Rattle.pec_ledger.specs.Trade.{Seen, Trade};
-ghost use Rattle.pec_plays.specs.Reception.{by_ack, by_outcome, by_receipt, by_seen, charge_fits, charge_rows, envelope_fits, envelope_rows};
+ghost use Rattle.pec_plays.specs.Reception.{by_ack, by_outcome, by_receipt, by_seen, charge_fits, charge_rows};
+ghost use Rattle.pec_plays.specs.Reception.{envelope_fits, envelope_rows};
 ghost use Rattle.pec_seal.specs.Seals.{Seals};
 ghost use Rattle.pec_shelf.specs.Seen.{IsFor};
 ghost use Rattle.pec_trade.specs.TradeOf.{trade_of};
-ghost use Rattle.pec_reception.specs.Shows.{AreLimited, Answers, IsLimited};
+ghost use Rattle.pec_reception.specs.Shows.{AreLimited, Answers};
 ghost use Rattle.pec_reception.specs.Views.{IsWithin, framed_shown, sight_of, stated};
 
 use crate::arrivals;
@@ -37,10 +38,12 @@ pub(crate) fn answer(
 ) -> Result<Option<Received>, NoMemory>
     requires homes { (trade : Trade) → IsOf directory.now trade → IsFor trade shelf.now }
     requires within { IsWithin (framed_shown framed.now) }
-    ensures exact { (seals : Seals) (journal : List SomeEntry) → shelf.now.half ≡ half (trade_of directory.now seals) shelf.now.me journal
+    ensures exact { (seals : Seals) (journal : List SomeEntry) →
+        let trade = trade_of directory.now seals in
+        shelf.now.half ≡ half trade shelf.now.me journal
         → (seen : Option Seen) → Some sight.now ≡ option_map sight_of seen
-        → IfOk result (Answers (trade_of directory.now seals) shelf.now.me moment journal (framed_shown framed.now)
-        (by_seen (trade_of directory.now seals) shelf.now.me moment journal (framed_shown framed.now) seen)) }
+        → IfOk result (Answers trade shelf.now.me moment journal (framed_shown framed.now)
+        (by_seen trade shelf.now.me moment journal (framed_shown framed.now) seen)) }
     ensures limits { IfOk result AreLimited }
 {
     match sight {
@@ -65,11 +68,13 @@ fn envelope(
     id: MsgId,
 ) -> Result<Option<Received>, NoMemory>
     requires within { IsWithin (framed_shown framed.now) }
-    ensures exact { (seals : Seals) (journal : List SomeEntry) → shelf.now.half ≡ half (trade_of directory.now seals) shelf.now.me journal
-        → IfOk result (Answers (trade_of directory.now seals) shelf.now.me moment journal (framed_shown framed.now)
-        (envelope_rows (trade_of directory.now seals) shelf.now.me moment journal (framed_shown framed.now) id
-        (envelope_fits (trade_of directory.now seals) shelf.now.me (framed_shown framed.now))
-        (taken_of (half (trade_of directory.now seals) shelf.now.me journal) id))) }
+    ensures exact { (seals : Seals) (journal : List SomeEntry) →
+        let trade = trade_of directory.now seals in
+        shelf.now.half ≡ half trade shelf.now.me journal
+        → IfOk result (Answers trade shelf.now.me moment journal (framed_shown framed.now)
+        (envelope_rows trade shelf.now.me moment journal (framed_shown framed.now) id
+        (envelope_fits trade shelf.now.me (framed_shown framed.now))
+        (taken_of (half trade shelf.now.me journal) id))) }
     ensures limits { IfOk result AreLimited }
 {
     let arrived = arrivals::envelope(alloc, directory, shelf, framed, id)?;
@@ -122,9 +127,11 @@ fn receipt(
 ) -> Result<Option<Received>, NoMemory>
     requires homes { (trade : Trade) → IsOf directory.now trade → IsFor trade shelf.now }
     requires within { IsWithin (framed_shown framed.now) }
-    ensures exact { (seals : Seals) (journal : List SomeEntry) → shelf.now.half ≡ half (trade_of directory.now seals) shelf.now.me journal
-        → IfOk result (Answers (trade_of directory.now seals) shelf.now.me moment journal (framed_shown framed.now)
-        (by_receipt (trade_of directory.now seals) shelf.now.me moment journal (framed_shown framed.now) (stated view.now) view.now.kind)) }
+    ensures exact { (seals : Seals) (journal : List SomeEntry) →
+        let trade = trade_of directory.now seals in
+        shelf.now.half ≡ half trade shelf.now.me journal
+        → IfOk result (Answers trade shelf.now.me moment journal (framed_shown framed.now)
+        (by_receipt trade shelf.now.me moment journal (framed_shown framed.now) (stated view.now) view.now.kind)) }
     ensures limits { IfOk result AreLimited }
 {
     match view.kind {
@@ -163,11 +170,13 @@ fn charge(
     view: &ReceiptView,
 ) -> Option<Received>
     requires homes { (trade : Trade) → IsOf directory.now trade → IsFor trade shelf.now }
-    ensures exact { (seals : Seals) (journal : List SomeEntry) → shelf.now.half ≡ half (trade_of directory.now seals) shelf.now.me journal
-        → Answers (trade_of directory.now seals) shelf.now.me moment journal (framed_shown framed.now)
-        (charge_rows (trade_of directory.now seals) shelf.now.me moment journal (framed_shown framed.now) (stated view.now)
-        (charge_fits (trade_of directory.now seals) shelf.now.me moment journal (framed_shown framed.now) (stated view.now))
-        (charged_of (half (trade_of directory.now seals) shelf.now.me journal) view.now.id view.now.by)) result }
+    ensures exact { (seals : Seals) (journal : List SomeEntry) →
+        let trade = trade_of directory.now seals in
+        shelf.now.half ≡ half trade shelf.now.me journal
+        → Answers trade shelf.now.me moment journal (framed_shown framed.now)
+        (charge_rows trade shelf.now.me moment journal (framed_shown framed.now) (stated view.now)
+        (charge_fits trade shelf.now.me moment journal (framed_shown framed.now) (stated view.now))
+        (charged_of (half trade shelf.now.me journal) view.now.id view.now.by)) result }
     ensures limits { AreLimited result }
 {
     let id = view.id;
@@ -198,9 +207,12 @@ fn outcome(
 ) -> Result<Option<Received>, NoMemory>
     requires homes { (trade : Trade) → IsOf directory.now trade → IsFor trade shelf.now }
     requires within { IsWithin (framed_shown framed.now) }
-    ensures exact { (seals : Seals) (journal : List SomeEntry) → shelf.now.half ≡ half (trade_of directory.now seals) shelf.now.me journal
-        → IfOk result (Answers (trade_of directory.now seals) shelf.now.me moment journal (framed_shown framed.now)
-        (by_outcome (trade_of directory.now seals) shelf.now.me moment journal (framed_shown framed.now) (stated view.now) decision view.now.recipient)) }
+    ensures exact { (seals : Seals) (journal : List SomeEntry) →
+        let trade = trade_of directory.now seals in
+        shelf.now.half ≡ half trade shelf.now.me journal
+        → IfOk result (Answers trade shelf.now.me moment journal (framed_shown framed.now)
+        (by_outcome trade shelf.now.me moment journal (framed_shown framed.now) (stated view.now) decision
+        view.now.recipient)) }
     ensures limits { IfOk result AreLimited }
 {
     let Some(recipient) = &view.recipient else {
@@ -280,9 +292,11 @@ fn ack(
     framed: &Framed<'_>,
     view: &ReceiptView,
 ) -> Result<Option<Received>, NoMemory>
-    ensures exact { (seals : Seals) (journal : List SomeEntry) → shelf.now.half ≡ half (trade_of directory.now seals) shelf.now.me journal
-        → IfOk result (Answers (trade_of directory.now seals) shelf.now.me moment journal (framed_shown framed.now)
-        (by_ack (trade_of directory.now seals) shelf.now.me moment journal (framed_shown framed.now) (stated view.now) view.now.recipient)) }
+    ensures exact { (seals : Seals) (journal : List SomeEntry) →
+        let trade = trade_of directory.now seals in
+        shelf.now.half ≡ half trade shelf.now.me journal
+        → IfOk result (Answers trade shelf.now.me moment journal (framed_shown framed.now)
+        (by_ack trade shelf.now.me moment journal (framed_shown framed.now) (stated view.now) view.now.recipient)) }
     ensures limits { IfOk result AreLimited }
 {
     let Some(recipient) = &view.recipient else {

@@ -21,8 +21,8 @@ use pec_shelf::{Shelf, is_among};
 use pec_types::{Address, Event, Items, Moment, NoMemory, Text8};
 use std::alloc::Global;
 
-/// What is done with a frame that holds no letter for this provider: its message becomes an anomaly of the accounts in the
-/// path that have room; it is dropped where none has.
+/// What is done with a frame that holds no letter for this provider: its message becomes an anomaly of the accounts
+/// in the path that have room; it is dropped where none has.
 pub(crate) fn otherwise(
     alloc: Global,
     directory: &Directory,
@@ -31,9 +31,11 @@ pub(crate) fn otherwise(
     framed: &Framed<'_>,
 ) -> Result<Received, NoMemory>
     requires within { IsWithin (framed_shown framed.now) }
-    ensures exact { (seals : Seals) (journal : List SomeEntry) → shelf.now.half ≡ half (trade_of directory.now seals) shelf.now.me journal
+    ensures exact { (seals : Seals) (journal : List SomeEntry) →
+        let trade = trade_of directory.now seals in
+        shelf.now.half ≡ half trade shelf.now.me journal
         → IfOk result (λ received. Shows received
-        (otherwise (trade_of directory.now seals) shelf.now.me moment journal (framed_shown framed.now))) }
+        (otherwise trade shelf.now.me moment journal (framed_shown framed.now))) }
     ensures limits { IfOk result IsLimited }
 {
     let accounts = accounts_with_room(alloc, directory, shelf, framed.path.as_slice())?;
@@ -79,7 +81,8 @@ fn add(
 ) -> Result<(), NoMemory>
     ensures accounts { (trade : Trade) → IsOf directory.now trade
         → OnOk result (accounts.new.items ≡ accounts.old.items ++ filter
-        (λ (account : Bytes). not (list_any (bytes_eq account) accounts.old.items) && has_room trade shelf.now.me shelf.now.half account)
+        (λ (account : Bytes). not (list_any (bytes_eq account) accounts.old.items)
+        && has_room trade shelf.now.me shelf.now.half account)
         (address.now ∷ [])) }
     ensures few { OnOk result (length accounts.new.items ≤ length accounts.old.items + 1) }
 {

@@ -3,8 +3,8 @@ ghost use Rattle.std.specs.Prelude.{◌≡◌, None, Some};
 use pec_records::Entry;
 use pec_types::{Event, Letter};
 
-/// What is to be done on a frame or on a pair: the entry to append, if any, what is told of it, and the answer that is
-/// owed from then on, if any.
+/// What is to be done on a frame or on a pair: the entry to append, if any, what is told of it, and the answer that
+/// is owed from then on, if any.
 #[derive(Drop)]
 pub struct Received {
     pub entry: Option<Entry>,

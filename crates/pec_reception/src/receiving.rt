@@ -23,9 +23,10 @@ use pec_shelf::Shelf;
 use pec_types::{Event, Moment, NoMemory};
 use std::alloc::Global;
 
-/// What is to be done with one frame at a moment (RFC 6109, sections 3.1 to 3.3, within this project's profile): a letter
-/// for this provider is taken in, or told to be a repeat, and is answered; anything else becomes an anomaly of the accounts
-/// in its path that have room, or is dropped. The shelf is one of the directory that it is lent.
+/// What is to be done with one frame at a moment (RFC 6109, sections 3.1 to 3.3, within this project's profile): a
+/// letter for this provider is taken in, or told to be a repeat, and is answered; anything else becomes an anomaly of
+/// the accounts in its path that have room, or is dropped. The shelf is one of the directory that it is lent. Want of
+/// memory is the only error, and changes nothing.
 pub fn receive<S: Sealer>(
     alloc: Global,
     directory: &Directory,
@@ -36,9 +37,10 @@ pub fn receive<S: Sealer>(
 ) -> Result<Received, NoMemory>
     requires homes { (trade : Trade) → IsOf directory.now trade → IsFor trade shelf.now }
     // Whatever journal the half comes from: it is what a provider with this journal does.
-    ensures exact { (journal : List Entry) → shelf.now.half ≡ half (trade_of directory.now (S.seals sealer.now)) shelf.now.me journal
-        → IfOk result (λ received. Shows received
-        (arrive (trade_of directory.now (S.seals sealer.now)) shelf.now.me moment journal frame.now)) }
+    ensures exact { (journal : List Entry) →
+        let trade = trade_of directory.now (S.seals sealer.now) in
+        shelf.now.half ≡ half trade shelf.now.me journal
+        → IfOk result (λ received. Shows received (arrive trade shelf.now.me moment journal frame.now)) }
     ensures limits { IfOk result (λ received. IfSome received.entry IsWithinLimits) }
 {
     let Some(framed) = unframed(alloc, frame)? else {
@@ -62,9 +64,11 @@ fn letter<S: Sealer>(
 ) -> Result<Option<Received>, NoMemory>
     requires homes { (trade : Trade) → IsOf directory.now trade → IsFor trade shelf.now }
     requires within { IsWithin (framed_shown framed.now) }
-    ensures exact { (journal : List Entry) → shelf.now.half ≡ half (trade_of directory.now (S.seals sealer.now)) shelf.now.me journal
-        → IfOk result (Answers (trade_of directory.now (S.seals sealer.now)) shelf.now.me moment journal (framed_shown framed.now)
-        (by_seen (trade_of directory.now (S.seals sealer.now)) shelf.now.me moment journal (framed_shown framed.now)
+    ensures exact { (journal : List Entry) →
+        let trade = trade_of directory.now (S.seals sealer.now) in
+        shelf.now.half ≡ half trade shelf.now.me journal
+        → IfOk result (Answers trade shelf.now.me moment journal (framed_shown framed.now)
+        (by_seen trade shelf.now.me moment journal (framed_shown framed.now)
         (seen_in (S.seals sealer.now) (providers_of directory.now) framed.now.message.now))) }
     ensures limits { IfOk result AreLimited }
 {

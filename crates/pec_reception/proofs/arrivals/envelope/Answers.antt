@@ -10,7 +10,8 @@ returns c = λ seals. λ journal. λ is.
     let kept = c.args.directory.now
     in let trade = trade_of kept seals
     in let me = c.args.shelf.now.me
-    in envelope_seen trade me journal (framed_shown c.args.framed.now) c.args.shelf.now.half is c.args.id c.me.result c.id.inside.provider
+    in envelope_seen trade me journal (framed_shown c.args.framed.now) c.args.shelf.now.half is c.args.id c.me.result
+    c.id.inside.provider
     c.in_ok-here.here.items c.is_for.result c.is_some.result
     c.me.ensures (ap (λ (id : Id). id.provider) c.id.view_is) (c.in_ok-here.ensures trade (of_directory kept seals))
     (rw (c.as_slice.ensures.value, c.as_slice-2.ensures.value) at c.is_for.ensures)

@@ -16,5 +16,6 @@ returns-clause-exact c = λ trade. λ of. λ journal. λ steps. λ is.
       pair,
       next.0,
       next.1,
-      shows_decision trade me c.args.moment journal pair c.args.shelf.now.half is c.in_ok-received.received (c.in_ok-received.ensures.exact trade of),
+      shows_decision trade me c.args.moment journal pair c.args.shelf.now.half is c.in_ok-received.received
+          (c.in_ok-received.ensures.exact trade of),
     )

@@ -24,9 +24,12 @@ returns-in-New-clause-exact c = λ seals. λ journal. λ is.
     in let rows = ack_rows trade me now journal framed receipt recipient
     in let fits = ack_fits trade me now journal framed receipt recipient
     in let had = is_acked (half trade me journal) (pair_of receipt.id recipient)
-    in let stands = ack_stands trade me journal framed now receipt recipient New c.me.result c.in_ok-arrived.arrived c.me.ensures (c.in_ok-arrived.ensures seals journal is) c.in-New.ensures
-    in subst (λ (o : Option Bytes). Shows c.in_ok-received-in-New.received (by_ack trade me now journal framed receipt o)) (sym c.in-Some.is)
-    (shows_new_by rows fits had c.in_ok-received-in-New.received _ c.in_ok-received-in-New.ensures stands (refl, refl, refl))
+    in let stands = ack_stands trade me journal framed now receipt recipient New c.me.result c.in_ok-arrived.arrived
+    c.me.ensures (c.in_ok-arrived.ensures seals journal is) c.in-New.ensures
+    in subst (λ (o : Option Bytes). Shows c.in_ok-received-in-New.received
+    (by_ack trade me now journal framed receipt o)) (sym c.in-Some.is)
+    (shows_new_by rows fits had c.in_ok-received-in-New.received _ c.in_ok-received-in-New.ensures stands
+    (refl, refl, refl))
 
 pub returns-in-Known-clause-exact : goal.returns-in-Known-clause-exact
 returns-in-Known-clause-exact c = λ seals. λ journal. λ is.
@@ -39,9 +42,12 @@ returns-in-Known-clause-exact c = λ seals. λ journal. λ is.
     in let rows = ack_rows trade me now journal framed receipt recipient
     in let fits = ack_fits trade me now journal framed receipt recipient
     in let had = is_acked (half trade me journal) (pair_of receipt.id recipient)
-    in let stands = ack_stands trade me journal framed now receipt recipient Known c.me.result c.in_ok-arrived.arrived c.me.ensures (c.in_ok-arrived.ensures seals journal is) c.in-Known.ensures
-    in subst (λ (o : Option Bytes). Shows c.in_ok-received-in-Known.received (by_ack trade me now journal framed receipt o)) (sym c.in-Some.is)
-    (shows_known_by rows fits had c.in_ok-received-in-Known.received _ c.in_ok-received-in-Known.ensures stands (refl, refl, refl))
+    in let stands = ack_stands trade me journal framed now receipt recipient Known c.me.result c.in_ok-arrived.arrived
+    c.me.ensures (c.in_ok-arrived.ensures seals journal is) c.in-Known.ensures
+    in subst (λ (o : Option Bytes). Shows c.in_ok-received-in-Known.received
+    (by_ack trade me now journal framed receipt o)) (sym c.in-Some.is)
+    (shows_known_by rows fits had c.in_ok-received-in-Known.received _ c.in_ok-received-in-Known.ensures stands
+    (refl, refl, refl))
 
 pub returns-clause-exact : goal.returns-clause-exact
 returns-clause-exact c = λ seals. λ journal. λ is.
@@ -54,5 +60,7 @@ returns-clause-exact c = λ seals. λ journal. λ is.
     in let rows = ack_rows trade me now journal framed receipt recipient
     in let fits = ack_fits trade me now journal framed receipt recipient
     in let had = is_acked (half trade me journal) (pair_of receipt.id recipient)
-    in let stands = ack_stands trade me journal framed now receipt recipient Foreign c.me.result c.in_ok-arrived.arrived c.me.ensures (c.in_ok-arrived.ensures seals journal is) c.in-Foreign.ensures
-    in subst (λ (o : Option Bytes). by_ack trade me now journal framed receipt o ≡ otherwise trade me now journal framed) (sym c.in-Some.is) (is_foreign_by rows fits had stands)
+    in let stands = ack_stands trade me journal framed now receipt recipient Foreign c.me.result
+    c.in_ok-arrived.arrived c.me.ensures (c.in_ok-arrived.ensures seals journal is) c.in-Foreign.ensures
+    in subst (λ (o : Option Bytes). by_ack trade me now journal framed receipt o
+    ≡ otherwise trade me now journal framed) (sym c.in-Some.is) (is_foreign_by rows fits had stands)

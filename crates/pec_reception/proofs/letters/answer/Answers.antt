@@ -14,5 +14,6 @@ returns-in_ok-found-in-Receipt-clause-exact c = λ seals. λ journal. λ is. λ 
     in let me = c.args.shelf.now.me
     in let framed = framed_shown c.args.framed.now
     in subst (λ (s : Step). Answers trade me c.args.moment journal framed s c.in_ok-found-in-Receipt.found)
-    (sym (a_receipt trade me c.args.moment journal framed seen c.in-Receipt.view (sym (ap (λ (s : Sight). Some s) c.in-Receipt.is) ∙ e)))
+    (sym (a_receipt trade me c.args.moment journal framed seen c.in-Receipt.view
+    (sym (ap (λ (s : Sight). Some s) c.in-Receipt.is) ∙ e)))
     (c.in_ok-found-in-Receipt.ensures.exact seals journal is)

@@ -19,8 +19,10 @@ returns-in-New-clause-exact c = λ seals. λ journal. λ is.
     in let receipt = stated c.args.view.now
     in let fits = charge_fits trade me now journal framed receipt
     in let found = charged_of (half trade me journal) receipt.id receipt.by
-    in let stands = charge_stands trade me journal framed now receipt New c.me.result c.charge-arrived.result c.me.ensures (c.charge-arrived.ensures seals journal is) c.in-New.ensures
-    in shows_new (charge_rows trade me now journal framed receipt) fits found c.enters.result _ c.enters.ensures stands (refl, refl, refl)
+    in let stands = charge_stands trade me journal framed now receipt New c.me.result c.charge-arrived.result
+    c.me.ensures (c.charge-arrived.ensures seals journal is) c.in-New.ensures
+    in shows_new (charge_rows trade me now journal framed receipt) fits found c.enters.result _ c.enters.ensures stands
+    (refl, refl, refl)
 
 pub returns-in-Known-clause-exact : goal.returns-in-Known-clause-exact
 returns-in-Known-clause-exact c = λ seals. λ journal. λ is.
@@ -31,8 +33,10 @@ returns-in-Known-clause-exact c = λ seals. λ journal. λ is.
     in let receipt = stated c.args.view.now
     in let fits = charge_fits trade me now journal framed receipt
     in let found = charged_of (half trade me journal) receipt.id receipt.by
-    in let stands = charge_stands trade me journal framed now receipt Known c.me.result c.charge-arrived.result c.me.ensures (c.charge-arrived.ensures seals journal is) c.in-Known.ensures
-    in shows_known (charge_rows trade me now journal framed receipt) fits found c.passes.result _ c.passes.ensures stands (λ row. (refl, refl, refl))
+    in let stands = charge_stands trade me journal framed now receipt Known c.me.result c.charge-arrived.result
+    c.me.ensures (c.charge-arrived.ensures seals journal is) c.in-Known.ensures
+    in shows_known (charge_rows trade me now journal framed receipt) fits found c.passes.result _ c.passes.ensures
+    stands (λ row. (refl, refl, refl))
 
 pub returns-clause-exact : goal.returns-clause-exact
 returns-clause-exact c = λ seals. λ journal. λ is.
@@ -43,5 +47,6 @@ returns-clause-exact c = λ seals. λ journal. λ is.
     in let receipt = stated c.args.view.now
     in let fits = charge_fits trade me now journal framed receipt
     in let found = charged_of (half trade me journal) receipt.id receipt.by
-    in let stands = charge_stands trade me journal framed now receipt Foreign c.me.result c.charge-arrived.result c.me.ensures (c.charge-arrived.ensures seals journal is) c.in-Foreign.ensures
+    in let stands = charge_stands trade me journal framed now receipt Foreign c.me.result c.charge-arrived.result
+    c.me.ensures (c.charge-arrived.ensures seals journal is) c.in-Foreign.ensures
     in is_foreign (charge_rows trade me now journal framed receipt) fits found stands

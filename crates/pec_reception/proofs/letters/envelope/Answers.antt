@@ -19,8 +19,10 @@ returns-in-New-clause-exact c = λ seals. λ journal. λ is.
     in let id = c.args.id
     in let fits = envelope_fits trade me framed
     in let found = taken_of (half trade me journal) id
-    in let stands = envelope_stands trade me journal framed id New c.me-me.result c.in_ok-arrived.arrived c.me-me.ensures (c.in_ok-arrived.ensures seals journal is) c.in-New.ensures
-    in shows_new (envelope_rows trade me now journal framed id) fits found c.in_ok-received-in-New.received _ (rw c.me-me.ensures at c.in_ok-received-in-New.ensures) stands (refl, refl, refl)
+    in let stands = envelope_stands trade me journal framed id New c.me-me.result c.in_ok-arrived.arrived
+    c.me-me.ensures (c.in_ok-arrived.ensures seals journal is) c.in-New.ensures
+    in shows_new (envelope_rows trade me now journal framed id) fits found c.in_ok-received-in-New.received _
+    (rw c.me-me.ensures at c.in_ok-received-in-New.ensures) stands (refl, refl, refl)
 
 pub returns-in-Known-clause-exact : goal.returns-in-Known-clause-exact
 returns-in-Known-clause-exact c = λ seals. λ journal. λ is.
@@ -31,8 +33,10 @@ returns-in-Known-clause-exact c = λ seals. λ journal. λ is.
     in let id = c.args.id
     in let fits = envelope_fits trade me framed
     in let found = taken_of (half trade me journal) id
-    in let stands = envelope_stands trade me journal framed id Known c.me-me.result c.in_ok-arrived.arrived c.me-me.ensures (c.in_ok-arrived.ensures seals journal is) c.in-Known.ensures
-    in shows_known (envelope_rows trade me now journal framed id) fits found c.passes.result _ (rw c.me-me.ensures at c.passes.ensures) stands (λ row. (refl, refl, refl))
+    in let stands = envelope_stands trade me journal framed id Known c.me-me.result c.in_ok-arrived.arrived
+    c.me-me.ensures (c.in_ok-arrived.ensures seals journal is) c.in-Known.ensures
+    in shows_known (envelope_rows trade me now journal framed id) fits found c.passes.result _
+    (rw c.me-me.ensures at c.passes.ensures) stands (λ row. (refl, refl, refl))
 
 pub returns-clause-exact : goal.returns-clause-exact
 returns-clause-exact c = λ seals. λ journal. λ is.
@@ -43,5 +47,6 @@ returns-clause-exact c = λ seals. λ journal. λ is.
     in let id = c.args.id
     in let fits = envelope_fits trade me framed
     in let found = taken_of (half trade me journal) id
-    in let stands = envelope_stands trade me journal framed id Foreign c.me-me.result c.in_ok-arrived.arrived c.me-me.ensures (c.in_ok-arrived.ensures seals journal is) c.in-Foreign.ensures
+    in let stands = envelope_stands trade me journal framed id Foreign c.me-me.result c.in_ok-arrived.arrived
+    c.me-me.ensures (c.in_ok-arrived.ensures seals journal is) c.in-Foreign.ensures
     in is_foreign (envelope_rows trade me now journal framed id) fits found stands

@@ -10,9 +10,11 @@ returns c = λ trade. λ of.
     let providers = providers_of c.args.directory.now
     in let half = c.args.shelf.now.half
     in let recipient = c.args.recipient.now
-    in let account = c.is_account_of-account.ensures.value ∙ ap (λ (me : ℕ). is_account_of providers me recipient) c.me.ensures
+    in let account = c.is_account_of-account.ensures.value
+    ∙ ap (λ (me : ℕ). is_account_of providers me recipient) c.me.ensures
     in sym ((c.decisions_are_the_table.ensures trade c.args.shelf.now.me half recipient c.decide.result).1
     (subst (λ (m : Mailbox). IsDecision m c.decide.result)
-    (mailbox_is c.args.directory.now trade of c.args.shelf.now.me half recipient c.is_account_of-account.result c.counted-count.result c.quota-quota.result
+    (mailbox_is c.args.directory.now trade of c.args.shelf.now.me half recipient c.is_account_of-account.result
+    c.counted-count.result c.quota-quota.result
     account c.counted-count.ensures c.quota-quota.ensures)
     c.decide.ensures.row))

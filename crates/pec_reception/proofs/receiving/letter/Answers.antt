@@ -17,5 +17,6 @@ returns-in_default-clause-exact g c = λ journal. λ is.
 pub returns-clause-exact : goal.returns-clause-exact
 returns-clause-exact g c = λ journal. λ is.
     let seals = g.S.Sealer.seals c.args.sealer.now
-    in c.in_ok-found.ensures.exact seals journal is (seen_in seals (providers_of c.args.directory.now) c.args.framed.now.message.now)
+    in c.in_ok-found.ensures.exact seals journal is
+    (seen_in seals (providers_of c.args.directory.now) c.args.framed.now.message.now)
     (sym c.in-Some.is ∙ c.in_ok-sight.ensures)

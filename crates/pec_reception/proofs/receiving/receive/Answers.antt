@@ -8,12 +8,15 @@ use Rattle.pec_reception.proofs.receiving.receive.Goals as goal
 
 pub returns-in_default-clause-exact : goal.returns-in_default-clause-exact
 returns-in_default-clause-exact g c = λ journal. λ is.
-    shows_nothing (trade_of c.args.directory.now (g.S.Sealer.seals c.args.sealer.now)) c.args.shelf.now.me c.args.moment journal
-    c.args.frame.now c.passes.result _ (sym (ap (option_map framed_shown) c.in_default.is) ∙ c.in_ok-framed.ensures.framed) c.passes.ensures (refl, refl, refl)
+    shows_nothing (trade_of c.args.directory.now (g.S.Sealer.seals c.args.sealer.now)) c.args.shelf.now.me
+    c.args.moment journal
+    c.args.frame.now c.passes.result _ (sym (ap (option_map framed_shown) c.in_default.is)
+    ∙ c.in_ok-framed.ensures.framed) c.passes.ensures (refl, refl, refl)
 
 pub returns-in-Some-2-clause-exact : goal.returns-in-Some-2-clause-exact
 returns-in-Some-2-clause-exact g c = λ journal. λ is.
-    shows_letter (trade_of c.args.directory.now (g.S.Sealer.seals c.args.sealer.now)) c.args.shelf.now.me c.args.moment journal
+    shows_letter (trade_of c.args.directory.now (g.S.Sealer.seals c.args.sealer.now)) c.args.shelf.now.me c.args.moment
+    journal
     c.args.frame.now (framed_shown c.in-Some.framed) c.in_ok-received.field-0 c.in-Some-2.received
     (sym (ap (option_map framed_shown) c.in-Some.is) ∙ c.in_ok-framed.ensures.framed)
     (c.in_ok-received.ensures.exact journal is) c.in-Some-2.is
