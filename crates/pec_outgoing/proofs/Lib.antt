@@ -1,0 +1,4 @@
+pub mod DueLemmas
+pub mod FactsLemmas
+pub mod FramingLemmas
+pub mod SeenLemmas

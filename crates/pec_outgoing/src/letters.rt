@@ -1,0 +1,266 @@
+ghost use Rattle.std.specs.Prelude.{◌≡◌, ◌<◌, [], ◌∷◌, Some, length, unwrap_or, IfOk};
+ghost use Rattle.pec_types.specs.declared.letters.Letter.TheVariants as letters;
+ghost use Rattle.pec_directory.specs.Directory.{providers_of};
+ghost use Rattle.pec_letters.specs.Fitting.{Fits};
+ghost use Rattle.pec_receipts.specs.Receipts.{receipts_at};
+ghost use Rattle.pec_ledger.specs.Lookups.{addresses_of, at_home, outcome_kind};
+ghost use Rattle.pec_ledger.specs.OfDirectory.{facts_in};
+ghost use Rattle.pec_plays.specs.Frames.{composed_by, unless_empty, unless_nobody};
+ghost use Rattle.pec_trade.specs.Texts.{envelope_bytes};
+ghost use Rattle.pec_trade.specs.TradeOf.{trade_of};
+ghost use Rattle.pec_outgoing.specs.Desk.{IsHalfOf};
+
+use crate::desks::Desk;
+use crate::originals::{accepted_original, taken_original};
+use crate::paths::{addresses_at, path_to, receipts_at};
+use crate::texts::{envelope_text, receipt_text};
+use pec_letters::EnvelopeView;
+use pec_receipts::Receipt;
+use pec_seal::Sealer;
+use pec_types::{Address, Decision, Facts, Kind, Letter, Moment, MsgId, NoMemory};
+use std::marker::Model;
+
+/// The path and the text of a letter. Contracts see both.
+#[derive(Drop)]
+pub(crate) struct Outgoing {
+    path: Vec<Address>,
+    text: Vec<u8>,
+}
+
+impl Model for Outgoing {
+    ghost use Rattle.pec_ledger.specs.Trade.{Framed};
+
+    ghost Value = { Framed };
+
+    ghost view = { λ letter. record { path = letter.path.items; message = letter.text.items } };
+}
+
+impl Outgoing {
+    pub(crate) fn path(&self) -> &[Address]
+        ensures { result.now ≡ self.now.path }
+    {
+        self.path.as_slice()
+    }
+
+    pub(crate) fn text(&self) -> &[u8]
+        ensures { result.now ≡ self.now.message }
+    {
+        self.text.as_slice()
+    }
+}
+
+/// The path and the text of a letter, where the provider has what it is composed of.
+pub(crate) fn composed<S: Sealer>(
+    desk: &Desk<'_, S>,
+    letter: &Letter,
+) -> Result<Option<Outgoing>, NoMemory>
+    requires fits { Fits (S.seals desk.now.sealer.now) (providers_of desk.now.directory.now) }
+    requires half { IsHalfOf desk.now.directory.now (S.seals desk.now.sealer.now) desk.now.entries.now desk.now.shelf.now }
+    ensures { IfOk result (λ found. found ≡ composed_by (trade_of desk.now.directory.now (S.seals desk.now.sealer.now))
+        desk.now.shelf.now.me desk.now.entries.now desk.now.shelf.now.half letter.now) }
+{
+    match letter {
+        Letter::Envelope { id, to } => envelope(desk, *id, *to),
+        Letter::Charge { id, by } => charge(desk, *id, *by),
+        Letter::Outcome { id, recipient } => outcome(desk, *id, recipient),
+        Letter::Ack { id, recipient } => acknowledgement(desk, *id, recipient),
+    }
+}
+
+/// The envelope of an own message, for its recipients at a provider.
+fn envelope<S: Sealer>(desk: &Desk<'_, S>, id: MsgId, to: u32) -> Result<Option<Outgoing>, NoMemory>
+    requires fits { Fits (S.seals desk.now.sealer.now) (providers_of desk.now.directory.now) }
+    requires half { IsHalfOf desk.now.directory.now (S.seals desk.now.sealer.now) desk.now.entries.now desk.now.shelf.now }
+    ensures { IfOk result (λ found. found ≡ composed_by (trade_of desk.now.directory.now (S.seals desk.now.sealer.now))
+        desk.now.shelf.now.me desk.now.entries.now desk.now.shelf.now.half (letters.Envelope id to)) }
+{
+    if id.provider != desk.shelf.me() {
+        return Ok(None);
+    }
+    let Some(row) = desk.shelf.message(id.number) else {
+        return Ok(None);
+    };
+    let Some(facts) = row.facts() else {
+        return Ok(None);
+    };
+    let Some(original) = accepted_original(desk, id.number, row, facts) else {
+        return Ok(None);
+    };
+    let letter = envelope_with(desk, id, to, row.moment(), facts, original)?;
+    Ok(letter)
+}
+
+/// The envelope of a message with these facts, for its recipients at a provider.
+fn envelope_with<S: Sealer>(
+    desk: &Desk<'_, S>,
+    id: MsgId,
+    to: u32,
+    moment: Moment,
+    facts: &Facts,
+    original: &[u8],
+) -> Result<Option<Outgoing>, NoMemory>
+    requires fits { Fits (S.seals desk.now.sealer.now) (providers_of desk.now.directory.now) }
+    requires facts { facts_in original.now ≡ Some facts.now }
+    ensures { IfOk result (λ found. found ≡ unless_nobody
+        (at_home (trade_of desk.now.directory.now (S.seals desk.now.sealer.now)) to (addresses_of facts.now))
+        (envelope_bytes desk.now.directory.now (S.seals desk.now.sealer.now) id moment original.now)) }
+{
+    let path = addresses_at(desk.alloc, desk.directory, to, facts.recipients.as_slice())?;
+    if path.is_empty() {
+        return Ok(None);
+    }
+    let text = envelope_text(desk, id, moment, facts, original)?;
+    Ok(unless_empty(path, text))
+}
+
+/// The receipt of taking charge of a message that was taken here.
+fn charge<S: Sealer>(desk: &Desk<'_, S>, id: MsgId, by: u32) -> Result<Option<Outgoing>, NoMemory>
+    requires fits { Fits (S.seals desk.now.sealer.now) (providers_of desk.now.directory.now) }
+    requires half { IsHalfOf desk.now.directory.now (S.seals desk.now.sealer.now) desk.now.entries.now desk.now.shelf.now }
+    ensures { IfOk result (λ found. found ≡ composed_by (trade_of desk.now.directory.now (S.seals desk.now.sealer.now))
+        desk.now.shelf.now.me desk.now.entries.now desk.now.shelf.now.half (letters.Charge id by)) }
+{
+    if by != desk.shelf.me() {
+        return Ok(None);
+    }
+    let Some(row) = desk.shelf.taken(id) else {
+        return Ok(None);
+    };
+    let Some(seen) = taken_original(desk, id, row)? else {
+        return Ok(None);
+    };
+    let EnvelopeView {
+        facts,
+        original,
+        ..
+    } = seen;
+    let receipt = Receipt {
+        kind: Kind::Charge,
+        id,
+        by,
+        moment: row.moment(),
+        facts,
+        recipient: None,
+    };
+    let text = receipt_text(desk, &receipt, original)?;
+    let letter = to_provider(desk, id.provider, text)?;
+    Ok(letter)
+}
+
+/// The receipt on a pair that was decided here, to the message's sender.
+fn outcome<S: Sealer>(
+    desk: &Desk<'_, S>,
+    id: MsgId,
+    recipient: &Address,
+) -> Result<Option<Outgoing>, NoMemory>
+    requires fits { Fits (S.seals desk.now.sealer.now) (providers_of desk.now.directory.now) }
+    requires half { IsHalfOf desk.now.directory.now (S.seals desk.now.sealer.now) desk.now.entries.now desk.now.shelf.now }
+    ensures { IfOk result (λ found. found ≡ composed_by (trade_of desk.now.directory.now (S.seals desk.now.sealer.now))
+        desk.now.shelf.now.me desk.now.entries.now desk.now.shelf.now.half (letters.Outcome id recipient.now)) }
+{
+    let Some(fate) = desk.shelf.fate(id, recipient) else {
+        return Ok(None);
+    };
+    let Some(row) = desk.shelf.taken(id) else {
+        return Ok(None);
+    };
+    let Some(seen) = taken_original(desk, id, row)? else {
+        return Ok(None);
+    };
+    let EnvelopeView {
+        facts,
+        original,
+        ..
+    } = seen;
+    let path = path_to(desk.alloc, &facts.sender)?;
+    let receipt = Receipt {
+        kind: outcome_kind(fate.decision()),
+        id,
+        by: desk.shelf.me(),
+        moment: fate.moment(),
+        facts,
+        recipient: Some(recipient.copy(desk.alloc)?),
+    };
+    let text = receipt_text(desk, &receipt, original)?;
+    Ok(unless_empty(path, text))
+}
+
+/// The acknowledgement of an outcome that is known here, to the recipient's provider.
+fn acknowledgement<S: Sealer>(
+    desk: &Desk<'_, S>,
+    id: MsgId,
+    recipient: &Address,
+) -> Result<Option<Outgoing>, NoMemory>
+    requires fits { Fits (S.seals desk.now.sealer.now) (providers_of desk.now.directory.now) }
+    requires half { IsHalfOf desk.now.directory.now (S.seals desk.now.sealer.now) desk.now.entries.now desk.now.shelf.now }
+    ensures { IfOk result (λ found. found ≡ composed_by (trade_of desk.now.directory.now (S.seals desk.now.sealer.now))
+        desk.now.shelf.now.me desk.now.entries.now desk.now.shelf.now.half (letters.Ack id recipient.now)) }
+{
+    if id.provider != desk.shelf.me() {
+        return Ok(None);
+    }
+    let Some(known) = desk.shelf.known(id, recipient) else {
+        return Ok(None);
+    };
+    let Some(row) = desk.shelf.message(id.number) else {
+        return Ok(None);
+    };
+    let Some(facts) = row.facts() else {
+        return Ok(None);
+    };
+    let Some(original) = accepted_original(desk, id.number, row, facts) else {
+        return Ok(None);
+    };
+    let Some(home) = desk.directory.home_of(recipient) else {
+        return Ok(None);
+    };
+    let receipt = Receipt {
+        kind: Kind::Ack,
+        id,
+        by: desk.shelf.me(),
+        moment: known.moment(),
+        facts: facts.copy(desk.alloc)?,
+        recipient: Some(recipient.copy(desk.alloc)?),
+    };
+    let text = receipt_text(desk, &receipt, original)?;
+    let letter = to_provider(desk, home, text)?;
+    Ok(letter)
+}
+
+/// A letter of this text to the address for receipts of a provider, which is there where there is a text.
+fn to_provider<S: Sealer>(
+    desk: &Desk<'_, S>,
+    provider: u32,
+    text: Vec<u8>,
+) -> Result<Option<Outgoing>, NoMemory>
+    requires { 0 < length text.items → provider < length desk.now.directory.now }
+    ensures { IfOk result (λ found. found
+        ≡ unless_empty (unwrap_or (receipts_at (providers_of desk.now.directory.now) provider) [] ∷ []) text.items) }
+{
+    if text.is_empty() {
+        return Ok(None);
+    }
+    let address = receipts_at(desk.directory, provider);
+    let path = path_to(desk.alloc, address)?;
+    Ok(unless_empty(path, text))
+}
+
+/// A letter without a text is none.
+fn unless_empty(path: Vec<Address>, text: Vec<u8>) -> Option<Outgoing>
+    ensures { result ≡ unless_empty path.items text.items }
+{
+    if text.is_empty() {
+        return None;
+    }
+    Some(Outgoing { path, text })
+}
+
+/// The kind of the receipt on a decision.
+fn outcome_kind(decision: Decision) -> Kind
+    ensures { result ≡ outcome_kind decision }
+{
+    match decision {
+        Decision::Placed => Kind::Delivery,
+        Decision::Refused(refusal) => Kind::DeliveryError(refusal),
+    }
+}

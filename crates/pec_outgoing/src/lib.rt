@@ -1,0 +1,13 @@
+//! What leaves a provider: the letters that it puts, composed of its half of the ledger and its entries, and the bytes of
+//! its mailbox items. No disk is in it.
+#![tactic(auto)]
+
+mod bodies;
+mod desks;
+mod dues;
+mod letters;
+mod originals;
+mod paths;
+mod texts;
+
+pub use dues::due_frames;

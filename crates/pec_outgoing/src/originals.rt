@@ -1,0 +1,104 @@
+ghost use Rattle.std.specs.Prelude.{◌≡◌, if◌then◌else◌, Some, None, IfOk, IfSome, option_map, slice_get};
+ghost use Rattle.std.specs.Result.{result_ok};
+ghost use Rattle.pec_directory.specs.Directory.{providers_of};
+ghost use Rattle.pec_letters.specs.SeenReading.{view};
+ghost use Rattle.pec_letters.specs.Views.{view_shown};
+ghost use Rattle.pec_ledger.specs.Ledger.{body_at};
+ghost use Rattle.pec_ledger.specs.OfDirectory.{facts_in};
+ghost use Rattle.pec_ledger.specs.Pairs.{same_id};
+ghost use Rattle.pec_plays.specs.Frames.{original_in, original_taken};
+ghost use Rattle.pec_trade.specs.Texts.{seen_in};
+ghost use Rattle.pec_trade.specs.TradeOf.{trade_of};
+ghost use Rattle.pec_outgoing.specs.Desk.{IsHalfOf};
+
+use crate::bodies::body;
+use crate::desks::Desk;
+use pec_ledger::an_accepted_message_has_its_original;
+use pec_letters::{EnvelopeView, read_envelope};
+use pec_seal::Sealer;
+use pec_shelf::{MessageRow, TakenRow};
+use pec_trade::an_envelope_is_seen_with_its_facts;
+use pec_types::{Facts, LetterFault, MsgId, NoMemory};
+
+/// The original of the message of a number, of which this is the row and these are the facts. It takes no memory.
+pub(crate) fn accepted_original<'a, S: Sealer>(
+    desk: &Desk<'a, S>,
+    number: u64,
+    row: &MessageRow,
+    facts: &Facts,
+) -> Option<&'a [u8]>
+    requires half { IsHalfOf desk.now.directory.now (S.seals desk.now.sealer.now) desk.now.entries.now desk.now.shelf.now }
+    requires row { slice_get desk.now.shelf.now.half.messages number ≡ Some row.now.message }
+    requires facts { row.now.message.facts ≡ Some facts.now }
+    ensures body { option_map (λ original. original.now) result ≡ body_at desk.now.entries.now row.now.message.entry }
+    ensures facts { IfSome result (λ original. facts_in original.now ≡ Some facts.now) }
+{
+    an_accepted_message_has_its_original();
+    let original = body(desk.entries, row.entry())?;
+    Some(original)
+}
+
+/// What is seen of the envelope with which a message was taken, where it is one of that message; with the original's facts.
+pub(crate) fn taken_original<'a, S: Sealer>(
+    desk: &Desk<'a, S>,
+    id: MsgId,
+    row: &TakenRow,
+) -> Result<Option<EnvelopeView<'a>>, NoMemory>
+    ensures original { IfOk result (λ found. option_map (λ seen. seen.original.now) found
+        ≡ original_taken (trade_of desk.now.directory.now (S.seals desk.now.sealer.now)) desk.now.shelf.now.me
+        desk.now.entries.now id row.now) }
+    ensures facts { IfOk result (λ found. IfSome found (λ seen. facts_in seen.original.now ≡ Some seen.facts)) }
+{
+    let Some(envelope) = body(desk.entries, row.entry()) else {
+        return Ok(None);
+    };
+    let seen = seen_of(desk, id, envelope)?;
+    Ok(seen)
+}
+
+/// What is seen of an envelope, where it is one of this message.
+#[tactic(auto, using(crate::proofs::SeenLemmas::unseen, crate::proofs::SeenLemmas::original_of))]
+fn seen_of<'a, S: Sealer>(
+    desk: &Desk<'_, S>,
+    id: MsgId,
+    envelope: &'a [u8],
+) -> Result<Option<EnvelopeView<'a>>, NoMemory>
+    ensures original { IfOk result (λ found. option_map (λ seen. seen.original.now) found
+        ≡ original_in id (seen_in (S.seals desk.now.sealer.now) (providers_of desk.now.directory.now) envelope.now)) }
+    ensures facts { IfOk result (λ found. IfSome found (λ seen. facts_in seen.original.now ≡ Some seen.facts)) }
+{
+    let Some(seen) = envelope_seen(desk, envelope)? else {
+        return Ok(None);
+    };
+    Ok(unless_another(seen, id))
+}
+
+/// What is seen of a text that is an envelope.
+fn envelope_seen<'a, S: Sealer>(
+    desk: &Desk<'_, S>,
+    text: &'a [u8],
+) -> Result<Option<EnvelopeView<'a>>, NoMemory>
+    ensures seen { IfOk result (λ found. option_map view_shown found
+        ≡ result_ok (view (S.seals desk.now.sealer.now) (providers_of desk.now.directory.now) text.now)) }
+    ensures facts { IfOk result (λ found. IfSome found (λ seen. facts_in seen.original.now ≡ Some seen.facts)) }
+{
+    an_envelope_is_seen_with_its_facts::<S>();
+    match read_envelope(desk.alloc, desk.sealer, desk.directory, text) {
+        Ok(seen) => Ok(Some(seen)),
+        Err(LetterFault::NoMemory) => Err(NoMemory),
+        Err(_) => Ok(None),
+    }
+}
+
+/// What is seen, where it is of this message.
+fn unless_another<'a>(seen: EnvelopeView<'a>, id: MsgId) -> Option<EnvelopeView<'a>>
+    requires { facts_in seen.original.now ≡ Some seen.facts }
+    ensures original { option_map (λ seen. seen.original.now) result
+        ≡ (if same_id id seen.entry.id then Some seen.entry.original.now else None) }
+    ensures facts { IfSome result (λ seen. facts_in seen.original.now ≡ Some seen.facts) }
+{
+    if id.provider != seen.id.provider || id.number != seen.id.number {
+        return None;
+    }
+    Some(seen)
+}
