@@ -85,7 +85,7 @@ fn row_with(sent: SentHalf, received: ReceivedHalf) -> Option<Row>
 fn sent_half(shelf: &Shelf, id: MsgId, recipient: &Address) -> SentHalf
     ensures { result ≡ (if id.provider == shelf.now.me
         then sent_to shelf.now.half (pair_of id recipient.now) (slice_get shelf.now.half.messages id.number)
-            (home_in recipient.now (unwrap_or (slice_get shelf.now.certified id.number) []))
+        (home_in recipient.now (unwrap_or (slice_get shelf.now.certified id.number) []))
         else not_sent) }
 {
     if id.provider != shelf.me() {
@@ -113,13 +113,7 @@ fn not_sent() -> SentHalf
 }
 
 /// The sender's side of a pair of a message that was accepted at a moment, whose recipient is at home there.
-fn sent_at(
-    shelf: &Shelf,
-    id: MsgId,
-    recipient: &Address,
-    accepted: Moment,
-    home: u32,
-) -> SentHalf
+fn sent_at(shelf: &Shelf, id: MsgId, recipient: &Address, accepted: Moment, home: u32) -> SentHalf
     ensures { result ≡ sent_at shelf.now.half (pair_of id recipient.now) accepted home }
 {
     SentHalf {
