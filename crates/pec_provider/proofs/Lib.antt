@@ -1,0 +1,4 @@
+mod AppendLemmas
+mod FollowLemmas
+mod PlayLemmas
+mod RunLemmas

@@ -1,0 +1,78 @@
+-- What is known of a provider that runs, in the words of the ledger.
+use Rattle.std.proofs.Common.{◌≡◌, ℕ, List, length, sym, ap, subst, ◌∙◌, true, false}
+use Rattle.std.proofs.lemmas.Bool.{false≢true}
+use Rattle.pec_types.specs.declared.letters.Letter.{Letter}
+use Rattle.pec_directory.specs.Directory.{Kept}
+use Rattle.pec_records.specs.declared.entries.Entry.{Entry}
+use Rattle.pec_ledger.specs.Half.{Half}
+use Rattle.pec_ledger.specs.Ledger.{Journals, Meets}
+use Rattle.pec_ledger.specs.OfDirectory.{IsOf}
+use Rattle.pec_ledger.specs.Steps.{half}
+use Rattle.pec_ledger.specs.Trade.{Trade}
+use Rattle.pec_chronicle.specs.Chronicle.{ChronicleState, down_over, past_of}
+use Rattle.pec_shelf.specs.Prepared.{IsStep}
+use Rattle.pec_shelf.specs.Seen.{Seen}
+use Rattle.pec_stock.specs.Entering.{Steps}
+use Rattle.pec_stock.specs.Stock.{Agree}
+use Rattle.pec_provider.specs.Appending.{MayEnter}
+use Rattle.pec_provider.specs.Provider.{ProviderState, Runs}
+
+-- its half is what its entries come to
+pub half_runs : {D : Type 0} (kept : List Kept) (me : ℕ) (provider : ProviderState D) (trade : Trade) → Runs kept me provider → IsOf kept trade
+    → provider.shelf.half ≡ half trade me provider.chronicle.entries
+half_runs kept me provider trade runs of =
+    runs.agree.holds.is_half trade of ∙ ap (λ (n : ℕ). half trade n provider.chronicle.entries) runs.is
+
+-- while it is up its journal ends where the half says
+pub end_runs : {D : Type 0} (kept : List Kept) (me : ℕ) (provider : ProviderState D) (trade : Trade) → Runs kept me provider → IsOf kept trade
+    → provider.chronicle.down ≡ false → provider.chronicle.end ≡ (half trade me provider.chronicle.entries).end
+end_runs kept me provider trade runs of up = runs.agree.ends up ∙ ap (λ (h : Half). h.end) (half_runs kept me provider trade runs of)
+
+-- a step of its entries is one of its shelf
+pub step_runs : {D : Type 0} (kept : List Kept) (me : ℕ) (provider : ProviderState D) (entry : Entry) → Runs kept me provider
+    → MayEnter kept me provider.chronicle.entries entry → Steps kept provider.shelf entry
+step_runs kept me provider entry runs may = record {
+  trade = may.trade;
+  of = may.of;
+  step = subst (λ (n : ℕ). IsStep may.trade n provider.shelf.half entry) (sym runs.is)
+      (subst (λ (h : Half). IsStep may.trade me h entry) (sym (half_runs kept me provider may.trade runs may.of)) may.step);
+}
+
+-- what may follow in the ledger of some journals is a step
+pub enters_by : (kept : List Kept) (me : ℕ) (list : List Entry) (entry : Entry) (trade : Trade) (journals : Journals) → IsOf kept trade
+    → Meets trade journals me (half trade me list) entry → MayEnter kept me list entry
+enters_by kept me list entry trade journals of meets =
+    record { trade = trade; of = of; step = record { own = meets.own; in_time = meets.in_time } }
+
+-- entries over another disk agree with the half as those did that were there, where they are down
+pub agree_down : {D : Type 0} (kept : List Kept) (old new : ChronicleState D) (shelf : Seen) → Agree kept old shelf
+    → new.entries ≡ old.entries → new.interrupted ≡ old.interrupted → new.down ≡ true → Agree kept new shelf
+agree_down kept old new shelf agree entries interrupted down = record {
+  holds = rw entries agree.holds;
+  ends = λ up. absurd (false≢true (sym up ∙ down));
+  whole = λ up. absurd (false≢true (sym up ∙ down));
+  own = λ trade of choice. rw (entries, interrupted) (agree.own trade of choice);
+}
+
+pub runs_down : {D : Type 0} (kept : List Kept) (me : ℕ) (inside old : ProviderState D) → inside ≡ old → (new : ChronicleState D)
+    (after : Seen) (owed : List Letter) (places : ℕ) → after ≡ inside.shelf → new ≡ down_over (past_of inside.chronicle) new.disk
+    → Runs kept me old → Runs kept me (record { chronicle = new; shelf = after; owed = owed; places = places })
+runs_down {D} kept me inside old view new after owed places same down runs =
+    let before : Runs kept me inside = subst (λ (p : ProviderState D). Runs kept me p) (sym view) runs in
+    rw same (record {
+      number = before.number;
+      is = before.is;
+      agree = agree_down kept inside.chronicle new inside.shelf before.agree (ap (λ s. s.entries) down) (ap (λ s. s.interrupted) down)
+          (ap (λ s. s.down) down);
+    })
+
+-- ---- by what stands in the provider
+
+pub me_runs : {D : Type 0} (kept : List Kept) (me : ℕ) (inside old : ProviderState D) → inside ≡ old → Runs kept me old → inside.shelf.me ≡ me
+me_runs {D} kept me inside old view runs = ap (λ (p : ProviderState D). p.shelf.me) view ∙ runs.is
+
+pub count_runs : {D : Type 0} (kept : List Kept) (me : ℕ) (inside old : ProviderState D) → inside ≡ old → (trade : Trade) → Runs kept me old
+    → IsOf kept trade → length inside.shelf.half.messages ≡ length (half trade me old.chronicle.entries).messages
+count_runs {D} kept me inside old view trade runs of =
+    ap (λ (p : ProviderState D). length p.shelf.half.messages) view
+    ∙ ap (λ (h : Half). length h.messages) (half_runs kept me old trade runs of)

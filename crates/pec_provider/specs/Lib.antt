@@ -1,0 +1,5 @@
+pub mod Appending
+pub mod Following
+pub mod Playing
+pub mod Provider
+pub mod Working

@@ -1,0 +1,205 @@
+ghost use Rattle.std.specs.Prelude.{◌≡◌, ℕ, ◌<◌, ◌≤◌, List, length, false, IsErrOf, IfOk, OnOk};
+ghost use Rattle.pec_types.specs.declared.turns.ProviderFault.TheVariants as faults;
+ghost use Rattle.pec_outside.specs.Flow.{HasRisen};
+ghost use Rattle.pec_directory.specs.Directory.{providers_of};
+ghost use Rattle.pec_letters.specs.Fitting.{Fits};
+ghost use Rattle.pec_records.specs.Entry.{IsWithinLimits, longest_message, most_addresses};
+ghost use Rattle.pec_ledger.specs.Ledger.{Journals, Meets};
+ghost use Rattle.pec_ledger.specs.Steps.{half};
+ghost use Rattle.pec_plays.specs.Commands.{Marks, Submit, Submits, Tick, entry_by, played, told_by};
+ghost use Rattle.pec_trade.specs.TradeOf.{cause_at, trade_of};
+ghost use Rattle.pec_chronicle.specs.Carrying.{CarriesOn};
+ghost use Rattle.pec_provider.specs.Appending.{Admits};
+ghost use Rattle.pec_provider.specs.Following.{MayFollow};
+ghost use Rattle.pec_provider.specs.Playing.{Plays};
+ghost use Rattle.pec_provider.specs.Provider.{Runs, desk_of};
+
+use crate::house::{House, a_house_is_a_trade};
+use crate::provider::Provider;
+use pec_outside::Disk;
+use pec_plays::what_a_provider_does_may_follow;
+use pec_points::{Admission, admit};
+use pec_records::Entry;
+use pec_seal::Sealer;
+use pec_stock::stands_still;
+use pec_types::{
+    Address, Cause, Items, Mark, Moment, MsgId, NoMemory, ProviderFault, Submitted, Text8,
+};
+use std::alloc::Global;
+
+impl<D: Disk> Provider<D> {
+    /// Takes in a message that an account submits for a forward path (RFC 6109, section 3.1), in bytes as it was handed in.
+    /// The receipt of acceptance, or the notice that it wasn't accepted, is then an item of the account's mailbox. The first of
+    /// these refusals that applies is answered: `NoAccount`, `Down`, `ClockBack`, `Full`, `NoMemory`, `JournalFull`,
+    /// `DiskFault`.
+    pub fn submit<S: Sealer>(
+        &mut self,
+        alloc: Global,
+        house: &House<'_, S>,
+        moment: Moment,
+        sender: &Address,
+        path: &[Address],
+        message: &[u8],
+    ) -> Result<Submitted, ProviderFault>
+        requires runs { Runs house.now.directory.now house.now.me self.old }
+        requires fits { Fits (S.seals house.now.sealer.now) (providers_of house.now.directory.now) }
+        requires path { (0 < length path.now) × (length path.now ≤ most_addresses) }
+        requires message { length message.now ≤ longest_message }
+
+        // It is played as the command.
+        ensures plays { Plays Submits (λ luck sites.
+            played (trade_of house.now.directory.now (S.seals house.now.sealer.now)) luck sites
+            (Submit house.now.me moment sender.now path.now message.now)) house.now.me (desk_of self.old) (desk_of self.new) result }
+        ensures owed { self.new.owed ≡ self.old.owed }
+        ensures runs { Runs house.now.directory.now house.now.me self.new }
+
+        // At every moment a crash leaves the journal of the entries, with or without the one that the call appends, which may
+        // follow in the ledger of any journals.
+        ensures carries { D.tells → (journals : Journals) → CarriesOn D.sight
+            (MayFollow (trade_of house.now.directory.now (S.seals house.now.sealer.now)) journals house.now.me)
+            self.old.chronicle self.new.chronicle }
+        ensures disk_fault { IsErrOf result faults.DiskFault → HasRisen (D.faults self.old.chronicle.disk) (D.faults self.new.chronicle.disk) }
+        ensures later { D.faults self.old.chronicle.disk ≤ D.faults self.new.chronicle.disk }
+    {
+        a_house_is_a_trade(house);
+        stands_still(&self.chronicle);
+        let (entry, answer) = self.admitted(alloc, house, moment, sender, path, message)?;
+        self.append(alloc, house, &entry)?;
+        Ok(answer)
+    }
+
+    /// Looks at the clock: the sender of each pair whose outcome isn't known in time gets a warning or a notice. The answer
+    /// tells the pairs, in order of number and recipients. The first of these refusals that applies is answered: `Down`,
+    /// `ClockBack`, `NoMemory`, `JournalFull`, `DiskFault`.
+    pub fn tick<S: Sealer>(
+        &mut self,
+        alloc: Global,
+        house: &House<'_, S>,
+        moment: Moment,
+    ) -> Result<Vec<Mark>, ProviderFault>
+        requires { Runs house.now.directory.now house.now.me self.old }
+        ensures plays { Plays (λ marks. Marks marks.items) (λ luck sites.
+            played (trade_of house.now.directory.now (S.seals house.now.sealer.now)) luck sites (Tick house.now.me moment))
+            house.now.me (desk_of self.old) (desk_of self.new) result }
+        ensures owed { self.new.owed ≡ self.old.owed }
+        ensures runs { Runs house.now.directory.now house.now.me self.new }
+        ensures carries { D.tells → (journals : Journals) → CarriesOn D.sight
+            (MayFollow (trade_of house.now.directory.now (S.seals house.now.sealer.now)) journals house.now.me)
+            self.old.chronicle self.new.chronicle }
+        ensures disk_fault { IsErrOf result faults.DiskFault → HasRisen (D.faults self.old.chronicle.disk) (D.faults self.new.chronicle.disk) }
+        ensures later { D.faults self.old.chronicle.disk ≤ D.faults self.new.chronicle.disk }
+    {
+        a_house_is_a_trade(house);
+        what_a_provider_does_may_follow();
+        stands_still(&self.chronicle);
+        self.at_work(moment)?;
+        let marks = self.append(alloc, house, &Entry::Ticked { moment })?;
+        Ok(marks)
+    }
+}
+
+impl<D> Provider<D> {
+    /// The entry that a submission comes to, and what is then answered.
+    fn admitted<S: Sealer>(
+        &self,
+        alloc: Global,
+        house: &House<'_, S>,
+        moment: Moment,
+        sender: &Address,
+        path: &[Address],
+        message: &[u8],
+    ) -> Result<(Entry, Submitted), ProviderFault>
+        requires runs { Runs house.now.directory.now house.now.me self.now }
+        requires fits { Fits (S.seals house.now.sealer.now) (providers_of house.now.directory.now) }
+        requires path { (0 < length path.now) × (length path.now ≤ most_addresses) }
+        requires message { length message.now ≤ longest_message }
+        ensures admits { Admits (trade_of house.now.directory.now (S.seals house.now.sealer.now)) house.now.me moment sender.now path.now
+            message.now (desk_of self.now) result }
+        ensures up { OnOk result (self.now.chronicle.down ≡ false) }
+        ensures limits { IfOk result (λ made. IsWithinLimits made.0) }
+        ensures follows { (journals : Journals) → IfOk result (λ made.
+            Meets (trade_of house.now.directory.now (S.seals house.now.sealer.now)) journals house.now.me
+            (half (trade_of house.now.directory.now (S.seals house.now.sealer.now)) house.now.me self.now.chronicle.entries) made.0) }
+    {
+        a_house_is_a_trade(house);
+        what_a_provider_does_may_follow();
+        if !house.directory.is_account_of(house.me, sender) {
+            return Err(ProviderFault::NoAccount);
+        }
+        self.at_work(moment)?;
+        let Some(id) = self.shelf.next_id() else {
+            return Err(ProviderFault::Full);
+        };
+        let cause = cause_at(alloc, house, sender, path, message)?;
+        let entry = entry_by(alloc, cause, moment, sender, path, message)?;
+        Ok((entry, told_by(cause, id)))
+    }
+}
+
+/// Why the message isn't accepted, if so.
+#[tactic(auto, unfolding(pec_trade::specs::TradeOf::cause_at))]
+fn cause_at<S>(
+    alloc: Global,
+    house: &House<'_, S>,
+    sender: &Address,
+    path: &[Address],
+    message: &[u8],
+) -> Result<Option<Cause>, NoMemory>
+    requires { house.now.me < length house.now.directory.now }
+    ensures { IfOk result (λ cause. cause
+        ≡ cause_at (providers_of house.now.directory.now) house.now.me sender.now path.now message.now) }
+{
+    match admit(alloc, house.directory, house.me, sender, path, message)? {
+        Admission::Accepted(_) => Ok(None),
+        Admission::Not(cause) => Ok(Some(cause)),
+    }
+}
+
+/// The entry of a submission, by what speaks against it.
+fn entry_by(
+    alloc: Global,
+    cause: Option<Cause>,
+    moment: Moment,
+    sender: &Address,
+    path: &[Address],
+    message: &[u8],
+) -> Result<Entry, NoMemory>
+    ensures { IfOk result (λ entry. entry ≡ entry_by cause moment sender.now path.now message.now) }
+{
+    let sender = sender.copy(alloc)?;
+    let message = Text8::of(Vec::from_slice(alloc, message)?);
+    let Some(cause) = cause else {
+        return Ok(Entry::Accepted {
+            moment,
+            sender,
+            message,
+        });
+    };
+    let path = copied(alloc, path)?;
+    Ok(Entry::NotAccepted {
+        moment,
+        sender,
+        cause,
+        path: Items::of(path),
+        message,
+    })
+}
+
+fn copied(alloc: Global, path: &[Address]) -> Result<Vec<Address>, NoMemory>
+    ensures { IfOk result (λ copy. copy.items ≡ path.now) }
+{
+    let mut copy = Vec::new(alloc);
+    for address in path {
+        copy.push(address.copy(alloc)?)?;
+    }
+    Ok(copy)
+}
+
+fn told_by(cause: Option<Cause>, id: MsgId) -> Submitted
+    ensures { result ≡ told_by cause id }
+{
+    match cause {
+        Some(cause) => Submitted::NotAccepted(id, cause),
+        None => Submitted::Accepted(id),
+    }
+}

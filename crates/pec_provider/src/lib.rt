@@ -1,0 +1,19 @@
+//! One provider over its disk: it takes submissions and frames, decides, watches the time limits, puts the letters that it
+//! owes, and shows its accounts what is theirs. An entry is durable before anything comes from it. It knows no other
+//! provider's state.
+#![tactic(auto)]
+
+mod appending;
+mod commands;
+mod house;
+mod laws;
+mod opening;
+mod provider;
+mod showing;
+
+pub use house::House;
+pub use laws::what_follows_goes_on;
+pub use pec_chronicle::CreateFault;
+pub use pec_stock::ReopenFault;
+pub use pec_types::{Event, ProviderFault, Submitted};
+pub use provider::Provider;
