@@ -5,9 +5,12 @@
 mod bodies;
 mod desks;
 mod dues;
+mod items;
 mod letters;
+mod notices;
 mod originals;
 mod paths;
 mod texts;
 
 pub use dues::due_frames;
+pub use items::item;

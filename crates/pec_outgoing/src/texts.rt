@@ -6,14 +6,14 @@ ghost use Rattle.pec_letters.specs.Fitting.{Fits, HasFacts};
 ghost use Rattle.pec_receipts.specs.Receipts.{CanBeGiven};
 ghost use Rattle.pec_ledger.specs.OfDirectory.{facts_in};
 ghost use Rattle.pec_trade.specs.Giving.{can_be_given};
-ghost use Rattle.pec_trade.specs.Texts.{envelope_bytes, given_text, or_none, receipt_bytes};
+ghost use Rattle.pec_trade.specs.Texts.{anomaly_bytes, envelope_bytes, given_text, or_none, receipt_bytes};
 ghost use Rattle.pec_outgoing.specs.Desk.{stated};
 
 use crate::desks::Desk;
 use crate::paths::is_at_home;
 use pec_directory::Directory;
 use pec_heads::{a_head_has_one_account, a_text_has_one_reading};
-use pec_letters::compose_envelope;
+use pec_letters::{compose_anomaly, compose_envelope};
 use pec_receipts::{Receipt, compose};
 use pec_seal::Sealer;
 use pec_trade::a_trade_says_what_its_parts_say;
@@ -100,4 +100,33 @@ fn can_be_given(directory: &Directory, receipt: &Receipt) -> bool
     a_trade_says_what_its_parts_say();
     let given = receipt.can_be_given(directory);
     given
+}
+
+/// The envelope in which this provider hands on what isn't certified mail, which came by the entry of this number; nothing
+/// where the provider isn't one of the directory.
+pub(crate) fn anomaly_text<S: Sealer>(
+    desk: &Desk<'_, S>,
+    entry: u64,
+    moment: Moment,
+    message: &[u8],
+) -> Result<Vec<u8>, NoMemory>
+    requires fits { Fits (S.seals desk.now.sealer.now) (providers_of desk.now.directory.now) }
+    ensures { IfOk result (λ text. text.items ≡ anomaly_bytes desk.now.directory.now (S.seals desk.now.sealer.now)
+        desk.now.shelf.now.me entry moment message.now) }
+{
+    a_trade_says_what_its_parts_say();
+    let provider = desk.shelf.me();
+    if provider >= desk.directory.count() {
+        return Ok(Vec::new(desk.alloc));
+    }
+    let text = compose_anomaly(
+        desk.alloc,
+        desk.sealer,
+        desk.directory,
+        provider,
+        entry,
+        moment,
+        message,
+    )?;
+    Ok(text)
 }
