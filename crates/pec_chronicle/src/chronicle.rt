@@ -96,6 +96,17 @@ impl<D> Chronicle<D> {
         kept.body()
     }
 
+    /// The entry of a number, from 0, if there is one, read from its bytes.
+    pub fn entry(&self, alloc: Global, number: u64) -> Result<Option<Entry>, NoMemory>
+        ensures { IfOk result (λ found. found ≡ slice_get self.now.entries number) }
+    {
+        let Some(kept) = self.kept(number) else {
+            return Ok(None);
+        };
+        let entry = kept.entry(alloc)?;
+        Ok(Some(entry))
+    }
+
     // Every look at an entry.
     fn kept(&self, number: u64) -> Option<&Encoded>
         ensures { option_map (λ kept. kept.now) result ≡ slice_get self.now.entries number }

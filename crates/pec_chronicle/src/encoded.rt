@@ -77,6 +77,17 @@ impl Encoded {
         Text8::of(self.bytes)
     }
 
+    /// The entry itself, read from the bytes.
+    pub(crate) fn entry(&self, alloc: Global) -> Result<Entry, NoMemory>
+        ensures { IfOk result (λ entry. entry ≡ self.now) }
+    {
+        match decode(alloc, &self.bytes) {
+            Ok(entry) => Ok(entry),
+            Err(EntryFault::NoMemory) => Err(NoMemory),
+            Err(EntryFault::Syntax(_)) => unreachable!(),
+        }
+    }
+
     /// The message that the entry holds, if it holds one: that which was submitted, or the envelope or receipt that
     /// came. It takes no memory.
     pub(crate) fn body(&self) -> Option<&[u8]>
