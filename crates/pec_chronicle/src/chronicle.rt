@@ -96,15 +96,11 @@ impl<D> Chronicle<D> {
         kept.body()
     }
 
-    /// The entry of a number, from 0, if there is one, read from its bytes.
-    pub fn entry(&self, alloc: Global, number: u64) -> Result<Option<Entry>, NoMemory>
-        ensures { IfOk result (λ found. found ≡ slice_get self.now.entries number) }
+    /// All entries, oldest first, each as its bytes. It takes no memory.
+    pub fn all(&self) -> &[Encoded]
+        ensures { result.now ≡ self.now.entries }
     {
-        let Some(kept) = self.kept(number) else {
-            return Ok(None);
-        };
-        let entry = kept.entry(alloc)?;
-        Ok(Some(entry))
+        self.entries.as_slice()
     }
 
     // Every look at an entry.

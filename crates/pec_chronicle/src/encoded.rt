@@ -78,7 +78,7 @@ impl Encoded {
     }
 
     /// The entry itself, read from the bytes.
-    pub(crate) fn entry(&self, alloc: Global) -> Result<Entry, NoMemory>
+    pub fn entry(&self, alloc: Global) -> Result<Entry, NoMemory>
         ensures { IfOk result (λ entry. entry ≡ self.now) }
     {
         match decode(alloc, &self.bytes) {
@@ -90,7 +90,7 @@ impl Encoded {
 
     /// The message that the entry holds, if it holds one: that which was submitted, or the envelope or receipt that
     /// came. It takes no memory.
-    pub(crate) fn body(&self) -> Option<&[u8]>
+    pub fn body(&self) -> Option<&[u8]>
         ensures { option_map (λ body. body.now) result ≡ body_of self.now }
     {
         let place = self.body?;

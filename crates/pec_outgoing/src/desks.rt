@@ -1,5 +1,5 @@
+use pec_chronicle::Encoded;
 use pec_directory::Directory;
-use pec_records::Entry;
 use pec_seal::Sealer;
 use pec_shelf::Shelf;
 use std::alloc::Global;
@@ -12,5 +12,5 @@ pub(crate) struct Desk<'a, S: Sealer> {
     pub(crate) directory: &'a Directory,
     pub(crate) sealer: &'a S,
     pub(crate) shelf: &'a Shelf,
-    pub(crate) entries: &'a [Entry],
+    pub(crate) entries: &'a [Encoded],
 }

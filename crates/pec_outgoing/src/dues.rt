@@ -13,9 +13,9 @@ ghost use Rattle.pec_outgoing.specs.Desk.{IsHalfOf};
 
 use crate::desks::Desk;
 use crate::letters::{Outgoing, composed};
+use pec_chronicle::Encoded;
 use pec_directory::Directory;
 use pec_frames::{FrameMade, MOST_ADDRESSES, frame_of};
-use pec_records::Entry;
 use pec_seal::Sealer;
 use pec_shelf::Shelf;
 use pec_trade::a_trade_says_what_its_parts_say;
@@ -32,7 +32,7 @@ pub fn due_frames<S: Sealer>(
     directory: &Directory,
     sealer: &S,
     shelf: &Shelf,
-    entries: &[Entry],
+    entries: &[Encoded],
     to: u32,
     room: usize,
     owed: &[Letter],

@@ -16,6 +16,7 @@ use crate::desks::Desk;
 use crate::notices::refusal_text;
 use crate::originals::accepted_original;
 use crate::texts::{anomaly_text, receipt_text};
+use pec_chronicle::Encoded;
 use pec_directory::Directory;
 use pec_receipts::Receipt;
 use pec_records::Entry;
@@ -34,7 +35,7 @@ pub fn item<S: Sealer>(
     directory: &Directory,
     sealer: &S,
     shelf: &Shelf,
-    entries: &[Entry],
+    entries: &[Encoded],
     account: &Address,
     place: u32,
 ) -> Result<Option<Vec<u8>>, NoMemory>
@@ -191,10 +192,11 @@ fn refusal_of<S: Sealer>(
         ≡ option_and_then (refusal_by (trade_of desk.now.directory.now (S.seals desk.now.sealer.now)) id)
         (slice_get desk.now.entries.now entry)) }
 {
-    let Some(entry) = desk.entries.get(entry as usize) else {
+    let Some(kept) = desk.entries.get(entry as usize) else {
         return Ok(None);
     };
-    let text = refusal_by(desk, id, entry)?;
+    let entry = kept.entry(desk.alloc)?;
+    let text = refusal_by(desk, id, &entry)?;
     Ok(text)
 }
 
