@@ -47,6 +47,13 @@ module _ {D : Type 0} (sight : D → Sight) (trade : Trade) (journals : Journals
       (λ list e is. subst (λ (l : List Entry). Meets trade journals me (half trade me l) e) (sym is.0)
       (subst (λ (x : Entry). Meets trade journals me (half trade me old.entries) x) (same_Some entry e is.1) meets)) old new
 
+  -- so where there was an entry at all
+  pub carries_any : (entry : Option Entry)
+      → ((e : Entry) → entry ≡ Some e → Meets trade journals me (half trade me old.entries) e)
+      → CarriesOn sight (OnlyMay old.entries entry) old new → CarriesOn sight (MayFollow trade journals me) old new
+  carries_any entry meets = carries_wider sight (OnlyMay old.entries entry) (MayFollow trade journals me)
+      (λ list e is. subst (λ (l : List Entry). Meets trade journals me (half trade me l) e) (sym is.0) (meets e is.1)) old new
+
   -- no entry came
   pub carries_none : CarriesOn sight NothingMay old new → CarriesOn sight (MayFollow trade journals me) old new
   carries_none = carries_nothing sight (MayFollow trade journals me) old new
@@ -58,3 +65,18 @@ pub carries_still : {D : Type 0} (sight : D → Sight) (trade : Trade) (journals
 carries_still {D} sight trade journals me inside old view still =
     subst (λ (p : ProviderState D). CarriesOn sight (MayFollow trade journals me) p.chronicle p.chronicle) view
     (carries_none sight trade journals me inside.chronicle inside.chronicle still)
+
+-- so where an entry might have come
+pub only_still : {D : Type 0} (sight : D → Sight) (entry : Option Entry) (inside old : ProviderState D) → inside ≡ old
+    → CarriesOn sight NothingMay inside.chronicle inside.chronicle
+    → CarriesOn sight (OnlyMay old.chronicle.entries entry) old.chronicle old.chronicle
+only_still {D} sight entry inside old view still =
+    subst (λ (p : ProviderState D). CarriesOn sight (OnlyMay p.chronicle.entries entry) p.chronicle p.chronicle) view
+    (carries_nothing sight (OnlyMay inside.chronicle.entries entry) inside.chronicle inside.chronicle still)
+
+pub only_inside : {D : Type 0} (sight : D → Sight) (entry : Option Entry) (inside old : ProviderState D) → inside ≡ old
+    → CarriesOn sight NothingMay inside.chronicle inside.chronicle
+    → CarriesOn sight (OnlyMay old.chronicle.entries entry) old.chronicle inside.chronicle
+only_inside {D} sight entry inside old view still =
+    subst (λ (p : ProviderState D). CarriesOn sight (OnlyMay p.chronicle.entries entry) p.chronicle inside.chronicle) view
+    (carries_nothing sight (OnlyMay inside.chronicle.entries entry) inside.chronicle inside.chronicle still)

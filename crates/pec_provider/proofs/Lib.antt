@@ -2,3 +2,5 @@ mod AppendLemmas
 mod FollowLemmas
 mod PlayLemmas
 mod RunLemmas
+mod StepLemmas
+mod TurnLemmas

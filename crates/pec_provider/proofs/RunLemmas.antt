@@ -1,6 +1,7 @@
 -- What is known of a provider that runs, in the words of the ledger.
 use Rattle.std.proofs.Common.{◌≡◌, ℕ, List, length, sym, ap, subst, ◌∙◌, true, false}
 use Rattle.std.proofs.lemmas.Bool.{false≢true}
+use Rattle.std.proofs.lemmas.List.{append-nil}
 use Rattle.pec_types.specs.declared.letters.Letter.{Letter}
 use Rattle.pec_directory.specs.Directory.{Kept}
 use Rattle.pec_records.specs.declared.entries.Entry.{Entry}
@@ -13,7 +14,7 @@ use Rattle.pec_chronicle.specs.Chronicle.{ChronicleState, down_over, past_of}
 use Rattle.pec_shelf.specs.Prepared.{IsStep}
 use Rattle.pec_shelf.specs.Seen.{Seen}
 use Rattle.pec_stock.specs.Entering.{Steps}
-use Rattle.pec_stock.specs.Stock.{Agree}
+use Rattle.pec_stock.specs.Stock.{Agree, AreSteps}
 use Rattle.pec_provider.specs.Appending.{MayEnter}
 use Rattle.pec_provider.specs.Provider.{ProviderState, Runs}
 
@@ -76,3 +77,15 @@ pub count_runs : {D : Type 0} (kept : List Kept) (me : ℕ) (inside old : Provid
 count_runs {D} kept me inside old view trade runs of =
     ap (λ (p : ProviderState D). length p.shelf.half.messages) view
     ∙ ap (λ (h : Half). length h.messages) (half_runs kept me old trade runs of)
+
+pub half_inside : {D : Type 0} (kept : List Kept) (me : ℕ) (inside old : ProviderState D) → inside ≡ old → (trade : Trade) → Runs kept me old
+    → IsOf kept trade → inside.shelf.half ≡ half trade inside.shelf.me old.chronicle.entries
+half_inside {D} kept me inside old view trade runs of =
+    subst (λ (p : ProviderState D). p.shelf.half ≡ half trade p.shelf.me old.chronicle.entries) (sym view) (runs.agree.holds.is_half trade of)
+
+-- each of its entries is a step of those before it
+pub steps_inside : {D : Type 0} (kept : List Kept) (me : ℕ) (inside old : ProviderState D) → inside ≡ old → (trade : Trade) → Runs kept me old
+    → IsOf kept trade → AreSteps trade inside.shelf.me old.chronicle.entries
+steps_inside {D} kept me inside old view trade runs of =
+    subst (λ (p : ProviderState D). AreSteps trade p.shelf.me old.chronicle.entries) (sym view)
+    (subst (λ (l : List Entry). AreSteps trade old.shelf.me l) (append-nil old.chronicle.entries) (runs.agree.own trade of false).steps)

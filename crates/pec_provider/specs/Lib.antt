@@ -1,4 +1,5 @@
 pub mod Appending
+pub mod Doing
 pub mod Following
 pub mod Playing
 pub mod Provider

@@ -10,6 +10,7 @@ mod laws;
 mod opening;
 mod provider;
 mod showing;
+mod turns;
 
 pub use house::House;
 pub use laws::what_follows_goes_on;

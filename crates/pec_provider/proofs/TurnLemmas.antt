@@ -1,0 +1,265 @@
+-- What a turn's calls do, by what they have to do.
+use Rattle.std.proofs.Common.{◌≡◌, ℕ, ◌<◌, ◌≤◌, Bool, false, not, List, [], ◌∷◌, ◌++◌, refl, sym, ap, subst, ◌∙◌, arith, Option, Some, None, Result, Ok, Err}
+use Rattle.std.specs.Prelude.{IfSome, IsErrAnd, Contains}
+use Rattle.std.specs.Option.{option_to_list}
+use Rattle.std.proofs.lemmas.List.{append-nil}
+use Rattle.std.proofs.lemmas.Option.{same_Some}
+use Rattle.std.proofs.lemmas.Result.{err_from_is_err_and}
+use Rattle.pec_types.specs.declared.letters.Letter.{Letter}
+use Rattle.pec_types.specs.declared.moments.TheConstants.{END_OF_TIME}
+use Rattle.pec_types.specs.declared.turns.Event.{Event}
+use Rattle.pec_types.specs.declared.turns.ProviderFault.{ProviderFault}
+use Rattle.pec_types.specs.declared.turns.ProviderFault.TheVariants as faults
+use Rattle.pec_directory.specs.Directory.{Kept}
+use Rattle.pec_records.specs.declared.entries.Entry.{Entry}
+use Rattle.pec_records.specs.declared.entries.Entry.TheVariants as entries
+use Rattle.pec_ledger.specs.Ledger.{Joint, Journals, Meets}
+use Rattle.pec_ledger.specs.OfDirectory.{IsOf}
+use Rattle.pec_ledger.specs.Own.{Own, decision_at}
+use Rattle.pec_ledger.specs.Pairs.{Pair}
+use Rattle.pec_ledger.specs.Steps.{half, moment_of}
+use Rattle.pec_ledger.specs.Trade.{Trade}
+use Rattle.pec_plays.specs.Decisions.{decide, undecided}
+use Rattle.pec_plays.specs.Steps.{Step}
+use Rattle.pec_reception.specs.Shows.{Shows, ShowsNext}
+use Rattle.pec_reception.specs.declared.received.Received.{Received}
+use Rattle.pec_provider.specs.Appending.{Appends, MayEnter, WorksAt}
+use Rattle.pec_provider.specs.Doing.{AppendsAny, is_full_for}
+use Rattle.pec_provider.specs.Provider.{Desk, ProviderState, desk_of}
+use Rattle.pec_provider.specs.Working.{DecidesFirst, Does, IsAtWork, Works, behind}
+
+-- ---- one step
+
+-- a desk that owes an answer more, if there is one
+abbrev pub owing : Desk → Option Letter → Desk
+owing desk letter =
+    record { journal = desk.journal; owed = desk.owed ++ option_to_list letter; up = desk.up; interrupted = desk.interrupted }
+
+module _ (trade : Trade) (me : ℕ) (step : Step) (old mid : Desk) (entry : Option Entry) (same : entry ≡ step.entry)
+    (full : step.full ≡ is_full_for trade me old.journal step.entry) where
+  full_by : (b : Bool) → is_full_for trade me old.journal entry ≡ b → step.full ≡ b
+  full_by b is = full ∙ ap (λ (o : Option Entry). is_full_for trade me old.journal o) (sym same) ∙ is
+
+  -- the desk behind the step, with this entry and these answers
+  behind_with : (letter : Option Letter) → option_to_list letter ≡ step.owed
+      → ◌≡◌ {A = Desk} (record {
+        journal = old.journal ++ option_to_list entry;
+        owed = old.owed ++ option_to_list letter;
+        up = old.up;
+        interrupted = old.interrupted;
+      }) (behind old step)
+  behind_with letter owes = rw (same, owes) refl
+
+-- the entry was appended, if there was one, and the answer is owed
+pub does_ok : (trade : Trade) (me : ℕ) (step : Step) (old mid : Desk) (entry : Option Entry) (event : Event) (letter : Option Letter)
+    → entry ≡ step.entry → event ≡ step.event → option_to_list letter ≡ step.owed
+    → step.full ≡ is_full_for trade me old.journal step.entry → AppendsAny {X = Unit {0}} trade me entry old mid (Ok tt)
+    → Does step old (owing mid letter) (Ok event)
+does_ok trade me step old mid None event letter same told owes full appends = (
+  told,
+  full_by trade me step old mid None same full false refl,
+  ap (λ (d : Desk). owing d letter) appends
+      ∙ (ap (λ (l : List Entry). record { journal = l; owed = old.owed ++ option_to_list letter; up = old.up; interrupted = old.interrupted })
+      (sym (append-nil old.journal))
+      ∙ behind_with trade me step old mid None same full letter owes),
+)
+does_ok trade me step old mid (Some entry) event letter same told owes full appends = (
+  told,
+  full_by trade me step old mid (Some entry) same full false appends.0,
+  ap (λ (d : Desk). owing d letter) appends.1 ∙ behind_with trade me step old mid (Some entry) same full letter owes,
+)
+
+-- the append ended with a fault
+pub does_err : (trade : Trade) (me : ℕ) (step : Step) (old mid : Desk) (entry : Option Entry) (fault : ProviderFault)
+    → entry ≡ step.entry → step.full ≡ is_full_for trade me old.journal step.entry
+    → AppendsAny {X = Unit {0}} trade me entry old mid (Err fault) → Does step old mid (Err fault)
+does_err trade me step old mid None fault same full appends = absurd appends
+does_err trade me step old mid (Some entry) faults.DiskFault same full appends =
+    (entry, sym same, full_by trade me step old mid (Some entry) same full false appends.0, appends.1)
+does_err trade me step old mid (Some entry) faults.JournalFull same full appends =
+    (full_by trade me step old mid (Some entry) same full _ appends.0, appends.1)
+does_err trade me step old mid (Some entry) faults.NoMemory same full appends = appends
+does_err trade me step old mid (Some entry) faults.Down same full appends = absurd appends
+does_err trade me step old mid (Some entry) (faults.ClockBack moment) same full appends = absurd appends
+does_err trade me step old mid (Some entry) faults.NoAccount same full appends = absurd appends
+does_err trade me step old mid (Some entry) faults.Full same full appends = absurd appends
+does_err trade me step old mid (Some entry) faults.NoItem same full appends = absurd appends
+
+pub does_handed : (step : Step) (old new : Desk) (fault : ProviderFault) (result : Result Event ProviderFault)
+    → IsErrAnd result (λ f. f ≡ fault) → Does step old new (Err fault) → Does step old new result
+does_handed step old new fault result is does =
+    let p = err_from_is_err_and result is in
+    subst (λ (r : Result Event ProviderFault). Does step old new r) (sym p.1)
+    (subst (λ (f : ProviderFault). Does step old new (Err f)) (sym p.2) does)
+
+-- ---- calls
+
+module _ (trade : Trade) (me now : ℕ) (old new : Desk) where
+  -- a step that is done at work
+  pub works_step : (step : Step) (answer : Result Event ProviderFault) → IsAtWork trade me now old → Does step old new answer
+      → Works trade me now (Does step old new) old new answer
+  works_step step (Ok event) works does = (works, does)
+  works_step step (Err faults.DiskFault) works does = (works, does)
+  works_step step (Err faults.JournalFull) works does = (works, does)
+  works_step step (Err faults.NoMemory) works does = (works, does)
+  works_step step (Err faults.Down) works does = absurd does
+  works_step step (Err (faults.ClockBack moment)) works does = absurd does
+  works_step step (Err faults.NoAccount) works does = absurd does
+  works_step step (Err faults.Full) works does = absurd does
+  works_step step (Err faults.NoItem) works does = absurd does
+
+  pub works_first : (pairs : List Pair) (answer : Result (Option Event) ProviderFault) → IsAtWork trade me now old
+      → DecidesFirst trade me now pairs old new answer → Works trade me now (DecidesFirst trade me now pairs old new) old new answer
+  works_first [] (Ok None) works does = (works, does)
+  works_first [] (Ok (Some event)) works does = absurd does
+  works_first [] (Err faults.NoMemory) works does = (works, does)
+  works_first [] (Err faults.DiskFault) works does = absurd does
+  works_first [] (Err faults.JournalFull) works does = absurd does
+  works_first [] (Err faults.Down) works does = absurd does
+  works_first [] (Err (faults.ClockBack moment)) works does = absurd does
+  works_first [] (Err faults.NoAccount) works does = absurd does
+  works_first [] (Err faults.Full) works does = absurd does
+  works_first [] (Err faults.NoItem) works does = absurd does
+  works_first (pair ∷ pairs) (Ok answer) works does = (works, does)
+  works_first (pair ∷ pairs) (Err faults.NoMemory) works does = (works, does)
+  works_first (pair ∷ pairs) (Err faults.DiskFault) works does = (works, does)
+  works_first (pair ∷ pairs) (Err faults.JournalFull) works does = (works, does)
+  works_first (pair ∷ pairs) (Err faults.Down) works does = absurd does
+  works_first (pair ∷ pairs) (Err (faults.ClockBack moment)) works does = absurd does
+  works_first (pair ∷ pairs) (Err faults.NoAccount) works does = absurd does
+  works_first (pair ∷ pairs) (Err faults.Full) works does = absurd does
+  works_first (pair ∷ pairs) (Err faults.NoItem) works does = absurd does
+
+  -- want of memory leaves the pairs as they are
+  pub first_unread : (pairs : List Pair) (result : Result (Option Event) ProviderFault) → IsErrAnd result (λ f. f ≡ faults.NoMemory)
+      → new ≡ old → DecidesFirst trade me now pairs old new result
+  first_unread [] result is same =
+      let p = err_from_is_err_and result is in
+      subst (λ (r : Result (Option Event) ProviderFault). DecidesFirst trade me now [] old new r) (sym p.1)
+      (subst (λ (f : ProviderFault). DecidesFirst trade me now [] old new (Err f)) (sym p.2) same)
+  first_unread (pair ∷ pairs) result is same =
+      let p = err_from_is_err_and result is in
+      subst (λ (r : Result (Option Event) ProviderFault). DecidesFirst trade me now (pair ∷ pairs) old new r) (sym p.1)
+      (subst (λ (f : ProviderFault). DecidesFirst trade me now (pair ∷ pairs) old new (Err f)) (sym p.2) same)
+
+  -- the first pair's step ended with a fault
+  pub first_handed : (pairs : List Pair) (pair : Pair) (rest : List Pair) → pairs ≡ pair ∷ rest → (fault : ProviderFault)
+      (result : Result (Option Event) ProviderFault) → IsErrAnd result (λ f. f ≡ fault)
+      → Does (decide trade me now old.journal pair) old new (Err fault) → DecidesFirst trade me now pairs old new result
+  first_handed pairs pair rest first fault result is does =
+      let p = err_from_is_err_and result is in
+      subst (λ (l : List Pair). DecidesFirst trade me now l old new result) (sym first)
+      (subst (λ (r : Result (Option Event) ProviderFault). DecidesFirst trade me now (pair ∷ rest) old new r) (sym p.1)
+      (subst (λ (f : ProviderFault). DecidesFirst trade me now (pair ∷ rest) old new (Err f)) (sym p.2) does))
+
+-- a provider that isn't at work does nothing
+idles : (X Y : Type 0) (trade : Trade) (me now : ℕ) (Done : Result X ProviderFault → Type 0) (old : Desk) (fault : ProviderFault)
+    → WorksAt {X = Y} trade me now old (Err fault) → Works trade me now Done old old (Err fault)
+idles X Y trade me now Done old faults.Down works = (works, refl)
+idles X Y trade me now Done old (faults.ClockBack moment) works = (works.0, works.1, works.2, refl)
+idles X Y trade me now Done old faults.DiskFault works = absurd works
+idles X Y trade me now Done old faults.NoMemory works = absurd works
+idles X Y trade me now Done old faults.NoAccount works = absurd works
+idles X Y trade me now Done old faults.Full works = absurd works
+idles X Y trade me now Done old faults.NoItem works = absurd works
+idles X Y trade me now Done old faults.JournalFull works = absurd works
+
+pub idles_handed : (X Y : Type 0) (trade : Trade) (me now : ℕ) (Done : Result X ProviderFault → Type 0) (old : Desk)
+    (fault : ProviderFault) (result : Result X ProviderFault) → IsErrAnd result (λ f. f ≡ fault)
+    → WorksAt {X = Y} trade me now old (Err fault) → Works trade me now Done old old result
+idles_handed X Y trade me now Done old fault result is works =
+    let p = err_from_is_err_and result is in
+    subst (λ (r : Result X ProviderFault). Works trade me now Done old old r) (sym p.1)
+    (subst (λ (f : ProviderFault). Works trade me now Done old old (Err f)) (sym p.2) (idles X Y trade me now Done old fault works))
+
+-- ---- what is appended
+
+-- what a step appends is a step of the entries
+pub step_may : (kept : List Kept) (me now : ℕ) (trade : Trade) (journal : List Entry) (step : Step) (entry : Option Entry)
+    → IsOf kept trade → entry ≡ step.entry → (half trade me journal).last ≤ now
+    → ((e : Entry) → step.entry ≡ Some e → Own trade me (half trade me journal) e × (moment_of e ≡ now))
+    → IfSome entry (MayEnter kept me journal)
+step_may kept me now trade journal step None of same late own = tt
+step_may kept me now trade journal step (Some e) of same late own =
+    let is = own e (sym same) in
+    record {
+      trade = trade;
+      of = of;
+      step = record { own = is.0; in_time = subst (λ (n : ℕ). (half trade me journal).last ≤ n) (sym is.1) late };
+    }
+
+-- a decision may follow in the ledger of any journals
+pub decision_follows : (trade : Trade) (journals : Journals) (me now : ℕ) (journal : List Entry) (pair : Pair) (entry : Entry)
+    → (half trade me journal).last ≤ now → now < END_OF_TIME
+    → Own trade me (half trade me journal) entry × (moment_of entry ≡ now)
+    → (decide trade me now journal pair).entry ≡ Some entry → Meets trade journals me (half trade me journal) entry
+unfolding decide
+decision_follows trade journals me now journal pair entry late below own is = record {
+  own = own.0;
+  in_time = subst (λ (n : ℕ). (half trade me journal).last ≤ n) (sym own.1) late;
+  in_range = subst (λ (n : ℕ). n < END_OF_TIME) (sym own.1) below;
+  joint = subst (λ (e : Entry). Joint trade journals me e)
+      (same_Some (entries.Decided now pair.id pair.recipient (decision_at trade me (half trade me journal) pair.recipient)) entry is) tt;
+}
+
+-- the first of pairs is one of them
+pub first_there : (pairs : List Pair) (pair : Pair) (rest : List Pair) → pairs ≡ pair ∷ rest → Contains pairs pair
+first_there pairs pair rest first = subst (λ (l : List Pair). Contains l pair) (sym first) (0, omega arith, refl)
+
+-- ---- by what stands in the provider
+
+-- memory for answers was made
+pub room_desk : {D : Type 0} (inside old : ProviderState D) (owed : List Letter) → inside ≡ old → owed ≡ inside.owed
+    → ◌≡◌ {A = Desk} (record {
+      journal = inside.chronicle.entries;
+      owed = owed;
+      up = not inside.chronicle.down;
+      interrupted = inside.chronicle.interrupted;
+    }) (desk_of old)
+room_desk {D} inside old owed view same =
+    ap (λ (l : List Letter). record {
+      journal = inside.chronicle.entries;
+      owed = l;
+      up = not inside.chronicle.down;
+      interrupted = inside.chronicle.interrupted;
+    }) same
+    ∙ ap (λ (p : ProviderState D). desk_of p) view
+
+appends_as : (X Y : Type 0) (trade : Trade) (me : ℕ) (entry : Entry) (old new : Desk) (fault : ProviderFault)
+    → Appends {X = X} trade me entry old new (Err fault) → Appends {X = Y} trade me entry old new (Err fault)
+appends_as X Y trade me entry old new faults.DiskFault appends = appends
+appends_as X Y trade me entry old new faults.JournalFull appends = appends
+appends_as X Y trade me entry old new faults.NoMemory appends = appends
+appends_as X Y trade me entry old new faults.Down appends = appends
+appends_as X Y trade me entry old new (faults.ClockBack moment) appends = appends
+appends_as X Y trade me entry old new faults.NoAccount appends = appends
+appends_as X Y trade me entry old new faults.Full appends = appends
+appends_as X Y trade me entry old new faults.NoItem appends = appends
+
+pub any_handed : (X Y : Type 0) (trade : Trade) (me : ℕ) (some : Option Entry) (entry : Entry) (old new : Desk) (fault : ProviderFault)
+    (result : Result Y ProviderFault) → some ≡ Some entry → IsErrAnd result (λ f. f ≡ fault)
+    → Appends {X = X} trade me entry old new (Err fault) → AppendsAny trade me some old new result
+any_handed X Y trade me some entry old new fault result same is appends =
+    let p = err_from_is_err_and result is in
+    subst (λ (o : Option Entry). AppendsAny trade me o old new result) (sym same)
+    (subst (λ (r : Result Y ProviderFault). Appends trade me entry old new r) (sym p.1)
+    (subst (λ (f : ProviderFault). Appends {X = Y} trade me entry old new (Err f)) (sym p.2) (appends_as X Y trade me entry old new fault appends)))
+
+-- ---- the next pair
+
+-- this is to be done with the first undecided pair
+pub record IsFirst (trade : Trade) (me now : ℕ) (journal : List Entry) (received : Received) : Type 0 where
+  pub pair : Pair
+  pub pairs : List Pair
+  pub first : undecided trade me journal ≡ pair ∷ pairs
+  pub shows : Shows received (decide trade me now journal pair)
+
+pub none_next : (trade : Trade) (me now : ℕ) (journal : List Entry) (next : Option Received) → ShowsNext trade me now journal next
+    → next ≡ None → undecided trade me journal ≡ []
+none_next trade me now journal next shows none = subst (λ (o : Option Received). ShowsNext trade me now journal o) none shows
+
+pub some_next : (trade : Trade) (me now : ℕ) (journal : List Entry) (next : Option Received) (received : Received)
+    → ShowsNext trade me now journal next → next ≡ Some received → IsFirst trade me now journal received
+some_next trade me now journal next received shows some =
+    let s : ShowsNext trade me now journal (Some received) = subst (λ (o : Option Received). ShowsNext trade me now journal o) some shows in
+    record { pair = s.0; pairs = s.1; first = s.2; shows = s.3 }

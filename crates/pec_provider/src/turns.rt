@@ -1,0 +1,170 @@
+ghost use Rattle.std.specs.Prelude.{◌≡◌, ℕ, ◌<◌, ◌≤◌, ◌++◌, List, false, Some, IsErrOf, IfOk, IfSome};
+ghost use Rattle.std.specs.Option.{option_to_list};
+ghost use Rattle.pec_types.specs.declared.turns.ProviderFault.TheVariants as faults;
+ghost use Rattle.pec_outside.specs.Flow.{HasRisen};
+ghost use Rattle.pec_directory.specs.Directory.{providers_of};
+ghost use Rattle.pec_letters.specs.Fitting.{Fits};
+ghost use Rattle.pec_records.specs.Entry.{IsWithinLimits};
+ghost use Rattle.pec_ledger.specs.Ledger.{Fit, Journals};
+ghost use Rattle.pec_ledger.specs.Network.{IsGenuine};
+ghost use Rattle.pec_ledger.specs.OfDirectory.{IsOf};
+ghost use Rattle.pec_ledger.specs.Trade.{Trade};
+ghost use Rattle.pec_plays.specs.Steps.{Step};
+ghost use Rattle.pec_trade.specs.TradeOf.{trade_of};
+ghost use Rattle.pec_chronicle.specs.Carrying.{CarriesOn};
+ghost use Rattle.pec_stock.specs.Entering.{OnlyMay};
+ghost use Rattle.pec_provider.specs.Appending.{MayEnter};
+ghost use Rattle.pec_provider.specs.Doing.{AppendsAny, Undertakes};
+ghost use Rattle.pec_provider.specs.Following.{MayFollow};
+ghost use Rattle.pec_provider.specs.Provider.{Runs, desk_of};
+ghost use Rattle.pec_provider.specs.Working.{Arrives, Decides, Does};
+
+use crate::house::{House, a_house_is_a_trade};
+use crate::provider::Provider;
+use pec_outside::Disk;
+use pec_plays::{what_a_provider_does_is_its_own, what_a_provider_does_may_follow};
+use pec_reception::{Received, decide, receive};
+use pec_records::Entry;
+use pec_seal::Sealer;
+use pec_stock::stands_still;
+use pec_types::{Event, Letter, Moment, ProviderFault};
+use std::alloc::Global;
+
+impl<D: Disk> Provider<D> {
+    /// Receives one frame (RFC 6109, sections 3.1 to 3.3, within this project's profile). The first of these refusals that
+    /// applies is answered: `Down`, `ClockBack`, `NoMemory`, `JournalFull`, `DiskFault`.
+    pub fn arrive<S: Sealer>(
+        &mut self,
+        alloc: Global,
+        house: &House<'_, S>,
+        moment: Moment,
+        frame: &[u8],
+    ) -> Result<Event, ProviderFault>
+        requires runs { Runs house.now.directory.now house.now.me self.old }
+        requires fits { Fits (S.seals house.now.sealer.now) (providers_of house.now.directory.now) }
+        ensures arrives { Arrives (trade_of house.now.directory.now (S.seals house.now.sealer.now)) house.now.me moment frame.now
+            (desk_of self.old) (desk_of self.new) result }
+        ensures runs { Runs house.now.directory.now house.now.me self.new }
+
+        // Where the frame is genuine in some journals, what is appended may follow in their ledger.
+        ensures carries { D.tells → (journals : Journals) → Fit (trade_of house.now.directory.now (S.seals house.now.sealer.now)) journals
+            → IsGenuine (trade_of house.now.directory.now (S.seals house.now.sealer.now)) journals frame.now
+            → CarriesOn D.sight (MayFollow (trade_of house.now.directory.now (S.seals house.now.sealer.now)) journals house.now.me)
+            self.old.chronicle self.new.chronicle }
+        ensures disk_fault { IsErrOf result faults.DiskFault → HasRisen (D.faults self.old.chronicle.disk) (D.faults self.new.chronicle.disk) }
+        ensures later { D.faults self.old.chronicle.disk ≤ D.faults self.new.chronicle.disk }
+    {
+        a_house_is_a_trade(house);
+        what_a_provider_does_is_its_own();
+        what_a_provider_does_may_follow();
+        stands_still(&self.chronicle);
+        self.at_work(moment)?;
+        let received = receive(
+            alloc,
+            house.directory,
+            house.sealer,
+            &self.shelf,
+            moment,
+            frame,
+        )?;
+        let event = self.undertake(alloc, house, received)?;
+        Ok(event)
+    }
+
+    /// Decides on the first taken pair, in order of taking and of recipients, that isn't decided (RFC 6109, section 3.3,
+    /// within this project's profile); `None` says that there is none. The refusals are those of `arrive`.
+    pub fn decide_next<S: Sealer>(
+        &mut self,
+        alloc: Global,
+        house: &House<'_, S>,
+        moment: Moment,
+    ) -> Result<Option<Event>, ProviderFault>
+        requires runs { Runs house.now.directory.now house.now.me self.old }
+        ensures decides { Decides (trade_of house.now.directory.now (S.seals house.now.sealer.now)) house.now.me moment
+            (desk_of self.old) (desk_of self.new) result }
+        ensures runs { Runs house.now.directory.now house.now.me self.new }
+        ensures carries { D.tells → (journals : Journals) → CarriesOn D.sight
+            (MayFollow (trade_of house.now.directory.now (S.seals house.now.sealer.now)) journals house.now.me)
+            self.old.chronicle self.new.chronicle }
+        ensures disk_fault { IsErrOf result faults.DiskFault → HasRisen (D.faults self.old.chronicle.disk) (D.faults self.new.chronicle.disk) }
+        ensures later { D.faults self.old.chronicle.disk ≤ D.faults self.new.chronicle.disk }
+    {
+        a_house_is_a_trade(house);
+        what_a_provider_does_is_its_own();
+        stands_still(&self.chronicle);
+        self.at_work(moment)?;
+        let Some(received) = decide(alloc, house.directory, &self.shelf, moment)? else {
+            return Ok(None);
+        };
+        let event = self.undertake(alloc, house, received)?;
+        Ok(Some(event))
+    }
+
+    /// Does what is to be done: appends the entry, if there is one, and owes the answer, if there is one.
+    fn undertake<S>(
+        &mut self,
+        alloc: Global,
+        house: &House<'_, S>,
+        received: Received,
+    ) -> Result<Event, ProviderFault>
+        requires up { self.old.chronicle.down ≡ false }
+        requires runs { Runs house.now.directory.now house.now.me self.old }
+        requires limits { IfSome received.entry IsWithinLimits }
+        requires step { IfSome received.entry (MayEnter house.now.directory.now house.now.me self.old.chronicle.entries) }
+        ensures does { (trade : Trade) (step : Step) → IsOf house.now.directory.now trade
+            → Undertakes trade house.now.me self.old.chronicle.entries received step
+            → Does step (desk_of self.old) (desk_of self.new) result }
+        ensures runs { Runs house.now.directory.now house.now.me self.new }
+        ensures carries { D.tells → CarriesOn D.sight (OnlyMay self.old.chronicle.entries received.entry) self.old.chronicle self.new.chronicle }
+        ensures disk_fault { IsErrOf result faults.DiskFault → HasRisen (D.faults self.old.chronicle.disk) (D.faults self.new.chronicle.disk) }
+        ensures later { D.faults self.old.chronicle.disk ≤ D.faults self.new.chronicle.disk }
+    {
+        let Received { entry, event, owed } = received;
+        stands_still(&self.chronicle);
+        self.owed.reserve(1)?;
+        self.append_any(alloc, house, &entry)?;
+        self.owe(owed);
+        Ok(event)
+    }
+
+    /// Appends the entry, if there is one.
+    fn append_any<S>(
+        &mut self,
+        alloc: Global,
+        house: &House<'_, S>,
+        entry: &Option<Entry>,
+    ) -> Result<(), ProviderFault>
+        requires up { self.old.chronicle.down ≡ false }
+        requires runs { Runs house.now.directory.now house.now.me self.old }
+        requires limits { IfSome entry.now IsWithinLimits }
+        requires step { IfSome entry.now (MayEnter house.now.directory.now house.now.me self.old.chronicle.entries) }
+        ensures appends { (trade : Trade) → IsOf house.now.directory.now trade
+            → AppendsAny trade house.now.me entry.now (desk_of self.old) (desk_of self.new) result }
+        ensures owed { (self.new.owed ≡ self.old.owed) × (self.new.places ≡ self.old.places) }
+        ensures runs { Runs house.now.directory.now house.now.me self.new }
+        ensures carries { D.tells → CarriesOn D.sight (OnlyMay self.old.chronicle.entries entry.now) self.old.chronicle self.new.chronicle }
+        ensures disk_fault { IsErrOf result faults.DiskFault → HasRisen (D.faults self.old.chronicle.disk) (D.faults self.new.chronicle.disk) }
+        ensures later { D.faults self.old.chronicle.disk ≤ D.faults self.new.chronicle.disk }
+    {
+        stands_still(&self.chronicle);
+        match entry {
+            Some(entry) => {
+                self.append(alloc, house, entry)?;
+                Ok(())
+            }
+            None => Ok(()),
+        }
+    }
+}
+
+impl<D> Provider<D> {
+    /// Owes an answer, if there is one, for which there is memory.
+    fn owe(&mut self, letter: Option<Letter>)
+        requires { 0 < self.old.places }
+        ensures { self.new ≡ record self.old { owed = self.old.owed ++ option_to_list letter; places = self.new.places } }
+    {
+        if let Some(letter) = letter {
+            self.owed.push_reserved(letter);
+        }
+    }
+}
