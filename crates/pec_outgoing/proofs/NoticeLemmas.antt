@@ -25,11 +25,13 @@ Told = (text : Bytes) → TellsExactly (IsReadAs text) (IsAddressFault text) (ad
 lower_again : Told → (bytes : Bytes) → IsLowerAddress bytes → is_lower bytes ≡ true
 unfolding is_lower
 lower_again told bytes lower =
-    ap (is_kept bytes) (((told bytes).value bytes).1 (lower.address, sym lower.lower)) ∙ (bytes_eq-Decides bytes bytes).1 refl
+    ap (is_kept bytes) (((told bytes).value bytes).1 (lower.address, sym lower.lower))
+    ∙ (bytes_eq-Decides bytes bytes).1 refl
 
 path_again : Told → (path : Path) → AllByRecursion IsLowerAddress path → list_all is_lower path ≡ true
 path_again told [] all = refl
-path_again told (a ∷ path) all = and_from (is_lower a) (list_all is_lower path) (lower_again told a all.0) (path_again told path all.1)
+path_again told (a ∷ path) all = and_from (is_lower a) (list_all is_lower path) (lower_again told a all.0) (path_again
+    told path all.1)
 
 -- the notice with these facts, by this provider
 abbrev notice_by : Id → ℕ → Cause → ℕ → Facts → Given
@@ -42,7 +44,8 @@ notice_by id moment cause by facts = record {
   recipient = None;
 }
 
-pub refusal_so : Told → (kept : List Kept) (seals : Seals) (id : Id) (moment by : ℕ) (account : Bytes) (cause : Cause) (path : Path) (message text : Bytes) (facts : Facts)
+pub refusal_so : Told → (kept : List Kept) (seals : Seals) (id : Id) (moment by : ℕ) (account : Bytes) (cause : Cause)
+    (path : Path) (message text : Bytes) (facts : Facts)
     → AllByRecursion IsLowerAddress path → by ≡ id.provider → facts ≡ refused_facts account path message
     → text ≡ or_none (given_text kept seals (notice_by id moment cause by facts) message)
     → text ≡ refusal_bytes kept seals id moment account cause path message
@@ -52,4 +55,5 @@ refusal_so told kept seals id moment by account cause path message text facts lo
     in given
     ∙ ap (λ (b : ℕ). from (notice_by id moment cause b facts)) ours
     ∙ ap (λ (f : Facts). from (notice_by id moment cause id.provider f)) same
-    ∙ ap (λ (t : Bool). cond t (from (refusal id moment account cause path message)) []) (sym (path_again told path lower))
+    ∙ ap (λ (t : Bool). cond t (from (refusal id moment account cause path message)) []) (sym (path_again told path
+    lower))

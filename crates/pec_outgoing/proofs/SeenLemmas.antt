@@ -16,18 +16,22 @@ use Rattle.pec_ledger.specs.Pairs.{same_id}
 use Rattle.pec_plays.specs.Frames.{original_in}
 use Rattle.pec_trade.specs.Texts.{or_receipt, seen_in}
 
-of_receipt : (id : Id) (fault : LetterFault) (receipt : Result ReceiptView LetterFault) → None ≡ original_in id (or_receipt (Err fault) receipt)
+of_receipt : (id : Id) (fault : LetterFault) (receipt : Result ReceiptView LetterFault) → None
+    ≡ original_in id (or_receipt (Err fault) receipt)
 of_receipt id fault (Ok seen) = refl
 of_receipt id fault (Err other) = refl
 
-of_none : (id : Id) (envelope : Result Seen LetterFault) (receipt : Result ReceiptView LetterFault) → None ≡ result_ok envelope
+of_none : (id : Id) (envelope : Result Seen LetterFault) (receipt : Result ReceiptView LetterFault) → None
+    ≡ result_ok envelope
     → None ≡ original_in id (or_receipt envelope receipt)
 of_none id (Ok seen) receipt e = absurd (none-some seen e)
 of_none id (Err fault) receipt e = of_receipt id fault receipt
 
-of_some : (id : Id) (seen : Seen) (envelope : Result Seen LetterFault) (receipt : Result ReceiptView LetterFault) → Some seen ≡ result_ok envelope
+of_some : (id : Id) (seen : Seen) (envelope : Result Seen LetterFault) (receipt : Result ReceiptView LetterFault)
+    → Some seen ≡ result_ok envelope
     → (if same_id id seen.id then Some seen.original else None) ≡ original_in id (or_receipt envelope receipt)
-of_some id seen (Ok other) receipt e = ap (λ (s : Seen). if same_id id s.id then Some s.original else None) (same_Some seen other e)
+of_some id seen (Ok other) receipt e = ap (λ (s : Seen). if same_id id s.id then Some s.original else None) (same_Some
+    seen other e)
 of_some id seen (Err fault) receipt e = absurd (none-some seen (sym e))
 
 module _ (seals : Seals) (providers : List Provider) (text : Bytes) (id : Id) where

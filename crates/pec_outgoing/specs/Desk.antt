@@ -1,5 +1,5 @@
--- What a provider's texts are composed of: its half of the ledger and its entries, in the world of a directory and of those
--- who seal for its providers. RFC 6109, section 3, within this project's profile.
+-- What a provider's texts are composed of: its half of the ledger and its entries, in the world of a directory and of
+-- those who seal for its providers. RFC 6109, section 3, within this project's profile.
 use Rattle.std.specs.Prelude.{◌≡◌, List}
 use Rattle.pec_directory.specs.Directory.{Kept}
 use Rattle.pec_seal.specs.Seals.{Seals}

@@ -4,8 +4,8 @@ use pec_seal::Sealer;
 use pec_shelf::Shelf;
 use std::alloc::Global;
 
-/// What a provider's texts are composed of: the directory, those who seal for its providers, and the provider's half of the
-/// ledger and its entries.
+/// What a provider's texts are composed of: the directory, those who seal for its providers, and the provider's half of
+/// the ledger and its entries.
 #[derive(Drop)]
 pub(crate) struct Desk<'a, S: Sealer> {
     pub(crate) alloc: Global,

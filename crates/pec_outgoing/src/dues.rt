@@ -22,11 +22,11 @@ use pec_trade::a_trade_says_what_its_parts_say;
 use pec_types::{Address, Frame, Letter, NoMemory, what_is_read_is_in_lower_case};
 use std::alloc::{AllocError, Global};
 
-/// The frames that a provider puts for another one, itself included (RFC 6109, section 3, within this project's profile): of
-/// the answers that it owes that one, in their order, and then of the outcomes that nobody acknowledged and of the envelopes
-/// of messages of which nothing was heard, no more letters than the link has room for. Each is composed and sealed in the
-/// provider's own name, of its half and its entries. A letter that can't be composed, or whose frame would have more than
-/// 50,331,648 bytes, takes its room and isn't put.
+/// The frames that a provider puts for another one, itself included (RFC 6109, section 3, within this project's
+/// profile): of the answers that it owes that one, in their order, and then of the outcomes that nobody acknowledged
+/// and of the envelopes of messages of which nothing was heard, no more letters than the link has room for. Each is
+/// composed and sealed in the provider's own name, of its half and its entries. A letter that can't be composed, or
+/// whose frame would have more than 50,331,648 bytes, takes its room and isn't put.
 pub fn due_frames<S: Sealer>(
     alloc: Global,
     directory: &Directory,
@@ -78,7 +78,8 @@ fn answers_to<'a, S: Sealer>(
 
 /// Whether a letter is for a provider.
 fn is_for<S: Sealer>(desk: &Desk<'_, S>, to: u32, letter: &Letter) -> bool
-    ensures { result ≡ is_home to (addressee (trade_of desk.now.directory.now (S.seals desk.now.sealer.now)) letter.now) }
+    ensures { result
+        ≡ is_home to (addressee (trade_of desk.now.directory.now (S.seals desk.now.sealer.now)) letter.now) }
 {
     match addressee(desk, letter) {
         Some(provider) => to == provider,
@@ -105,9 +106,11 @@ fn put_answers<S: Sealer>(
     answers: &[&Letter],
 ) -> Result<(), NoMemory>
     requires fits { Fits (S.seals desk.now.sealer.now) (providers_of desk.now.directory.now) }
-    requires half { IsHalfOf desk.now.directory.now (S.seals desk.now.sealer.now) desk.now.entries.now desk.now.shelf.now }
+    requires half { IsHalfOf desk.now.directory.now (S.seals desk.now.sealer.now) desk.now.entries.now
+        desk.now.shelf.now }
     ensures { OnOk result (frames.new.items ≡ frames.old.items
-        ++ filter_map (frame_of (trade_of desk.now.directory.now (S.seals desk.now.sealer.now)) desk.now.shelf.now.me desk.now.entries.now)
+        ++ filter_map (frame_of (trade_of desk.now.directory.now (S.seals desk.now.sealer.now)) desk.now.shelf.now.me
+        desk.now.entries.now)
         (map (λ letter. letter.now) answers.now)) }
 {
     for answer in answers {
@@ -123,9 +126,11 @@ fn put_letters<S: Sealer>(
     letters: &[Letter],
 ) -> Result<(), NoMemory>
     requires fits { Fits (S.seals desk.now.sealer.now) (providers_of desk.now.directory.now) }
-    requires half { IsHalfOf desk.now.directory.now (S.seals desk.now.sealer.now) desk.now.entries.now desk.now.shelf.now }
+    requires half { IsHalfOf desk.now.directory.now (S.seals desk.now.sealer.now) desk.now.entries.now
+        desk.now.shelf.now }
     ensures { OnOk result (frames.new.items ≡ frames.old.items
-        ++ filter_map (frame_of (trade_of desk.now.directory.now (S.seals desk.now.sealer.now)) desk.now.shelf.now.me desk.now.entries.now)
+        ++ filter_map (frame_of (trade_of desk.now.directory.now (S.seals desk.now.sealer.now)) desk.now.shelf.now.me
+        desk.now.entries.now)
         letters.now) }
 {
     for letter in letters {
@@ -142,9 +147,11 @@ fn put<S: Sealer>(
     letter: &Letter,
 ) -> Result<(), NoMemory>
     requires fits { Fits (S.seals desk.now.sealer.now) (providers_of desk.now.directory.now) }
-    requires half { IsHalfOf desk.now.directory.now (S.seals desk.now.sealer.now) desk.now.entries.now desk.now.shelf.now }
+    requires half { IsHalfOf desk.now.directory.now (S.seals desk.now.sealer.now) desk.now.entries.now
+        desk.now.shelf.now }
     ensures { OnOk result (frames.new.items ≡ frames.old.items
-        ++ option_to_list (frame_of (trade_of desk.now.directory.now (S.seals desk.now.sealer.now)) desk.now.shelf.now.me desk.now.entries.now letter.now)) }
+        ++ option_to_list (frame_of (trade_of desk.now.directory.now (S.seals desk.now.sealer.now))
+        desk.now.shelf.now.me desk.now.entries.now letter.now)) }
 {
     let Some(made) = composed(desk, letter)? else {
         return Ok(());

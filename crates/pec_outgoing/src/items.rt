@@ -26,9 +26,10 @@ use pec_types::{Address, Kind, Moment, MsgId, NoMemory};
 use std::alloc::Global;
 
 /// The bytes of the item at a place of an account's mailbox, counted from 0 (RFC 6109, section 3, within this project's
-/// profile): an envelope as it was taken, a receipt of delivery or of an error as it came, and any other receipt, a notice
-/// and the envelope of an anomaly as this provider composes and seals it. An item of which the provider may compose nothing
-/// has no byte. `None` comes exactly where there is no such item, or the entries hold none of its message.
+/// profile): an envelope as it was taken, a receipt of delivery or of an error as it came, and any other receipt, a
+/// notice and the envelope of an anomaly as this provider composes and seals it. An item of which the provider may
+/// compose nothing has no byte. `None` comes exactly where there is no such item, or the entries hold none of its
+/// message.
 #[tactic(auto, unfolding(pec_ledger::specs::Items::item_text))]
 pub fn item<S: Sealer>(
     alloc: Global,
@@ -66,10 +67,11 @@ fn text_by<S: Sealer>(
     item: &Placed,
 ) -> Result<Option<Vec<u8>>, NoMemory>
     requires fits { Fits (S.seals desk.now.sealer.now) (providers_of desk.now.directory.now) }
-    requires half { IsHalfOf desk.now.directory.now (S.seals desk.now.sealer.now) desk.now.entries.now desk.now.shelf.now }
+    requires half { IsHalfOf desk.now.directory.now (S.seals desk.now.sealer.now) desk.now.entries.now
+        desk.now.shelf.now }
     ensures { IfOk result (λ found. option_map (λ text. text.items) found
-        ≡ text_by (trade_of desk.now.directory.now (S.seals desk.now.sealer.now)) desk.now.shelf.now.me desk.now.entries.now
-        entry (item_shown item.now)) }
+        ≡ text_by (trade_of desk.now.directory.now (S.seals desk.now.sealer.now)) desk.now.shelf.now.me
+        desk.now.entries.now entry (item_shown item.now)) }
 {
     match item {
         Placed::Envelope(id) => taken_envelope(desk, *id),
@@ -85,10 +87,12 @@ fn text_by<S: Sealer>(
 
 /// The envelope with which a message was taken.
 fn taken_envelope<S: Sealer>(desk: &Desk<'_, S>, id: MsgId) -> Result<Option<Vec<u8>>, NoMemory>
-    requires half { IsHalfOf desk.now.directory.now (S.seals desk.now.sealer.now) desk.now.entries.now desk.now.shelf.now }
+    requires half { IsHalfOf desk.now.directory.now (S.seals desk.now.sealer.now) desk.now.entries.now
+        desk.now.shelf.now }
     ensures { IfOk result (λ found. option_map (λ text. text.items) found
         ≡ option_and_then (taken_body desk.now.entries.now)
-        (taken_of (half (trade_of desk.now.directory.now (S.seals desk.now.sealer.now)) desk.now.shelf.now.me desk.now.entries.now) id)) }
+        (taken_of (half (trade_of desk.now.directory.now (S.seals desk.now.sealer.now)) desk.now.shelf.now.me
+        desk.now.entries.now) id)) }
 {
     let Some(row) = desk.shelf.taken(id) else {
         return Ok(None);
@@ -118,10 +122,11 @@ fn receipt_of<S: Sealer>(
     moment: Moment,
 ) -> Result<Option<Vec<u8>>, NoMemory>
     requires fits { Fits (S.seals desk.now.sealer.now) (providers_of desk.now.directory.now) }
-    requires half { IsHalfOf desk.now.directory.now (S.seals desk.now.sealer.now) desk.now.entries.now desk.now.shelf.now }
+    requires half { IsHalfOf desk.now.directory.now (S.seals desk.now.sealer.now) desk.now.entries.now
+        desk.now.shelf.now }
     ensures { IfOk result (λ found. option_map (λ text. text.items) found
-        ≡ receipt_of (trade_of desk.now.directory.now (S.seals desk.now.sealer.now)) desk.now.shelf.now.me desk.now.entries.now
-        entry kind id recipient.now moment) }
+        ≡ receipt_of (trade_of desk.now.directory.now (S.seals desk.now.sealer.now)) desk.now.shelf.now.me
+        desk.now.entries.now entry kind id recipient.now moment) }
 {
     match kind {
         Kind::Delivery => held(desk, entry),
@@ -145,10 +150,13 @@ fn composed<S: Sealer>(
     moment: Moment,
 ) -> Result<Option<Vec<u8>>, NoMemory>
     requires fits { Fits (S.seals desk.now.sealer.now) (providers_of desk.now.directory.now) }
-    requires half { IsHalfOf desk.now.directory.now (S.seals desk.now.sealer.now) desk.now.entries.now desk.now.shelf.now }
+    requires half { IsHalfOf desk.now.directory.now (S.seals desk.now.sealer.now) desk.now.entries.now
+        desk.now.shelf.now }
     ensures { IfOk result (λ found. option_map (λ text. text.items) found ≡ option_map
-        (composed (trade_of desk.now.directory.now (S.seals desk.now.sealer.now)) kind id desk.now.shelf.now.me moment recipient.now)
-        (original_at (trade_of desk.now.directory.now (S.seals desk.now.sealer.now)) desk.now.shelf.now.me desk.now.entries.now id.number)) }
+        (composed (trade_of desk.now.directory.now (S.seals desk.now.sealer.now)) kind id desk.now.shelf.now.me moment
+        recipient.now)
+        (original_at (trade_of desk.now.directory.now (S.seals desk.now.sealer.now)) desk.now.shelf.now.me
+        desk.now.entries.now id.number)) }
 {
     let Some(row) = desk.shelf.message(id.number) else {
         return Ok(None);
@@ -249,7 +257,8 @@ fn anomaly_of<S: Sealer>(
 ) -> Result<Option<Vec<u8>>, NoMemory>
     requires fits { Fits (S.seals desk.now.sealer.now) (providers_of desk.now.directory.now) }
     ensures { IfOk result (λ found. option_map (λ text. text.items) found
-        ≡ option_map (anomaly_bytes desk.now.directory.now (S.seals desk.now.sealer.now) desk.now.shelf.now.me entry moment)
+        ≡ option_map (anomaly_bytes desk.now.directory.now (S.seals desk.now.sealer.now) desk.now.shelf.now.me entry
+        moment)
         (body_at desk.now.entries.now entry)) }
 {
     let Some(message) = body(desk.entries, entry) else {

@@ -55,7 +55,8 @@ pub(crate) fn composed<S: Sealer>(
     letter: &Letter,
 ) -> Result<Option<Outgoing>, NoMemory>
     requires fits { Fits (S.seals desk.now.sealer.now) (providers_of desk.now.directory.now) }
-    requires half { IsHalfOf desk.now.directory.now (S.seals desk.now.sealer.now) desk.now.entries.now desk.now.shelf.now }
+    requires half { IsHalfOf desk.now.directory.now (S.seals desk.now.sealer.now) desk.now.entries.now
+        desk.now.shelf.now }
     ensures { IfOk result (λ found. found ≡ composed_by (trade_of desk.now.directory.now (S.seals desk.now.sealer.now))
         desk.now.shelf.now.me desk.now.entries.now desk.now.shelf.now.half letter.now) }
 {
@@ -70,7 +71,8 @@ pub(crate) fn composed<S: Sealer>(
 /// The envelope of an own message, for its recipients at a provider.
 fn envelope<S: Sealer>(desk: &Desk<'_, S>, id: MsgId, to: u32) -> Result<Option<Outgoing>, NoMemory>
     requires fits { Fits (S.seals desk.now.sealer.now) (providers_of desk.now.directory.now) }
-    requires half { IsHalfOf desk.now.directory.now (S.seals desk.now.sealer.now) desk.now.entries.now desk.now.shelf.now }
+    requires half { IsHalfOf desk.now.directory.now (S.seals desk.now.sealer.now) desk.now.entries.now
+        desk.now.shelf.now }
     ensures { IfOk result (λ found. found ≡ composed_by (trade_of desk.now.directory.now (S.seals desk.now.sealer.now))
         desk.now.shelf.now.me desk.now.entries.now desk.now.shelf.now.half (letters.Envelope id to)) }
 {
@@ -116,7 +118,8 @@ fn envelope_with<S: Sealer>(
 /// The receipt of taking charge of a message that was taken here.
 fn charge<S: Sealer>(desk: &Desk<'_, S>, id: MsgId, by: u32) -> Result<Option<Outgoing>, NoMemory>
     requires fits { Fits (S.seals desk.now.sealer.now) (providers_of desk.now.directory.now) }
-    requires half { IsHalfOf desk.now.directory.now (S.seals desk.now.sealer.now) desk.now.entries.now desk.now.shelf.now }
+    requires half { IsHalfOf desk.now.directory.now (S.seals desk.now.sealer.now) desk.now.entries.now
+        desk.now.shelf.now }
     ensures { IfOk result (λ found. found ≡ composed_by (trade_of desk.now.directory.now (S.seals desk.now.sealer.now))
         desk.now.shelf.now.me desk.now.entries.now desk.now.shelf.now.half (letters.Charge id by)) }
 {
@@ -154,7 +157,8 @@ fn outcome<S: Sealer>(
     recipient: &Address,
 ) -> Result<Option<Outgoing>, NoMemory>
     requires fits { Fits (S.seals desk.now.sealer.now) (providers_of desk.now.directory.now) }
-    requires half { IsHalfOf desk.now.directory.now (S.seals desk.now.sealer.now) desk.now.entries.now desk.now.shelf.now }
+    requires half { IsHalfOf desk.now.directory.now (S.seals desk.now.sealer.now) desk.now.entries.now
+        desk.now.shelf.now }
     ensures { IfOk result (λ found. found ≡ composed_by (trade_of desk.now.directory.now (S.seals desk.now.sealer.now))
         desk.now.shelf.now.me desk.now.entries.now desk.now.shelf.now.half (letters.Outcome id recipient.now)) }
 {
@@ -192,7 +196,8 @@ fn acknowledgement<S: Sealer>(
     recipient: &Address,
 ) -> Result<Option<Outgoing>, NoMemory>
     requires fits { Fits (S.seals desk.now.sealer.now) (providers_of desk.now.directory.now) }
-    requires half { IsHalfOf desk.now.directory.now (S.seals desk.now.sealer.now) desk.now.entries.now desk.now.shelf.now }
+    requires half { IsHalfOf desk.now.directory.now (S.seals desk.now.sealer.now) desk.now.entries.now
+        desk.now.shelf.now }
     ensures { IfOk result (λ found. found ≡ composed_by (trade_of desk.now.directory.now (S.seals desk.now.sealer.now))
         desk.now.shelf.now.me desk.now.entries.now desk.now.shelf.now.half (letters.Ack id recipient.now)) }
 {

@@ -1,5 +1,5 @@
-//! What leaves a provider: the letters that it puts, composed of its half of the ledger and its entries, and the bytes of
-//! its mailbox items. No disk is in it.
+//! What leaves a provider: the letters that it puts, composed of its half of the ledger and its entries, and the bytes
+//! of its mailbox items. No disk is in it.
 #![tactic(auto)]
 
 mod bodies;

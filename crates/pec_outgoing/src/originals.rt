@@ -27,7 +27,8 @@ pub(crate) fn accepted_original<'a, S: Sealer>(
     row: &MessageRow,
     facts: &Facts,
 ) -> Option<&'a [u8]>
-    requires half { IsHalfOf desk.now.directory.now (S.seals desk.now.sealer.now) desk.now.entries.now desk.now.shelf.now }
+    requires half { IsHalfOf desk.now.directory.now (S.seals desk.now.sealer.now) desk.now.entries.now
+        desk.now.shelf.now }
     requires row { slice_get desk.now.shelf.now.half.messages number ≡ Some row.now.message }
     requires facts { row.now.message.facts ≡ Some facts.now }
     ensures body { option_map (λ original. original.now) result ≡ body_at desk.now.entries.now row.now.message.entry }
@@ -38,7 +39,8 @@ pub(crate) fn accepted_original<'a, S: Sealer>(
     Some(original)
 }
 
-/// What is seen of the envelope with which a message was taken, where it is one of that message; with the original's facts.
+/// What is seen of the envelope with which a message was taken, where it is one of that message; with the original's
+/// facts.
 pub(crate) fn taken_original<'a, S: Sealer>(
     desk: &Desk<'a, S>,
     id: MsgId,

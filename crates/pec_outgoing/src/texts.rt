@@ -19,8 +19,8 @@ use pec_seal::Sealer;
 use pec_trade::a_trade_says_what_its_parts_say;
 use pec_types::{Facts, Moment, MsgId, NoMemory};
 
-/// The envelope of a message with these facts, which was accepted at this moment; nothing where the sender is at home at
-/// another provider than the message's.
+/// The envelope of a message with these facts, which was accepted at this moment; nothing where the sender is at home
+/// at another provider than the message's.
 #[tactic(auto, unfolding(pec_trade::specs::Texts::envelope_bytes))]
 pub(crate) fn envelope_text<S: Sealer>(
     desk: &Desk<'_, S>,
@@ -69,13 +69,15 @@ pub(crate) fn receipt_text<S: Sealer>(
     requires facts { facts_in original.now ≡ Some receipt.now.facts }
     ensures text { IfOk result (λ text. text.items
         ≡ receipt_bytes desk.now.directory.now (S.seals desk.now.sealer.now) (stated receipt.now) original.now) }
-    ensures within { IfOk result (λ text. 0 < length text.items → receipt.now.id.provider < length desk.now.directory.now) }
+    ensures within { IfOk result (λ text. 0 < length text.items
+        → receipt.now.id.provider < length desk.now.directory.now) }
 {
     let text = given_text(desk, receipt, original)?;
     Ok(text)
 }
 
-/// A receipt or a notice, where it may be given; otherwise nothing. Where there is a text, so is the message's provider.
+/// A receipt or a notice, where it may be given; otherwise nothing. Where there is a text, so is the message's
+/// provider.
 pub(crate) fn given_text<S: Sealer>(
     desk: &Desk<'_, S>,
     receipt: &Receipt,
@@ -84,7 +86,8 @@ pub(crate) fn given_text<S: Sealer>(
     requires fits { Fits (S.seals desk.now.sealer.now) (providers_of desk.now.directory.now) }
     ensures text { IfOk result (λ text. text.items
         ≡ or_none (given_text desk.now.directory.now (S.seals desk.now.sealer.now) receipt.now original.now)) }
-    ensures within { IfOk result (λ text. 0 < length text.items → receipt.now.id.provider < length desk.now.directory.now) }
+    ensures within { IfOk result (λ text. 0 < length text.items
+        → receipt.now.id.provider < length desk.now.directory.now) }
 {
     if !can_be_given(desk.directory, receipt) {
         return Ok(Vec::new(desk.alloc));
@@ -102,8 +105,8 @@ fn can_be_given(directory: &Directory, receipt: &Receipt) -> bool
     given
 }
 
-/// The envelope in which this provider hands on what isn't certified mail, which came by the entry of this number; nothing
-/// where the provider isn't one of the directory.
+/// The envelope in which this provider hands on what isn't certified mail, which came by the entry of this number;
+/// nothing where the provider isn't one of the directory.
 pub(crate) fn anomaly_text<S: Sealer>(
     desk: &Desk<'_, S>,
     entry: u64,

@@ -17,10 +17,14 @@ returns g c =
     in let cut = c.truncate.new.self.items
     in let first = map seen cut
     in let rest = c.in_ok-others.others.items
-    in put_together (frame_of trade me c.args.entries.now) c.new-frames.result.items c.put_answers.new.frames.items c.put_letters.new.frames.items first rest
+    in put_together (frame_of trade me c.args.entries.now) c.new-frames.result.items c.put_answers.new.frames.items
+    c.put_letters.new.frames.items first rest
     c.new-frames.ensures.items
     (rw (← c.as_slice.ensures.value) c.in_ok-put_answers.ensures)
     (rw (← c.as_slice-2.ensures.value) c.in_ok-put_letters.ensures)
     ∙ all_due trade me c.args.entries.now h c.requires.half.half_is c.args.to c.args.room c.args.owed.now first rest
-    (cut_answers seen c.args.room c.in_ok-answers.answers.items cut (answers_to trade c.args.to c.args.owed.now) c.truncate.ensures.items c.in_ok-answers.ensures)
-    (c.in_ok-others.ensures trade c.requires.half.homes ∙ ap (λ n. due_letters trade me h c.args.to (c.args.room - n) []) (c.len.ensures ∙ sym c.as_slice.ensures.len ∙ ap length c.as_slice.ensures.value ∙ sym (length-map cut seen)))
+    (cut_answers seen c.args.room c.in_ok-answers.answers.items cut (answers_to trade c.args.to c.args.owed.now)
+    c.truncate.ensures.items c.in_ok-answers.ensures)
+    (c.in_ok-others.ensures trade c.requires.half.homes ∙ ap (λ n. due_letters trade me h c.args.to (c.args.room - n)
+    []) (c.len.ensures ∙ sym c.as_slice.ensures.len ∙ ap length c.as_slice.ensures.value
+    ∙ sym (length-map cut seen)))

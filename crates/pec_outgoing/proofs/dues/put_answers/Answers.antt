@@ -8,6 +8,8 @@ use Rattle.pec_outgoing.proofs.dues.put_answers.Goals as goal
 
 pub loop-answer-preserved : goal.loop-answer-preserved
 loop-answer-preserved g c =
-    put_seen (λ (letter : Bor Letter). letter.now) (frame_of (trade_of c.args.desk.now.directory.now (g.S.Sealer.seals c.args.desk.now.sealer.now)) c.args.desk.now.shelf.now.me c.args.desk.now.entries.now)
-    c.args.answers.now c.loop-answer.answer-index c.answer-item.result c.args.frames.now.items c.loop-answer.frames.items c.put.new.frames.items c.loop-answer-test.true
+    put_seen (λ (letter : Bor Letter). letter.now) (frame_of (trade_of c.args.desk.now.directory.now (g.S.Sealer.seals
+    c.args.desk.now.sealer.now)) c.args.desk.now.shelf.now.me c.args.desk.now.entries.now)
+    c.args.answers.now c.loop-answer.answer-index c.answer-item.result c.args.frames.now.items
+    c.loop-answer.frames.items c.put.new.frames.items c.loop-answer-test.true
     c.answer-item.is c.loop-answer.invariant c.in_ok-put.ensures

@@ -8,5 +8,6 @@ abbrev pub invariant-loop-answer : goal.invariant-loop-answer
 invariant-loop-answer g l =
     l.frames.items
     ≡ l.fn.frames.items
-    ++ filter_map (frame_of (trade_of l.desk.directory.now (g.S.Sealer.seals l.desk.sealer.now)) l.desk.shelf.now.me l.desk.entries.now)
+    ++ filter_map (frame_of (trade_of l.desk.directory.now (g.S.Sealer.seals l.desk.sealer.now)) l.desk.shelf.now.me
+    l.desk.entries.now)
     (map (λ letter. letter.now) (take l.answer-index l.answers))

@@ -6,6 +6,8 @@ use Rattle.pec_outgoing.proofs.dues.put_letters.Goals as goal
 
 pub loop-letter-preserved : goal.loop-letter-preserved
 loop-letter-preserved g c =
-    put_letter (frame_of (trade_of c.args.desk.now.directory.now (g.S.Sealer.seals c.args.desk.now.sealer.now)) c.args.desk.now.shelf.now.me c.args.desk.now.entries.now)
-    c.args.letters.now c.loop-letter.letter-index c.letter-item.result c.args.frames.now.items c.loop-letter.frames.items c.put.new.frames.items c.loop-letter-test.true
+    put_letter (frame_of (trade_of c.args.desk.now.directory.now (g.S.Sealer.seals c.args.desk.now.sealer.now))
+    c.args.desk.now.shelf.now.me c.args.desk.now.entries.now)
+    c.args.letters.now c.loop-letter.letter-index c.letter-item.result c.args.frames.now.items
+    c.loop-letter.frames.items c.put.new.frames.items c.loop-letter-test.true
     c.letter-item.is c.loop-letter.invariant c.in_ok-put.ensures

@@ -8,5 +8,6 @@ abbrev pub invariant-loop-letter : goal.invariant-loop-letter
 invariant-loop-letter g l =
     l.frames.items
     ≡ l.fn.frames.items
-    ++ filter_map (frame_of (trade_of l.desk.directory.now (g.S.Sealer.seals l.desk.sealer.now)) l.desk.shelf.now.me l.desk.entries.now)
+    ++ filter_map (frame_of (trade_of l.desk.directory.now (g.S.Sealer.seals l.desk.sealer.now)) l.desk.shelf.now.me
+    l.desk.entries.now)
     (take l.letter-index l.letters)

@@ -9,17 +9,24 @@ use Rattle.pec_outgoing.proofs.notices.add.Goals as goal
 
 pub returns-then-not-is_new-clause-added : goal.returns-then-not-is_new-clause-added
 returns-then-not-is_new-clause-added c =
-    known_stays c.args.all.now.items c.add.new.self c.bytes.result.now c.args.address.now c.in_ok-is_new.is_new c.bytes.ensures.value
+    known_stays c.args.all.now.items c.add.new.self c.bytes.result.now c.args.address.now c.in_ok-is_new.is_new
+    c.bytes.ensures.value
     c.if-not-is_new.true (c.in_ok-is_new.ensures.added (map key_of c.args.all.now.items) c.requires)
 
 pub returns-clause-known : goal.returns-clause-known
 returns-clause-known c =
-    new_is_known c.args.all.now.items c.push.new.self.items c.add.new.self c.bytes.result.now c.args.address.now c.in_ok-is_new.is_new
-    c.bytes.ensures.value c.if-not-is_new.false (c.in_ok-is_new.ensures.added (map key_of c.args.all.now.items) c.requires)
-    (c.in_ok-push.ensures.items ∙ ap (λ (a : Bytes). c.args.all.now.items ++ recipient Primary a ∷ []) c.in_ok-copy.ensures)
+    new_is_known c.args.all.now.items c.push.new.self.items c.add.new.self c.bytes.result.now c.args.address.now
+    c.in_ok-is_new.is_new
+    c.bytes.ensures.value c.if-not-is_new.false (c.in_ok-is_new.ensures.added (map key_of c.args.all.now.items)
+    c.requires)
+    (c.in_ok-push.ensures.items ∙ ap (λ (a : Bytes). c.args.all.now.items ++ recipient Primary a ∷ [])
+    c.in_ok-copy.ensures)
 
 pub returns-clause-added : goal.returns-clause-added
 returns-clause-added c =
-    new_comes c.args.all.now.items c.push.new.self.items c.add.new.self c.bytes.result.now c.args.address.now c.in_ok-is_new.is_new
-    c.bytes.ensures.value c.if-not-is_new.false (c.in_ok-is_new.ensures.added (map key_of c.args.all.now.items) c.requires)
-    (c.in_ok-push.ensures.items ∙ ap (λ (a : Bytes). c.args.all.now.items ++ recipient Primary a ∷ []) c.in_ok-copy.ensures)
+    new_comes c.args.all.now.items c.push.new.self.items c.add.new.self c.bytes.result.now c.args.address.now
+    c.in_ok-is_new.is_new
+    c.bytes.ensures.value c.if-not-is_new.false (c.in_ok-is_new.ensures.added (map key_of c.args.all.now.items)
+    c.requires)
+    (c.in_ok-push.ensures.items ∙ ap (λ (a : Bytes). c.args.all.now.items ++ recipient Primary a ∷ [])
+    c.in_ok-copy.ensures)

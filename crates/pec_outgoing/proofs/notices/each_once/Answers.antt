@@ -9,9 +9,11 @@ use Rattle.pec_outgoing.proofs.notices.each_once.Goals as goal
 pub loop-address-preserved : goal.loop-address-preserved
 loop-address-preserved c = record {
   known = c.in_ok-add.ensures.known;
-  all = gathered_more c.args.path.now c.loop-address.address-index c.address-item.result c.loop-address.all.items c.add.new.all.items
+  all = gathered_more c.args.path.now c.loop-address.address-index c.address-item.result c.loop-address.all.items
+      c.add.new.all.items
       c.loop-address-test.true c.address-item.is c.loop-address.invariant.all c.in_ok-add.ensures.added;
-  lower = lower_more c.args.path.now c.loop-address.address-index c.address-item.result c.loop-address-test.true c.address-item.is
+  lower = lower_more c.args.path.now c.loop-address.address-index c.address-item.result c.loop-address-test.true
+      c.address-item.is
       c.loop-address.invariant.lower c.in_ok-add.ensures.lower;
 }
 
