@@ -2,12 +2,15 @@ pub mod BeginningLemmas
 pub mod ClimbLemmas
 pub mod CutLemmas
 pub mod HeadlineLemmas
+pub mod InputLemmas
 pub mod LineLemmas
 pub mod NextLemmas
 pub mod PlaceLemmas
+pub mod QuietLemmas
 pub mod ResumeLemmas
 pub mod RunLemmas
 pub mod StageLemmas
 pub mod StatusLemmas
 pub mod StepLemmas
 pub mod TextLemmas
+pub mod TranscriptLemmas

@@ -1,5 +1,6 @@
 pub mod AnswerLines
 pub mod Endings
+pub mod Examples
 pub mod Happened
 pub mod Headline
 pub mod Inputs
@@ -10,4 +11,5 @@ pub mod Reaching
 pub mod Resuming
 pub mod ScriptLines
 pub mod Statuses
+pub mod Transcripts
 pub mod Writing

@@ -3,6 +3,7 @@
 -- Nothing here presumes that frames are genuine or that journals fit; that stands in laws. This project's profile.
 use Rattle.std.specs.Prelude.{◌≡◌, ℕ, ◌≤◌, ◌⊎◌, List, ◌++◌, length, slice_get, Option, Some, None, IfSome, Ok}
 use Rattle.pec_types.specs.Bytes.{Bytes}
+use Rattle.pec_outside.specs.DiskModel.{Sight}
 use Rattle.pec_outside.specs.Flow.{HasRisen, WrotePart, followed_by}
 use Rattle.pec_directory.specs.Directory.{Provider}
 use Rattle.pec_ledger.specs.Network.{Site, interrupted_at, journal_at}
@@ -10,7 +11,7 @@ use Rattle.pec_ledger.specs.Trade.{Trade}
 use Rattle.pec_plays.specs.Commands.{Command, Luck, played}
 use Rattle.pec_runs.specs.Happened.{Happened, IsSetting, Stage, Over, Halted, Begun, directory_in, outcome_of, providers_in, stage_of, trade_in}
 use Rattle.pec_runs.specs.Inputs.{Parts, parts_of, raw_lines}
-use Rattle.pec_runs.specs.Openings.{AreLeft, AreUntouched, Disks, Form, IsOpening, Next, NoMore, opened_all}
+use Rattle.pec_runs.specs.Openings.{disks_at, AreLeft, AreUntouched, Disks, Form, IsOpening, Next, NoMore, opened_all}
 use Rattle.pec_runs.specs.Plays.{Ends, Fails, Finish, MayPlay, Outcome, Rest, Stopped, Stops, Strays, outcome_text}
 use Rattle.pec_runs.specs.ScriptLines.{Script}
 use Rattle.pec_runs.specs.Statuses.{Status, status_of}
@@ -135,3 +136,9 @@ pub record Ran (words : List Bytes) (status : Status) (unread before after : Opt
   pub blame : Blames status old new
   pub counts : NoneFell old new
   pub is_at : IsAt tells old_disks new_disks old new happened words (stage_of words happened.early happened.parts)
+
+-- The same over a depot that had these disks at home, by provider, and has those.
+abbrev pub RanOver : {D : Type 0} → Type 0 → (D → Sight) → List Bytes → Status → (unread before after : Option Bytes)
+    → (home left : ℕ → Option D) → (old new : Counts) → Type 0
+RanOver tells sight words status unread before after home left old new =
+    Ran words status unread before after tells (disks_at tells sight home) (disks_at tells sight left) old new

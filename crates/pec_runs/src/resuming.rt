@@ -8,8 +8,8 @@ ghost use Rattle.pec_plays.specs.Commands.{Command, Luck};
 ghost use Rattle.pec_plays.specs.Scripts.{script};
 ghost use Rattle.pec_runs.specs.Happened.{Begun, outcome_of, stage_of};
 ghost use Rattle.pec_runs.specs.Headline.{AllHonest, IsBook, IsHonest};
-ghost use Rattle.pec_runs.specs.Openings.{disks_at, Form, NoMore, Resume};
-ghost use Rattle.pec_runs.specs.Ran.{Counts, Ran, beginning, command_in_hand, world};
+ghost use Rattle.pec_runs.specs.Openings.{Form, NoMore, Resume};
+ghost use Rattle.pec_runs.specs.Ran.{Counts, RanOver, beginning, command_in_hand, world};
 ghost use Rattle.pec_runs.specs.Resuming.{IsAtRest, resumed};
 ghost use Rattle.pec_runs.specs.ScriptLines.{Script};
 ghost use Rattle.pec_runs.specs.Statuses.{Status};
@@ -48,10 +48,8 @@ pub fn a_script_may_be_cut()
 pub fn a_resumed_run_begins_where_the_last_left<P: Depot>()
     ensures { (words others : List Bytes) (status other : Status) (unread before after other_unread other_before other_after : Option Bytes)
         (depot left last : P) (old between behind new : Counts) → P.tells × P.D.tells
-        → (ran : Ran words status unread before after (P.tells × P.D.tells)
-        (disks_at (P.tells × P.D.tells) P.D.sight (P.home depot)) (disks_at (P.tells × P.D.tells) P.D.sight (P.home left)) old between)
-        (again : Ran others other other_unread other_before other_after (P.tells × P.D.tells)
-        (disks_at (P.tells × P.D.tells) P.D.sight (P.home left)) (disks_at (P.tells × P.D.tells) P.D.sight (P.home last)) behind new)
+        → (ran : RanOver (P.tells × P.D.tells) P.D.sight words status unread before after (P.home depot) (P.home left) old between)
+        (again : RanOver (P.tells × P.D.tells) P.D.sight others other other_unread other_before other_after (P.home left) (P.home last) behind new)
         (form : Form) (script rest : Script)
         → stage_of words ran.happened.early ran.happened.parts ≡ Begun form script → ran.happened.opening.next ≡ NoMore
         → stage_of others again.happened.early again.happened.parts ≡ Begun Resume rest → again.happened.opening.next ≡ NoMore

@@ -4,8 +4,8 @@ ghost use Rattle.pec_ledger.specs.Ledger.{Fit};
 ghost use Rattle.pec_ledger.specs.Network.{journals_in};
 ghost use Rattle.pec_runs.specs.Happened.{Begun, stage_of};
 ghost use Rattle.pec_runs.specs.Headline.{AllHonest, Headline};
-ghost use Rattle.pec_runs.specs.Openings.{disks_at, Form, NoMore, Resume};
-ghost use Rattle.pec_runs.specs.Ran.{Counts, Ran, beginning, world};
+ghost use Rattle.pec_runs.specs.Openings.{Form, NoMore, Resume};
+ghost use Rattle.pec_runs.specs.Ran.{Counts, RanOver, beginning, world};
 ghost use Rattle.pec_runs.specs.ScriptLines.{Script};
 ghost use Rattle.pec_runs.specs.Statuses.{Status};
 
@@ -18,8 +18,7 @@ use pec_script::a_line_has_one_reading;
 /// a run that resumed, where the journals as opened fit together.
 pub fn a_runs_books_belong_to_the_ledger<P: Depot>()
     ensures { (words : List Bytes) (status : Status) (unread before after : Option Bytes) (depot left : P) (old new : Counts)
-        (ran : Ran words status unread before after (P.tells × P.D.tells)
-        (disks_at (P.tells × P.D.tells) P.D.sight (P.home depot)) (disks_at (P.tells × P.D.tells) P.D.sight (P.home left)) old new)
+        (ran : RanOver (P.tells × P.D.tells) P.D.sight words status unread before after (P.home depot) (P.home left) old new)
         (form : Form) (script : Script) → stage_of words ran.happened.early ran.happened.parts ≡ Begun form script
         → ran.happened.opening.next ≡ NoMore
         → (form ≡ Resume → Fit (world ran.happened) (journals_in ran.happened.opening.journals))

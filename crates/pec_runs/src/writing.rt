@@ -9,9 +9,8 @@ ghost use Rattle.pec_plays.specs.Scripts.{script};
 ghost use Rattle.pec_runs.specs.AnswerLines.{AreLines, answers_text};
 ghost use Rattle.pec_runs.specs.Endings.{End, end_text};
 ghost use Rattle.pec_runs.specs.Happened.{outcome_of, providers_in};
-ghost use Rattle.pec_runs.specs.Openings.{disks_at};
 ghost use Rattle.pec_runs.specs.Plays.{outcome_text};
-ghost use Rattle.pec_runs.specs.Ran.{Counts, Ran};
+ghost use Rattle.pec_runs.specs.Ran.{Counts, RanOver};
 ghost use Rattle.pec_runs.specs.Statuses.{Status};
 ghost use Rattle.pec_runs.specs.Statuses as statuses;
 ghost use Rattle.pec_runs.specs.Writing.{HasEnded, IsDone, IsOfEnd, WroteAnswers};
@@ -33,33 +32,27 @@ pub fn answers_are_whole_lines()
 pub fn a_status_says_what_was_written<P: Depot>()
     ensures read_fault { (words : List Bytes) (unread before after : Option Bytes) (depot left : P) (old new : Counts)
         → P.tells × P.D.tells
-        → (ran : Ran words statuses.ReadFault unread before after (P.tells × P.D.tells)
-        (disks_at (P.tells × P.D.tells) P.D.sight (P.home depot)) (disks_at (P.tells × P.D.tells) P.D.sight (P.home left)) old new)
+        → (ran : RanOver (P.tells × P.D.tells) P.D.sight words statuses.ReadFault unread before after (P.home depot) (P.home left) old new)
         → WroteAnswers words ran.happened before after }
     ensures no_memory { (words : List Bytes) (unread before after : Option Bytes) (depot left : P) (old new : Counts)
         → P.tells × P.D.tells
-        → (ran : Ran words statuses.NoMemory unread before after (P.tells × P.D.tells)
-        (disks_at (P.tells × P.D.tells) P.D.sight (P.home depot)) (disks_at (P.tells × P.D.tells) P.D.sight (P.home left)) old new)
+        → (ran : RanOver (P.tells × P.D.tells) P.D.sight words statuses.NoMemory unread before after (P.home depot) (P.home left) old new)
         → WroteAnswers words ran.happened before after }
     ensures write_fault { (words : List Bytes) (unread before after : Option Bytes) (depot left : P) (old new : Counts)
         → P.tells × P.D.tells
-        → (ran : Ran words statuses.WriteFault unread before after (P.tells × P.D.tells)
-        (disks_at (P.tells × P.D.tells) P.D.sight (P.home depot)) (disks_at (P.tells × P.D.tells) P.D.sight (P.home left)) old new)
+        → (ran : RanOver (P.tells × P.D.tells) P.D.sight words statuses.WriteFault unread before after (P.home depot) (P.home left) old new)
         → WrotePart before after (outcome_text (providers_in ran.happened.setting) (outcome_of words ran.happened)) }
     ensures start_fault { (words : List Bytes) (unread before after : Option Bytes) (depot left : P) (old new : Counts)
         → P.tells × P.D.tells
-        → (ran : Ran words statuses.StartFault unread before after (P.tells × P.D.tells)
-        (disks_at (P.tells × P.D.tells) P.D.sight (P.home depot)) (disks_at (P.tells × P.D.tells) P.D.sight (P.home left)) old new)
+        → (ran : RanOver (P.tells × P.D.tells) P.D.sight words statuses.StartFault unread before after (P.home depot) (P.home left) old new)
         → after ≡ followed_by before [] }
     ensures ended { (words : List Bytes) (status : Status) (unread before after : Option Bytes) (depot left : P) (old new : Counts)
         → P.tells × P.D.tells → IsOfEnd status
-        → (ran : Ran words status unread before after (P.tells × P.D.tells)
-        (disks_at (P.tells × P.D.tells) P.D.sight (P.home depot)) (disks_at (P.tells × P.D.tells) P.D.sight (P.home left)) old new)
+        → (ran : RanOver (P.tells × P.D.tells) P.D.sight words status unread before after (P.home depot) (P.home left) old new)
         → HasEnded words ran.happened status before after }
     // Status 0: the script was played to its end.
     ensures done { (words : List Bytes) (unread before after : Option Bytes) (depot left : P) (old new : Counts)
         → P.tells × P.D.tells
-        → (ran : Ran words statuses.Done unread before after (P.tells × P.D.tells)
-        (disks_at (P.tells × P.D.tells) P.D.sight (P.home depot)) (disks_at (P.tells × P.D.tells) P.D.sight (P.home left)) old new)
+        → (ran : RanOver (P.tells × P.D.tells) P.D.sight words statuses.Done unread before after (P.home depot) (P.home left) old new)
         → IsDone words ran.happened }
 {}

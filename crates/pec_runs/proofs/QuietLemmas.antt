@@ -1,0 +1,514 @@
+-- A run of which no fault is told is one without faults.
+use Rattle.std.proofs.Common.{◌≡◌, ◌≢◌, ℕ, zero, suc, ◌+◌, ◌<◌, ◌==◌, ◌&&◌, ◌⊎◌, inl, inr, List, [], ◌∷◌, Bool, true, false, length, refl, ap, sym, subst, ◌∙◌, arith, nat_lt, Option, Some, None}
+use Rattle.std.specs.Prelude.{All, filter, slice_get, slice_index_or, if◌then◌else◌}
+use Rattle.std.proofs.lemmas.Bool.{eq-eqb, false≢true}
+use Rattle.std.proofs.lemmas.List.Elements.{All-cons, All-head, All-nil, All-tail}
+use Rattle.pec_types.specs.Bytes.{Bytes, Path}
+use Rattle.pec_types.specs.declared.messages.TheConstants.{MESSAGES}
+use Rattle.pec_types.specs.declared.turns.ProviderFault.{ProviderFault}
+use Rattle.pec_types.specs.declared.turns.ProviderFault.TheVariants as faults
+use Rattle.pec_types.specs.declared.turns.Turn.{Turn}
+use Rattle.pec_records.specs.declared.entries.Entry.{Entry}
+use Rattle.pec_records.specs.declared.entries.Entry.TheVariants as entries
+use Rattle.pec_ledger.specs.Along.{times}
+use Rattle.pec_ledger.specs.Books.{book, mailbox_lines}
+use Rattle.pec_ledger.specs.Half.{Half, Posted}
+use Rattle.pec_ledger.specs.Items.{item_text}
+use Rattle.pec_ledger.specs.Lookups.{mailbox}
+use Rattle.pec_ledger.specs.Network.{Site, empty_site, frames_between, journal_at, site_at}
+use Rattle.pec_ledger.specs.Steps.{half}
+use Rattle.pec_ledger.specs.Trade.{Trade}
+use Rattle.pec_plays.specs.Commands.{Answer, Command, Luck, Played, IsUp, Items, LinkFull, Lines, NoFrame, Refuses, Restarted, Turns, Submit, Tick, Round, Lose, Repeat, Swap, Inject, Crash, Restart, Book, Mailbox, Show, account_home, answers, append, appended, asked, at_work, messages_at, played, put_again, restarted, restarted_site, shown, shown_bytes, submitted, swapped, swapped_at, ticked, with_site}
+use Rattle.pec_plays.specs.Possible.{AllQuiet, IsCalm, IsQuiet, MayCut, MayMeet}
+use Rattle.pec_plays.specs.Rounds.{Rounded, delivered, link_size, outs_of, rooms_of, rounded, sent_from, told_from, turns_from, turns_of}
+use Rattle.pec_plays.specs.Scripts.{onto, script}
+use Rattle.pec_plays.specs.Steps.{Step, has_no_room}
+use Rattle.pec_plays.specs.Turns.{Cut, Turned, Whole, Fails, Full, Stops, cut_turn, frames_in, last_of, not_begun, plan, turned}
+use Rattle.pec_runs.specs.Plays.{AllMeet, HasMemory, faults_at, faults_by, faults_in, faults_told, is_disk_fault}
+
+-- ---- cuts
+
+-- the cut of a turn that didn't fail
+abbrev pub calmed : Cut → Cut
+calmed Whole = Whole
+calmed (Fails n) = Whole
+calmed (Full n) = Full n
+calmed (Stops n) = Whole
+
+calmed_calm : (cut : Cut) → IsCalm (calmed cut)
+calmed_calm Whole = tt
+calmed_calm (Fails n) = tt
+calmed_calm (Full n) = tt
+calmed_calm (Stops n) = tt
+
+calmed_same : (cut : Cut) → IsCalm cut → calmed cut ≡ cut
+calmed_same Whole calm = refl
+calmed_same (Fails n) calm = absurd calm
+calmed_same (Full n) calm = refl
+calmed_same (Stops n) calm = absurd calm
+
+-- a turn went well: neither its disk failed nor was memory missing
+pub record WentWell (ended : Option ProviderFault) : Type 0 where
+  pub disk : is_disk_fault ended ≡ false
+  pub memory : ended ≢ Some faults.NoMemory
+
+cut_calm : (trade : Trade) (p : ℕ) (rooms : ℕ → ℕ) (site : Site) (steps : List Step) (cut : Cut)
+    → WentWell (cut_turn trade p rooms site steps cut).ended → IsCalm cut
+cut_calm trade p rooms site steps Whole well = tt
+cut_calm trade p rooms site steps (Fails n) well = absurd (false≢true (sym well.disk))
+cut_calm trade p rooms site steps (Full n) well = tt
+cut_calm trade p rooms site steps (Stops n) well = absurd (well.memory refl)
+
+-- ---- a command
+
+module _ (trade : Trade) (sites : List Site) (luck : Luck) where
+  pub calm_luck : Luck
+  calm_luck = record { cuts = λ p. calmed (luck.cuts p); fails = false; found = luck.found }
+
+  calm_quiet : IsQuiet calm_luck
+  unfolding calm_luck
+  calm_quiet = record { cuts = λ p. calmed_calm (luck.cuts p); works = refl }
+
+  -- a fault of the disk is told, or both are the same
+  abbrev Alike : Played → Played → Type 0
+  Alike x y = (x.answer ≡ Refuses faults.DiskFault) ⊎ (x ≡ y)
+
+  alike_if : (b : Bool) (x y z w : Played) → Alike x y → Alike z w → Alike (if b then x else z) (if b then y else w)
+  alike_if true x y z w a c = a
+  alike_if false x y z w a c = c
+
+  appended_alike : (fails : Bool) (p : ℕ) (entry : Entry) (answer : Answer)
+      → Alike (appended fails sites p entry answer) (appended false sites p entry answer)
+  appended_alike true p entry answer = inl refl
+  appended_alike false p entry answer = inr refl
+
+  append_alike : (p : ℕ) (entry : Entry) (answer : Answer) → Alike (append trade luck sites p entry answer) (append trade calm_luck sites p entry answer)
+  unfolding calm_luck
+  append_alike p entry answer =
+      alike_if (has_no_room trade p (journal_at sites p) entry) (answers sites (Refuses faults.JournalFull)) (answers sites (Refuses faults.JournalFull))
+      (appended luck.fails sites p entry answer) (appended false sites p entry answer) (inr refl) (appended_alike luck.fails p entry answer)
+
+  work_alike : (p now : ℕ) (x y : Played) → Alike x y → Alike (at_work trade sites p now x) (at_work trade sites p now y)
+  work_alike p now x y a =
+      alike_if (site_at sites p).up _ _ (answers sites (Refuses faults.Down)) (answers sites (Refuses faults.Down))
+      (alike_if (nat_lt now (last_of trade p (journal_at sites p))) (answers sites (Refuses (faults.ClockBack (last_of trade p (journal_at sites p)))))
+      (answers sites (Refuses (faults.ClockBack (last_of trade p (journal_at sites p))))) x y (inr refl) a)
+      (inr refl)
+
+  submitted_alike : (p now : ℕ) (sender : Bytes) (along : Path) (message : Bytes)
+      → Alike (submitted trade luck sites p now sender along message) (submitted trade calm_luck sites p now sender along message)
+  submitted_alike p now sender along message =
+      alike_if (trade.is_account p sender) _ _ (answers sites (Refuses faults.NoAccount)) (answers sites (Refuses faults.NoAccount))
+      (work_alike p now _ _
+      (alike_if (nat_lt (messages_at trade sites p) MESSAGES) _ _ (answers sites (Refuses faults.Full)) (answers sites (Refuses faults.Full))
+      (append_alike p _ _) (inr refl)))
+      (inr refl)
+
+  ticked_alike : (p now : ℕ) → Alike (ticked trade luck sites p now) (ticked trade calm_luck sites p now)
+  ticked_alike p now = work_alike p now _ _ (append_alike p (entries.Ticked now) _)
+
+  abbrev up_again : ℕ → Site → Played
+  up_again p site =
+      record { answer = Restarted (length (restarted_site luck.found site).journal); after = with_site sites p (restarted_site luck.found site) }
+
+  fails_alike : (fails : Bool) (p : ℕ) (site : Site)
+      → Alike (if fails then answers sites (Refuses faults.DiskFault) else up_again p site) (up_again p site)
+  fails_alike true p site = inl refl
+  fails_alike false p site = inr refl
+
+  restarted_alike : (p : ℕ) (site : Site) → Alike (restarted luck sites p site) (restarted calm_luck sites p site)
+  unfolding calm_luck
+  restarted_alike p site =
+      alike_if site.up (answers sites IsUp) (answers sites IsUp)
+      (if luck.fails then answers sites (Refuses faults.DiskFault) else up_again p site) (up_again p site)
+      (inr refl) (fails_alike luck.fails p site)
+
+  abbrev one_if : Bool → ℕ
+  one_if b = if b then 1 else 0
+
+  one_is_some : (b : Bool) → b ≡ true → one_if b ≡ 0 → ⊥
+  one_is_some true e none = omega (arith, none)
+  one_is_some false e none = false≢true e
+
+  -- a call at one provider of which no fault of its disk is told
+  no_fault : (asked : ℕ) (x y : Played) → Alike x y → faults_at asked asked x.answer ≡ 0 → x ≡ y
+  no_fault asked x y (inr same) none = same
+  no_fault asked x y (inl told) none =
+      absurd (one_is_some (asked == asked) (eq-eqb asked asked refl) (subst (λ (a : Answer). faults_at asked asked a ≡ 0) told none))
+
+  -- ---- rounds
+
+  module _ (now : ℕ) where
+    abbrev turn_by : ℕ → (ℕ → ℕ) → Site → Cut → Bool → Bool → Turned
+    turn_by p rooms site cut up late =
+        if up then (if late then not_begun site (faults.ClockBack (last_of trade p site.journal))
+        else cut_turn trade p rooms site (plan trade p now site.journal (frames_in site.waiting)) cut)
+        else not_begun site faults.Down
+
+    turn_same : (p : ℕ) (rooms : ℕ → ℕ) (site : Site) (cut : Cut) (up late : Bool) → WentWell (turn_by p rooms site cut up late).ended
+        → turn_by p rooms site cut up late ≡ turn_by p rooms site (calmed cut) up late
+    turn_same p rooms site cut true false well =
+        let steps = plan trade p now site.journal (frames_in site.waiting)
+        in ap (cut_turn trade p rooms site steps) (sym (calmed_same cut (cut_calm trade p rooms site steps cut well)))
+    turn_same p rooms site cut true true well = refl
+    turn_same p rooms site cut false late well = refl
+
+    turned_same : (p : ℕ) (rooms : ℕ → ℕ) (site : Site) (cut : Cut) → WentWell (turned trade p now rooms cut site).ended
+        → turned trade p now rooms cut site ≡ turned trade p now rooms (calmed cut) site
+    unfolding turned
+    turned_same p rooms site cut well = turn_same p rooms site cut site.up (nat_lt now (last_of trade p site.journal)) well
+
+    -- a turn that began and went well was calm
+    turn_calm : (p : ℕ) (rooms : ℕ → ℕ) (site : Site) (cut : Cut) (up late : Bool) → up ≡ true → late ≡ false
+        → WentWell (turn_by p rooms site cut up late).ended → IsCalm cut
+    turn_calm p rooms site cut true false u l well =
+        cut_calm trade p rooms site (plan trade p now site.journal (frames_in site.waiting)) cut well
+    turn_calm p rooms site cut true true u l well = absurd (false≢true (sym l))
+    turn_calm p rooms site cut false late u l well = absurd (false≢true u)
+
+    turned_calm : (p : ℕ) (rooms : ℕ → ℕ) (site : Site) (cut : Cut) → site.up ≡ true → nat_lt now (last_of trade p site.journal) ≡ false
+        → WentWell (turned trade p now rooms cut site).ended → IsCalm cut
+    unfolding turned
+    turned_calm p rooms site cut u l well = turn_calm p rooms site cut site.up (nat_lt now (last_of trade p site.journal)) u l well
+
+    -- ---- all turns
+
+    abbrev Tests : ℕ → Turn → Bool
+    Tests k turn = (turn.provider == k) && is_disk_fault turn.ended
+
+    none_by : (k : ℕ) (turn : Turn) (turns : List Turn) (b : Bool) → Tests k turn ≡ b
+        → length (if b then turn ∷ filter (Tests k) turns else filter (Tests k) turns) ≡ 0
+        → (Tests k turn ≡ false) × (times (Tests k) turns ≡ 0)
+    none_by k turn turns true is e = absurd (omega (arith, e))
+    none_by k turn turns false is e = (is, e)
+
+    none_first : (k : ℕ) (turn : Turn) (turns : List Turn) → faults_in k (turn ∷ turns) ≡ 0
+        → (Tests k turn ≡ false) × (faults_in k turns ≡ 0)
+    none_first k turn turns e = none_by k turn turns (Tests k turn) refl e
+
+    own_fault : (number : ℕ) (b : Bool) → ((number == number) && b) ≡ false → b ≡ false
+    own_fault number b e = sym (ap (λ (c : Bool). c && b) (eq-eqb number number refl)) ∙ e
+
+    -- these turns tell no fault of a disk and no want of memory
+    pub record AllWell (number : ℕ) (turns : List Turned) : Type 0 where
+      pub disks : (k : ℕ) → faults_in k (told_from number turns) ≡ 0
+      pub memory : All (λ (turn : Turn). turn.ended ≢ Some faults.NoMemory) (told_from number turns)
+
+    abbrev told_of : ℕ → Turned → Turn
+    told_of number turn = record { provider = number; events = turn.events; sent = sent_from 0 turn.out; ended = turn.ended }
+
+    well_first : (number : ℕ) (turn : Turned) (turns : List Turned) → AllWell number (turn ∷ turns) → WentWell turn.ended
+    well_first number turn turns all = record {
+      disk = own_fault number (is_disk_fault turn.ended) (none_first number (told_of number turn) (told_from (number + 1) turns) (all.disks number)).0;
+      memory = All-head (λ (t : Turn). t.ended ≢ Some faults.NoMemory) (told_of number turn) (told_from (number + 1) turns) all.memory;
+    }
+
+    well_rest : (number : ℕ) (turn : Turned) (turns : List Turned) → AllWell number (turn ∷ turns) → AllWell (number + 1) turns
+    well_rest number turn turns all = record {
+      disks = λ k. (none_first k (told_of number turn) (told_from (number + 1) turns) (all.disks k)).1;
+      memory = All-tail (λ (t : Turn). t.ended ≢ Some faults.NoMemory) (told_of number turn) (told_from (number + 1) turns) all.memory;
+    }
+
+    both_turns : (x y : Turned) (xs ys : List Turned) → x ≡ y → xs ≡ ys → x ∷ xs ≡ y ∷ ys
+    both_turns x y xs ys e f = rw (e, f) refl
+
+    turns_same : (number : ℕ) (ss : List Site) → AllWell number (turns_from trade now sites luck.cuts number ss)
+        → turns_from trade now sites luck.cuts number ss ≡ turns_from trade now sites calm_luck.cuts number ss
+    unfolding calm_luck
+    turns_same number [] all = refl
+    turns_same number (s ∷ ss) all =
+        let turn = turned trade number now (rooms_of sites number) (luck.cuts number) s
+        in let turns = turns_from trade now sites luck.cuts (number + 1) ss
+        in both_turns turn (turned trade number now (rooms_of sites number) (calmed (luck.cuts number)) s) turns
+        (turns_from trade now sites (λ p. calmed (luck.cuts p)) (number + 1) ss)
+        (turned_same number (rooms_of sites number) s (luck.cuts number) (well_first number turn turns all))
+        (turns_same (number + 1) ss (well_rest number turn turns all))
+
+    abbrev CalmAt : ℕ → Site → Type 0
+    CalmAt p site = site.up ≡ true → nat_lt now (last_of trade p site.journal) ≡ false → IsCalm (luck.cuts p)
+
+    all_calm : (number : ℕ) (ss : List Site) → AllWell number (turns_from trade now sites luck.cuts number ss)
+        → (k : ℕ) → k < length ss → CalmAt (number + k) (slice_index_or ss k empty_site)
+    all_calm number [] all k l = absurd (omega arith)
+    all_calm number (s ∷ ss) all zero l =
+        let turn = turned trade number now (rooms_of sites number) (luck.cuts number) s
+        in subst (λ (q : ℕ). CalmAt q s) (let z : number ≡ number + 0 = omega arith in z)
+        (λ u late. turned_calm number (rooms_of sites number) s (luck.cuts number) u late
+        (well_first number turn (turns_from trade now sites luck.cuts (number + 1) ss) all))
+    all_calm number (s ∷ ss) all (suc k) l =
+        let turn = turned trade number now (rooms_of sites number) (luck.cuts number) s
+        in subst (λ (q : ℕ). CalmAt q (slice_index_or ss k empty_site)) (let z : (number + 1) + k ≡ number + suc k = omega arith in z)
+        (all_calm (number + 1) ss (well_rest number turn (turns_from trade now sites luck.cuts (number + 1) ss) all) k (omega arith))
+
+    -- the turns of a round that is told so
+    turns_well : All (λ (turn : Turn). turn.ended ≢ Some faults.NoMemory) (rounded trade now luck.cuts sites).turns
+        → ((k : ℕ) → faults_in k (rounded trade now luck.cuts sites).turns ≡ 0) → AllWell 0 (turns_from trade now sites luck.cuts 0 sites)
+    unfolding rounded turns_of
+    turns_well memory disks = record { disks = disks; memory = memory }
+
+    rounded_same : AllWell 0 (turns_from trade now sites luck.cuts 0 sites) → rounded trade now luck.cuts sites ≡ rounded trade now calm_luck.cuts sites
+    unfolding rounded turns_of
+    rounded_same all =
+        ap (λ (turns : List Turned). let r : Rounded = record { sites = delivered (outs_of turns) 0 turns; turns = told_from 0 turns } in r)
+        (turns_same 0 sites all)
+
+    round_may : AllWell 0 (turns_from trade now sites luck.cuts 0 sites) → MayMeet trade luck sites (Round now) → MayMeet trade calm_luck sites (Round now)
+    unfolding calm_luck
+    round_may all may p l u late =
+        let calm : IsCalm (luck.cuts p) =
+        subst (λ (q : ℕ). CalmAt q (slice_index_or sites p empty_site) → IsCalm (luck.cuts p)) (let z : p ≡ 0 + p = omega arith in z) (λ at. at u late)
+        (all_calm 0 sites all p l)
+        in subst (λ (cut : Cut). MayCut (plan trade p now (site_at sites p).journal (frames_in (site_at sites p).waiting)) cut)
+        (sym (calmed_same (luck.cuts p) calm)) (may p l u late)
+
+  -- ---- all commands
+
+  abbrev Twin : Command → Type 0
+  Twin command = MayMeet trade calm_luck sites command × (played trade luck sites command ≡ played trade calm_luck sites command)
+
+  abbrev ToldWell : Command → Type 0
+  ToldWell command = HasMemory (played trade luck sites command).answer
+      × ((k : ℕ) → faults_by k command (played trade luck sites command).answer ≡ 0)
+
+  pub twin : (command : Command) → MayMeet trade luck sites command → ToldWell command → Twin command
+  unfolding played
+  twin (Submit p now sender along message) may well = (
+    tt,
+    no_fault p (submitted trade luck sites p now sender along message) (submitted trade calm_luck sites p now sender along message)
+        (submitted_alike p now sender along message) (well.1 p),
+  )
+  twin (Tick p now) may well =
+      (tt, no_fault p (ticked trade luck sites p now) (ticked trade calm_luck sites p now) (ticked_alike p now) (well.1 p))
+  twin (Round now) may well =
+      let all = turns_well now well.0 well.1
+      in (round_may now all may, ap (λ (r : Rounded). let x : Played = record { answer = Turns r.turns; after = r.sites } in x) (rounded_same now all))
+  twin (Lose from to place) may well = (tt, refl)
+  twin (Repeat from to place) may well = (tt, refl)
+  twin (Swap from to place) may well = (tt, refl)
+  twin (Inject from to frame) may well = (tt, refl)
+  twin (Crash p) may well = (tt, refl)
+  twin (Restart p) may well =
+      (tt, no_fault p (restarted luck sites p (site_at sites p)) (restarted calm_luck sites p (site_at sites p)) (restarted_alike p (site_at sites p)) (well.1 p))
+  twin (Book address) may well = (tt, refl)
+  twin (Mailbox address) may well = (tt, refl)
+  twin (Show address place) may well = (tt, refl)
+
+-- ---- what is told of a command without faults
+
+module _ (trade : Trade) (sites : List Site) (luck : Luck) (quiet : IsQuiet luck) where
+  -- no fault of any disk is told by a call at this provider, and no want of memory
+  abbrev Well : ℕ → Played → Type 0
+  Well asked x = HasMemory x.answer × ((k : ℕ) → faults_at k asked x.answer ≡ 0)
+
+  well_if : (asked : ℕ) (b : Bool) (x y : Played) → Well asked x → Well asked y → Well asked (if b then x else y)
+  well_if asked true x y a c = a
+  well_if asked false x y a c = c
+
+  appended_well : (asked : ℕ) (fails : Bool) → fails ≡ false → (p : ℕ) (entry : Entry) (answer : Answer) → Well asked (answers sites answer)
+      → Well asked (appended fails sites p entry answer)
+  appended_well asked true e p entry answer a = absurd (false≢true (sym e))
+  appended_well asked false e p entry answer a = a
+
+  append_well : (asked p : ℕ) (entry : Entry) (answer : Answer) → Well asked (answers sites answer)
+      → Well asked (append trade luck sites p entry answer)
+  append_well asked p entry answer a =
+      well_if asked (has_no_room trade p (journal_at sites p) entry) (answers sites (Refuses faults.JournalFull))
+      (appended luck.fails sites p entry answer) (tt, λ k. refl) (appended_well asked luck.fails quiet.works p entry answer a)
+
+  work_well : (asked p now : ℕ) (done : Played) → Well asked done → Well asked (at_work trade sites p now done)
+  work_well asked p now done a =
+      well_if asked (site_at sites p).up _ (answers sites (Refuses faults.Down))
+      (well_if asked (nat_lt now (last_of trade p (journal_at sites p)))
+      (answers sites (Refuses (faults.ClockBack (last_of trade p (journal_at sites p))))) done (tt, λ k. refl) a)
+      (tt, λ k. refl)
+
+  submitted_well : (p now : ℕ) (sender : Bytes) (along : Path) (message : Bytes) → Well p (submitted trade luck sites p now sender along message)
+  submitted_well p now sender along message =
+      well_if p (trade.is_account p sender) _ (answers sites (Refuses faults.NoAccount))
+      (work_well p p now _
+      (well_if p (nat_lt (messages_at trade sites p) MESSAGES) _ (answers sites (Refuses faults.Full))
+      (append_well p p _ _ (tt, λ k. refl)) (tt, λ k. refl)))
+      (tt, λ k. refl)
+
+  ticked_well : (p now : ℕ) → Well p (ticked trade luck sites p now)
+  ticked_well p now = work_well p p now _ (append_well p p (entries.Ticked now) _ (tt, λ k. refl))
+
+  restarted_well : (p : ℕ) (site : Site) → Well p (restarted luck sites p site)
+  restarted_well p site =
+      well_if p site.up (answers sites IsUp) _ (tt, λ k. refl) (by_luck luck.fails quiet.works)
+    where
+      by_luck : (fails : Bool) → fails ≡ false
+          → Well p (if fails then answers sites (Refuses faults.DiskFault) else up_again trade sites luck p site)
+      by_luck true e = absurd (false≢true (sym e))
+      by_luck false e = (tt, λ k. refl)
+
+  -- ---- rounds
+
+  cut_well : (p : ℕ) (rooms : ℕ → ℕ) (site : Site) (steps : List Step) (cut : Cut) → IsCalm cut
+      → WentWell (cut_turn trade p rooms site steps cut).ended
+  cut_well p rooms site steps Whole calm = record { disk = refl; memory = λ e. cc }
+  cut_well p rooms site steps (Fails n) calm = absurd calm
+  cut_well p rooms site steps (Full n) calm = record { disk = refl; memory = λ e. cc }
+  cut_well p rooms site steps (Stops n) calm = absurd calm
+
+  ended_if : (b : Bool) (x y : Turned) → WentWell x.ended → WentWell y.ended → WentWell (if b then x else y).ended
+  ended_if true x y a c = a
+  ended_if false x y a c = c
+
+  turned_well : (p now : ℕ) (rooms : ℕ → ℕ) (site : Site) (cut : Cut) → IsCalm cut → WentWell (turned trade p now rooms cut site).ended
+  unfolding turned
+  turned_well p now rooms site cut calm =
+      ended_if site.up _ (not_begun site faults.Down)
+      (ended_if (nat_lt now (last_of trade p site.journal)) (not_begun site (faults.ClockBack (last_of trade p site.journal))) _
+      (record { disk = refl; memory = λ e. cc }) (cut_well p rooms site (plan trade p now site.journal (frames_in site.waiting)) cut calm))
+      (record { disk = refl; memory = λ e. cc })
+
+  none_more : (k : ℕ) (turn : Turn) (turns : List Turn) (b : Bool) → b ≡ false → length (filter (Tests trade sites luck 0 k) turns) ≡ 0
+      → length (if b then turn ∷ filter (Tests trade sites luck 0 k) turns else filter (Tests trade sites luck 0 k) turns) ≡ 0
+  none_more k turn turns true e n = absurd (false≢true (sym e))
+  none_more k turn turns false e n = n
+
+  and_false : (a b : Bool) → b ≡ false → (a && b) ≡ false
+  and_false true b e = e
+  and_false false b e = refl
+
+  turns_none : (k now number : ℕ) (ss : List Site) → faults_in k (told_from number (turns_from trade now sites luck.cuts number ss)) ≡ 0
+  turns_none k now number [] = refl
+  turns_none k now number (s ∷ ss) =
+      let turn = turned trade number now (rooms_of sites number) (luck.cuts number) s
+      in let told = told_of trade sites luck now number turn
+      in none_more k told (told_from (number + 1) (turns_from trade now sites luck.cuts (number + 1) ss)) (Tests trade sites luck 0 k told)
+      (and_false (number == k) (is_disk_fault turn.ended)
+      (turned_well number now (rooms_of sites number) s (luck.cuts number) (quiet.cuts number)).disk)
+      (turns_none k now (number + 1) ss)
+
+  turns_memory : (now number : ℕ) (ss : List Site)
+      → All (λ (turn : Turn). turn.ended ≢ Some faults.NoMemory) (told_from number (turns_from trade now sites luck.cuts number ss))
+  turns_memory now number [] = All-nil (λ (turn : Turn). turn.ended ≢ Some faults.NoMemory)
+  turns_memory now number (s ∷ ss) =
+      let turn = turned trade number now (rooms_of sites number) (luck.cuts number) s
+      in All-cons (λ (t : Turn). t.ended ≢ Some faults.NoMemory) (told_of trade sites luck now number turn)
+      (told_from (number + 1) (turns_from trade now sites luck.cuts (number + 1) ss))
+      (turned_well number now (rooms_of sites number) s (luck.cuts number) (quiet.cuts number)).memory
+      (turns_memory now (number + 1) ss)
+
+  rounded_well : (now : ℕ) → All (λ (turn : Turn). turn.ended ≢ Some faults.NoMemory) (rounded trade now luck.cuts sites).turns
+      × ((k : ℕ) → faults_in k (rounded trade now luck.cuts sites).turns ≡ 0)
+  unfolding rounded turns_of
+  rounded_well now = (turns_memory now 0 sites, λ k. turns_none k now 0 sites)
+
+  -- ---- what accounts are shown, and links
+
+  abbrev Remembers : Played → Type 0
+  Remembers x = HasMemory x.answer
+
+  remembers_if : (b : Bool) (x y : Played) → Remembers x → Remembers y → Remembers (if b then x else y)
+  remembers_if true x y a c = a
+  remembers_if false x y a c = c
+
+  asked_well : (show : ℕ → Half → Played) (found : Option ℕ) → ((p : ℕ) (h : Half) → Remembers (show p h)) → Remembers (asked sites show trade found)
+  asked_well show None each = tt
+  asked_well show (Some p) each =
+      remembers_if (site_at sites p).up (show p (half trade p (journal_at sites p))) (answers sites (Refuses faults.Down)) (each p _) tt
+
+  bytes_well : (text : Option Bytes) → Remembers (shown_bytes sites text)
+  bytes_well None = tt
+  bytes_well (Some bytes) = tt
+
+  shown_well : (p : ℕ) (found : Option Posted) → Remembers (shown trade sites p found)
+  shown_well p None = tt
+  shown_well p (Some posted) = bytes_well (item_text trade p (journal_at sites p) posted)
+
+  again_well : (from to : ℕ) (found : Option Bytes) → Remembers (put_again sites from to found)
+  again_well from to None = tt
+  again_well from to (Some frame) = remembers_if (nat_lt (length (frames_between sites from to)) link_size) _ (answers sites LinkFull) tt tt
+
+  swapped_well : (from to : ℕ) (found : Option (List Bytes)) → Remembers (swapped sites from to found)
+  swapped_well from to None = tt
+  swapped_well from to (Some frames) = tt
+
+  pub quiet_well : (command : Command) → ToldWell trade sites luck command
+  unfolding played
+  quiet_well (Submit p now sender along message) = submitted_well p now sender along message
+  quiet_well (Tick p now) = ticked_well p now
+  quiet_well (Round now) = rounded_well now
+  quiet_well (Lose from to place) =
+      (remembers_if (nat_lt place (length (frames_between sites from to))) _ (answers sites NoFrame) tt tt, λ k. refl)
+  quiet_well (Repeat from to place) = (again_well from to (slice_get (frames_between sites from to) place), λ k. refl)
+  quiet_well (Swap from to place) = (swapped_well from to (swapped_at place (frames_between sites from to)), λ k. refl)
+  quiet_well (Inject from to frame) =
+      (remembers_if (nat_lt (length (frames_between sites from to)) link_size) _ (answers sites LinkFull) tt tt, λ k. refl)
+  quiet_well (Crash p) = (tt, λ k. refl)
+  quiet_well (Restart p) = restarted_well p (site_at sites p)
+  quiet_well (Book address) =
+      (asked_well (λ (p : ℕ) (h : Half). answers sites (Lines (book trade p h address))) (account_home trade address (trade.home address)) (λ p h. tt), λ k. refl)
+  quiet_well (Mailbox address) =
+      (asked_well (λ (p : ℕ) (h : Half). answers sites (Items (mailbox_lines h address))) (account_home trade address (trade.home address)) (λ p h. tt), λ k. refl)
+  quiet_well (Show address place) = (
+    asked_well (λ (p : ℕ) (h : Half). shown trade sites p (slice_get (mailbox h address) place)) (account_home trade address (trade.home address))
+        (λ p h. shown_well p (slice_get (mailbox h address) place)),
+    λ k. refl,
+  )
+
+-- ---- scripts
+
+-- Lucks without faults that lead the same way.
+pub record Twins (trade : Trade) (lucks : List Luck) (sites : List Site) (commands : List Command) : Type 0 where
+  pub calms : List Luck
+  pub quiet : AllQuiet trade calms sites commands
+  pub count : length calms ≡ length lucks
+  pub same : script trade calms sites commands ≡ script trade lucks sites commands
+
+none_in_sum : (a b : ℕ) → a + b ≡ 0 → (a ≡ 0) × (b ≡ 0)
+none_in_sum a b e = (omega (arith, e), omega (arith, e))
+
+module _ (trade : Trade) where
+  pub twins : (lucks : List Luck) (sites : List Site) (commands : List Command) → AllMeet trade lucks sites commands
+      → All HasMemory (script trade lucks sites commands).answers
+      → ((k : ℕ) → faults_told k commands (script trade lucks sites commands).answers ≡ 0) → Twins trade lucks sites commands
+  twins [] sites commands meet memory none = record { calms = []; quiet = tt; count = refl; same = refl }
+  twins (luck ∷ lucks) sites [] meet memory none = record { calms = luck ∷ lucks; quiet = tt; count = refl; same = refl }
+  twins (luck ∷ lucks) sites (c ∷ commands) meet memory none =
+      let here = played trade luck sites c
+      in let told = (script trade lucks here.after commands).answers
+      in let first = twin trade sites luck c meet.0
+      (All-head HasMemory here.answer told memory, λ k. (none_in_sum (faults_by k c here.answer) (faults_told k commands told) (none k)).0)
+      in let later = twins lucks here.after commands meet.1 (All-tail HasMemory here.answer told memory)
+      (λ k. (none_in_sum (faults_by k c here.answer) (faults_told k commands told) (none k)).1)
+      in record {
+        calms = calm_luck trade sites luck ∷ later.calms;
+        quiet = (
+          first.0,
+          calm_quiet trade sites luck,
+          subst (λ (p : Played). AllQuiet trade later.calms p.after commands) first.1 later.quiet,
+        );
+        count = ap suc later.count;
+        same = ap (λ (p : Played). onto p.answer (script trade later.calms p.after commands)) (sym first.1)
+            ∙ ap (onto here.answer) later.same;
+      }
+
+  -- a script without faults tells none
+  pub quiet_meet : (lucks : List Luck) (sites : List Site) (commands : List Command) → AllQuiet trade lucks sites commands
+      → AllMeet trade lucks sites commands
+  quiet_meet [] sites commands quiet = tt
+  quiet_meet (luck ∷ lucks) sites [] quiet = tt
+  quiet_meet (luck ∷ lucks) sites (c ∷ commands) quiet = (quiet.0, quiet_meet lucks (played trade luck sites c).after commands quiet.2)
+
+  pub quiet_memory : (lucks : List Luck) (sites : List Site) (commands : List Command) → AllQuiet trade lucks sites commands
+      → All HasMemory (script trade lucks sites commands).answers
+  quiet_memory [] sites commands quiet = All-nil HasMemory
+  quiet_memory (luck ∷ lucks) sites [] quiet = All-nil HasMemory
+  quiet_memory (luck ∷ lucks) sites (c ∷ commands) quiet =
+      let here = played trade luck sites c
+      in All-cons HasMemory here.answer (script trade lucks here.after commands).answers (quiet_well trade sites luck quiet.1 c).0
+      (quiet_memory lucks here.after commands quiet.2)
+
+  pub quiet_none : (k : ℕ) (lucks : List Luck) (sites : List Site) (commands : List Command) → AllQuiet trade lucks sites commands
+      → faults_told k commands (script trade lucks sites commands).answers ≡ 0
+  quiet_none k [] sites [] quiet = refl
+  quiet_none k [] sites (c ∷ commands) quiet = refl
+  quiet_none k (luck ∷ lucks) sites [] quiet = refl
+  quiet_none k (luck ∷ lucks) sites (c ∷ commands) quiet =
+      let first = (quiet_well trade sites luck quiet.1 c).1 k
+      in let later = quiet_none k lucks (played trade luck sites c).after commands quiet.2
+      in omega (arith, first, later)

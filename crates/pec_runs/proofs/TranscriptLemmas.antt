@@ -1,0 +1,171 @@
+-- A run without faults tells its transcript.
+use Rattle.std.proofs.Common.{◌≡◌, ℕ, ◌+◌, ◌<◌, ◌≤◌, ◌⊎◌, inl, inr, List, [], ◌∷◌, ◌++◌, Bool, true, false, length, refl, ap, sym, subst, ◌∙◌, arith, Option, Some, None}
+use Rattle.std.specs.Prelude.{All}
+use Rattle.pec_types.specs.Bytes.{Bytes}
+use Rattle.pec_outside.specs.Flow.{HasRisen, followed_by}
+use Rattle.pec_directory.specs.Directory.{Provider}
+use Rattle.pec_ledger.specs.Network.{Site}
+use Rattle.pec_ledger.specs.Trade.{Trade}
+use Rattle.pec_plays.specs.Commands.{Command, Luck}
+use Rattle.pec_plays.specs.Possible.{AllQuiet, NoneInterrupted, quiet_lucks}
+use Rattle.pec_plays.specs.Scripts.{Told, script}
+use Rattle.pec_runs.specs.AnswerLines.{answers_text}
+use Rattle.pec_runs.specs.Endings.{End}
+use Rattle.pec_runs.specs.Happened.{Begun, Halted, Happened, Over, Stage, by_form, by_next, outcome_at, outcome_of, providers_in, stage_of}
+use Rattle.pec_runs.specs.Inputs.{Parts}
+use Rattle.pec_runs.specs.Openings.{Disks, Form, Next, NoMore, Holds, Unfits, Fails, Stops, form_in}
+use Rattle.pec_runs.specs.Plays.{AllMeet, Finish, HasMemory, MayPlay, Outcome, Rest, RoseBy, Stopped, Strayed, ToTheEnd, at_end, faults_told, finish_of, finish_text, outcome_from, outcome_text}
+use Rattle.pec_runs.specs.Plays as plays
+use Rattle.pec_runs.specs.Ran.{Blames, Counts, IsAt, PlaysOn, Ran, beginning, status_at, world}
+use Rattle.pec_runs.specs.ScriptLines.{Script}
+use Rattle.pec_runs.specs.Statuses.{Status, status_of}
+use Rattle.pec_runs.specs.Statuses as statuses
+use Rattle.pec_runs.specs.Transcripts.{NoFaults, StoodStill, TellsTranscript, transcript, transcript_at}
+use Rattle.pec_runs.specs.Writing.{HasEnded, IsOfEnd}
+use Rattle.pec_runs.proofs.BeginningLemmas.{none_interrupted}
+use Rattle.pec_runs.proofs.QuietLemmas.{quiet_meet, quiet_memory, quiet_none}
+use Rattle.pec_runs.proofs.StatusLemmas.{at_end_full, has_ended}
+
+-- what the law of scripts without faults says
+abbrev pub OneWay : Type 0
+OneWay = (trade : Trade) (lucks : List Luck) (sites : List Site) (commands : List Command) → NoneInterrupted sites
+    → length lucks ≡ length commands → AllMeet trade lucks sites commands
+    → All HasMemory (script trade lucks sites commands).answers
+    → ((provider : ℕ) → faults_told provider commands (script trade lucks sites commands).answers ≡ 0)
+    → script trade lucks sites commands ≡ script trade (quiet_lucks trade sites commands) sites commands
+
+-- what the law of lucks without faults says
+abbrev pub QuietThere : Type 0
+QuietThere = (trade : Trade) (sites : List Site) (commands : List Command)
+    → AllQuiet trade (quiet_lucks trade sites commands) sites commands × (length (quiet_lucks trade sites commands) ≡ length commands)
+
+none_rose : (n before now : ℕ) → RoseBy n before now → StoodStill before now → n ≡ 0
+none_rose n before now rose still =
+    let same = still.0 in let x : before + n ≤ now = rose.1 still.1 in omega (arith, same, x)
+
+not_risen : (before now : ℕ) → HasRisen before now → StoodStill before now → ⊥
+not_risen before now risen still =
+    let same = still.0 in let small = still.1 in let x : before < now = risen (omega (arith, same, small)) in omega (arith, same, x)
+
+pub at_end_all : (lucks : List Luck) (commands : List Command) (end : End) → length lucks ≡ length commands
+    → at_end lucks commands end ≡ plays.Ends end
+at_end_all [] [] end e = refl
+at_end_all [] (c ∷ commands) end e = absurd (omega (arith, e))
+at_end_all (l ∷ lucks) [] end e = absurd (omega (arith, e))
+at_end_all (l ∷ lucks) (c ∷ commands) end e = at_end_all lucks commands end (let f : length lucks ≡ length commands = omega (arith, e) in f)
+
+abbrev told_as : Told → Finish → Outcome
+told_as told finish = record { answers = told.answers; after = told.after; finish = finish }
+
+module _ (one : OneWay) (there : QuietThere) (tells : Type 0) (old_disks new_disks : Disks) (old new : Counts) (words : List Bytes)
+    (happened : Happened) (none : NoFaults old new) (end : End) where
+  quiet : Script → List Luck
+  quiet written = quiet_lucks (world happened) (beginning happened) written.commands
+
+  -- a script that was played to its end
+  rest_same : (written : Script) (rest : Rest)
+      → MayPlay (world happened) tells (beginning happened) old.disks new.disks written happened.lucks rest
+      → finish_of rest happened.lucks written ≡ plays.Ends end
+      → outcome_from (world happened) happened.lucks rest (beginning happened) written
+      ≡ outcome_from (world happened) (quiet_lucks (world happened) (beginning happened) written.commands) ToTheEnd (beginning happened) written
+  rest_same written ToTheEnd may e =
+      let full = at_end_full happened.lucks written.commands written.end end e
+      in let calm = there (world happened) (beginning happened) written.commands
+      in let same = one (world happened) happened.lucks (beginning happened) written.commands
+      (none_interrupted (world happened) happened.opening.journals) full.0 may.meet may.memory
+      (λ p. none_rose _ (old.disks p) (new.disks p) (may.counts p) (none.disks p))
+      in ap (λ (told : Told). told_as told (at_end happened.lucks written.commands written.end)) same
+      ∙ ap (told_as (script (world happened) (quiet_lucks (world happened) (beginning happened) written.commands) (beginning happened) written.commands))
+      (at_end_all happened.lucks written.commands written.end full.0
+      ∙ sym (at_end_all (quiet_lucks (world happened) (beginning happened) written.commands) written.commands written.end calm.1))
+  rest_same written Stopped may e = cc
+  rest_same written Strayed may e = cc
+
+  next_same : (written : Script) (next : Next) → PlaysOn tells old_disks new_disks old new happened written next
+      → (by_next (world happened) happened.opening happened.lucks happened.rest written next).finish ≡ plays.Ends end
+      → by_next (world happened) happened.opening happened.lucks happened.rest written next
+      ≡ by_next (world happened) happened.opening (quiet_lucks (world happened) (beginning happened) written.commands) ToTheEnd written next
+  next_same written NoMore may e = rest_same written happened.rest may e
+  next_same written Holds may e = refl
+  next_same written (Unfits unfit) may e = refl
+  next_same written Fails may e = refl
+  next_same written Stops may e = refl
+
+  same_at : (stage : Stage) → IsAt tells old_disks new_disks old new happened words stage
+      → (outcome_at happened stage).finish ≡ plays.Ends end → outcome_at happened stage ≡ transcript_at happened stage
+  same_at (Over other) at e = refl
+  same_at Halted at e = refl
+  same_at (Begun form written) at e = next_same written happened.opening.next at.plays e
+
+  late_by : (early : Bool) (parts : Parts) (found : Option Form) → (outcome_at happened (by_form early parts found)).finish ≡ plays.Ends end
+      → by_form early parts found ≡ by_form false parts found
+  late_by true parts None e = refl
+  late_by true parts (Some form) e = cc
+  late_by false parts found e = refl
+
+  pub ended_same : IsAt tells old_disks new_disks old new happened words (stage_of words happened.early happened.parts)
+      → (outcome_of words happened).finish ≡ plays.Ends end → outcome_of words happened ≡ transcript words happened
+  unfolding outcome_of transcript stage_of
+  ended_same at e =
+      same_at (by_form happened.early happened.parts (form_in words)) at e
+      ∙ ap (transcript_at happened) (late_by happened.early happened.parts (form_in words) e)
+
+-- ---- a run
+
+module _ (one : OneWay) (there : QuietThere) (words : List Bytes) (status : Status) (unread before after : Option Bytes) (tells : Type 0)
+    (old_disks new_disks : Disks) (old new : Counts) (ran : Ran words status unread before after tells old_disks new_disks old new)
+    (told : tells) (none : NoFaults old new) where
+  abbrev providers : List Provider
+  providers = providers_in ran.happened.setting
+
+  tells_transcript : HasEnded words ran.happened status before after → TellsTranscript words ran.happened status before after
+  tells_transcript ended =
+      let same = ended_same one there tells old_disks new_disks old new words ran.happened none ended.end ran.is_at ended.finish
+      in let finish : (transcript words ran.happened).finish ≡ plays.Ends ended.end = ap (λ (o : Outcome). o.finish) (sym same) ∙ ended.finish
+      in record {
+        status_is = ap status_at finish ∙ ap (λ (s : Status). Some s) ended.status_is;
+        written = ended.written
+            ∙ ap (λ (f : Finish). followed_by before (answers_text providers (outcome_of words ran.happened).answers ++ finish_text providers f)) (sym ended.finish)
+            ∙ ap (λ (o : Outcome). followed_by before (outcome_text providers o)) same;
+      }
+
+  blamed : (asked : Status) → status ≡ asked → Blames asked old new
+  blamed asked e = subst (λ (s : Status). Blames s old new) e ran.blame
+
+  start_blamed : (HasRisen old.depot new.depot) ⊎ ((p : ℕ) × HasRisen (old.disks p) (new.disks p)) → ⊥
+  start_blamed (inl risen) = not_risen old.depot new.depot risen none.depot
+  start_blamed (inr risen) = not_risen (old.disks risen.0) (new.disks risen.0) risen.1 (none.disks risen.0)
+
+  by_status : (asked : Status) → status ≡ asked → (status ≡ statuses.NoMemory) ⊎ IsOfEnd status
+  by_status statuses.Done e = inr (subst IsOfEnd (sym e) tt)
+  by_status statuses.Usage e = inr (subst IsOfEnd (sym e) tt)
+  by_status statuses.Refused e = inr (subst IsOfEnd (sym e) tt)
+  by_status statuses.ReadFault e = absurd (not_risen old.source new.source (blamed statuses.ReadFault e) none.source)
+  by_status statuses.WriteFault e = absurd (not_risen old.sink new.sink (blamed statuses.WriteFault e) none.sink)
+  by_status statuses.NoMemory e = inl e
+  by_status statuses.StartFault e = absurd (start_blamed (blamed statuses.StartFault e))
+  by_status statuses.NotEmpty e = inr (subst IsOfEnd (sym e) tt)
+  by_status statuses.NotFit e = inr (subst IsOfEnd (sym e) tt)
+  by_status statuses.InputTooLong e = inr (subst IsOfEnd (sym e) tt)
+
+  by_kind : (status ≡ statuses.NoMemory) ⊎ IsOfEnd status → (status ≡ statuses.NoMemory) ⊎ TellsTranscript words ran.happened status before after
+  by_kind (inl e) = inl e
+  by_kind (inr of) = inr (tells_transcript (has_ended words status unread before after tells old_disks new_disks old new ran told of))
+
+  pub has_one_transcript : (status ≡ statuses.NoMemory) ⊎ TellsTranscript words ran.happened status before after
+  has_one_transcript = by_kind (by_status status refl)
+
+-- ---- there is such a run
+
+pub quiet_plays : (there : QuietThere) (trade : Trade) (tells : Type 0) (sites : List Site) (counts : ℕ → ℕ) (written : Script)
+    → MayPlay trade tells sites counts counts written (quiet_lucks trade sites written.commands) ToTheEnd
+quiet_plays there trade tells sites counts written =
+    let calm = there trade sites written.commands
+    in let lucks = quiet_lucks trade sites written.commands
+    in record {
+      enough = let e = calm.1 in omega (arith, e);
+      meet = quiet_meet trade lucks sites written.commands calm.0;
+      memory = quiet_memory trade lucks sites written.commands calm.0;
+      counts = λ p. let none = quiet_none trade p lucks sites written.commands calm.0 in (omega arith, λ h. omega (arith, none));
+      strays = tt;
+    }

@@ -1,0 +1,67 @@
+-- Worked examples: inputs and their parts, lines and what they say, lines that are written, and runs in the small world of
+-- the ledger. Its providers are alfa, the number 0, and beta, the number 1.
+use Rattle.std.specs.Prelude.{List, [], ◌∷◌, codes, replicate, None}
+use Rattle.pec_types.specs.Bytes.{Bytes}
+use Rattle.pec_directory.specs.Directory.{Provider}
+use Rattle.pec_ledger.specs.Network.{Site}
+use Rattle.pec_ledger.specs.SmallWorld.{small}
+use Rattle.pec_plays.specs.Commands.{Answer, LinkFull, Lost, Luck, NoFrame, Refuses, Turns}
+use Rattle.pec_plays.specs.Examples.{calm, failing, finding, turn_of, with_a_fault}
+use Rattle.pec_types.specs.declared.turns.Event.TheVariants as events
+use Rattle.pec_types.specs.declared.turns.ProviderFault.TheVariants as faults
+use Rattle.pec_runs.specs.Endings.{Done}
+use Rattle.pec_runs.specs.Openings.{opened}
+use Rattle.pec_runs.specs.ScriptLines.{Script}
+
+-- ---- a directory of two providers
+
+abbrev pub provider_named : Bytes → Bytes → Provider
+provider_named name domain = record {
+  name = name;
+  receipts = [];
+  domains = domain ∷ [];
+  key = [];
+  rule = [];
+  limit = 1000;
+  accounts = [];
+}
+
+abbrev pub two : List Provider
+two = provider_named (codes "alfa") (codes "alfa.example") ∷ provider_named (codes "beta") (codes "beta.example") ∷ []
+
+-- ---- inputs
+
+-- the first mark parts it, and the second is a line of the script
+abbrev pub twice_marked : Bytes
+twice_marked = codes "name\n%%\r\n# remark\n%%\nlast"
+
+-- a mark has nothing beside it
+abbrev pub unmarked : Bytes
+unmarked = codes "name\n%%%\n %%\n"
+
+-- ---- a script of six lines, the fifth of which is refused
+
+abbrev pub six_lines : List Bytes
+six_lines =
+    codes "# remark\n" ∷ codes "\r\n" ∷ codes "crash beta\n" ∷ codes "restart beta\r\n" ∷ codes "crash gamma\n"
+    ∷ codes "crash alfa\n" ∷ []
+
+-- ---- lines that are written
+
+abbrev pub some_answers : List Answer
+some_answers =
+    Lost ∷ NoFrame ∷ LinkFull ∷ Refuses faults.DiskFault ∷ Refuses (faults.ClockBack 7)
+    ∷ Turns (turn_of 0 (events.Dropped ∷ []) ((1, 3) ∷ []) None ∷ turn_of 1 [] [] None ∷ []) ∷ []
+
+-- ---- runs
+
+-- an append that fails in the second round, and a restart that finds the entry
+abbrev pub faulty_lucks : List Luck
+faulty_lucks = calm ∷ calm ∷ failing 1 ∷ calm ∷ finding ∷ calm ∷ []
+
+abbrev pub faulty_script : Script
+faulty_script = record { commands = with_a_fault; end = Done }
+
+-- a full link, from alfa to alfa
+abbrev pub full_link : List Site
+full_link = record (opened small []) { waiting = replicate 64 [] ∷ [] ∷ [] } ∷ opened small [] ∷ []

@@ -1,0 +1,40 @@
+-- Runs without faults: no count of faults rose (`NoFaults`); and the one transcript of such a run (`transcript`), a function
+-- of its words, its input, its world and the journals that it had. This project's profile.
+use Rattle.std.specs.Prelude.{◌≡◌, ℕ, ◌-◌, ◌^◌, ◌<◌, false, List, [], Option, Some}
+use Rattle.pec_types.specs.Bytes.{Bytes}
+use Rattle.pec_outside.specs.Flow.{followed_by}
+use Rattle.pec_plays.specs.Commands.{Luck}
+use Rattle.pec_plays.specs.Possible.{quiet_lucks}
+use Rattle.pec_runs.specs.Happened.{Begun, Happened, Stage, outcome_at, providers_in, stage_of}
+use Rattle.pec_runs.specs.Plays.{Outcome, ToTheEnd, outcome_text}
+use Rattle.pec_runs.specs.Ran.{Counts, beginning, status_at, world}
+use Rattle.pec_runs.specs.Statuses.{Status}
+
+-- A count stood still, below its greatest value.
+abbrev pub StoodStill : ℕ → ℕ → Type 0
+StoodStill before now = (now ≡ before) × (now < 2 ^ 64 - 1)
+
+-- No count rose.
+pub record NoFaults (old new : Counts) : Type 0 where
+  pub source : StoodStill old.source new.source
+  pub sink : StoodStill old.sink new.sink
+  pub depot : StoodStill old.depot new.depot
+  pub disks : (provider : ℕ) → StoodStill (old.disks provider) (new.disks provider)
+
+-- the lucks without faults of the commands of a run at its stage
+abbrev pub quiet_at : Happened → Stage → List Luck
+quiet_at happened (Begun form script) = quiet_lucks (world happened) (beginning happened) script.commands
+quiet_at happened _ = []
+
+abbrev pub transcript_at : Happened → Stage → Outcome
+transcript_at happened stage = outcome_at (record happened { lucks = quiet_at happened stage; rest = ToTheEnd }) stage
+
+-- What a run comes to where nothing fails, and memory is there.
+unfoldable pub transcript : List Bytes → Happened → Outcome
+transcript words happened = transcript_at happened (stage_of words false happened.parts)
+
+-- All of the transcript was written, and the status is that of its end.
+pub record TellsTranscript (words : List Bytes) (happened : Happened) (status : Status) (before after : Option Bytes)
+    : Type 0 where
+  pub status_is : status_at (transcript words happened).finish ≡ Some status
+  pub written : after ≡ followed_by before (outcome_text (providers_in happened.setting) (transcript words happened))
