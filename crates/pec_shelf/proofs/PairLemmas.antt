@@ -50,7 +50,7 @@ half_told : (trade : Trade) (half : Half) (pair : Pair) (m : Message) (facts : F
     → Told trade pair.recipient (certified trade (map (λ (recipient : Recipient). recipient.address) facts.recipients)) home
     → sent_to half pair (Some m) home ≡ sent_half trade half pair (with_recipient trade pair.recipient (as_accepted m facts))
 half_told trade half pair m facts home (inl (absent, none)) = rw (absent, none) refl
-half_told trade half pair m facts home (inr (h, there, at, some)) = rw (there, at, some) refl
+half_told trade half pair m facts home (inr (h, listed, at, some)) = rw (listed, at, some) refl
 
 facts_told : (trade : Trade) (half : Half) (pair : Pair) (m : Message) (facts : Option Facts) → m.facts ≡ facts
     → sent_to half pair (Some m) (home_in pair.recipient (certified_in trade facts))
