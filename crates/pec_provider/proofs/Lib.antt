@@ -2,5 +2,6 @@ mod AppendLemmas
 mod FollowLemmas
 mod PlayLemmas
 mod RunLemmas
+mod ShowLemmas
 mod StepLemmas
 mod TurnLemmas

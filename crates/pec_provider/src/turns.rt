@@ -9,6 +9,7 @@ ghost use Rattle.pec_ledger.specs.Ledger.{Fit, Journals};
 ghost use Rattle.pec_ledger.specs.Network.{IsGenuine};
 ghost use Rattle.pec_ledger.specs.OfDirectory.{IsOf};
 ghost use Rattle.pec_ledger.specs.Trade.{Trade};
+ghost use Rattle.pec_plays.specs.Frames.{due_frames};
 ghost use Rattle.pec_plays.specs.Steps.{Step};
 ghost use Rattle.pec_trade.specs.TradeOf.{trade_of};
 ghost use Rattle.pec_chronicle.specs.Carrying.{CarriesOn};
@@ -21,13 +22,14 @@ ghost use Rattle.pec_provider.specs.Working.{Arrives, Decides, Does};
 
 use crate::house::{House, a_house_is_a_trade};
 use crate::provider::Provider;
+use pec_outgoing::due_frames;
 use pec_outside::Disk;
 use pec_plays::{what_a_provider_does_is_its_own, what_a_provider_does_may_follow};
 use pec_reception::{Received, decide, receive};
 use pec_records::Entry;
 use pec_seal::Sealer;
 use pec_stock::stands_still;
-use pec_types::{Event, Letter, Moment, ProviderFault};
+use pec_types::{Event, Frame, Letter, Moment, NoMemory, ProviderFault};
 use std::alloc::Global;
 
 impl<D: Disk> Provider<D> {
@@ -158,6 +160,36 @@ impl<D: Disk> Provider<D> {
 }
 
 impl<D> Provider<D> {
+    /// The frames of the letters that are due to a provider, itself included, no more than its link has room for (RFC 6109,
+    /// section 3, within this project's profile): the answers that are owed, in their order, the outcomes that nobody
+    /// acknowledged, and the envelopes of messages of which nothing was heard. Each is composed of durable entries.
+    pub fn put_due<S: Sealer>(
+        &self,
+        alloc: Global,
+        house: &House<'_, S>,
+        to: u32,
+        room: usize,
+    ) -> Result<Vec<Frame>, NoMemory>
+        requires runs { Runs house.now.directory.now house.now.me self.now }
+        requires fits { Fits (S.seals house.now.sealer.now) (providers_of house.now.directory.now) }
+        ensures { IfOk result (λ frames. frames.items
+            ≡ due_frames (trade_of house.now.directory.now (S.seals house.now.sealer.now)) house.now.me
+            self.now.chronicle.entries to room self.now.owed) }
+    {
+        a_house_is_a_trade(house);
+        let frames = due_frames(
+            alloc,
+            house.directory,
+            house.sealer,
+            &self.shelf,
+            self.chronicle.all(),
+            to,
+            room,
+            &self.owed,
+        )?;
+        Ok(frames)
+    }
+
     /// Owes an answer, if there is one, for which there is memory.
     fn owe(&mut self, letter: Option<Letter>)
         requires { 0 < self.old.places }
