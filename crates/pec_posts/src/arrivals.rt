@@ -53,6 +53,7 @@ impl Arrivals {
         ensures taken { frames_in self.old ≡ option_to_list result ++ frames_in self.new }
         ensures left { self.new ≡ without_first 1 self.old }
         ensures none { IsNone result ↔ (frames_in self.old ≡ []) }
+        ensures links { length self.new ≡ length self.old }
     {
         next_frame(self.links.as_mut_slice())
     }
@@ -65,6 +66,7 @@ impl Arrivals {
             × (self.new ≡ with_link self.old from (without place (waiting_from self.old from)))) }
         ensures no_frame { IfErr result (λ fault. (fault ≡ faults.NoFrame) × (length (waiting_from self.old from) ≤ place)) }
         ensures unchanged { OnErr result (self.new ≡ self.old) }
+        ensures links { length self.new ≡ length self.old }
     {
         self.links[from as usize].lose(place)
     }
@@ -77,6 +79,7 @@ impl Arrivals {
         ensures others { OnOk result (self.new ≡ with_link self.old from (waiting_from self.new from)) }
         ensures no_frame { IfErr result (λ fault. (fault ≡ faults.NoFrame) × (swapped_at place (waiting_from self.old from) ≡ None)) }
         ensures unchanged { OnErr result (self.new ≡ self.old) }
+        ensures links { length self.new ≡ length self.old }
     {
         self.links[from as usize].swap(place)
     }
@@ -93,6 +96,7 @@ impl Arrivals {
         ensures full { IsErrOf result faults.Full → (place < length (waiting_from self.old from))
             × (length (waiting_from self.old from) ≡ link_size) }
         ensures unchanged { OnErr result (self.new ≡ self.old) }
+        ensures links { length self.new ≡ length self.old }
     {
         self.links[from as usize].repeat(alloc, place)
     }
@@ -105,6 +109,7 @@ impl Arrivals {
             × (self.new ≡ with_link self.old from (waiting_from self.old from ++ frame ∷ []))) }
         ensures full { IfErr result (λ fault. (fault ≡ faults.Full) × (length (waiting_from self.old from) ≡ link_size)) }
         ensures unchanged { OnErr result (self.new ≡ self.old) }
+        ensures links { length self.new ≡ length self.old }
     {
         match self.links[from as usize].put(frame) {
             Ok(()) => Ok(()),
@@ -127,6 +132,7 @@ fn next_frame(links: &mut [Link]) -> Option<Frame>
     ensures taken { frames_in links.old ≡ option_to_list result ++ frames_in links.new }
     ensures left { links.new ≡ without_first 1 links.old }
     ensures none { IsNone result ↔ (frames_in links.old ≡ []) }
+    ensures links { length links.new ≡ length links.old }
 {
     let (first, others) = links.split_first_mut()?;
     match first.take() {
