@@ -1,13 +1,16 @@
 -- Frames on links: those that are taken from the first link on, and two that change places.
-use Rattle.std.proofs.Common.{◌≡◌, ℕ, zero, suc, ◌+◌, ◌-◌, ◌<◌, List, [], ◌∷◌, ◌++◌, length, take, drop, get_or, set, refl, ap, sym, ◌∙◌, arith, Some}
+use Rattle.std.proofs.Common.{◌≡◌, ℕ, zero, suc, ◌+◌, ◌-◌, ◌<◌, ◌≤◌, List, [], ◌∷◌, ◌++◌, length, map, take, drop, get_or, set, refl, ap, sym, subst, ◌∙◌, arith, Some}
 use Rattle.std.specs.Prelude.{Result, OnOk}
-use Rattle.std.specs.List.{swap}
+use Rattle.std.specs.List.{All, swap}
 use Rattle.std.proofs.lemmas.Bool.{lt-ltb}
-use Rattle.std.proofs.lemmas.List.{get_or_default, get_or-set_same}
+use Rattle.std.proofs.lemmas.List.{get_or_default, get_or-set_same, map-append}
+use Rattle.std.proofs.lemmas.Grind.{take_at_read}
+use Rattle.std.proofs.lemmas.List.Elements.{All-push}
 use Rattle.std.proofs.lemmas.Result.{on_ok_weaker}
 use Rattle.pec_link.specs.declared.faults.LinkFault.{LinkFault}
 use Rattle.pec_types.specs.Bytes.{Bytes}
-use Rattle.pec_posts.specs.Arrivals.{Waiting, waiting_from}
+use Rattle.pec_plays.specs.Rounds.{link_size}
+use Rattle.pec_posts.specs.Arrivals.{Waiting, room_on, waiting_from}
 use Rattle.pec_plays.specs.Commands.{swapped_at}
 use Rattle.pec_plays.specs.Turns.{without_first}
 
@@ -56,3 +59,24 @@ swapped_link r links inside from place link new same l is ok =
     ap (λ (w : Waiting). get_or w from []) (sym same) ∙ get_or_default inside from [] link within ∙ sym is in
     let there : waiting_from (set inside from new) from ≡ new = get_or-set_same inside from new [] within in
     on_ok_weaker r (λ h. rw (here, there, h.1) (swapped_some link place h.0)) ok
+
+-- ---- rooms
+
+-- the links for one provider more
+pub rooms_more : (arrivals : List Waiting) (from index room : ℕ) (rooms more : List ℕ) (links : Waiting) → index < length arrivals
+    → links ≡ get_or arrivals index links → more ≡ rooms ++ room ∷ [] → room + length (waiting_from links from) ≡ link_size
+    → rooms ≡ map (room_on from) (take index arrivals)
+    → All (λ (w : Waiting). length (waiting_from w from) ≤ link_size) (take index arrivals)
+    → (more ≡ map (room_on from) (take (index + 1) arrivals))
+    × All (λ (w : Waiting). length (waiting_from w from) ≤ link_size) (take (index + 1) arrivals)
+rooms_more arrivals from index room rooms more links within is pushed size so_far short =
+    let next : take (index + 1) arrivals ≡ take index arrivals ++ links ∷ [] =
+    (take_at_read arrivals index links within).1 ∙ ap (λ (w : Waiting). take index arrivals ++ w ∷ []) (sym is) in
+    let here : room ≡ room_on from links = omega arith in (
+      pushed ∙ ap (λ (l : List ℕ). l ++ room ∷ []) so_far
+          ∙ ap (λ (r : ℕ). map (room_on from) (take index arrivals) ++ r ∷ []) here
+          ∙ sym (map-append (room_on from) (take index arrivals) (links ∷ []))
+          ∙ ap (map (room_on from)) (sym next),
+      subst (All (λ (w : Waiting). length (waiting_from w from) ≤ link_size)) (sym next)
+          (All-push (λ (w : Waiting). length (waiting_from w from) ≤ link_size) (take index arrivals) links short (omega arith)),
+    )

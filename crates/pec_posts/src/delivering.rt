@@ -1,6 +1,7 @@
-ghost use Rattle.std.specs.Prelude.{◌≡◌, ◌<◌, length, map, IfOk};
+ghost use Rattle.std.specs.Prelude.{◌≡◌, ◌<◌, ◌≤◌, length, map, IfOk, OnOk};
 ghost use Rattle.std.specs.List.{All};
-ghost use Rattle.pec_posts.specs.Arrivals.{CanBeDelivered, CanBeSent, Waiting, deliveries, room_on, sent};
+ghost use Rattle.pec_posts.specs.Arrivals.{CanBeDelivered, CanBeSent, Waiting, deliveries, room_on, sent, waiting_from};
+ghost use Rattle.pec_plays.specs.Rounds.{link_size};
 
 use crate::arrivals::Arrivals;
 use pec_types::{Frame, Items, NoMemory};
@@ -9,7 +10,9 @@ use std::alloc::Global;
 /// How many more frames the links from a provider hold, by the provider for which they wait.
 pub fn rooms(alloc: Global, arrivals: &[Arrivals], from: u32) -> Result<Vec<usize>, NoMemory>
     requires { All (λ (links : Waiting). from < length links) arrivals.now }
-    ensures { IfOk result (λ rooms. rooms.items ≡ map (room_on from) arrivals.now) }
+    ensures rooms { IfOk result (λ rooms. rooms.items ≡ map (room_on from) arrivals.now) }
+    // No link holds more than it may.
+    ensures short { OnOk result (All (λ (links : Waiting). length (waiting_from links from) ≤ link_size) arrivals.now) }
 {
     let mut rooms = Vec::new(alloc);
     for links in arrivals {
