@@ -10,6 +10,7 @@ use pec_trade::{a_trade_says_what_its_parts_say, the_texts_are_a_trade};
 
 /// Where a provider is at home: the directory, who seals for its providers, and the provider's number in it, from 0. In all
 /// calls of one provider the directory and the number are the same.
+#[derive(Drop)]
 pub struct House<'a, S> {
     pub directory: &'a Directory,
     pub sealer: &'a S,
@@ -18,7 +19,7 @@ pub struct House<'a, S> {
 
 /// The world of a house is one of its directory, and meets all that the ledger asks of a trade where the sealer seals for the
 /// directory's providers. It takes no memory.
-pub(crate) fn a_house_is_a_trade<S: Sealer>(house: &House<'_, S>)
+pub fn a_house_is_a_trade<S: Sealer>(house: &House<'_, S>)
     ensures of { IsOf house.now.directory.now (trade_of house.now.directory.now (S.seals house.now.sealer.now)) }
     ensures trade { Fits (S.seals house.now.sealer.now) (providers_of house.now.directory.now)
         → IsTrade (trade_of house.now.directory.now (S.seals house.now.sealer.now)) }

@@ -12,7 +12,7 @@ mod provider;
 mod showing;
 mod turns;
 
-pub use house::House;
+pub use house::{House, a_house_is_a_trade};
 pub use laws::what_follows_goes_on;
 pub use pec_chronicle::CreateFault;
 pub use pec_stock::ReopenFault;
