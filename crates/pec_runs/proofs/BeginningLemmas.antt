@@ -20,7 +20,8 @@ use Rattle.pec_runs.proofs.StepLemmas.{JointStays, alike_on}
 
 -- ---- journals that are alike fit alike
 
-along_weaker : {S X : Type 0} (next : S → X → S) (M N : S → X → Type 0) → ((s : S) (x : X) → M s x → N s x) → (s : S) (xs : List X)
+along_weaker : {S X : Type 0} (next : S → X → S) (M N : S → X → Type 0) → ((s : S) (x : X) → M s x → N s x)
+    → (s : S) (xs : List X)
     → AllAlong next M s xs → AllAlong next N s xs
 along_weaker next M N w s [] a = tt
 along_weaker next M N w s (x ∷ xs) a = (w s x a.0, along_weaker next M N w (next s x) xs a.1)
@@ -44,14 +45,16 @@ module _ (trade : Trade) (stays : JointStays trade) where
 module _ (trade : Trade) (journals : List (List Entry)) where
   -- what stands at a number: a provider as it is opened, or nothing
   abbrev IsOpened : ℕ → Site → Type 0
-  IsOpened p site = (site ≡ opened trade (slice_index_or journals p [])) ⊎ ((site ≡ empty_site) × (slice_index_or journals p [] ≡ []))
+  IsOpened p site = (site ≡ opened trade (slice_index_or journals p []))
+      ⊎ ((site ≡ empty_site) × (slice_index_or journals p [] ≡ []))
 
   opened_or_none : (p : ℕ) → IsOpened p (site_at (opened_all trade journals) p)
   opened_or_none p =
       elim (cases_lt p (length journals)) [
         | inl l ↦ inl (get_or-map (opened trade) journals p [] empty_site l)
         | inr l ↦ inr (
-          get_or_past (opened_all trade journals) p empty_site (let e = length-map journals (opened trade) in omega (arith, e, l)),
+          get_or_past (opened_all trade journals) p empty_site
+              (let e = length-map journals (opened trade) in omega (arith, e, l)),
           get_or_past journals p [] l,
         )
       ]
@@ -74,11 +77,13 @@ module _ (trade : Trade) (journals : List (List Entry)) where
   no_links n k =
       elim (cases_lt k n) [
         | inl l ↦ get_or-replicate n k [] [] l
-        | inr l ↦ get_or_past (replicate n []) k [] (let e = length-replicate n (let none : List Bytes = [] in none) in omega (arith, e, l))
+        | inr l ↦ get_or_past (replicate n []) k []
+            (let e = length-replicate n (let none : List Bytes = [] in none) in omega (arith, e, l))
       ]
 
   nothing_waits : (from p : ℕ) (site : Site) → IsOpened p site → slice_index_or site.waiting from [] ≡ []
-  nothing_waits from p site (inl e) = ap (λ (s : Site). slice_index_or s.waiting from []) e ∙ no_links trade.providers from
+  nothing_waits from p site (inl e) = ap (λ (s : Site). slice_index_or s.waiting from []) e
+      ∙ no_links trade.providers from
   nothing_waits from p site (inr e) = ap (λ (s : Site). slice_index_or s.waiting from []) e.0
 
   none_chosen : (choice : Bool) (i : Option Entry) → i ≡ None → chosen choice i ≡ []
@@ -97,7 +102,8 @@ module _ (trade : Trade) (journals : List (List Entry)) where
         count = length-map journals (opened trade) ∙ count;
         fit = fit_alike trade stays (journals_in journals) (journals_of sites) (λ p. sym (journal_opened p)) fit;
         any_choice = λ choice. fit_alike trade stays (journals_in journals) (with_choice sites choice)
-            (λ p. sym (ap (λ (l : List Entry). journal_at sites p ++ l) (none_chosen (choice p) (interrupted_at sites p) (none_interrupted p))
+            (λ p. sym (ap (λ (l : List Entry). journal_at sites p ++ l)
+            (none_chosen (choice p) (interrupted_at sites p) (none_interrupted p))
             ∙ (append-nil (journal_at sites p) ∙ journal_opened p)))
             fit;
         down = λ p some. absurd (nothing_is_down (interrupted_at sites p) (none_interrupted p) some);
@@ -109,18 +115,23 @@ module _ (trade : Trade) (journals : List (List Entry)) where
 -- ---- journals that were made
 
 made_from : (trade : Trade) (journals : List (List Entry)) (number : ℕ)
-    → ((k : ℕ) (journal : List Entry) → slice_get journals k ≡ Some journal → journal ≡ entries.Start (number + k) trade.digest ∷ [])
+    → ((k : ℕ) (journal : List Entry) → slice_get journals k ≡ Some journal
+    → journal ≡ entries.Start (number + k) trade.digest ∷ [])
     → opened_all trade journals ≡ started_from trade number (length journals)
 made_from trade [] number each = refl
 made_from trade (journal ∷ journals) number each =
     let first : journal ≡ entries.Start number trade.digest ∷ [] =
-    each 0 journal refl ∙ ap (λ (n : ℕ). entries.Start n trade.digest ∷ []) (let z : number + 0 ≡ number = omega arith in z)
+    each 0 journal refl ∙ ap (λ (n : ℕ). entries.Start n trade.digest ∷ [])
+    (let z : number + 0 ≡ number = omega arith in z)
     in let rest = made_from trade journals (number + 1)
-    (λ k j e. each (suc k) j e ∙ ap (λ (n : ℕ). entries.Start n trade.digest ∷ []) (let z : number + suc k ≡ (number + 1) + k = omega arith in z))
-    in ap (λ (j : List Entry). opened trade j ∷ opened_all trade journals) first ∙ ap (λ (l : List Site). opened trade (entries.Start number trade.digest ∷ []) ∷ l) rest
+    (λ k j e. each (suc k) j e ∙ ap (λ (n : ℕ). entries.Start n trade.digest ∷ [])
+    (let z : number + suc k ≡ (number + 1) + k = omega arith in z))
+    in ap (λ (j : List Entry). opened trade j ∷ opened_all trade journals) first
+    ∙ ap (λ (l : List Site). opened trade (entries.Start number trade.digest ∷ []) ∷ l) rest
 
 pub made_at_start : (trade : Trade) (journals : List (List Entry)) → length journals ≡ trade.providers
-    → ((k : ℕ) (journal : List Entry) → slice_get journals k ≡ Some journal → journal ≡ entries.Start k trade.digest ∷ [])
+    → ((k : ℕ) (journal : List Entry) → slice_get journals k ≡ Some journal
+    → journal ≡ entries.Start k trade.digest ∷ [])
     → opened_all trade journals ≡ at_start trade
 unfolding at_start
 made_at_start trade journals count each =

@@ -19,24 +19,29 @@ use Rattle.pec_runs.specs.Resuming.{IsAtRest, journals_left, resumed}
 use Rattle.pec_runs.proofs.BeginningLemmas.{journal_opened}
 
 module _ (trade : Trade) where
-  pub cut_answers : (lucks more : List Luck) (sites : List Site) (commands others : List Command) → length lucks ≡ length commands
+  pub cut_answers : (lucks more : List Luck) (sites : List Site) (commands others : List Command)
+      → length lucks ≡ length commands
       → (script trade (lucks ++ more) sites (commands ++ others)).answers
-      ≡ (script trade lucks sites commands).answers ++ (script trade more (script trade lucks sites commands).after others).answers
+      ≡ (script trade lucks sites commands).answers ++
+      (script trade more (script trade lucks sites commands).after others).answers
   cut_answers [] more sites [] others e = refl
   cut_answers [] more sites (c ∷ commands) others e = absurd (omega (arith, e))
   cut_answers (l ∷ lucks) more sites [] others e = absurd (omega (arith, e))
   cut_answers (l ∷ lucks) more sites (c ∷ commands) others e =
       ap (λ (answers : List Answer). (played trade l sites c).answer ∷ answers)
-      (cut_answers lucks more (played trade l sites c).after commands others (let f : length lucks ≡ length commands = omega (arith, e) in f))
+      (cut_answers lucks more (played trade l sites c).after commands others
+      (let f : length lucks ≡ length commands = omega (arith, e) in f))
 
-  pub cut_after : (lucks more : List Luck) (sites : List Site) (commands others : List Command) → length lucks ≡ length commands
+  pub cut_after : (lucks more : List Luck) (sites : List Site) (commands others : List Command)
+      → length lucks ≡ length commands
       → (script trade (lucks ++ more) sites (commands ++ others)).after
       ≡ (script trade more (script trade lucks sites commands).after others).after
   cut_after [] more sites [] others e = refl
   cut_after [] more sites (c ∷ commands) others e = absurd (omega (arith, e))
   cut_after (l ∷ lucks) more sites [] others e = absurd (omega (arith, e))
   cut_after (l ∷ lucks) more sites (c ∷ commands) others e =
-      cut_after lucks more (played trade l sites c).after commands others (let f : length lucks ≡ length commands = omega (arith, e) in f)
+      cut_after lucks more (played trade l sites c).after commands others
+      (let f : length lucks ≡ length commands = omega (arith, e) in f)
 
   both_sites : (x y : Site) (xs ys : List Site) → x ≡ y → xs ≡ ys → x ∷ xs ≡ y ∷ ys
   both_sites x y xs ys e f = rw (e, f) refl
@@ -54,7 +59,8 @@ module _ (trade : Trade) where
       elim (cases_lt p (length sites)) [
         | inl l ↦ get_or-map (λ (site : Site). site.journal) sites p empty_site [] l
         | inr l ↦
-            get_or_past (journals_left sites) p [] (let e = length-map sites (λ (site : Site). site.journal) in omega (arith, e, l))
+            get_or_past (journals_left sites) p []
+            (let e = length-map sites (λ (site : Site). site.journal) in omega (arith, e, l))
             ∙ sym (ap (λ (site : Site). site.journal) (get_or_past sites p empty_site l))
       ]
 
@@ -68,5 +74,6 @@ module _ (trade : Trade) where
     provider = is.provider;
     home = is.home;
     account = is.account;
-    are = is.are ∙ ap (λ (es : List Entry). book trade is.provider (half trade is.provider es) address) (sym (journals_stay sites is.provider));
+    are = is.are ∙ ap (λ (es : List Entry). book trade is.provider (half trade is.provider es) address)
+        (sym (journals_stay sites is.provider));
   }

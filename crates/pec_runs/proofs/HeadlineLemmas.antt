@@ -39,16 +39,19 @@ use Rattle.pec_runs.proofs.StepLemmas.{JointStays, reached_itself, reached_on}
 -- What the laws below say.
 pub record PlayLaws (trade : Trade) : Type 0 where
   pub stays : JointStays trade
-  pub goes_on : (luck : Luck) (sites : List Site) (command : Command) → Sound trade sites → IsUnforged trade sites command
+  pub goes_on : (luck : Luck) (sites : List Site) (command : Command) → Sound trade sites
+      → IsUnforged trade sites command
       → IsNext trade sites (played trade luck sites command).after
-  pub commands : (luck : Luck) (sites : List Site) (command : Command) → Sound trade sites → IsUnforged trade sites command
+  pub commands : (luck : Luck) (sites : List Site) (command : Command) → Sound trade sites
+      → IsUnforged trade sites command
       → Sound trade (played trade luck sites command).after
   pub one_outcome : (journals : Journals) → Fit trade journals → OneOutcome trade journals
   pub one_delivery : (journals : Journals) → Fit trade journals → OneDelivery trade journals
   pub no_receipt_missing : (journals : Journals) → Fit trade journals → NoReceiptMissing trade journals
   pub notice_by_the_day : (journals : Journals) → Fit trade journals → NoticeByTheDay trade journals
   pub knowns : (journals : Journals) → Fit trade journals → (provider : ℕ) (pair : Pair) (row : Known)
-      → known_of (ledger trade journals provider) pair ≡ Some row → IsOwnPair trade provider (ledger trade journals provider) pair
+      → known_of (ledger trade journals provider) pair ≡ Some row
+      → IsOwnPair trade provider (ledger trade journals provider) pair
   pub acked : (journals : Journals) → Fit trade journals → (bytes : Bytes) → IsGenuineText trade journals bytes
       → (receipt : Receipt) → trade.view bytes ≡ Some (SeenReceipt receipt) → receipt.kind ≡ kinds.Ack
       → (recipient : Bytes) → receipt.recipient ≡ Some recipient
@@ -57,7 +60,8 @@ pub record PlayLaws (trade : Trade) : Type 0 where
 -- ---- receipts that aren't missing
 
 found_by : {X : Type 0} (test : X → Bool) (x : X) (xs : List X) (b : Bool) → test x ≡ b → (y : X)
-    → (if b then Some x else find test xs) ≡ Some y → (find test xs ≡ Some y → 1 ≤ times test xs) → 1 ≤ times test (x ∷ xs)
+    → (if b then Some x else find test xs) ≡ Some y → (find test xs ≡ Some y → 1 ≤ times test xs)
+    → 1 ≤ times test (x ∷ xs)
 found_by test x xs true is y e more = rw is (omega arith)
 found_by test x xs false is y e more = rw is (more e)
 
@@ -78,7 +82,8 @@ module _ (trade : Trade) (laws : PlayLaws trade) where
       in record {
         message = owned.message;
         accepted = owned.accepted;
-        receipt = one.receipts pair.id.provider pair owned.message owned.accepted ∙ (let n : times_known (ledger trade journals pair.id.provider) pair ≡ 1 = omega (arith, some, most) in n);
+        receipt = one.receipts pair.id.provider pair owned.message owned.accepted
+            ∙ (let n : times_known (ledger trade journals pair.id.provider) pair ≡ 1 = omega (arith, some, most) in n);
       }
 
   some_receipt : (journals : Journals) → Fit trade journals → (pair : Pair) (found : Option Known)
@@ -87,14 +92,17 @@ module _ (trade : Trade) (laws : PlayLaws trade) where
   some_receipt journals fit pair (Some row) e some = has_receipt journals fit pair row e
 
   acknowledged : IsTrade trade → (now : List Site) → Sound trade now → (from to : ℕ) (frame : Bytes) (pair : Pair)
-      → Contains (frames_between now from to) frame → Acknowledges trade frame pair → HasReceipt trade (journals_of now) pair
+      → Contains (frames_between now from to) frame → Acknowledges trade frame pair
+      → HasReceipt trade (journals_of now) pair
   acknowledged world now sound from to frame pair waits is =
-      let genuine = All-contains (IsGenuine trade (journals_of now)) (frames_between now from to) frame (sound.genuine from to) waits
+      let genuine = All-contains (IsGenuine trade (journals_of now)) (frames_between now from to) frame
+      (sound.genuine from to) waits
       in let text = genuine is.framed is.stands (world.seen_opens is.framed.message (SeenReceipt is.receipt) is.seen)
       in let known = laws.acked (journals_of now) sound.fit is.framed.message text is.receipt is.seen is.kind is.recipient is.names
       in subst (λ (p : Pair). HasReceipt trade (journals_of now) p) (sym is.is)
       (some_receipt (journals_of now) sound.fit (pair_of is.receipt.id is.recipient)
-      (known_of (ledger trade (journals_of now) is.receipt.id.provider) (pair_of is.receipt.id is.recipient)) refl known)
+      (known_of (ledger trade (journals_of now) is.receipt.id.provider)
+      (pair_of is.receipt.id is.recipient)) refl known)
 
   -- ---- states
 
@@ -113,7 +121,8 @@ module _ (trade : Trade) (laws : PlayLaws trade) where
   sound_behind (luck ∷ lucks) sites (c ∷ commands) sound given =
       sound_behind lucks (played trade luck sites c).after commands (laws.commands luck sites c sound given.0) given.1
 
-  pub reached_behind : (lucks : List Luck) (sites : List Site) (commands : List Command) → Sound trade sites → WouldMeet trade sites
+  pub reached_behind : (lucks : List Luck) (sites : List Site) (commands : List Command) → Sound trade sites
+      → WouldMeet trade sites
       → AllUnforged trade lucks sites commands
       → IsReached trade (journals_of sites) (journals_of (script trade lucks sites commands).after)
   reached_behind [] sites commands sound would given = reached_itself trade laws.stays (journals_of sites)
@@ -121,11 +130,14 @@ module _ (trade : Trade) (laws : PlayLaws trade) where
   reached_behind (luck ∷ lucks) sites (c ∷ commands) sound would given =
       let after = (played trade luck sites c).after
       in let next = laws.goes_on luck sites c sound given.0
-      in reached_on trade laws.stays (journals_of sites) (journals_of after) (journals_of (script trade lucks after commands).after)
+      in reached_on trade laws.stays (journals_of sites) (journals_of after)
+      (journals_of (script trade lucks after commands).after)
       (next_reached trade laws.stays sites after next would)
-      (reached_behind lucks after commands (laws.commands luck sites c sound given.0) (would_meet trade laws.stays sites after next would) given.1)
+      (reached_behind lucks after commands (laws.commands luck sites c sound given.0)
+      (would_meet trade laws.stays sites after next would) given.1)
 
-  pub stands : IsTrade trade → (lucks : List Luck) (sites : List Site) (commands : List Command) → Sound trade sites → WouldMeet trade sites
+  pub stands : IsTrade trade → (lucks : List Luck) (sites : List Site) (commands : List Command) → Sound trade sites
+      → WouldMeet trade sites
       → AllUnforged trade lucks sites commands → Stands trade sites (script trade lucks sites commands).after
   stands world lucks sites commands sound would given =
       let behind = sound_behind lucks sites commands sound given
@@ -136,10 +148,13 @@ module _ (trade : Trade) (laws : PlayLaws trade) where
         acknowledged = acknowledged world (script trade lucks sites commands).after behind;
       }
 
-  pub stands_at : IsTrade trade → (lucks : List Luck) (sites : List Site) (commands : List Command) → Sound trade sites → WouldMeet trade sites
-      → AllUnforged trade lucks sites commands → (number : ℕ) → Stands trade sites (state_before trade lucks sites commands number)
+  pub stands_at : IsTrade trade → (lucks : List Luck) (sites : List Site) (commands : List Command)
+      → Sound trade sites → WouldMeet trade sites
+      → AllUnforged trade lucks sites commands → (number : ℕ)
+      → Stands trade sites (state_before trade lucks sites commands number)
   stands_at world lucks sites commands sound would given number =
-      stands world (take number lucks) sites commands sound would (unforged_front trade number lucks sites commands given)
+      stands world (take number lucks) sites commands sound would
+      (unforged_front trade number lucks sites commands given)
 
 -- ---- where nothing is interrupted
 
@@ -170,16 +185,19 @@ module _ (trade : Trade) (sites : List Site) (address : Bytes) (lines : List Boo
   by_up p home account false e = cc
 
   by_account : (p : ℕ) → trade.home address ≡ Some p → (account : Bool) → trade.is_account p address ≡ account
-      → (asked sites shows trade (if account then Some p else None)).answer ≡ Lines lines → IsBook trade sites address lines
+      → (asked sites shows trade (if account then Some p else None)).answer ≡ Lines lines
+      → IsBook trade sites address lines
   by_account p home true account e = by_up p home account (site_at sites p).up e
   by_account p home false account e = cc
 
-  by_home : (home : Option ℕ) → trade.home address ≡ home → (asked sites shows trade (account_home trade address home)).answer ≡ Lines lines
+  by_home : (home : Option ℕ) → trade.home address ≡ home
+      → (asked sites shows trade (account_home trade address home)).answer ≡ Lines lines
       → IsBook trade sites address lines
   by_home None home e = cc
   by_home (Some p) home e = by_account p home (trade.is_account p address) refl e
 
-  pub is_book : (luck : Luck) → Lines lines ≡ (played trade luck sites (Book address)).answer → IsBook trade sites address lines
+  pub is_book : (luck : Luck) → Lines lines ≡ (played trade luck sites (Book address)).answer
+      → IsBook trade sites address lines
   unfolding played
   is_book luck e = by_home (trade.home address) refl (sym e)
 
@@ -188,16 +206,20 @@ module _ (trade : Trade) (sites : List Site) (address : Bytes) (lines : List Boo
 module _ (trade : Trade) (luck : Luck) (sites : List Site) (p now : ℕ) (marks : List ToldMark) where
   -- the entry was appended, at a provider that is up
   abbrev Came : Played → Type 0
-  Came done = ((site_at sites p).up ≡ true) × (done.after ≡ with_site sites p (with_entry (site_at sites p) (entries.Ticked now)))
+  Came done = ((site_at sites p).up ≡ true)
+      × (done.after ≡ with_site sites p (with_entry (site_at sites p) (entries.Ticked now)))
 
   fails_by : (fails : Bool) (answer : Answer) → (site_at sites p).up ≡ true
-      → (appended fails sites p (entries.Ticked now) answer).answer ≡ Marks marks → Came (appended fails sites p (entries.Ticked now) answer)
+      → (appended fails sites p (entries.Ticked now) answer).answer ≡ Marks marks
+      → Came (appended fails sites p (entries.Ticked now) answer)
   fails_by true answer up e = cc
   fails_by false answer up e = (up, refl)
 
   room_by : (full : Bool) (answer : Answer) → (site_at sites p).up ≡ true
-      → (if full then answers sites (Refuses faults.JournalFull) else appended luck.fails sites p (entries.Ticked now) answer).answer ≡ Marks marks
-      → Came (if full then answers sites (Refuses faults.JournalFull) else appended luck.fails sites p (entries.Ticked now) answer)
+      → (if full then answers sites (Refuses faults.JournalFull) else appended luck.fails sites p
+      (entries.Ticked now) answer).answer ≡ Marks marks
+      → Came (if full then answers sites (Refuses faults.JournalFull) else appended luck.fails sites p
+      (entries.Ticked now) answer)
   room_by true answer up e = cc
   room_by false answer up e = fails_by luck.fails answer up e
 
@@ -209,7 +231,8 @@ module _ (trade : Trade) (luck : Luck) (sites : List Site) (p now : ℕ) (marks 
   late_by true answer up e = cc
   late_by false answer up e = room_by (has_no_room trade p (journal_at sites p) (entries.Ticked now)) answer up e
 
-  up_by : (up : Bool) (done : Played) → (site_at sites p).up ≡ up → ((site_at sites p).up ≡ true → done.answer ≡ Marks marks → Came done)
+  up_by : (up : Bool) (done : Played) → (site_at sites p).up ≡ up
+      → ((site_at sites p).up ≡ true → done.answer ≡ Marks marks → Came done)
       → (if up then done else answers sites (Refuses faults.Down)).answer ≡ Marks marks
       → Came (if up then done else answers sites (Refuses faults.Down))
   up_by true done is more e = more is e
@@ -229,12 +252,14 @@ module _ (trade : Trade) (luck : Luck) (sites : List Site) (p now : ℕ) (marks 
       in elim (cases_lt p (length sites)) [
         | inl l ↦
             ap (λ (s : List Site). journal_at s p) came.1
-            ∙ ap (λ (s : Site). s.journal) (get_or-set_same sites p (with_entry (site_at sites p) (entries.Ticked now)) empty_site l)
+            ∙ ap (λ (s : Site). s.journal)
+            (get_or-set_same sites p (with_entry (site_at sites p) (entries.Ticked now)) empty_site l)
         | inr l ↦ absurd (false≢true (sym (ap (λ (s : Site). s.up) (get_or_past sites p empty_site l)) ∙ came.0))
       ]
 
 -- so each pair of a day has its notice
-pub none_left : (trade : Trade) (J : Journals) → NoticeByTheDay trade J → (p now : ℕ) (es : List Entry) → J p ≡ es ++ entries.Ticked now ∷ []
+pub none_left : (trade : Trade) (J : Journals) → NoticeByTheDay trade J → (p now : ℕ) (es : List Entry)
+    → J p ≡ es ++ entries.Ticked now ∷ []
     → NoneWithoutNotice trade J p now
 unfolding ledger
 none_left trade J by_the_day p now es is pair message ours accepted has old none =
@@ -253,11 +278,14 @@ module _ (trade : Trade) (lucks : List Luck) (sites : List Site) (commands : Lis
       let at = at_place trade lucks sites commands number (Book address) (Lines lines) is said
       in is_book trade (state_before trade lucks sites commands number) address lines at.luck at.said
 
-  pub notices_at : (number p now : ℕ) (marks : List ToldMark) → NoticeByTheDay trade (journals_of (state_before trade lucks sites commands (number + 1)))
-      → slice_get commands number ≡ Some (Tick p now) → slice_get (script trade lucks sites commands).answers number ≡ Some (Marks marks)
+  pub notices_at : (number p now : ℕ) (marks : List ToldMark)
+      → NoticeByTheDay trade (journals_of (state_before trade lucks sites commands (number + 1)))
+      → slice_get commands number ≡ Some (Tick p now)
+      → slice_get (script trade lucks sites commands).answers number ≡ Some (Marks marks)
       → NoneWithoutNotice trade (journals_of (state_before trade lucks sites commands (number + 1))) p now
   notices_at number p now marks by_the_day is said =
       let before = state_before trade lucks sites commands number
       in let at = at_place trade lucks sites commands number (Tick p now) (Marks marks) is said
-      in none_left trade (journals_of (state_before trade lucks sites commands (number + 1))) by_the_day p now (journal_at before p)
+      in none_left trade (journals_of (state_before trade lucks sites commands (number + 1))) by_the_day p now
+      (journal_at before p)
       (ap (λ (s : List Site). journal_at s p) at.behind ∙ tick_last trade at.luck before p now marks at.said)

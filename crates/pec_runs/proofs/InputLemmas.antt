@@ -35,7 +35,8 @@ abbrev parts_by : Bool → Bytes → List Bytes → Parts
 parts_by mark line lines =
     if mark then record { directory = []; script = Some lines } else onto_directory line (parts_of lines)
 
-no_mark_is : (lines : List Bytes) → HasNoMark lines → parts_of lines ≡ record { directory = concat lines; script = None }
+no_mark_is : (lines : List Bytes) → HasNoMark lines
+    → parts_of lines ≡ record { directory = concat lines; script = None }
 no_mark_is [] none = refl
 no_mark_is (line ∷ lines) none =
     ap (λ (mark : Bool). parts_by mark line lines) none.0 ∙ ap (onto_directory line) (no_mark_is lines none.1)
@@ -88,7 +89,8 @@ parts_one text parts (Unmarked none directory script) =
     ∙ sym (no_mark_is (raw_lines text) none)
 parts_one text parts (Marked front mark behind are none content directory script) =
     made_so parts.directory (concat front) parts.script (Some behind) directory script
-    ∙ sym (ap parts_of are ∙ marked_is front mark behind none ((bytes_eq-Decides (content_of mark) (codes "%%")).1 content))
+    ∙ sym (ap parts_of are ∙ marked_is front mark behind none
+    ((bytes_eq-Decides (content_of mark) (codes "%%")).1 content))
 
 -- ---- what a line is
 
@@ -103,23 +105,28 @@ module _ (reads : ReadsSo) (providers : List Provider) (number : ℕ) (line : By
   pub too_many : most_lines < number → said_by providers number line ≡ TooMany
   unfolding said_by
   too_many many =
-      ap (λ (b : Bool). said_so b (nat_lt longest_line (length content)) (is_passed_over content) (command_of providers content))
+      ap (λ (b : Bool). said_so b (nat_lt longest_line (length content)) (is_passed_over content)
+      (command_of providers content))
       (lt-ltb most_lines number many)
 
   pub too_long : number ≤ most_lines → longest_line < length content → said_by providers number line ≡ TooLong
   unfolding said_by
   too_long few long =
-      ap (λ (b : Bool). said_so b (nat_lt longest_line (length content)) (is_passed_over content) (command_of providers content))
+      ap (λ (b : Bool). said_so b (nat_lt longest_line (length content)) (is_passed_over content)
+      (command_of providers content))
       (le-ltb most_lines number few)
-      ∙ ap (λ (b : Bool). said_so false b (is_passed_over content) (command_of providers content)) (lt-ltb longest_line (length content) long)
+      ∙ ap (λ (b : Bool). said_so false b (is_passed_over content) (command_of providers content))
+      (lt-ltb longest_line (length content) long)
 
   within : number ≤ most_lines → length content ≤ longest_line
       → said_by providers number line ≡ said_so false false (is_passed_over content) (command_of providers content)
   unfolding said_by
   within few short =
-      ap (λ (b : Bool). said_so b (nat_lt longest_line (length content)) (is_passed_over content) (command_of providers content))
+      ap (λ (b : Bool). said_so b (nat_lt longest_line (length content)) (is_passed_over content)
+      (command_of providers content))
       (le-ltb most_lines number few)
-      ∙ ap (λ (b : Bool). said_so false b (is_passed_over content) (command_of providers content)) (le-ltb longest_line (length content) short)
+      ∙ ap (λ (b : Bool). said_so false b (is_passed_over content) (command_of providers content))
+      (le-ltb longest_line (length content) short)
 
   pub passed_over : number ≤ most_lines → length content ≤ longest_line → is_passed_over content ≡ true
       → said_by providers number line ≡ PassedOver
@@ -131,11 +138,14 @@ module _ (reads : ReadsSo) (providers : List Provider) (number : ℕ) (line : By
   says written few short over is =
       within few short
       ∙ (ap (λ (b : Bool). said_so false false b (command_of providers content)) over
-      ∙ ap (λ (told : Result Written LineFault). said_so false false false told) (((reads providers content).value written).1 is))
+      ∙ ap (λ (told : Result Written LineFault). said_so false false false told)
+      (((reads providers content).value written).1 is))
 
-  pub says_none : (fault : LineFault) → number ≤ most_lines → length content ≤ longest_line → is_passed_over content ≡ false
+  pub says_none : (fault : LineFault) → number ≤ most_lines → length content ≤ longest_line
+      → is_passed_over content ≡ false
       → IsLineFault providers content fault → said_by providers number line ≡ SaysNone fault
   says_none fault few short over is =
       within few short
       ∙ (ap (λ (b : Bool). said_so false false b (command_of providers content)) over
-      ∙ ap (λ (told : Result Written LineFault). said_so false false false told) (((reads providers content).fault fault).1 is))
+      ∙ ap (λ (told : Result Written LineFault). said_so false false false told)
+      (((reads providers content).fault fault).1 is))

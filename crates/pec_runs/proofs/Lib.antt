@@ -4,6 +4,7 @@ pub mod CutLemmas
 pub mod HeadlineLemmas
 pub mod InputLemmas
 pub mod LineLemmas
+pub mod LoopLemmas
 pub mod NextLemmas
 pub mod PlaceLemmas
 pub mod QuietLemmas

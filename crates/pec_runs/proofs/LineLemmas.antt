@@ -33,7 +33,8 @@ module _ (providers : List Provider) where
       let size : length along ≡ length is.parts = ap (λ l. length l) is.are.path_is ∙ length-map is.parts lowered
       in (omega (arith, size, is.cut.some), omega (arith, size, is.are.within))
 
-  submit_can : (texts : List Bytes) (said : Said (kinds_of verbs.Submit)) → AllSay providers (kinds_of verbs.Submit) texts said
+  submit_can : (texts : List Bytes) (said : Said (kinds_of verbs.Submit))
+      → AllSay providers (kinds_of verbs.Submit) texts said
       → CanBeSaid (command_in (made verbs.Submit said))
   submit_can [] said all = absurd all
   submit_can (a ∷ []) said all = absurd all.1
@@ -43,18 +44,21 @@ module _ (providers : List Provider) where
       let bounds = path_bounds d said.1.1.1.0 all.1.1.1.0
       in (bounds.0, bounds.1, all.1.0.1)
 
-  tick_can : (texts : List Bytes) (said : Said (kinds_of verbs.Tick)) → AllSay providers (kinds_of verbs.Tick) texts said
+  tick_can : (texts : List Bytes) (said : Said (kinds_of verbs.Tick))
+      → AllSay providers (kinds_of verbs.Tick) texts said
       → CanBeSaid (command_in (made verbs.Tick said))
   tick_can [] said all = absurd all
   tick_can (a ∷ []) said all = absurd all.1
   tick_can (a ∷ b ∷ rest) said all = all.1.0.1
 
-  round_can : (texts : List Bytes) (said : Said (kinds_of verbs.Round)) → AllSay providers (kinds_of verbs.Round) texts said
+  round_can : (texts : List Bytes) (said : Said (kinds_of verbs.Round))
+      → AllSay providers (kinds_of verbs.Round) texts said
       → CanBeSaid (command_in (made verbs.Round said))
   round_can [] said all = absurd all
   round_can (a ∷ rest) said all = all.0.1
 
-  made_can : (verb : Verb) (texts : List Bytes) (said : Said (kinds_of verb)) → AllSay providers (kinds_of verb) texts said
+  made_can : (verb : Verb) (texts : List Bytes) (said : Said (kinds_of verb))
+      → AllSay providers (kinds_of verb) texts said
       → CanBeSaid (command_in (made verb said))
   made_can verbs.Submit texts said all = submit_can texts said all
   made_can verbs.Tick texts said all = tick_can texts said all
@@ -73,7 +77,8 @@ module _ (providers : List Provider) where
 
 -- what the law of lines says
 abbrev pub ReadsSo : Type 0
-ReadsSo = (providers : List Provider) (line : Bytes) → TellsExactly (IsCommand providers line) (IsLineFault providers line) (command_of providers line)
+ReadsSo = (providers : List Provider) (line : Bytes)
+    → TellsExactly (IsCommand providers line) (IsLineFault providers line) (command_of providers line)
 
 -- A line that says a command says one that can stand in a script.
 abbrev pub LineCan : Line → Type 0
@@ -84,11 +89,13 @@ LineCan TooLong = Unit {0}
 LineCan TooMany = Unit {0}
 
 module _ (reads : ReadsSo) (providers : List Provider) where
-  read_can : (content : Bytes) (told : Result Written LineFault) → command_of providers content ≡ told → LineCan (line_by told)
+  read_can : (content : Bytes) (told : Result Written LineFault) → command_of providers content ≡ told
+      → LineCan (line_by told)
   read_can content (Err fault) e = tt
   read_can content (Ok written) e =
       let is = ((reads providers content).value written).0 e
-      in subst (λ (w : Written). CanBeSaid (command_in w)) (sym is.command_is) (made_can providers is.verb is.arguments is.said is.arguments_say)
+      in subst (λ (w : Written). CanBeSaid (command_in w)) (sym is.command_is)
+      (made_can providers is.verb is.arguments is.said is.arguments_say)
 
   by_test : (b : Bool) (x y : Line) → LineCan x → LineCan y → LineCan (if b then x else y)
   by_test true x y a b = a
@@ -99,7 +106,8 @@ module _ (reads : ReadsSo) (providers : List Provider) where
   line_can number line =
       by_test (nat_lt most_lines number) _ _ tt
       (by_test (nat_lt longest_line (length (content_of line))) _ _ tt
-      (by_test (is_passed_over (content_of line)) _ _ tt (read_can (content_of line) (command_of providers (content_of line)) refl)))
+      (by_test (is_passed_over (content_of line)) _ _ tt
+      (read_can (content_of line) (command_of providers (content_of line)) refl)))
 
   behind_can : (number : ℕ) (line : Line) (commands : List Command) (end : End) → LineCan line
       → AllByRecursion CanBeSaid commands
@@ -110,7 +118,8 @@ module _ (reads : ReadsSo) (providers : List Provider) where
   behind_can number TooLong commands end can all = tt
   behind_can number TooMany commands end can all = tt
 
-  pub script_can : (number : ℕ) (lines : List Bytes) → AllByRecursion CanBeSaid (script_of providers number lines).commands
+  pub script_can : (number : ℕ) (lines : List Bytes)
+      → AllByRecursion CanBeSaid (script_of providers number lines).commands
   script_can number [] = tt
   script_can number (line ∷ lines) =
       behind_can number (said_by providers number line) (script_of providers (number + 1) lines).commands
@@ -118,7 +127,8 @@ module _ (reads : ReadsSo) (providers : List Provider) where
 
 -- ---- no forged frame
 
-pub one_unforged : (trade : Trade) (sites : List Site) (command : Command) → CanBeSaid command → IsHonest trade sites command
+pub one_unforged : (trade : Trade) (sites : List Site) (command : Command) → CanBeSaid command
+    → IsHonest trade sites command
     → IsUnforged trade sites command
 one_unforged trade sites (Submit p now sender along message) can honest = can
 one_unforged trade sites (Tick p now) can honest = can

@@ -46,7 +46,8 @@ one_more xs x is = omega (arith, ap length is, length-append xs (x ∷ []))
 -- Each entry whose append failed would meet its conditions.
 abbrev pub WouldMeet : Trade → List Site → Type 0
 WouldMeet trade sites =
-    (p : ℕ) (e : Entry) → interrupted_at sites p ≡ Some e → Meets trade (journals_of sites) p (half trade p (journal_at sites p)) e
+    (p : ℕ) (e : Entry) → interrupted_at sites p ≡ Some e
+    → Meets trade (journals_of sites) p (half trade p (journal_at sites p)) e
 
 module _ (trade : Trade) (stays : JointStays trade) (old new : List Site) (next : IsNext trade old new) where
   abbrev J : Journals
@@ -71,7 +72,8 @@ module _ (trade : Trade) (stays : JointStays trade) (old new : List Site) (next 
   chosen_follows would p true None is = tt
   chosen_follows would p true (Some e) is = (would p e is, tt)
 
-  pub gone : WouldMeet trade old → (p : ℕ) → (es : List Entry) × (K p ≡ J p ++ es) × Follows trade J p (half trade p (J p)) es
+  pub gone : WouldMeet trade old → (p : ℕ)
+      → (es : List Entry) × (K p ≡ J p ++ es) × Follows trade J p (half trade p (J p)) es
   gone would p =
       let f = (next.each p).journal false
       in let first = chosen f.choice (interrupted_at old p)
@@ -97,7 +99,8 @@ module _ (trade : Trade) (stays : JointStays trade) (old new : List Site) (next 
   meets_then : (p : ℕ) (es : List Entry) (e : Entry) → K p ≡ es → Meets trade J p (half trade p es) e
       → Meets trade K p (half trade p (K p)) e
   meets_then p es e is meets =
-      let behind : Meets trade J p (half trade p (K p)) e = subst (λ (l : List Entry). Meets trade J p (half trade p l) e) (sym is) meets
+      let behind : Meets trade J p (half trade p (K p)) e = subst
+      (λ (l : List Entry). Meets trade J p (half trade p l) e) (sym is) meets
       in record {
         own = behind.own;
         in_time = behind.in_time;
@@ -141,13 +144,16 @@ module _ (trade : Trade) (stays : JointStays trade) (old new : List Site) (next 
       (sym (append_assoc (J p) (came p) (e ∷ []))
       ∙ (ap (λ (l : List Entry). l ++ e ∷ []) (sym (grown p))
       ∙ (is ∙ ap (λ (l : List Entry). J p ++ l)
-      (ap (λ (l : List Entry). chosen choice (interrupted_at old p) ++ l) none ∙ append-nil (chosen choice (interrupted_at old p)))))))
+      (ap (λ (l : List Entry). chosen choice (interrupted_at old p) ++ l) none
+      ∙ append-nil (chosen choice (interrupted_at old p)))))))
   by_ending would p choice further e is follows (Last front last some) =
       was_last p choice front last e
       (is ∙ ap (λ (l : List Entry). J p ++ (chosen choice (interrupted_at old p) ++ l)) some)
-      (subst (λ (l : List Entry). Follows trade J p (half trade p (J p ++ chosen choice (interrupted_at old p))) l) some follows)
+      (subst (λ (l : List Entry). Follows trade J p
+      (half trade p (J p ++ chosen choice (interrupted_at old p))) l) some follows)
 
   pub would_meet : WouldMeet trade old → WouldMeet trade new
   would_meet would p e at =
       let f = (next.each p).journal true
-      in by_ending would p f.choice f.further e (ap (λ (i : Option Entry). K p ++ chosen true i) (sym at) ∙ f.is) f.follows (ending f.further)
+      in by_ending would p f.choice f.further e
+      (ap (λ (i : Option Entry). K p ++ chosen true i) (sym at) ∙ f.is) f.follows (ending f.further)

@@ -20,7 +20,8 @@ one_later : (n : ℕ) → n + 1 ≡ suc n
 one_later n = omega arith
 
 module _ (trade : Trade) where
-  pub at_place : (lucks : List Luck) (sites : List Site) (commands : List Command) (n : ℕ) (command : Command) (answer : Answer)
+  pub at_place : (lucks : List Luck) (sites : List Site) (commands : List Command) (n : ℕ) (command : Command)
+      (answer : Answer)
       → slice_get commands n ≡ Some command → slice_get (script trade lucks sites commands).answers n ≡ Some answer
       → AtPlace trade lucks sites commands n command answer
   at_place [] sites commands n command answer is said = absurd (none-some answer said)
@@ -37,11 +38,13 @@ module _ (trade : Trade) where
         luck = later.luck;
         said = later.said;
         behind = ap (λ (k : ℕ). state_before trade (luck ∷ lucks) sites (c ∷ commands) k) (one_later (suc n))
-            ∙ (ap (λ (k : ℕ). state_before trade lucks (played trade luck sites c).after commands k) (sym (one_later n)) ∙ later.behind);
+            ∙ (ap (λ (k : ℕ). state_before trade lucks (played trade luck sites c).after commands k)
+            (sym (one_later n)) ∙ later.behind);
       }
 
   -- what holds of all commands holds of the first ones
-  pub unforged_front : (n : ℕ) (lucks : List Luck) (sites : List Site) (commands : List Command) → AllUnforged trade lucks sites commands
+  pub unforged_front : (n : ℕ) (lucks : List Luck) (sites : List Site) (commands : List Command)
+      → AllUnforged trade lucks sites commands
       → AllUnforged trade (take n lucks) sites commands
   unforged_front zero lucks sites commands all = tt
   unforged_front (suc n) [] sites commands all = tt

@@ -82,25 +82,33 @@ module _ (trade : Trade) (sites : List Site) (luck : Luck) where
   appended_alike true p entry answer = inl refl
   appended_alike false p entry answer = inr refl
 
-  append_alike : (p : ℕ) (entry : Entry) (answer : Answer) → Alike (append trade luck sites p entry answer) (append trade calm_luck sites p entry answer)
+  append_alike : (p : ℕ) (entry : Entry) (answer : Answer)
+      → Alike (append trade luck sites p entry answer) (append trade calm_luck sites p entry answer)
   unfolding calm_luck
   append_alike p entry answer =
-      alike_if (has_no_room trade p (journal_at sites p) entry) (answers sites (Refuses faults.JournalFull)) (answers sites (Refuses faults.JournalFull))
-      (appended luck.fails sites p entry answer) (appended false sites p entry answer) (inr refl) (appended_alike luck.fails p entry answer)
+      alike_if (has_no_room trade p (journal_at sites p) entry) (answers sites (Refuses faults.JournalFull))
+      (answers sites (Refuses faults.JournalFull))
+      (appended luck.fails sites p entry answer) (appended false sites p entry answer) (inr refl)
+      (appended_alike luck.fails p entry answer)
 
-  work_alike : (p now : ℕ) (x y : Played) → Alike x y → Alike (at_work trade sites p now x) (at_work trade sites p now y)
+  work_alike : (p now : ℕ) (x y : Played) → Alike x y
+      → Alike (at_work trade sites p now x) (at_work trade sites p now y)
   work_alike p now x y a =
       alike_if (site_at sites p).up _ _ (answers sites (Refuses faults.Down)) (answers sites (Refuses faults.Down))
-      (alike_if (nat_lt now (last_of trade p (journal_at sites p))) (answers sites (Refuses (faults.ClockBack (last_of trade p (journal_at sites p)))))
+      (alike_if (nat_lt now (last_of trade p (journal_at sites p)))
+      (answers sites (Refuses (faults.ClockBack (last_of trade p (journal_at sites p)))))
       (answers sites (Refuses (faults.ClockBack (last_of trade p (journal_at sites p))))) x y (inr refl) a)
       (inr refl)
 
   submitted_alike : (p now : ℕ) (sender : Bytes) (along : Path) (message : Bytes)
-      → Alike (submitted trade luck sites p now sender along message) (submitted trade calm_luck sites p now sender along message)
+      → Alike (submitted trade luck sites p now sender along message)
+      (submitted trade calm_luck sites p now sender along message)
   submitted_alike p now sender along message =
-      alike_if (trade.is_account p sender) _ _ (answers sites (Refuses faults.NoAccount)) (answers sites (Refuses faults.NoAccount))
+      alike_if (trade.is_account p sender) _ _ (answers sites (Refuses faults.NoAccount))
+      (answers sites (Refuses faults.NoAccount))
       (work_alike p now _ _
-      (alike_if (nat_lt (messages_at trade sites p) MESSAGES) _ _ (answers sites (Refuses faults.Full)) (answers sites (Refuses faults.Full))
+      (alike_if (nat_lt (messages_at trade sites p) MESSAGES) _ _ (answers sites (Refuses faults.Full))
+      (answers sites (Refuses faults.Full))
       (append_alike p _ _) (inr refl)))
       (inr refl)
 
@@ -109,7 +117,11 @@ module _ (trade : Trade) (sites : List Site) (luck : Luck) where
 
   abbrev up_again : ℕ → Site → Played
   up_again p site =
-      record { answer = Restarted (length (restarted_site luck.found site).journal); after = with_site sites p (restarted_site luck.found site) }
+      record {
+        answer = Restarted (length (restarted_site luck.found site).journal);
+        after = with_site sites p
+            (restarted_site luck.found site);
+      }
 
   fails_alike : (fails : Bool) (p : ℕ) (site : Site)
       → Alike (if fails then answers sites (Refuses faults.DiskFault) else up_again p site) (up_again p site)
@@ -134,7 +146,8 @@ module _ (trade : Trade) (sites : List Site) (luck : Luck) where
   no_fault : (asked : ℕ) (x y : Played) → Alike x y → faults_at asked asked x.answer ≡ 0 → x ≡ y
   no_fault asked x y (inr same) none = same
   no_fault asked x y (inl told) none =
-      absurd (one_is_some (asked == asked) (eq-eqb asked asked refl) (subst (λ (a : Answer). faults_at asked asked a ≡ 0) told none))
+      absurd (one_is_some (asked == asked) (eq-eqb asked asked refl)
+      (subst (λ (a : Answer). faults_at asked asked a ≡ 0) told none))
 
   -- ---- rounds
 
@@ -145,7 +158,8 @@ module _ (trade : Trade) (sites : List Site) (luck : Luck) where
         else cut_turn trade p rooms site (plan trade p now site.journal (frames_in site.waiting)) cut)
         else not_begun site faults.Down
 
-    turn_same : (p : ℕ) (rooms : ℕ → ℕ) (site : Site) (cut : Cut) (up late : Bool) → WentWell (turn_by p rooms site cut up late).ended
+    turn_same : (p : ℕ) (rooms : ℕ → ℕ) (site : Site) (cut : Cut) (up late : Bool)
+        → WentWell (turn_by p rooms site cut up late).ended
         → turn_by p rooms site cut up late ≡ turn_by p rooms site (calmed cut) up late
     turn_same p rooms site cut true false well =
         let steps = plan trade p now site.journal (frames_in site.waiting)
@@ -156,7 +170,8 @@ module _ (trade : Trade) (sites : List Site) (luck : Luck) where
     turned_same : (p : ℕ) (rooms : ℕ → ℕ) (site : Site) (cut : Cut) → WentWell (turned trade p now rooms cut site).ended
         → turned trade p now rooms cut site ≡ turned trade p now rooms (calmed cut) site
     unfolding turned
-    turned_same p rooms site cut well = turn_same p rooms site cut site.up (nat_lt now (last_of trade p site.journal)) well
+    turned_same p rooms site cut well = turn_same p rooms site cut site.up
+        (nat_lt now (last_of trade p site.journal)) well
 
     -- a turn that began and went well was calm
     turn_calm : (p : ℕ) (rooms : ℕ → ℕ) (site : Site) (cut : Cut) (up late : Bool) → up ≡ true → late ≡ false
@@ -166,10 +181,12 @@ module _ (trade : Trade) (sites : List Site) (luck : Luck) where
     turn_calm p rooms site cut true true u l well = absurd (false≢true (sym l))
     turn_calm p rooms site cut false late u l well = absurd (false≢true u)
 
-    turned_calm : (p : ℕ) (rooms : ℕ → ℕ) (site : Site) (cut : Cut) → site.up ≡ true → nat_lt now (last_of trade p site.journal) ≡ false
+    turned_calm : (p : ℕ) (rooms : ℕ → ℕ) (site : Site) (cut : Cut) → site.up ≡ true
+        → nat_lt now (last_of trade p site.journal) ≡ false
         → WentWell (turned trade p now rooms cut site).ended → IsCalm cut
     unfolding turned
-    turned_calm p rooms site cut u l well = turn_calm p rooms site cut site.up (nat_lt now (last_of trade p site.journal)) u l well
+    turned_calm p rooms site cut u l well = turn_calm p rooms site cut site.up
+        (nat_lt now (last_of trade p site.journal)) u l well
 
     -- ---- all turns
 
@@ -197,16 +214,21 @@ module _ (trade : Trade) (sites : List Site) (luck : Luck) where
     abbrev told_of : ℕ → Turned → Turn
     told_of number turn = record { provider = number; events = turn.events; sent = sent_from 0 turn.out; ended = turn.ended }
 
-    well_first : (number : ℕ) (turn : Turned) (turns : List Turned) → AllWell number (turn ∷ turns) → WentWell turn.ended
+    well_first : (number : ℕ) (turn : Turned) (turns : List Turned) → AllWell number (turn ∷ turns)
+        → WentWell turn.ended
     well_first number turn turns all = record {
-      disk = own_fault number (is_disk_fault turn.ended) (none_first number (told_of number turn) (told_from (number + 1) turns) (all.disks number)).0;
-      memory = All-head (λ (t : Turn). t.ended ≢ Some faults.NoMemory) (told_of number turn) (told_from (number + 1) turns) all.memory;
+      disk = own_fault number (is_disk_fault turn.ended)
+          (none_first number (told_of number turn) (told_from (number + 1) turns) (all.disks number)).0;
+      memory = All-head (λ (t : Turn). t.ended ≢ Some faults.NoMemory) (told_of number turn)
+          (told_from (number + 1) turns) all.memory;
     }
 
-    well_rest : (number : ℕ) (turn : Turned) (turns : List Turned) → AllWell number (turn ∷ turns) → AllWell (number + 1) turns
+    well_rest : (number : ℕ) (turn : Turned) (turns : List Turned) → AllWell number (turn ∷ turns)
+        → AllWell (number + 1) turns
     well_rest number turn turns all = record {
       disks = λ k. (none_first k (told_of number turn) (told_from (number + 1) turns) (all.disks k)).1;
-      memory = All-tail (λ (t : Turn). t.ended ≢ Some faults.NoMemory) (told_of number turn) (told_from (number + 1) turns) all.memory;
+      memory = All-tail (λ (t : Turn). t.ended ≢ Some faults.NoMemory) (told_of number turn)
+          (told_from (number + 1) turns) all.memory;
     }
 
     both_turns : (x y : Turned) (xs ys : List Turned) → x ≡ y → xs ≡ ys → x ∷ xs ≡ y ∷ ys
@@ -237,34 +259,46 @@ module _ (trade : Trade) (sites : List Site) (luck : Luck) where
         (well_first number turn (turns_from trade now sites luck.cuts (number + 1) ss) all))
     all_calm number (s ∷ ss) all (suc k) l =
         let turn = turned trade number now (rooms_of sites number) (luck.cuts number) s
-        in subst (λ (q : ℕ). CalmAt q (slice_index_or ss k empty_site)) (let z : (number + 1) + k ≡ number + suc k = omega arith in z)
-        (all_calm (number + 1) ss (well_rest number turn (turns_from trade now sites luck.cuts (number + 1) ss) all) k (omega arith))
+        in subst (λ (q : ℕ). CalmAt q (slice_index_or ss k empty_site))
+        (let z : (number + 1) + k ≡ number + suc k = omega arith in z)
+        (all_calm (number + 1) ss (well_rest number turn
+        (turns_from trade now sites luck.cuts (number + 1) ss) all) k (omega arith))
 
     -- the turns of a round that is told so
     turns_well : All (λ (turn : Turn). turn.ended ≢ Some faults.NoMemory) (rounded trade now luck.cuts sites).turns
-        → ((k : ℕ) → faults_in k (rounded trade now luck.cuts sites).turns ≡ 0) → AllWell 0 (turns_from trade now sites luck.cuts 0 sites)
+        → ((k : ℕ) → faults_in k (rounded trade now luck.cuts sites).turns ≡ 0)
+        → AllWell 0 (turns_from trade now sites luck.cuts 0 sites)
     unfolding rounded turns_of
     turns_well memory disks = record { disks = disks; memory = memory }
 
-    rounded_same : AllWell 0 (turns_from trade now sites luck.cuts 0 sites) → rounded trade now luck.cuts sites ≡ rounded trade now calm_luck.cuts sites
+    rounded_same : AllWell 0 (turns_from trade now sites luck.cuts 0 sites)
+        → rounded trade now luck.cuts sites ≡ rounded trade now calm_luck.cuts sites
     unfolding rounded turns_of
     rounded_same all =
-        ap (λ (turns : List Turned). let r : Rounded = record { sites = delivered (outs_of turns) 0 turns; turns = told_from 0 turns } in r)
+        ap (λ (turns : List Turned). let r : Rounded = record {
+          sites = delivered
+              (outs_of turns) 0 turns;
+          turns = told_from 0 turns;
+        } in r)
         (turns_same 0 sites all)
 
-    round_may : AllWell 0 (turns_from trade now sites luck.cuts 0 sites) → MayMeet trade luck sites (Round now) → MayMeet trade calm_luck sites (Round now)
+    round_may : AllWell 0 (turns_from trade now sites luck.cuts 0 sites) → MayMeet trade luck sites (Round now)
+        → MayMeet trade calm_luck sites (Round now)
     unfolding calm_luck
     round_may all may p l u late =
         let calm : IsCalm (luck.cuts p) =
-        subst (λ (q : ℕ). CalmAt q (slice_index_or sites p empty_site) → IsCalm (luck.cuts p)) (let z : p ≡ 0 + p = omega arith in z) (λ at. at u late)
+        subst (λ (q : ℕ). CalmAt q (slice_index_or sites p empty_site) → IsCalm (luck.cuts p))
+        (let z : p ≡ 0 + p = omega arith in z) (λ at. at u late)
         (all_calm 0 sites all p l)
-        in subst (λ (cut : Cut). MayCut (plan trade p now (site_at sites p).journal (frames_in (site_at sites p).waiting)) cut)
+        in subst (λ (cut : Cut). MayCut
+        (plan trade p now (site_at sites p).journal (frames_in (site_at sites p).waiting)) cut)
         (sym (calmed_same (luck.cuts p) calm)) (may p l u late)
 
   -- ---- all commands
 
   abbrev Twin : Command → Type 0
-  Twin command = MayMeet trade calm_luck sites command × (played trade luck sites command ≡ played trade calm_luck sites command)
+  Twin command = MayMeet trade calm_luck sites command
+      × (played trade luck sites command ≡ played trade calm_luck sites command)
 
   abbrev ToldWell : Command → Type 0
   ToldWell command = HasMemory (played trade luck sites command).answer
@@ -274,21 +308,33 @@ module _ (trade : Trade) (sites : List Site) (luck : Luck) where
   unfolding played
   twin (Submit p now sender along message) may well = (
     tt,
-    no_fault p (submitted trade luck sites p now sender along message) (submitted trade calm_luck sites p now sender along message)
+    no_fault p (submitted trade luck sites p now sender along message)
+        (submitted trade calm_luck sites p now sender along message)
         (submitted_alike p now sender along message) (well.1 p),
   )
-  twin (Tick p now) may well =
-      (tt, no_fault p (ticked trade luck sites p now) (ticked trade calm_luck sites p now) (ticked_alike p now) (well.1 p))
+  twin (Tick p now) may well = (
+    tt,
+    no_fault p (ticked trade luck sites p now) (ticked trade calm_luck sites p now) (ticked_alike p now)
+        (well.1 p),
+  )
   twin (Round now) may well =
       let all = turns_well now well.0 well.1
-      in (round_may now all may, ap (λ (r : Rounded). let x : Played = record { answer = Turns r.turns; after = r.sites } in x) (rounded_same now all))
+      in (
+        round_may now all may,
+        ap (λ
+            (r : Rounded). let x : Played = record { answer = Turns r.turns; after = r.sites } in x)
+            (rounded_same now all),
+      )
   twin (Lose from to place) may well = (tt, refl)
   twin (Repeat from to place) may well = (tt, refl)
   twin (Swap from to place) may well = (tt, refl)
   twin (Inject from to frame) may well = (tt, refl)
   twin (Crash p) may well = (tt, refl)
-  twin (Restart p) may well =
-      (tt, no_fault p (restarted luck sites p (site_at sites p)) (restarted calm_luck sites p (site_at sites p)) (restarted_alike p (site_at sites p)) (well.1 p))
+  twin (Restart p) may well = (
+    tt,
+    no_fault p (restarted luck sites p (site_at sites p)) (restarted calm_luck sites p (site_at sites p))
+        (restarted_alike p (site_at sites p)) (well.1 p),
+  )
   twin (Book address) may well = (tt, refl)
   twin (Mailbox address) may well = (tt, refl)
   twin (Show address place) may well = (tt, refl)
@@ -304,7 +350,8 @@ module _ (trade : Trade) (sites : List Site) (luck : Luck) (quiet : IsQuiet luck
   well_if asked true x y a c = a
   well_if asked false x y a c = c
 
-  appended_well : (asked : ℕ) (fails : Bool) → fails ≡ false → (p : ℕ) (entry : Entry) (answer : Answer) → Well asked (answers sites answer)
+  appended_well : (asked : ℕ) (fails : Bool) → fails ≡ false → (p : ℕ) (entry : Entry) (answer : Answer)
+      → Well asked (answers sites answer)
       → Well asked (appended fails sites p entry answer)
   appended_well asked true e p entry answer a = absurd (false≢true (sym e))
   appended_well asked false e p entry answer a = a
@@ -313,7 +360,8 @@ module _ (trade : Trade) (sites : List Site) (luck : Luck) (quiet : IsQuiet luck
       → Well asked (append trade luck sites p entry answer)
   append_well asked p entry answer a =
       well_if asked (has_no_room trade p (journal_at sites p) entry) (answers sites (Refuses faults.JournalFull))
-      (appended luck.fails sites p entry answer) (tt, λ k. refl) (appended_well asked luck.fails quiet.works p entry answer a)
+      (appended luck.fails sites p entry answer) (tt, λ k. refl)
+      (appended_well asked luck.fails quiet.works p entry answer a)
 
   work_well : (asked p now : ℕ) (done : Played) → Well asked done → Well asked (at_work trade sites p now done)
   work_well asked p now done a =
@@ -322,7 +370,8 @@ module _ (trade : Trade) (sites : List Site) (luck : Luck) (quiet : IsQuiet luck
       (answers sites (Refuses (faults.ClockBack (last_of trade p (journal_at sites p))))) done (tt, λ k. refl) a)
       (tt, λ k. refl)
 
-  submitted_well : (p now : ℕ) (sender : Bytes) (along : Path) (message : Bytes) → Well p (submitted trade luck sites p now sender along message)
+  submitted_well : (p now : ℕ) (sender : Bytes) (along : Path) (message : Bytes)
+      → Well p (submitted trade luck sites p now sender along message)
   submitted_well p now sender along message =
       well_if p (trade.is_account p sender) _ (answers sites (Refuses faults.NoAccount))
       (work_well p p now _
@@ -355,16 +404,21 @@ module _ (trade : Trade) (sites : List Site) (luck : Luck) (quiet : IsQuiet luck
   ended_if true x y a c = a
   ended_if false x y a c = c
 
-  turned_well : (p now : ℕ) (rooms : ℕ → ℕ) (site : Site) (cut : Cut) → IsCalm cut → WentWell (turned trade p now rooms cut site).ended
+  turned_well : (p now : ℕ) (rooms : ℕ → ℕ) (site : Site) (cut : Cut) → IsCalm cut
+      → WentWell (turned trade p now rooms cut site).ended
   unfolding turned
   turned_well p now rooms site cut calm =
       ended_if site.up _ (not_begun site faults.Down)
-      (ended_if (nat_lt now (last_of trade p site.journal)) (not_begun site (faults.ClockBack (last_of trade p site.journal))) _
-      (record { disk = refl; memory = λ e. cc }) (cut_well p rooms site (plan trade p now site.journal (frames_in site.waiting)) cut calm))
+      (ended_if (nat_lt now (last_of trade p site.journal))
+      (not_begun site (faults.ClockBack (last_of trade p site.journal))) _
+      (record { disk = refl; memory = λ e. cc })
+      (cut_well p rooms site (plan trade p now site.journal (frames_in site.waiting)) cut calm))
       (record { disk = refl; memory = λ e. cc })
 
-  none_more : (k : ℕ) (turn : Turn) (turns : List Turn) (b : Bool) → b ≡ false → length (filter (Tests trade sites luck 0 k) turns) ≡ 0
-      → length (if b then turn ∷ filter (Tests trade sites luck 0 k) turns else filter (Tests trade sites luck 0 k) turns) ≡ 0
+  none_more : (k : ℕ) (turn : Turn) (turns : List Turn) (b : Bool) → b ≡ false
+      → length (filter (Tests trade sites luck 0 k) turns) ≡ 0
+      → length (if b then turn ∷ filter (Tests trade sites luck 0 k) turns else filter
+      (Tests trade sites luck 0 k) turns) ≡ 0
   none_more k turn turns true e n = absurd (false≢true (sym e))
   none_more k turn turns false e n = n
 
@@ -372,18 +426,21 @@ module _ (trade : Trade) (sites : List Site) (luck : Luck) (quiet : IsQuiet luck
   and_false true b e = e
   and_false false b e = refl
 
-  turns_none : (k now number : ℕ) (ss : List Site) → faults_in k (told_from number (turns_from trade now sites luck.cuts number ss)) ≡ 0
+  turns_none : (k now number : ℕ) (ss : List Site)
+      → faults_in k (told_from number (turns_from trade now sites luck.cuts number ss)) ≡ 0
   turns_none k now number [] = refl
   turns_none k now number (s ∷ ss) =
       let turn = turned trade number now (rooms_of sites number) (luck.cuts number) s
       in let told = told_of trade sites luck now number turn
-      in none_more k told (told_from (number + 1) (turns_from trade now sites luck.cuts (number + 1) ss)) (Tests trade sites luck 0 k told)
+      in none_more k told (told_from (number + 1) (turns_from trade now sites luck.cuts (number + 1) ss))
+      (Tests trade sites luck 0 k told)
       (and_false (number == k) (is_disk_fault turn.ended)
       (turned_well number now (rooms_of sites number) s (luck.cuts number) (quiet.cuts number)).disk)
       (turns_none k now (number + 1) ss)
 
   turns_memory : (now number : ℕ) (ss : List Site)
-      → All (λ (turn : Turn). turn.ended ≢ Some faults.NoMemory) (told_from number (turns_from trade now sites luck.cuts number ss))
+      → All (λ (turn : Turn). turn.ended ≢ Some faults.NoMemory)
+      (told_from number (turns_from trade now sites luck.cuts number ss))
   turns_memory now number [] = All-nil (λ (turn : Turn). turn.ended ≢ Some faults.NoMemory)
   turns_memory now number (s ∷ ss) =
       let turn = turned trade number now (rooms_of sites number) (luck.cuts number) s
@@ -392,7 +449,8 @@ module _ (trade : Trade) (sites : List Site) (luck : Luck) (quiet : IsQuiet luck
       (turned_well number now (rooms_of sites number) s (luck.cuts number) (quiet.cuts number)).memory
       (turns_memory now (number + 1) ss)
 
-  rounded_well : (now : ℕ) → All (λ (turn : Turn). turn.ended ≢ Some faults.NoMemory) (rounded trade now luck.cuts sites).turns
+  rounded_well : (now : ℕ) → All (λ (turn : Turn). turn.ended ≢ Some faults.NoMemory)
+      (rounded trade now luck.cuts sites).turns
       × ((k : ℕ) → faults_in k (rounded trade now luck.cuts sites).turns ≡ 0)
   unfolding rounded turns_of
   rounded_well now = (turns_memory now 0 sites, λ k. turns_none k now 0 sites)
@@ -406,10 +464,12 @@ module _ (trade : Trade) (sites : List Site) (luck : Luck) (quiet : IsQuiet luck
   remembers_if true x y a c = a
   remembers_if false x y a c = c
 
-  asked_well : (show : ℕ → Half → Played) (found : Option ℕ) → ((p : ℕ) (h : Half) → Remembers (show p h)) → Remembers (asked sites show trade found)
+  asked_well : (show : ℕ → Half → Played) (found : Option ℕ) → ((p : ℕ) (h : Half) → Remembers (show p h))
+      → Remembers (asked sites show trade found)
   asked_well show None each = tt
   asked_well show (Some p) each =
-      remembers_if (site_at sites p).up (show p (half trade p (journal_at sites p))) (answers sites (Refuses faults.Down)) (each p _) tt
+      remembers_if (site_at sites p).up (show p (half trade p (journal_at sites p)))
+      (answers sites (Refuses faults.Down)) (each p _) tt
 
   bytes_well : (text : Option Bytes) → Remembers (shown_bytes sites text)
   bytes_well None = tt
@@ -421,7 +481,8 @@ module _ (trade : Trade) (sites : List Site) (luck : Luck) (quiet : IsQuiet luck
 
   again_well : (from to : ℕ) (found : Option Bytes) → Remembers (put_again sites from to found)
   again_well from to None = tt
-  again_well from to (Some frame) = remembers_if (nat_lt (length (frames_between sites from to)) link_size) _ (answers sites LinkFull) tt tt
+  again_well from to (Some frame) = remembers_if (nat_lt (length (frames_between sites from to)) link_size) _
+      (answers sites LinkFull) tt tt
 
   swapped_well : (from to : ℕ) (found : Option (List Bytes)) → Remembers (swapped sites from to found)
   swapped_well from to None = tt
@@ -436,16 +497,26 @@ module _ (trade : Trade) (sites : List Site) (luck : Luck) (quiet : IsQuiet luck
       (remembers_if (nat_lt place (length (frames_between sites from to))) _ (answers sites NoFrame) tt tt, λ k. refl)
   quiet_well (Repeat from to place) = (again_well from to (slice_get (frames_between sites from to) place), λ k. refl)
   quiet_well (Swap from to place) = (swapped_well from to (swapped_at place (frames_between sites from to)), λ k. refl)
-  quiet_well (Inject from to frame) =
-      (remembers_if (nat_lt (length (frames_between sites from to)) link_size) _ (answers sites LinkFull) tt tt, λ k. refl)
+  quiet_well (Inject from to frame) = (
+    remembers_if (nat_lt (length (frames_between sites from to)) link_size) _
+        (answers sites LinkFull) tt tt,
+    λ k. refl,
+  )
   quiet_well (Crash p) = (tt, λ k. refl)
   quiet_well (Restart p) = restarted_well p (site_at sites p)
-  quiet_well (Book address) =
-      (asked_well (λ (p : ℕ) (h : Half). answers sites (Lines (book trade p h address))) (account_home trade address (trade.home address)) (λ p h. tt), λ k. refl)
-  quiet_well (Mailbox address) =
-      (asked_well (λ (p : ℕ) (h : Half). answers sites (Items (mailbox_lines h address))) (account_home trade address (trade.home address)) (λ p h. tt), λ k. refl)
+  quiet_well (Book address) = (
+    asked_well (λ (p : ℕ) (h : Half). answers sites (Lines (book trade p h address)))
+        (account_home trade address (trade.home address)) (λ p h. tt),
+    λ k. refl,
+  )
+  quiet_well (Mailbox address) = (
+    asked_well (λ (p : ℕ) (h : Half). answers sites (Items (mailbox_lines h address)))
+        (account_home trade address (trade.home address)) (λ p h. tt),
+    λ k. refl,
+  )
   quiet_well (Show address place) = (
-    asked_well (λ (p : ℕ) (h : Half). shown trade sites p (slice_get (mailbox h address) place)) (account_home trade address (trade.home address))
+    asked_well (λ (p : ℕ) (h : Half). shown trade sites p (slice_get (mailbox h address) place))
+        (account_home trade address (trade.home address))
         (λ p h. shown_well p (slice_get (mailbox h address) place)),
     λ k. refl,
   )
@@ -465,14 +536,18 @@ none_in_sum a b e = (omega (arith, e), omega (arith, e))
 module _ (trade : Trade) where
   pub twins : (lucks : List Luck) (sites : List Site) (commands : List Command) → AllMeet trade lucks sites commands
       → All HasMemory (script trade lucks sites commands).answers
-      → ((k : ℕ) → faults_told k commands (script trade lucks sites commands).answers ≡ 0) → Twins trade lucks sites commands
+      → ((k : ℕ) → faults_told k commands (script trade lucks sites commands).answers ≡ 0)
+      → Twins trade lucks sites commands
   twins [] sites commands meet memory none = record { calms = []; quiet = tt; count = refl; same = refl }
   twins (luck ∷ lucks) sites [] meet memory none = record { calms = luck ∷ lucks; quiet = tt; count = refl; same = refl }
   twins (luck ∷ lucks) sites (c ∷ commands) meet memory none =
       let here = played trade luck sites c
       in let told = (script trade lucks here.after commands).answers
-      in let first = twin trade sites luck c meet.0
-      (All-head HasMemory here.answer told memory, λ k. (none_in_sum (faults_by k c here.answer) (faults_told k commands told) (none k)).0)
+      in let first = twin trade sites luck c meet.0 (
+        All-head HasMemory here.answer told memory,
+        λ k.
+            (none_in_sum (faults_by k c here.answer) (faults_told k commands told) (none k)).0,
+      )
       in let later = twins lucks here.after commands meet.1 (All-tail HasMemory here.answer told memory)
       (λ k. (none_in_sum (faults_by k c here.answer) (faults_told k commands told) (none k)).1)
       in record {
@@ -488,22 +563,27 @@ module _ (trade : Trade) where
       }
 
   -- a script without faults tells none
-  pub quiet_meet : (lucks : List Luck) (sites : List Site) (commands : List Command) → AllQuiet trade lucks sites commands
+  pub quiet_meet : (lucks : List Luck) (sites : List Site) (commands : List Command)
+      → AllQuiet trade lucks sites commands
       → AllMeet trade lucks sites commands
   quiet_meet [] sites commands quiet = tt
   quiet_meet (luck ∷ lucks) sites [] quiet = tt
-  quiet_meet (luck ∷ lucks) sites (c ∷ commands) quiet = (quiet.0, quiet_meet lucks (played trade luck sites c).after commands quiet.2)
+  quiet_meet (luck ∷ lucks) sites (c ∷ commands) quiet =
+      (quiet.0, quiet_meet lucks (played trade luck sites c).after commands quiet.2)
 
-  pub quiet_memory : (lucks : List Luck) (sites : List Site) (commands : List Command) → AllQuiet trade lucks sites commands
+  pub quiet_memory : (lucks : List Luck) (sites : List Site) (commands : List Command)
+      → AllQuiet trade lucks sites commands
       → All HasMemory (script trade lucks sites commands).answers
   quiet_memory [] sites commands quiet = All-nil HasMemory
   quiet_memory (luck ∷ lucks) sites [] quiet = All-nil HasMemory
   quiet_memory (luck ∷ lucks) sites (c ∷ commands) quiet =
       let here = played trade luck sites c
-      in All-cons HasMemory here.answer (script trade lucks here.after commands).answers (quiet_well trade sites luck quiet.1 c).0
+      in All-cons HasMemory here.answer (script trade lucks here.after commands).answers
+      (quiet_well trade sites luck quiet.1 c).0
       (quiet_memory lucks here.after commands quiet.2)
 
-  pub quiet_none : (k : ℕ) (lucks : List Luck) (sites : List Site) (commands : List Command) → AllQuiet trade lucks sites commands
+  pub quiet_none : (k : ℕ) (lucks : List Luck) (sites : List Site) (commands : List Command)
+      → AllQuiet trade lucks sites commands
       → faults_told k commands (script trade lucks sites commands).answers ≡ 0
   quiet_none k [] sites [] quiet = refl
   quiet_none k [] sites (c ∷ commands) quiet = refl

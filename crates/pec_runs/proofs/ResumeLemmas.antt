@@ -22,7 +22,8 @@ pub record FitsAnyWay (trade : Trade) (left : List Site) : Type 0 where
   pub past : (p : ℕ) → trade.providers ≤ p → (journal_at left p ≡ []) × (interrupted_at left p ≡ None)
 
 module _ (trade : Trade) (stays : JointStays trade) where
-  past_sites : (sites : List Site) (p : ℕ) → length sites ≤ p → (journal_at sites p ≡ []) × (interrupted_at sites p ≡ None)
+  past_sites : (sites : List Site) (p : ℕ) → length sites ≤ p
+      → (journal_at sites p ≡ []) × (interrupted_at sites p ≡ None)
   past_sites sites p l =
       let e = get_or_past sites p empty_site l
       in (ap (λ (s : Site). s.journal) e, ap (λ (s : Site). s.interrupted) e)
@@ -42,7 +43,8 @@ module _ (trade : Trade) (stays : JointStays trade) where
   like_it sites left fits journals interrupted = record {
     any = λ choice. fit_alike trade stays (with_choice sites choice) (with_choice left choice)
         (λ p. ap (λ (l : List Entry). l ++ chosen (choice p) (interrupted_at sites p)) (sym (journals p))
-        ∙ ap (λ (l : List Entry). journal_at left p ++ l) (chosen_alike (choice p) (interrupted_at sites p) (interrupted_at left p) (sym (interrupted p))))
+        ∙ ap (λ (l : List Entry). journal_at left p ++ l)
+        (chosen_alike (choice p) (interrupted_at sites p) (interrupted_at left p) (sym (interrupted p))))
         (fits.any choice);
     past = λ p l. (journals p ∙ (fits.past p l).0, interrupted p ∙ (fits.past p l).1);
   }
@@ -53,29 +55,36 @@ module _ (trade : Trade) (stays : JointStays trade) where
       → LeavesOff trade after next left → FitsAnyWay trade left
   left_fits after left next sound more (Behind is) = subst (FitsAnyWay trade) (sym is) (sound_fits after sound)
   left_fits after left next sound more (Within command luck is journals interrupted) =
-      like_it (played trade luck after command).after left (sound_fits (played trade luck after command).after (more luck command is)) journals interrupted
+      like_it (played trade luck after command).after left
+      (sound_fits (played trade luck after command).after (more luck command is)) journals interrupted
 
   -- the disks' journals, as they are opened again
-  module _ (left : List Site) (fits : FitsAnyWay trade left) (journals : List (List Entry)) (count : length journals ≡ trade.providers)
+  module _ (left : List Site) (fits : FitsAnyWay trade left) (journals : List (List Entry))
+      (count : length journals ≡ trade.providers)
       (one : (a b : List Entry) (bytes : Bytes) → IsJournalOf a bytes → IsJournalOf b bytes → a ≡ b)
-      (bytes : ℕ → Bytes) (was : (k : ℕ) → k < trade.providers → IsLeft left k (bytes k))
-      (read : (k : ℕ) (j : List Entry) → slice_get journals k ≡ Some j → k < trade.providers → IsJournalOf j (bytes k)) where
-    pick : (k : ℕ) → (choice : Bool) × (slice_index_or journals k [] ≡ journal_at left k ++ chosen choice (interrupted_at left k))
+      (was : (k : ℕ) → k < trade.providers
+      → (bytes : Bytes) × IsLeft left k bytes
+      × ((j : List Entry) → slice_get journals k ≡ Some j → IsJournalOf j bytes)) where
+    pick : (k : ℕ) → (choice : Bool)
+        × (slice_index_or journals k [] ≡ journal_at left k ++ chosen choice (interrupted_at left k))
     pick k =
         elim (cases_lt k trade.providers) [
           | inl l ↦
               let is = was k l
               in (
-                is.0,
-                one (slice_index_or journals k []) (journal_at left k ++ chosen is.0 (interrupted_at left k)) (bytes k)
-                    (read k (slice_index_or journals k []) (slice_get-get_or journals k [] (omega (arith, count, l))) l) is.1,
+                is.1.0,
+                one (slice_index_or journals k [])
+                    (journal_at left k ++ chosen is.1.0 (interrupted_at left k)) is.0
+                    (is.2 (slice_index_or journals k []) (slice_get-get_or journals k [] (omega (arith, count, l)))) is.1.1,
               )
           | inr l ↦ (
             false,
-            get_or_past journals k [] (omega (arith, count, l)) ∙ (sym (fits.past k l).0 ∙ sym (append-nil (journal_at left k))),
+            get_or_past journals k [] (omega (arith, count, l))
+                ∙ (sym (fits.past k l).0 ∙ sym (append-nil (journal_at left k))),
           )
         ]
 
     pub opened_fit : Fit trade (journals_in journals)
     opened_fit =
-        fit_alike trade stays (with_choice left (λ k. (pick k).0)) (journals_in journals) (λ k. sym (pick k).1) (fits.any (λ k. (pick k).0))
+        fit_alike trade stays (with_choice left (λ k. (pick k).0)) (journals_in journals) (λ k. sym (pick k).1)
+        (fits.any (λ k. (pick k).0))

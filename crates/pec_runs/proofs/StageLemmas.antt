@@ -28,8 +28,10 @@ same_script : (a b : Form) (x y : Script) → Begun a x ≡ Begun b y → x ≡ 
 same_script a b x y e = cc
 
 module _ (words : List Bytes) (early : Bool) (parts : Parts) (form : Form) (script : Script) where
-  by_read : (asked : Form) (lines : List Bytes) (told : Result (List Provider) DirectoryFault) → form_in words ≡ Some asked → early ≡ false
-      → nat_lt longest_directory (length parts.directory) ≡ false → parts.script ≡ Some lines → directory_in parts.directory ≡ told
+  by_read : (asked : Form) (lines : List Bytes) (told : Result (List Provider) DirectoryFault)
+      → form_in words ≡ Some asked → early ≡ false
+      → nat_lt longest_directory (length parts.directory) ≡ false → parts.script ≡ Some lines
+      → directory_in parts.directory ≡ told
       → by_directory asked lines told ≡ Begun form script → HasAll words early parts form script
   by_read asked lines (Err fault) w l s c d e = cc
   by_read asked lines (Ok providers) w l s c d e = record {
@@ -56,7 +58,8 @@ module _ (words : List Bytes) (early : Bool) (parts : Parts) (form : Form) (scri
   by_length asked true w l s e = cc
   by_length asked false w l s e = by_lines asked parts.script w l s refl e
 
-  by_words : (soon : Bool) (found : Option Form) → early ≡ soon → form_in words ≡ found → by_form soon parts found ≡ Begun form script
+  by_words : (soon : Bool) (found : Option Form) → early ≡ soon → form_in words ≡ found
+      → by_form soon parts found ≡ Begun form script
       → HasAll words early parts form script
   by_words true None l w e = cc
   by_words false None l w e = cc

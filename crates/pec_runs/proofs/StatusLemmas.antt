@@ -1,7 +1,8 @@
 -- What a status says of a run: what was written, and how far it came.
-use Rattle.std.proofs.Common.{◌≡◌, ℕ, suc, ◌+◌, ◌≤◌, inl, inr, List, [], ◌∷◌, ◌++◌, Bool, true, false, length, refl, ap, subst, ◌∙◌, arith, nat_lt, Option, Some, None, Result, Ok, Err}
+use Rattle.std.proofs.Common.{sym, ◌≡◌, ℕ, suc, ◌+◌, ◌≤◌, inl, inr, List, [], ◌∷◌, ◌++◌, Bool, true, false, length, refl, ap, subst, ◌∙◌, arith, nat_lt, Option, Some, None, Result, Ok, Err}
 use Rattle.std.specs.Prelude.{if◌then◌else◌}
 use Rattle.std.proofs.lemmas.List.{append-nil}
+use Rattle.std.proofs.lemmas.Option.{none-some}
 use Rattle.pec_types.specs.Bytes.{Bytes}
 use Rattle.pec_outside.specs.Flow.{followed_by}
 use Rattle.pec_directory.specs.Directory.{Provider}
@@ -27,7 +28,8 @@ use Rattle.pec_runs.specs.Writing.{HasEnded, IsDone, IsOfEnd, WroteAnswers}
 -- ---- ends of scripts
 
 -- a script comes to its end where each command had its luck
-pub at_end_full : (lucks : List Luck) (commands : List Command) (end other : End) → at_end lucks commands end ≡ plays.Ends other
+pub at_end_full : (lucks : List Luck) (commands : List Command) (end other : End)
+    → at_end lucks commands end ≡ plays.Ends other
     → (length lucks ≡ length commands) × (end ≡ other)
 at_end_full [] [] end other e = (refl, (let same : end ≡ other = cc in same))
 at_end_full [] (c ∷ commands) end other e = cc
@@ -43,7 +45,8 @@ at_end_not (l ∷ lucks) [] end = (λ e. cc, λ e. cc)
 at_end_not (l ∷ lucks) (c ∷ commands) end = at_end_not lucks commands end
 
 -- how many answers there are
-pub answers_count : (trade : Trade) (lucks : List Luck) (sites : List Site) (commands : List Command) → length lucks ≤ length commands
+pub answers_count : (trade : Trade) (lucks : List Luck) (sites : List Site) (commands : List Command)
+    → length lucks ≤ length commands
     → length (script trade lucks sites commands).answers ≡ length lucks
 answers_count trade [] sites commands l = refl
 answers_count trade (luck ∷ lucks) sites [] l = absurd (omega arith)
@@ -52,16 +55,21 @@ answers_count trade (luck ∷ lucks) sites (c ∷ commands) l =
 
 -- ---- runs that don't stray
 
-module _ (tells : Type 0) (old_disks new_disks : Disks) (old new : Counts) (words : List Bytes) (happened : Happened) (told : tells) where
-  rest_strays : (written : Script) (rest : Rest) → (rest ≡ Strayed → ⊥) → finish_of rest happened.lucks written ≡ plays.Strays → ⊥
+module _ (tells : Type 0) (old_disks new_disks : Disks) (old new : Counts) (status : Status) (words : List Bytes)
+    (happened : Happened)
+    (told : tells) where
+  rest_strays : (written : Script) (rest : Rest) → (rest ≡ Strayed → ⊥)
+      → finish_of rest happened.lucks written ≡ plays.Strays → ⊥
   rest_strays written ToTheEnd not e = (at_end_not happened.lucks written.commands written.end).1 e
   rest_strays written Stopped not e = cc
   rest_strays written Strayed not e = not refl
 
   never_strayed : (written : Script) (rest : Rest) (at : Rest) → rest ≡ at
-      → MayPlay (world happened) tells (beginning happened) old.disks new.disks written happened.lucks rest → rest ≡ Strayed → ⊥
+      → MayPlay (world happened) tells (beginning happened) old.disks new.disks written happened.lucks rest
+      → rest ≡ Strayed → ⊥
   never_strayed written rest at e may strays =
-      let same = subst (λ (r : Rest). MayPlay (world happened) tells (beginning happened) old.disks new.disks written happened.lucks r) strays may
+      let same = subst (λ (r : Rest). MayPlay (world happened) tells
+      (beginning happened) old.disks new.disks written happened.lucks r) strays may
       in same.strays.untold told
 
   next_strays : (written : Script) (next : Next) → PlaysOn tells old_disks new_disks old new happened written next
@@ -73,7 +81,7 @@ module _ (tells : Type 0) (old_disks new_disks : Disks) (old new : Counts) (word
   next_strays written Fails may e = cc
   next_strays written Stops may e = cc
 
-  pub no_stray : (stage : Stage) → IsAt tells old_disks new_disks old new happened words stage
+  pub no_stray : (stage : Stage) → IsAt tells old_disks new_disks old new happened status words stage
       → (outcome_at happened stage).finish ≡ plays.Strays → ⊥
   no_stray (Over end) at e = cc
   no_stray Halted at e = cc
@@ -83,7 +91,8 @@ module _ (tells : Type 0) (old_disks new_disks : Disks) (old new : Counts) (word
 
 module _ (happened : Happened) where
   -- a run that failed at its disks answered nothing
-  next_fails : (written : Script) (next : Next) → (by_next (world happened) happened.opening happened.lucks happened.rest written next).finish ≡ plays.Fails
+  next_fails : (written : Script) (next : Next)
+      → (by_next (world happened) happened.opening happened.lucks happened.rest written next).finish ≡ plays.Fails
       → (by_next (world happened) happened.opening happened.lucks happened.rest written next).answers ≡ []
   next_fails written NoMore e = absurd (not_so happened.rest e)
     where
@@ -96,7 +105,8 @@ module _ (happened : Happened) where
   next_fails written Fails e = refl
   next_fails written Stops e = refl
 
-  pub fails_early : (stage : Stage) → (outcome_at happened stage).finish ≡ plays.Fails → (outcome_at happened stage).answers ≡ []
+  pub fails_early : (stage : Stage) → (outcome_at happened stage).finish ≡ plays.Fails
+      → (outcome_at happened stage).answers ≡ []
   fails_early (Over end) e = refl
   fails_early Halted e = refl
   fails_early (Begun form written) e = next_fails written happened.opening.next e
@@ -105,7 +115,8 @@ module _ (happened : Happened) where
 pub no_last_line : (providers : List Provider) (outcome : Outcome) → finish_text providers outcome.finish ≡ []
     → outcome_text providers outcome ≡ answers_text providers outcome.answers
 no_last_line providers outcome e =
-    ap (λ (t : Bytes). answers_text providers outcome.answers ++ t) e ∙ append-nil (answers_text providers outcome.answers)
+    ap (λ (t : Bytes). answers_text providers outcome.answers ++ t) e
+    ∙ append-nil (answers_text providers outcome.answers)
 
 -- ---- statuses with a last line
 
@@ -128,7 +139,8 @@ ends_so statuses.NoMemory of before after text finish told = absurd of
 ends_so statuses.StartFault of before after text finish told = absurd of
 ends_so statuses.NotEmpty of before after text finish told = (finish_is statuses.NotEmpty of finish told.0, told.1)
 ends_so statuses.NotFit of before after text finish told = (finish_is statuses.NotFit of finish told.0, told.1)
-ends_so statuses.InputTooLong of before after text finish told = (finish_is statuses.InputTooLong of finish told.0, told.1)
+ends_so statuses.InputTooLong of before after text finish told =
+    (finish_is statuses.InputTooLong of finish told.0, told.1)
 
 pub start_fails : (finish : Finish) → status_at finish ≡ Some statuses.StartFault → finish ≡ plays.Fails
 start_fails (plays.Ends ends.Done) e = cc
@@ -156,17 +168,20 @@ module _ (words : List Bytes) (happened : Happened) where
   IsOfScript ends.LongScript = Unit {0}
   IsOfScript _ = ⊥
 
-  line_ends : (number : ℕ) (line : Line) (written : Script) → IsOfScript written.end → IsOfScript (behind_line number line written).end
+  line_ends : (number : ℕ) (line : Line) (written : Script) → IsOfScript written.end
+      → IsOfScript (behind_line number line written).end
   line_ends number PassedOver written is = is
   line_ends number (Says command) written is = is
   line_ends number (SaysNone fault) written is = tt
   line_ends number TooLong written is = tt
   line_ends number TooMany written is = tt
 
-  pub script_ends : (providers : List Provider) (number : ℕ) (lines : List Bytes) → IsOfScript (script_of providers number lines).end
+  pub script_ends : (providers : List Provider) (number : ℕ) (lines : List Bytes)
+      → IsOfScript (script_of providers number lines).end
   script_ends providers number [] = tt
   script_ends providers number (line ∷ lines) =
-      line_ends number (said_by providers number line) (script_of providers (number + 1) lines) (script_ends providers (number + 1) lines)
+      line_ends number (said_by providers number line) (script_of providers (number + 1) lines)
+      (script_ends providers (number + 1) lines)
 
   -- ---- how a stage ends
 
@@ -184,7 +199,8 @@ module _ (words : List Bytes) (happened : Happened) where
   rest_done written Strayed e = cc
 
   next_done : (form : Form) (written : Script) (next : Next) → happened.opening.next ≡ next
-      → (by_next (world happened) happened.opening happened.lucks happened.rest written next).finish ≡ plays.Ends ends.Done
+      → (by_next (world happened) happened.opening happened.lucks happened.rest written next).finish
+      ≡ plays.Ends ends.Done
       → DoneAt (Begun form written)
   next_done form written NoMore is e =
       let all = rest_done written happened.rest e in (form, written, refl, is, all.0, all.1)
@@ -194,12 +210,14 @@ module _ (words : List Bytes) (happened : Happened) where
   next_done form written Stops is e = cc
 
   -- before a script there is no end that is done
-  not_done_by : (form : Form) (lines : List Bytes) (told : Result (List Provider) DirectoryFault) → EndsSo (by_directory form lines told) ends.Done
+  not_done_by : (form : Form) (lines : List Bytes) (told : Result (List Provider) DirectoryFault)
+      → EndsSo (by_directory form lines told) ends.Done
       → DoneAt (by_directory form lines told)
   not_done_by form lines (Err fault) e = cc
   not_done_by form lines (Ok providers) e = next_done form (script_of providers 1 lines) happened.opening.next refl e
 
-  done_lines : (form : Form) (directory : Bytes) (found : Option (List Bytes)) → EndsSo (by_script form directory found) ends.Done
+  done_lines : (form : Form) (directory : Bytes) (found : Option (List Bytes))
+      → EndsSo (by_script form directory found) ends.Done
       → DoneAt (by_script form directory found)
   done_lines form directory None e = cc
   done_lines form directory (Some lines) e = not_done_by form lines (directory_in directory) e
@@ -210,11 +228,25 @@ module _ (words : List Bytes) (happened : Happened) where
   done_long parts form true e = cc
   done_long parts form false e = done_lines form parts.directory parts.script e
 
-  done_form : (early : Bool) (parts : Parts) (found : Option Form) → EndsSo (by_form early parts found) ends.Done → DoneAt (by_form early parts found)
+  done_form : (early : Bool) (parts : Parts) (found : Option Form) → EndsSo (by_form early parts found) ends.Done
+      → DoneAt (by_form early parts found)
   done_form true parts None e = cc
   done_form false parts None e = cc
   done_form true parts (Some form) e = cc
   done_form false parts (Some form) e = done_long parts form (nat_lt longest_directory (length parts.directory)) e
+
+  no_form : (early : Bool) (parts : Parts) (found : Option Form) → found ≡ None
+      → by_form early parts found ≡ Over ends.Usage
+  no_form true parts None e = refl
+  no_form false parts None e = refl
+  no_form true parts (Some form) e = absurd (none-some form (sym e))
+  no_form false parts (Some form) e = absurd (none-some form (sym e))
+
+  -- other words are at fault
+  pub other_words : form_in words ≡ None → (outcome_of words happened).finish ≡ plays.Ends ends.Usage
+  unfolding outcome_of stage_of
+  other_words e = ap (λ (stage : Stage). (outcome_at happened stage).finish)
+      (no_form happened.early happened.parts (form_in words) e)
 
   pub is_done : (outcome_of words happened).finish ≡ plays.Ends ends.Done → IsDone words happened
   unfolding outcome_of stage_of
@@ -236,7 +268,8 @@ done_end (ends.LineRefused number fault) e = cc
 
 -- ---- runs
 
-module _ (words : List Bytes) (status : Status) (unread before after : Option Bytes) (tells : Type 0) (old_disks new_disks : Disks)
+module _ (words : List Bytes) (status : Status) (unread before after : Option Bytes) (tells : Type 0)
+    (old_disks new_disks : Disks)
     (old new : Counts) (ran : Ran words status unread before after tells old_disks new_disks old new) where
   abbrev outcome : Outcome
   outcome = outcome_of words ran.happened
@@ -248,9 +281,11 @@ module _ (words : List Bytes) (status : Status) (unread before after : Option By
   straight : tells → outcome.finish ≡ plays.Strays → ⊥
   unfolding outcome_of
   straight told e =
-      no_stray tells old_disks new_disks old new words ran.happened told (stage_of words ran.happened.early ran.happened.parts) ran.is_at e
+      no_stray tells old_disks new_disks old new status words ran.happened told
+      (stage_of words ran.happened.early ran.happened.parts) ran.is_at e
 
-  by_told : tells → Tells providers status before after outcome → TellsAs status before after (outcome_text providers outcome) outcome.finish
+  by_told : tells → Tells providers status before after outcome
+      → TellsAs status before after (outcome_text providers outcome) outcome.finish
   by_told told (inl so) = so
   by_told told (inr more) = absurd (straight told more.strays)
 
@@ -266,10 +301,12 @@ module _ (words : List Bytes) (status : Status) (unread before after : Option By
   unfolding outcome_of
   no_answers e = fails_early ran.happened (stage_of words ran.happened.early ran.happened.parts) e
 
-  pub nothing_written : outcome.finish ≡ plays.Fails → after ≡ followed_by before (outcome_text providers outcome) → after ≡ followed_by before []
+  pub nothing_written : outcome.finish ≡ plays.Fails → after ≡ followed_by before (outcome_text providers outcome)
+      → after ≡ followed_by before []
   nothing_written fails held =
       held ∙ ap (followed_by before)
-      (no_last_line providers outcome (ap (finish_text providers) fails) ∙ ap (answers_text providers) (no_answers fails))
+      (no_last_line providers outcome (ap (finish_text providers) fails)
+      ∙ ap (answers_text providers) (no_answers fails))
 
   pub has_ended : tells → IsOfEnd status → HasEnded words ran.happened status before after
   has_ended told of =
@@ -278,9 +315,11 @@ module _ (words : List Bytes) (status : Status) (unread before after : Option By
         end = so.0.0;
         finish = so.0.1;
         status_is = so.0.2;
-        written = so.1 ∙ ap (λ (f : Finish). followed_by before (answers_text providers outcome.answers ++ finish_text providers f)) so.0.1;
+        written = so.1 ∙ ap (λ (f : Finish). followed_by before
+            (answers_text providers outcome.answers ++ finish_text providers f)) so.0.1;
       }
 
-  pub done_run : (ended : HasEnded words ran.happened status before after) → status ≡ statuses.Done → IsDone words ran.happened
+  pub done_run : (ended : HasEnded words ran.happened status before after) → status ≡ statuses.Done
+      → IsDone words ran.happened
   done_run ended is =
       is_done words ran.happened (ended.finish ∙ ap plays.Ends (done_end ended.end (ended.status_is ∙ is)))

@@ -38,7 +38,8 @@ own_join false e xs ys zs is = is
 pub own_append : (q : ℕ) (xs ys : List OneStep) → own q (xs ++ ys) ≡ own q xs ++ own q ys
 unfolding own
 own_append q [] ys = refl
-own_append q (s ∷ xs) ys = own_join (q == s.provider) s.entry (own q (xs ++ ys)) (own q xs) (own q ys) (own_append q xs ys)
+own_append q (s ∷ xs) ys = own_join (q == s.provider) s.entry (own q (xs ++ ys)) (own q xs) (own q ys)
+    (own_append q xs ys)
 
 -- one provider's entries, as steps
 pub steps_by : ℕ → List Entry → List OneStep
@@ -55,13 +56,15 @@ pub own_here : (p : ℕ) (es : List Entry) → own p (steps_by p es) ≡ es
 unfolding own steps_by
 own_here p [] = refl
 own_here p (e ∷ es) =
-    ap (λ (b : Bool). if b then e ∷ own p (steps_by p es) else own p (steps_by p es)) (same_is p) ∙ ap (λ l. e ∷ l) (own_here p es)
+    ap (λ (b : Bool). if b then e ∷ own p (steps_by p es) else own p (steps_by p es)) (same_is p)
+    ∙ ap (λ l. e ∷ l) (own_here p es)
 
 pub own_elsewhere : (q p : ℕ) (es : List Entry) → (q ≡ p → ⊥) → own q (steps_by p es) ≡ []
 unfolding own steps_by
 own_elsewhere q p [] other = refl
 own_elsewhere q p (e ∷ es) other =
-    ap (λ (b : Bool). if b then e ∷ own q (steps_by p es) else own q (steps_by p es)) (other_is q p other) ∙ own_elsewhere q p es other
+    ap (λ (b : Bool). if b then e ∷ own q (steps_by p es) else own q (steps_by p es)) (other_is q p other)
+    ∙ own_elsewhere q p es other
 
 -- ---- what may follow, in journals that went on
 
@@ -82,13 +85,15 @@ with_by false e xs ys more = more
 goes_on_step : (J K : Journals) (s : OneStep) → GoOn J K → GoOn J (with_step K s)
 goes_on_step J K s more q = with_by (q == s.provider) s.entry (J q) (K q) (more q)
 
-pub half_more : (trade : Trade) (p : ℕ) (es more : List Entry) → half trade p (es ++ more) ≡ fold (step trade p) (half trade p es) more
+pub half_more : (trade : Trade) (p : ℕ) (es more : List Entry)
+    → half trade p (es ++ more) ≡ fold (step trade p) (half trade p es) more
 unfolding half
 half_more trade p es more = fold-append (step trade p) empty es more
 
 module _ (trade : Trade) (stays : JointStays trade) where
   -- a step in journals that went on, where the provider's own is this
-  pub meets_on : (J K : Journals) → GoOn J K → (p : ℕ) (h : Half) → ledger trade K p ≡ h → (e : Entry) → Meets trade J p h e
+  pub meets_on : (J K : Journals) → GoOn J K → (p : ℕ) (h : Half) → ledger trade K p ≡ h → (e : Entry)
+      → Meets trade J p h e
       → Meets trade K p (ledger trade K p) e
   meets_on J K more p h is e meets =
       subst (λ (g : Half). Meets trade K p g e) (sym is)
@@ -115,11 +120,13 @@ module _ (trade : Trade) (stays : JointStays trade) where
   follow_steps J K more p h is [] follows = tt
   follow_steps J K more p h is (e ∷ es) follows = (
     meets_on J K more p h is e follows.0,
-    follow_steps J (with_step K (record { provider = p; entry = e })) (goes_on_step J K (record { provider = p; entry = e }) more)
+    follow_steps J (with_step K (record { provider = p; entry = e }))
+        (goes_on_step J K (record { provider = p; entry = e }) more)
         p (step trade p h e) (ledger_with K p e h is) es follows.1,
   )
 
-  pub may_append : (J : Journals) (xs ys : List OneStep) → AllMay trade J xs → AllMay trade (behind_steps J xs) ys → AllMay trade J (xs ++ ys)
+  pub may_append : (J : Journals) (xs ys : List OneStep) → AllMay trade J xs → AllMay trade (behind_steps J xs) ys
+      → AllMay trade J (xs ++ ys)
   may_append J [] ys a b = b
   may_append J (s ∷ xs) ys a b = (a.0, may_append (with_step J s) xs ys a.1 b)
 
@@ -141,7 +148,8 @@ module _ (trade : Trade) (stays : JointStays trade) where
   pub may_alike : (J K : Journals) → Alike J K → (steps : List OneStep) → AllMay trade J steps → AllMay trade K steps
   may_alike J K same [] a = tt
   may_alike J K same (s ∷ steps) a = (
-    meets_on J K (alike_on J K same) s.provider (ledger trade J s.provider) (ledger_alike J K same s.provider) s.entry a.0,
+    meets_on J K (alike_on J K same) s.provider (ledger trade J s.provider)
+        (ledger_alike J K same s.provider) s.entry a.0,
     may_alike (with_step J s) (with_step K s) (alike_with J K s same) steps a.1,
   )
 
@@ -153,7 +161,8 @@ module _ (trade : Trade) (stays : JointStays trade) where
   pub reached_on : (J K L : Journals) → IsReached trade J K → IsReached trade K L → IsReached trade J L
   reached_on J K L first second = record {
     steps = first.steps ++ second.steps;
-    each = may_append J first.steps second.steps first.each (may_alike K (behind_steps J first.steps) first.leads second.steps second.each);
+    each = may_append J first.steps second.steps first.each
+        (may_alike K (behind_steps J first.steps) first.leads second.steps second.each);
     leads = λ q.
         second.leads q
         ∙ (behind_is K second.steps q
@@ -165,7 +174,8 @@ module _ (trade : Trade) (stays : JointStays trade) where
 
   -- ---- all providers, one after another
 
-  module _ (J L : Journals) (each : (p : ℕ) → (es : List Entry) × (L p ≡ J p ++ es) × Follows trade J p (half trade p (J p)) es) where
+  module _ (J L : Journals) (each : (p : ℕ)
+      → (es : List Entry) × (L p ≡ J p ++ es) × Follows trade J p (half trade p (J p)) es) where
     pub steps_upto : ℕ → List OneStep
     steps_upto zero = []
     steps_upto (suc n) = steps_upto n ++ steps_by n (each n).0
@@ -189,7 +199,8 @@ module _ (trade : Trade) (stays : JointStays trade) where
               ∙ subst (λ (k : ℕ). own q (steps_by k (each k).0) ≡ (each q).0) same (own_here q (each q).0)
           | inr other ↦
               ap (λ (es : List Entry). es ++ own q (steps_by n (each n).0)) (own_some q n (omega (arith, l, other)))
-              ∙ (ap (λ (es : List Entry). (each q).0 ++ es) (own_elsewhere q n (each n).0 other) ∙ append-nil (each q).0)
+              ∙ (ap (λ (es : List Entry). (each q).0 ++ es) (own_elsewhere q n (each n).0 other)
+              ∙ append-nil (each q).0)
         ]
 
     behind_on : (n : ℕ) → GoOn J (behind_steps J (steps_upto n))
@@ -198,14 +209,16 @@ module _ (trade : Trade) (stays : JointStays trade) where
     ledger_still : (n : ℕ) → ledger trade (behind_steps J (steps_upto n)) n ≡ half trade n (J n)
     unfolding ledger
     ledger_still n =
-        ap (half trade n) (behind_is J (steps_upto n) n ∙ (ap (λ (es : List Entry). J n ++ es) (own_none n n (omega arith)) ∙ append-nil (J n)))
+        ap (half trade n) (behind_is J (steps_upto n) n
+        ∙ (ap (λ (es : List Entry). J n ++ es) (own_none n n (omega arith)) ∙ append-nil (J n)))
 
     all_may : (n : ℕ) → AllMay trade J (steps_upto n)
     unfolding steps_upto
     all_may zero = tt
     all_may (suc n) =
         may_append J (steps_upto n) (steps_by n (each n).0) (all_may n)
-        (follow_steps J (behind_steps J (steps_upto n)) (behind_on n) n (half trade n (J n)) (ledger_still n) (each n).0 (each n).2)
+        (follow_steps J (behind_steps J (steps_upto n)) (behind_on n) n (half trade n (J n)) (ledger_still n)
+        (each n).0 (each n).2)
 
     -- where only the first so many went on
     pub reached_by : (n : ℕ) → ((q : ℕ) → n ≤ q → L q ≡ J q) → IsReached trade J L
@@ -213,9 +226,11 @@ module _ (trade : Trade) (stays : JointStays trade) where
       steps = steps_upto n;
       each = all_may n;
       leads = λ q. elim (by_place q) [
-        | inl l ↦ (each q).1 ∙ (ap (λ (es : List Entry). J q ++ es) (sym (own_some q n l)) ∙ sym (behind_is J (steps_upto n) q))
+        | inl l ↦ (each q).1 ∙ (ap (λ (es : List Entry). J q ++ es) (sym (own_some q n l))
+            ∙ sym (behind_is J (steps_upto n) q))
         | inr l ↦ others q l
-            ∙ (sym (append-nil (J q)) ∙ (ap (λ (es : List Entry). J q ++ es) (sym (own_none q n l)) ∙ sym (behind_is J (steps_upto n) q)))
+            ∙ (sym (append-nil (J q)) ∙ (ap (λ (es : List Entry). J q ++ es) (sym (own_none q n l))
+            ∙ sym (behind_is J (steps_upto n) q)))
       ];
     }
       where

@@ -25,8 +25,10 @@ answer_lines providers Swapped = (answer_words written.Swapped ∷ [], refl)
 answer_lines providers Injected = (answer_words written.Injected ∷ [], refl)
 answer_lines providers Crashed = (answer_words written.Crashed ∷ [], refl)
 answer_lines providers (Restarted entries) = (answer_words (written.Restarted entries) ∷ [], refl)
-answer_lines providers (Lines lines) = (map (book_row providers) lines ++ (codes "book" ∷ decimal (length lines) ∷ []) ∷ [], refl)
-answer_lines providers (Items lines) = (item_rows providers 0 lines ++ (codes "mailbox" ∷ decimal (length lines) ∷ []) ∷ [], refl)
+answer_lines providers (Lines lines) =
+    (map (book_row providers) lines ++ (codes "book" ∷ decimal (length lines) ∷ []) ∷ [], refl)
+answer_lines providers (Items lines) =
+    (item_rows providers 0 lines ++ (codes "mailbox" ∷ decimal (length lines) ∷ []) ∷ [], refl)
 answer_lines providers (Shown bytes) = ((encode_of standard bytes ∷ []) ∷ [], refl)
 answer_lines providers (Refuses fault) = (refusal_rows [] fault, refl)
 answer_lines providers NoFrame = (answer_words written.NoFrame ∷ [], refl)
@@ -43,7 +45,8 @@ both_lines a b first second = (
 pub answers_lines : (providers : List Provider) (answers : List Answer) → AreLines (answers_text providers answers)
 answers_lines providers [] = ([], refl)
 answers_lines providers (answer ∷ answers) =
-    both_lines (answer_text providers answer) (answers_text providers answers) (answer_lines providers answer) (answers_lines providers answers)
+    both_lines (answer_text providers answer) (answers_text providers answers) (answer_lines providers answer)
+    (answers_lines providers answers)
 
 pub end_lines : (providers : List Provider) (end : End) → AreLines (end_text providers end)
 unfolding end_text

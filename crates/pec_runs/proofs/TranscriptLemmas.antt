@@ -37,7 +37,8 @@ OneWay = (trade : Trade) (lucks : List Luck) (sites : List Site) (commands : Lis
 -- what the law of lucks without faults says
 abbrev pub QuietThere : Type 0
 QuietThere = (trade : Trade) (sites : List Site) (commands : List Command)
-    → AllQuiet trade (quiet_lucks trade sites commands) sites commands × (length (quiet_lucks trade sites commands) ≡ length commands)
+    → AllQuiet trade (quiet_lucks trade sites commands) sites commands
+    × (length (quiet_lucks trade sites commands) ≡ length commands)
 
 none_rose : (n before now : ℕ) → RoseBy n before now → StoodStill before now → n ≡ 0
 none_rose n before now rose still =
@@ -45,20 +46,23 @@ none_rose n before now rose still =
 
 not_risen : (before now : ℕ) → HasRisen before now → StoodStill before now → ⊥
 not_risen before now risen still =
-    let same = still.0 in let small = still.1 in let x : before < now = risen (omega (arith, same, small)) in omega (arith, same, x)
+    let same = still.0 in let small = still.1 in let x : before < now = risen (omega (arith, same, small)) in omega
+    (arith, same, x)
 
 pub at_end_all : (lucks : List Luck) (commands : List Command) (end : End) → length lucks ≡ length commands
     → at_end lucks commands end ≡ plays.Ends end
 at_end_all [] [] end e = refl
 at_end_all [] (c ∷ commands) end e = absurd (omega (arith, e))
 at_end_all (l ∷ lucks) [] end e = absurd (omega (arith, e))
-at_end_all (l ∷ lucks) (c ∷ commands) end e = at_end_all lucks commands end (let f : length lucks ≡ length commands = omega (arith, e) in f)
+at_end_all (l ∷ lucks) (c ∷ commands) end e = at_end_all lucks commands end
+    (let f : length lucks ≡ length commands = omega (arith, e) in f)
 
 abbrev told_as : Told → Finish → Outcome
 told_as told finish = record { answers = told.answers; after = told.after; finish = finish }
 
-module _ (one : OneWay) (there : QuietThere) (tells : Type 0) (old_disks new_disks : Disks) (old new : Counts) (words : List Bytes)
-    (happened : Happened) (none : NoFaults old new) (end : End) where
+module _ (one : OneWay) (there : QuietThere) (tells : Type 0) (old_disks new_disks : Disks) (old new : Counts)
+    (status : Status)
+    (words : List Bytes) (happened : Happened) (none : NoFaults old new) (end : End) where
   quiet : Script → List Luck
   quiet written = quiet_lucks (world happened) (beginning happened) written.commands
 
@@ -67,7 +71,8 @@ module _ (one : OneWay) (there : QuietThere) (tells : Type 0) (old_disks new_dis
       → MayPlay (world happened) tells (beginning happened) old.disks new.disks written happened.lucks rest
       → finish_of rest happened.lucks written ≡ plays.Ends end
       → outcome_from (world happened) happened.lucks rest (beginning happened) written
-      ≡ outcome_from (world happened) (quiet_lucks (world happened) (beginning happened) written.commands) ToTheEnd (beginning happened) written
+      ≡ outcome_from (world happened) (quiet_lucks (world happened) (beginning happened) written.commands) ToTheEnd
+      (beginning happened) written
   rest_same written ToTheEnd may e =
       let full = at_end_full happened.lucks written.commands written.end end e
       in let calm = there (world happened) (beginning happened) written.commands
@@ -75,35 +80,40 @@ module _ (one : OneWay) (there : QuietThere) (tells : Type 0) (old_disks new_dis
       (none_interrupted (world happened) happened.opening.journals) full.0 may.meet may.memory
       (λ p. none_rose _ (old.disks p) (new.disks p) (may.counts p) (none.disks p))
       in ap (λ (told : Told). told_as told (at_end happened.lucks written.commands written.end)) same
-      ∙ ap (told_as (script (world happened) (quiet_lucks (world happened) (beginning happened) written.commands) (beginning happened) written.commands))
+      ∙ ap (told_as (script (world happened) (quiet_lucks (world happened) (beginning happened) written.commands)
+      (beginning happened) written.commands))
       (at_end_all happened.lucks written.commands written.end full.0
-      ∙ sym (at_end_all (quiet_lucks (world happened) (beginning happened) written.commands) written.commands written.end calm.1))
+      ∙ sym (at_end_all (quiet_lucks (world happened)
+      (beginning happened) written.commands) written.commands written.end calm.1))
   rest_same written Stopped may e = cc
   rest_same written Strayed may e = cc
 
   next_same : (written : Script) (next : Next) → PlaysOn tells old_disks new_disks old new happened written next
       → (by_next (world happened) happened.opening happened.lucks happened.rest written next).finish ≡ plays.Ends end
       → by_next (world happened) happened.opening happened.lucks happened.rest written next
-      ≡ by_next (world happened) happened.opening (quiet_lucks (world happened) (beginning happened) written.commands) ToTheEnd written next
+      ≡ by_next (world happened) happened.opening
+      (quiet_lucks (world happened) (beginning happened) written.commands) ToTheEnd written next
   next_same written NoMore may e = rest_same written happened.rest may e
   next_same written Holds may e = refl
   next_same written (Unfits unfit) may e = refl
   next_same written Fails may e = refl
   next_same written Stops may e = refl
 
-  same_at : (stage : Stage) → IsAt tells old_disks new_disks old new happened words stage
+  same_at : (stage : Stage) → IsAt tells old_disks new_disks old new happened status words stage
       → (outcome_at happened stage).finish ≡ plays.Ends end → outcome_at happened stage ≡ transcript_at happened stage
   same_at (Over other) at e = refl
   same_at Halted at e = refl
   same_at (Begun form written) at e = next_same written happened.opening.next at.plays e
 
-  late_by : (early : Bool) (parts : Parts) (found : Option Form) → (outcome_at happened (by_form early parts found)).finish ≡ plays.Ends end
+  late_by : (early : Bool) (parts : Parts) (found : Option Form)
+      → (outcome_at happened (by_form early parts found)).finish ≡ plays.Ends end
       → by_form early parts found ≡ by_form false parts found
   late_by true parts None e = refl
   late_by true parts (Some form) e = cc
   late_by false parts found e = refl
 
-  pub ended_same : IsAt tells old_disks new_disks old new happened words (stage_of words happened.early happened.parts)
+  pub ended_same : IsAt tells old_disks new_disks old new happened status words
+      (stage_of words happened.early happened.parts)
       → (outcome_of words happened).finish ≡ plays.Ends end → outcome_of words happened ≡ transcript words happened
   unfolding outcome_of transcript stage_of
   ended_same at e =
@@ -112,20 +122,26 @@ module _ (one : OneWay) (there : QuietThere) (tells : Type 0) (old_disks new_dis
 
 -- ---- a run
 
-module _ (one : OneWay) (there : QuietThere) (words : List Bytes) (status : Status) (unread before after : Option Bytes) (tells : Type 0)
-    (old_disks new_disks : Disks) (old new : Counts) (ran : Ran words status unread before after tells old_disks new_disks old new)
+module _ (one : OneWay) (there : QuietThere) (words : List Bytes) (status : Status)
+    (unread before after : Option Bytes) (tells : Type 0)
+    (old_disks new_disks : Disks) (old new : Counts)
+    (ran : Ran words status unread before after tells old_disks new_disks old new)
     (told : tells) (none : NoFaults old new) where
   abbrev providers : List Provider
   providers = providers_in ran.happened.setting
 
-  tells_transcript : HasEnded words ran.happened status before after → TellsTranscript words ran.happened status before after
+  tells_transcript : HasEnded words ran.happened status before after
+      → TellsTranscript words ran.happened status before after
   tells_transcript ended =
-      let same = ended_same one there tells old_disks new_disks old new words ran.happened none ended.end ran.is_at ended.finish
-      in let finish : (transcript words ran.happened).finish ≡ plays.Ends ended.end = ap (λ (o : Outcome). o.finish) (sym same) ∙ ended.finish
+      let same = ended_same one there tells old_disks new_disks old new status words ran.happened none ended.end ran.is_at ended.finish
+      in let finish : (transcript words ran.happened).finish
+      ≡ plays.Ends ended.end = ap (λ (o : Outcome). o.finish) (sym same) ∙ ended.finish
       in record {
         status_is = ap status_at finish ∙ ap (λ (s : Status). Some s) ended.status_is;
         written = ended.written
-            ∙ ap (λ (f : Finish). followed_by before (answers_text providers (outcome_of words ran.happened).answers ++ finish_text providers f)) (sym ended.finish)
+            ∙ ap (λ (f : Finish). followed_by before
+            (answers_text providers (outcome_of words ran.happened).answers ++ finish_text providers f))
+            (sym ended.finish)
             ∙ ap (λ (o : Outcome). followed_by before (outcome_text providers o)) same;
       }
 
@@ -148,16 +164,19 @@ module _ (one : OneWay) (there : QuietThere) (words : List Bytes) (status : Stat
   by_status statuses.NotFit e = inr (subst IsOfEnd (sym e) tt)
   by_status statuses.InputTooLong e = inr (subst IsOfEnd (sym e) tt)
 
-  by_kind : (status ≡ statuses.NoMemory) ⊎ IsOfEnd status → (status ≡ statuses.NoMemory) ⊎ TellsTranscript words ran.happened status before after
+  by_kind : (status ≡ statuses.NoMemory) ⊎ IsOfEnd status
+      → (status ≡ statuses.NoMemory) ⊎ TellsTranscript words ran.happened status before after
   by_kind (inl e) = inl e
-  by_kind (inr of) = inr (tells_transcript (has_ended words status unread before after tells old_disks new_disks old new ran told of))
+  by_kind (inr of) = inr (tells_transcript
+      (has_ended words status unread before after tells old_disks new_disks old new ran told of))
 
   pub has_one_transcript : (status ≡ statuses.NoMemory) ⊎ TellsTranscript words ran.happened status before after
   has_one_transcript = by_kind (by_status status refl)
 
 -- ---- there is such a run
 
-pub quiet_plays : (there : QuietThere) (trade : Trade) (tells : Type 0) (sites : List Site) (counts : ℕ → ℕ) (written : Script)
+pub quiet_plays : (there : QuietThere) (trade : Trade) (tells : Type 0) (sites : List Site) (counts : ℕ → ℕ)
+    (written : Script)
     → MayPlay trade tells sites counts counts written (quiet_lucks trade sites written.commands) ToTheEnd
 quiet_plays there trade tells sites counts written =
     let calm = there trade sites written.commands
@@ -166,6 +185,7 @@ quiet_plays there trade tells sites counts written =
       enough = let e = calm.1 in omega (arith, e);
       meet = quiet_meet trade lucks sites written.commands calm.0;
       memory = quiet_memory trade lucks sites written.commands calm.0;
-      counts = λ p. let none = quiet_none trade p lucks sites written.commands calm.0 in (omega arith, λ h. omega (arith, none));
+      counts = λ p. let none = quiet_none trade p lucks sites written.commands calm.0 in
+          (omega arith, λ h. omega (arith, none));
       strays = tt;
     }

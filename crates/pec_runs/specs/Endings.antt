@@ -1,5 +1,5 @@
--- How a run ends: by its words, its input or its disks (`End`), each but one with a last line that says so (`end_text`).
--- This project's profile.
+-- How a run ends: by its words, its input or its disks (`End`), each but one with a last line that says so
+-- (`end_text`). This project's profile.
 use Rattle.std.specs.Prelude.{ℕ, List, [], ◌∷◌, codes}
 use Rattle.std.specs.Fmt.{decimal}
 use Rattle.pec_types.specs.Bytes.{Bytes}

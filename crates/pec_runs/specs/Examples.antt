@@ -1,5 +1,5 @@
--- Worked examples: inputs and their parts, lines and what they say, lines that are written, and runs in the small world of
--- the ledger. Its providers are alfa, the number 0, and beta, the number 1.
+-- Worked examples: inputs and their parts, lines and what they say, lines that are written, and runs in the small
+-- world of the ledger. Its providers are alfa, the number 0, and beta, the number 1.
 use Rattle.std.specs.Prelude.{List, [], ◌∷◌, codes, replicate, None}
 use Rattle.pec_types.specs.Bytes.{Bytes}
 use Rattle.pec_directory.specs.Directory.{Provider}

@@ -45,8 +45,8 @@ trade_in setting = trade_of setting.kept setting.seals
 abbrev pub providers_in : Setting → List Provider
 providers_in setting = providers_of setting.kept
 
--- The setting is that of these providers: they are kept, each seals with its own name and key, and their world meets all
--- laws of the trade.
+-- The setting is that of these providers: they are kept, each seals with its own name and key, and their world meets
+-- all laws of the trade.
 pub record IsSetting (providers : List Provider) (setting : Setting) : Type 0 where
   pub kept : providers_in setting ≡ providers
   pub lawful : IsLawful providers
@@ -94,7 +94,8 @@ nothing_played trade opening finish =
     record { answers = []; after = opened_all trade opening.journals; finish = finish }
 
 abbrev pub by_next : Trade → Opening → List Luck → Rest → Script → Next → Outcome
-by_next trade opening lucks rest script NoMore = outcome_from trade lucks rest (opened_all trade opening.journals) script
+by_next trade opening lucks rest script NoMore = outcome_from trade lucks rest
+    (opened_all trade opening.journals) script
 by_next trade opening lucks rest script Holds =
     nothing_played trade opening (plays.Ends (ends.NotEmpty (next_of opening)))
 by_next trade opening lucks rest script (Unfits unfit) =

@@ -1,8 +1,8 @@
--- What the books that a run prints belong to, word by word: `Headline`. At each command of a script the ledger is one that
--- the case tables reach from that of the beginning, and users have what certified mail promises them; each book that is
--- answered is the ledger's; no pair is decided or learned twice; a clock call that succeeds leaves no pair of 24 hours
--- without its notice; and a receipt whose acknowledgement is on its way isn't missing. RFC 6109, sections 3.1 to 3.4, and
--- DPR 68/2005, article 8.
+-- What the books that a run prints belong to, word by word: `Headline`. At each command of a script the ledger is one
+-- that the case tables reach from that of the beginning, and users have what certified mail promises them; each book
+-- that is answered is the ledger's; no pair is decided or learned twice; a clock call that succeeds leaves no pair of
+-- 24 hours without its notice; and a receipt whose acknowledgement is on its way isn't missing. RFC 6109, sections
+-- 3.1 to 3.4, and DPR 68/2005, article 8.
 use Rattle.std.specs.Prelude.{◌≡◌, ℕ, ◌+◌, ◌<◌, ◌≤◌, List, [], ◌∷◌, length, take, slice_get, Contains, IsTrue, Some, None}
 use Rattle.pec_types.specs.Bytes.{Bytes}
 use Rattle.pec_types.specs.declared.limits.TheConstants.{LATE_AFTER}
@@ -34,8 +34,8 @@ CanBeSaid (Tick provider moment) = moment < END_OF_TIME
 CanBeSaid (Round moment) = moment < END_OF_TIME
 CanBeSaid _ = Unit {0}
 
--- No forged frame is injected: where a message stands in the frame and opens, that is the text of a licensed letter or of
--- an item of the ledger as the command begins.
+-- No forged frame is injected: where a message stands in the frame and opens, that is the text of a licensed letter
+-- or of an item of the ledger as the command begins.
 abbrev pub IsHonest : Trade → List Site → Command → Type 0
 IsHonest trade sites (Inject from to frame) = IsGenuine trade (journals_of sites) frame
 IsHonest trade sites _ = Unit {0}
@@ -60,8 +60,8 @@ pub record IsBook (trade : Trade) (sites : List Site) (address : Bytes) (lines :
   pub account : IsTrue (trade.is_account provider address)
   pub are : lines ≡ book trade provider (ledger trade (journals_of sites) provider) address
 
--- Each pair that the provider accepted 24 hours before the moment or earlier, and of which it knows nothing, has a notice
--- in the sender's mailbox.
+-- Each pair that the provider accepted 24 hours before the moment or earlier, and of which it knows nothing, has a
+-- notice in the sender's mailbox.
 abbrev pub NoneWithoutNotice : Trade → Journals → ℕ → ℕ → Type 0
 NoneWithoutNotice trade journals provider moment =
     (pair : Pair) (message : Accepted) → pair.id.provider ≡ provider
@@ -100,7 +100,8 @@ pub record Headline (trade : Trade) (start : List Site) (lucks : List Luck) (com
   pub books : (number : ℕ) (address : Bytes) (lines : List BookLine) → slice_get commands number ≡ Some (Book address)
       → slice_get (script trade lucks start commands).answers number ≡ Some (Lines lines)
       → IsBook trade (state_before trade lucks start commands number) address lines
-  pub notices : (number provider moment : ℕ) (marks : List ToldMark) → slice_get commands number ≡ Some (Tick provider moment)
+  pub notices : (number provider moment : ℕ) (marks : List ToldMark)
+      → slice_get commands number ≡ Some (Tick provider moment)
       → slice_get (script trade lucks start commands).answers number ≡ Some (Marks marks)
       → NoneWithoutNotice trade (journals_of (state_before trade lucks start commands (number + 1))) provider moment
   pub decided : AllDiffer (decided_told (script trade lucks start commands).answers)

@@ -1,5 +1,5 @@
--- The input of a run: its lines, each with its end, so that nothing is lost; and what stands before and behind the first
--- line that is exactly `%%` (`parts_of`, and `AreParts` for the same in its own words). This project's profile.
+-- The input of a run: its lines, each with its end, so that nothing is lost; and what stands before and behind the
+-- first line that is exactly `%%` (`parts_of`, and `AreParts` for the same in its own words). This project's profile.
 use Rattle.std.specs.Prelude.{◌≡◌, ◌≢◌, ℕ, ◌-◌, Bool, false, ◌==◌, List, [], ◌∷◌, ◌++◌, length, take, slice_index, codes, Option, Some, None, if◌then◌else◌}
 use Rattle.std.specs.List.{concat, onto_first, AllByRecursion}
 use Rattle.std.specs.Str.{bytes_eq}

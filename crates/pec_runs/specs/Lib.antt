@@ -1,4 +1,5 @@
 pub mod AnswerLines
+pub mod Climbing
 pub mod Endings
 pub mod Examples
 pub mod Happened

@@ -70,7 +70,8 @@ fault_of (unfits.Directory kept given) = faults.OtherDirectory kept given
 fault_of (unfits.Entry number) = faults.BadEntry number
 
 module _ (trade : Trade) (disks : Disks) where
-  -- A journal was made on an empty disk, with its Start alone, or these are the provider's own entries that its disk holds.
+  -- A journal was made on an empty disk, with its Start alone, or these are the provider's own entries that its disk
+  -- holds.
   abbrev pub IsHad : Form → ℕ → List Entry → Type 0
   IsHad Run provider journal =
       (journal ≡ entries.Start provider trade.digest ∷ []) × ((bytes : Bytes) → disks.reads provider bytes → bytes ≡ [])
@@ -100,27 +101,28 @@ abbrev pub IsLeft : List Site → ℕ → Bytes → Type 0
 IsLeft sites provider bytes =
     (choice : Bool) × IsJournalOf (journal_at sites provider ++ chosen choice (interrupted_at sites provider)) bytes
 
--- A disk of which the run had no journal reads as it did; but for one that failed, or on which memory ran out.
-abbrev pub IsUnread : Next → Type 0
-IsUnread Fails = ⊥
-IsUnread Stops = ⊥
-IsUnread _ = Unit {0}
+-- A disk of which the run had no journal reads as it did; but for one on which a journal was being made.
+abbrev pub IsUnread : Form → Next → Type 0
+IsUnread Run Fails = ⊥
+IsUnread Run Stops = ⊥
+IsUnread _ _ = Unit {0}
 
--- The disks, once the run is over: each whose journal was made or opened reads as that, and a crash leaves nothing else;
--- the others read as they did.
-pub record AreLeft (old new : Disks) (opening : Opening) (sites : List Site) : Type 0 where
+-- The disks, once the run is over: each whose journal was made or opened reads as that, and a crash leaves nothing
+-- else; the others read as they did.
+pub record AreLeft (old new : Disks) (form : Form) (opening : Opening) (sites : List Site) : Type 0 where
   pub reads : (provider : ℕ) → provider < next_of opening → (bytes : Bytes) → new.reads provider bytes
       → IsLeft sites provider bytes
   pub crash : (provider : ℕ) → provider < next_of opening → (bytes : Bytes) → new.may_leave provider bytes
       → IsLeft sites provider bytes
-  pub refused : IsUnread opening.next → (was bytes : Bytes) → old.reads (next_of opening) was
+  pub next : IsUnread form opening.next → (was bytes : Bytes) → old.reads (next_of opening) was
       → new.reads (next_of opening) bytes → bytes ≡ was
   pub others : (provider : ℕ) → next_of opening < provider → (was bytes : Bytes) → old.reads provider was
       → new.reads provider bytes → bytes ≡ was
 
 -- No disk was asked for: each reads as it did.
 abbrev pub AreUntouched : Disks → Disks → Type 0
-AreUntouched old new = (provider : ℕ) (was bytes : Bytes) → old.reads provider was → new.reads provider bytes → bytes ≡ was
+AreUntouched old new = (provider : ℕ) (was bytes : Bytes) → old.reads provider was → new.reads provider bytes
+    → bytes ≡ was
 
 -- ---- a depot
 

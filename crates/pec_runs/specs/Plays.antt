@@ -1,6 +1,6 @@
--- How a script is played from a state: with a luck for each command, until the script ends, something stops the run, or it
--- strays. The headlines are `Outcome`, `outcome_from`, and `MayPlay`, which says what devices have to do with it. This
--- project's profile.
+-- How a script is played from a state: with a luck for each command, until the script ends, something stops the run,
+-- or it strays. The headlines are `Outcome`, `outcome_from`, and `MayPlay`, which says what devices have to do with
+-- it. This project's profile.
 use Rattle.std.specs.Prelude.{◌≡◌, ◌≢◌, ℕ, ◌+◌, ◌-◌, ◌^◌, ◌<◌, ◌≤◌, ◌==◌, Bool, false, true, ◌&&◌, List, [], ◌∷◌, ◌++◌, length, slice_get, All, Option, Some, if◌then◌else◌}
 use Rattle.pec_types.specs.Bytes.{Bytes}
 use Rattle.pec_types.specs.declared.turns.ProviderFault.{ProviderFault}
@@ -19,8 +19,8 @@ use Rattle.pec_runs.specs.ScriptLines.{Script}
 
 -- ---- outcomes
 
--- Behind the commands that were played: the script's end; or the run was stopped, by a device or for want of memory; or it
--- strayed, for a disk that doesn't tell what it holds gave a journal back, of which nothing is known.
+-- Behind the commands that were played: the script's end; or the run was stopped, by a device or for want of memory;
+-- or it strayed, for a disk that doesn't tell what it holds gave a journal back, of which nothing is known.
 pub data Rest : Type 0 where
   ToTheEnd : Rest
   Stopped : Rest
@@ -134,8 +134,9 @@ abbrev pub StraysSo : Type 0 → List Site → Option Command → Rest → Type 
 StraysSo tells sites next Strayed = MayStray tells sites next
 StraysSo tells sites next _ = Unit {0}
 
--- A script may be played so from a state, while the counts of faults of disks rise from some to others: each command may
--- meet its luck, no memory was missing in what is told, and each fault that is told of a disk raised that disk's count.
+-- A script may be played so from a state, while the counts of faults of disks rise from some to others: each command
+-- may meet its luck, no memory was missing in what is told, and each fault that is told of a disk raised that disk's
+-- count.
 pub record MayPlay (trade : Trade) (tells : Type 0) (sites : List Site) (from upto : ℕ → ℕ) (written : Script)
     (lucks : List Luck) (rest : Rest) : Type 0 where
   pub enough : length lucks ≤ length written.commands

@@ -1,6 +1,7 @@
--- A run of the program, from what went in to what came out: `Ran`, one record with one witness, what happened. It says
--- what was written, with which status, what the counts of faults have to do with it, and what the disks hold in the end.
--- Nothing here presumes that frames are genuine or that journals fit; that stands in laws. This project's profile.
+-- A run of the program, from what went in to what came out: `Ran`, one record with one witness, what happened. It
+-- says what was written, with which status, what the counts of faults have to do with it, and what the disks hold in
+-- the end. Nothing here presumes that frames are genuine or that journals fit; that stands in laws. This project's
+-- profile.
 use Rattle.std.specs.Prelude.{◌≡◌, ℕ, ◌≤◌, ◌⊎◌, List, ◌++◌, length, slice_get, Option, Some, None, IfSome, Ok}
 use Rattle.pec_types.specs.Bytes.{Bytes}
 use Rattle.pec_outside.specs.DiskModel.{Sight}
@@ -31,8 +32,8 @@ status_at Stops = None
 status_at Fails = Some statuses.StartFault
 status_at Strays = None
 
--- Only where the sink failed a front of the outcome was written, and the run may have been anywhere; else all of it. A run
--- that was stopped by its input, or for want of memory, has no last line.
+-- Only where the sink failed a front of the outcome was written, and the run may have been anywhere; else all of it.
+-- A run that was stopped by its input, or for want of memory, has no last line.
 abbrev pub TellsAs : Status → Option Bytes → Option Bytes → Bytes → Finish → Type 0
 TellsAs statuses.WriteFault before after text finish = WrotePart before after text
 TellsAs statuses.ReadFault before after text finish = (finish ≡ Stops) × (after ≡ followed_by before text)
@@ -77,19 +78,20 @@ Blames _ old new = Unit {0}
 
 -- ---- disks
 
--- The journals that a run leaves are those of the state behind its last answer, or those behind the command in hand: where
--- memory ran out this may have been played, in whole or in part, and nothing was written of it.
+-- The journals that a run leaves are those of the state behind its last answer, or those behind the command in hand:
+-- where memory ran out this may have been played, in whole or in part, and nothing was written of it.
 pub data LeavesOff (trade : Trade) (after : List Site) (next : Option Command) (left : List Site) : Type 0 where
   Behind : left ≡ after → LeavesOff trade after next left
   Within : (command : Command) (luck : Luck) → next ≡ Some command
       → ((provider : ℕ) → journal_at left provider ≡ journal_at (played trade luck after command).after provider)
-      → ((provider : ℕ) → interrupted_at left provider ≡ interrupted_at (played trade luck after command).after provider)
+      → ((provider : ℕ) → interrupted_at left provider
+      ≡ interrupted_at (played trade luck after command).after provider)
       → LeavesOff trade after next left
 
--- only a run that has its journals and was stopped may have a command in hand
-abbrev pub command_in_hand : Next → Rest → List Luck → Script → Option Command
-command_in_hand NoMore Stopped lucks script = slice_get script.commands (length lucks)
-command_in_hand _ _ lucks script = None
+-- only a run that memory stopped, and that had its journals, may have a command in hand
+abbrev pub command_in_hand : Status → Next → Rest → List Luck → Script → Option Command
+command_in_hand statuses.NoMemory NoMore Stopped lucks script = slice_get script.commands (length lucks)
+command_in_hand _ _ _ lucks script = None
 
 -- ---- the run
 
@@ -109,23 +111,23 @@ module _ (tells : Type 0) (old_disks new_disks : Disks) (old new : Counts) (happ
   PlaysOn script _ = Unit {0}
 
   -- A run that begins: it has its journals, plays its script where it has all, and leaves the disks so.
-  pub record HasBegun (words : List Bytes) (form : Form) (script : Script) : Type 0 where
+  pub record HasBegun (status : Status) (words : List Bytes) (form : Form) (script : Script) : Type 0 where
     pub opening : IsOpening (world happened) old_disks form happened.opening
     pub plays : PlaysOn script happened.opening.next
     pub left : List Site
     pub leaves_off : LeavesOff (world happened) (outcome_of words happened).after
-        (command_in_hand happened.opening.next happened.rest happened.lucks script) left
-    pub disks : AreLeft old_disks new_disks happened.opening left
+        (command_in_hand status happened.opening.next happened.rest happened.lucks script) left
+    pub disks : AreLeft old_disks new_disks form happened.opening left
 
   -- What is true of a run at its stage.
-  abbrev pub IsAt : List Bytes → Stage → Type 0
-  IsAt words (Over end) = AreUntouched old_disks new_disks
-  IsAt words Halted = AreUntouched old_disks new_disks
-  IsAt words (Begun form script) = HasBegun words form script
+  abbrev pub IsAt : Status → List Bytes → Stage → Type 0
+  IsAt status words (Over end) = AreUntouched old_disks new_disks
+  IsAt status words Halted = AreUntouched old_disks new_disks
+  IsAt status words (Begun form script) = HasBegun status words form script
 
--- The program ran on these words, with this status: from what the input held, what the output held, the disks at home and
--- the counts of faults as it began, to the output, the disks and the counts as it ended. `tells` says that disks tell what
--- they hold; input and output tell it where they are Some.
+-- The program ran on these words, with this status: from what the input held, what the output held, the disks at home
+-- and the counts of faults as it began, to the output, the disks and the counts as it ended. `tells` says that disks
+-- tell what they hold; input and output tell it where they are Some.
 pub record Ran (words : List Bytes) (status : Status) (unread before after : Option Bytes) (tells : Type 0)
     (old_disks new_disks : Disks) (old new : Counts) : Type 0 where
   pub happened : Happened
@@ -135,7 +137,8 @@ pub record Ran (words : List Bytes) (status : Status) (unread before after : Opt
   pub told : Tells (providers_in happened.setting) status before after (outcome_of words happened)
   pub blame : Blames status old new
   pub counts : NoneFell old new
-  pub is_at : IsAt tells old_disks new_disks old new happened words (stage_of words happened.early happened.parts)
+  pub is_at : IsAt tells old_disks new_disks old new happened status words
+      (stage_of words happened.early happened.parts)
 
 -- The same over a depot that had these disks at home, by provider, and has those.
 abbrev pub RanOver : {D : Type 0} → Type 0 → (D → Sight) → List Bytes → Status → (unread before after : Option Bytes)

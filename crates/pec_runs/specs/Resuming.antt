@@ -1,10 +1,11 @@
 -- A run that is cut in two: what it leaves, and what a run that resumes begins with. This project's profile.
-use Rattle.std.specs.Prelude.{◌≡◌, List, map}
+use Rattle.std.specs.Prelude.{◌≡◌, ◌⊎◌, ℕ, List, map}
 use Rattle.std.specs.List.{AllByRecursion}
+use Rattle.pec_types.specs.Bytes.{Bytes}
 use Rattle.pec_records.specs.declared.entries.Entry.{Entry}
 use Rattle.pec_ledger.specs.Network.{Site}
 use Rattle.pec_ledger.specs.Trade.{Trade}
-use Rattle.pec_runs.specs.Openings.{opened, opened_all}
+use Rattle.pec_runs.specs.Openings.{Disks, opened, opened_all}
 
 -- A state as one begins with: each provider is up, nothing is interrupted, and nothing waits on a link.
 abbrev pub IsAtRest : Trade → List Site → Type 0
@@ -17,3 +18,9 @@ journals_left sites = map (λ (site : Site). site.journal) sites
 -- The state that begins with the journals of another.
 abbrev pub resumed : Trade → List Site → List Site
 resumed trade sites = opened_all trade (journals_left sites)
+
+-- A provider's disk is found as it was left: as it read then, or as a crash may have left it.
+pub record IsFoundSo (left found : Disks) (provider : ℕ) : Type 0 where
+  pub bytes : Bytes
+  pub was : left.reads provider bytes ⊎ left.may_leave provider bytes
+  pub is : found.reads provider bytes

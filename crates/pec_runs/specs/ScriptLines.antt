@@ -1,5 +1,5 @@
--- The lines of a script, in a directory: what each says (`said_by`), and the commands that they come to, with the end to
--- which the last of them leads (`script_of`). This project's profile.
+-- The lines of a script, in a directory: what each says (`said_by`), and the commands that they come to, with the end
+-- to which the last of them leads (`script_of`). This project's profile.
 use Rattle.std.specs.Prelude.{ℕ, ◌+◌, ◌==◌, nat_lt, Bool, true, List, [], ◌∷◌, length, Result, Ok, Err, if◌then◌else◌}
 use Rattle.pec_types.specs.Bytes.{Bytes}
 use Rattle.pec_directory.specs.Directory.{Provider}

@@ -1,5 +1,5 @@
--- Runs without faults: no count of faults rose (`NoFaults`); and the one transcript of such a run (`transcript`), a function
--- of its words, its input, its world and the journals that it had. This project's profile.
+-- Runs without faults: no count of faults rose (`NoFaults`); and the one transcript of such a run (`transcript`), a
+-- function of its words, its input, its world and the journals that it had. This project's profile.
 use Rattle.std.specs.Prelude.{◌≡◌, ℕ, ◌-◌, ◌^◌, ◌<◌, false, List, [], Option, Some}
 use Rattle.pec_types.specs.Bytes.{Bytes}
 use Rattle.pec_outside.specs.Flow.{followed_by}

@@ -25,7 +25,8 @@ WroteAnswers words happened before after =
     after ≡ followed_by before (answers_text (providers_in happened.setting) (outcome_of words happened).answers)
 
 -- The run came to an end that has this status; the lines of its answers were written, and the end's last line.
-pub record HasEnded (words : List Bytes) (happened : Happened) (status : Status) (before after : Option Bytes) : Type 0 where
+pub record HasEnded (words : List Bytes) (happened : Happened) (status : Status)
+    (before after : Option Bytes) : Type 0 where
   pub end : End
   pub finish : (outcome_of words happened).finish ≡ Ends end
   pub status_is : status_of end ≡ status

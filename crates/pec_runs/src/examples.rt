@@ -24,7 +24,8 @@ use pec_plays::a_run_is_there;
 
 /// Worked examples of what goes in and what comes out, computed.
 pub fn texts_of_the_examples()
-    ensures words { form_in (codes "run" ∷ []) ∷ form_in (codes "resume" ∷ []) ∷ form_in (codes "run" ∷ codes "x" ∷ []) ∷ []
+    ensures words { form_in (codes "run" ∷ []) ∷ form_in (codes "resume" ∷ []) ∷ form_in
+        (codes "run" ∷ codes "x" ∷ []) ∷ []
         ≡ Some Run ∷ Some Resume ∷ None ∷ [] }
     ensures marked { parts_of (raw_lines twice_marked)
         ≡ record { directory = codes "name\n"; script = Some (codes "# remark\n" ∷ codes "%%\n" ∷ codes "last" ∷ []) } }
@@ -39,7 +40,8 @@ pub fn texts_of_the_examples()
         ≡ codes "lost\nno-frame\nlink-full\nfault disk\nclock-back 7\nalfa dropped\nalfa sent beta 3\nround\n" }
     ensures ends { ends.end_text two ends.Done ++ ends.end_text two ends.Usage ++ ends.end_text two ends.LongDirectory
         ++ ends.end_text two ends.NoScript ++ ends.end_text two (ends.DirectoryRefused (refusals.BadField 0 fields.Key))
-        ++ ends.end_text two (ends.NotEmpty 0) ++ ends.end_text two (ends.NotFit 1 (unfits.Entry 3)) ++ ends.end_text two (ends.LongLine 5)
+        ++ ends.end_text two (ends.NotEmpty 0) ++ ends.end_text two (ends.NotFit 1 (unfits.Entry 3))
+        ++ ends.end_text two (ends.LongLine 5)
         ++ ends.end_text two ends.LongScript ++ ends.end_text two (ends.LineRefused 5 (line_faults.BadNumber 2))
         ≡ codes "usage\ntoo-long directory\nrefused no-script\nrefused directory bad-field 0 key\nnot-empty alfa\nnot-fit beta entry 3\n"
         ++ codes "too-long line 5\ntoo-long script\nrefused line 5 bad-number 2\n" }
@@ -50,8 +52,10 @@ pub fn runs_of_the_examples<P: Depot>()
     // An append fails, and the restart finds the entry: one fault of alfa's disk is told, and none of beta's.
     ensures faulty { outcome_from small faulty_lucks ToTheEnd (at_start small) faulty_script
         ≡ record (outcome_from small faulty_lucks ToTheEnd (at_start small) faulty_script) { finish = Ends ends.Done } }
-    ensures faults { faults_told 0 faulty_script.commands (outcome_from small faulty_lucks ToTheEnd (at_start small) faulty_script).answers
-        ∷ faults_told 1 faulty_script.commands (outcome_from small faulty_lucks ToTheEnd (at_start small) faulty_script).answers ∷ []
+    ensures faults { faults_told 0 faulty_script.commands
+        (outcome_from small faulty_lucks ToTheEnd (at_start small) faulty_script).answers
+        ∷ faults_told 1 faulty_script.commands
+        (outcome_from small faulty_lucks ToTheEnd (at_start small) faulty_script).answers ∷ []
         ≡ 1 ∷ 0 ∷ [] }
     // With a luck too few the script isn't at its end.
     ensures unfinished { (outcome_from small (calm ∷ []) ToTheEnd (at_start small) faulty_script).finish ≡ Stops }

@@ -10,15 +10,15 @@ ghost use Rattle.pec_runs.specs.ScriptLines.{PassedOver, Says, SaysNone, TooLong
 
 use pec_script::a_line_has_one_reading;
 
-/// The lines of an input are the input, and it has its parts in one way: the directory is all before the first line that
-/// says `%%`, and the script all behind it.
+/// The lines of an input are the input, and it has its parts in one way: the directory is all before the first line
+/// that says `%%`, and the script all behind it.
 pub fn an_input_is_parted_in_one_way()
     ensures whole { (text : Bytes) → concat (raw_lines text) ≡ text }
     ensures parts { (text : Bytes) (parts : Parts) → AreParts text parts ↔ (parts ≡ parts_of (raw_lines text)) }
 {}
 
-/// A line of a script, by its number from 1 and what it says: past the greatest number it is too many; longer than a line
-/// may be it is too long; an empty one or a remark is passed over; and any other says a command or has a fault.
+/// A line of a script, by its number from 1 and what it says: past the greatest number it is too many; longer than a
+/// line may be it is too long; an empty one or a remark is passed over; and any other says a command or has a fault.
 pub fn a_line_is_one_thing()
     ensures too_many { (providers : List Provider) (number : ℕ) (line : Bytes) → most_lines < number
         → said_by providers number line ≡ TooMany }
@@ -30,7 +30,8 @@ pub fn a_line_is_one_thing()
     ensures says { (providers : List Provider) (number : ℕ) (line : Bytes) (command : Written) → number ≤ most_lines
         → length (content_of line) ≤ longest_line → is_passed_over (content_of line) ≡ false
         → IsCommand providers (content_of line) command → said_by providers number line ≡ Says (command_in command) }
-    ensures says_none { (providers : List Provider) (number : ℕ) (line : Bytes) (fault : LineFault) → number ≤ most_lines
+    ensures says_none { (providers : List Provider) (number : ℕ) (line : Bytes) (fault : LineFault)
+        → number ≤ most_lines
         → length (content_of line) ≤ longest_line → is_passed_over (content_of line) ≡ false
         → IsLineFault providers (content_of line) fault → said_by providers number line ≡ SaysNone fault }
 {

@@ -1,5 +1,5 @@
-//! What a run of the program is, and what it writes. There is no code here: each function is a law, whose contract is the
-//! statement.
+//! What a run of the program is, and what it writes. There is no code here: each function is a law, whose contract is
+//! the statement.
 #![tactic(auto)]
 
 mod climbing;
@@ -11,7 +11,7 @@ mod resuming;
 mod runs;
 mod writing;
 
-pub use climbing::a_script_is_played_line_by_line;
+pub use climbing::{a_run_is_climbed, a_script_is_played_line_by_line};
 pub use examples::{runs_of_the_examples, texts_of_the_examples};
 pub use headline::the_books_belong_to_the_ledger;
 pub use inputs::{a_line_is_one_thing, an_input_is_parted_in_one_way};

@@ -14,11 +14,13 @@ use pec_ledger::{licences_stand, soundness};
 use pec_outside::Depot;
 use pec_script::a_line_has_one_reading;
 
-/// The headline, of a run: for every directory and script, whatever devices do, where no forged frame is injected, and, for
-/// a run that resumed, where the journals as opened fit together.
+/// The headline, of a run: for every directory and script, whatever devices do, where no forged frame is injected,
+/// and, for a run that resumed, where the journals as opened fit together.
 pub fn a_runs_books_belong_to_the_ledger<P: Depot>()
-    ensures { (words : List Bytes) (status : Status) (unread before after : Option Bytes) (depot left : P) (old new : Counts)
-        (ran : RanOver (P.tells × P.D.tells) P.D.sight words status unread before after (P.home depot) (P.home left) old new)
+    ensures { (words : List Bytes) (status : Status) (unread before after : Option Bytes) (depot left : P)
+        (old new : Counts)
+        (ran : RanOver (P.tells × P.D.tells) P.D.sight words status unread before after (P.home depot)
+        (P.home left) old new)
         (form : Form) (script : Script) → stage_of words ran.happened.early ran.happened.parts ≡ Begun form script
         → ran.happened.opening.next ≡ NoMore
         → (form ≡ Resume → Fit (world ran.happened) (journals_in ran.happened.opening.journals))

@@ -1,4 +1,4 @@
-ghost use Rattle.std.specs.Prelude.{◌≡◌, ◌≤◌, List, [], Option, length};
+ghost use Rattle.std.specs.Prelude.{◌≡◌, ◌≤◌, List, [], None, Option, length};
 ghost use Rattle.pec_types.specs.Bytes.{Bytes};
 ghost use Rattle.pec_outside.specs.Flow.{WrotePart, followed_by};
 ghost use Rattle.pec_directory.specs.Directory.{Provider};
@@ -8,8 +8,10 @@ ghost use Rattle.pec_plays.specs.Commands.{Answer, Command, Luck};
 ghost use Rattle.pec_plays.specs.Scripts.{script};
 ghost use Rattle.pec_runs.specs.AnswerLines.{AreLines, answers_text};
 ghost use Rattle.pec_runs.specs.Endings.{End, end_text};
-ghost use Rattle.pec_runs.specs.Happened.{outcome_of, providers_in};
-ghost use Rattle.pec_runs.specs.Plays.{outcome_text};
+ghost use Rattle.pec_runs.specs.Endings as ends;
+ghost use Rattle.pec_runs.specs.Happened.{Happened, outcome_of, providers_in};
+ghost use Rattle.pec_runs.specs.Openings.{form_in};
+ghost use Rattle.pec_runs.specs.Plays.{Ends, outcome_text};
 ghost use Rattle.pec_runs.specs.Ran.{Counts, RanOver};
 ghost use Rattle.pec_runs.specs.Statuses.{Status};
 ghost use Rattle.pec_runs.specs.Statuses as statuses;
@@ -21,38 +23,49 @@ use pec_outside::Depot;
 pub fn answers_are_whole_lines()
     ensures answers { (providers : List Provider) (answers : List Answer) → AreLines (answers_text providers answers) }
     ensures ends { (providers : List Provider) (end : End) → AreLines (end_text providers end) }
-    ensures count { (trade : Trade) (lucks : List Luck) (sites : List Site) (commands : List Command) → length lucks ≤ length commands
+    ensures count { (trade : Trade) (lucks : List Luck) (sites : List Site) (commands : List Command)
+        → length lucks ≤ length commands
         → length (script trade lucks sites commands).answers ≡ length lucks }
 {}
 
-/// What a status says of what was written, over disks that tell what they hold. A run that was stopped by its input or for
-/// want of memory wrote the lines of whole commands, and no last line; one whose output failed a front of its outcome; one
-/// whose disks failed while journals were made or opened nothing. Any other wrote the lines of its answers, and the last
-/// line of its end, which has its status.
+/// What a status says of what was written, over disks that tell what they hold. A run that was stopped by its input
+/// or for want of memory wrote the lines of whole commands, and no last line; one whose output failed a front of its
+/// outcome; one whose disks failed while journals were made or opened nothing. Any other wrote the lines of its
+/// answers, and the last line of its end, which has its status.
 pub fn a_status_says_what_was_written<P: Depot>()
     ensures read_fault { (words : List Bytes) (unread before after : Option Bytes) (depot left : P) (old new : Counts)
         → P.tells × P.D.tells
-        → (ran : RanOver (P.tells × P.D.tells) P.D.sight words statuses.ReadFault unread before after (P.home depot) (P.home left) old new)
+        → (ran : RanOver (P.tells × P.D.tells) P.D.sight words statuses.ReadFault unread before after (P.home depot)
+        (P.home left) old new)
         → WroteAnswers words ran.happened before after }
     ensures no_memory { (words : List Bytes) (unread before after : Option Bytes) (depot left : P) (old new : Counts)
         → P.tells × P.D.tells
-        → (ran : RanOver (P.tells × P.D.tells) P.D.sight words statuses.NoMemory unread before after (P.home depot) (P.home left) old new)
+        → (ran : RanOver (P.tells × P.D.tells) P.D.sight words statuses.NoMemory unread before after (P.home depot)
+        (P.home left) old new)
         → WroteAnswers words ran.happened before after }
     ensures write_fault { (words : List Bytes) (unread before after : Option Bytes) (depot left : P) (old new : Counts)
         → P.tells × P.D.tells
-        → (ran : RanOver (P.tells × P.D.tells) P.D.sight words statuses.WriteFault unread before after (P.home depot) (P.home left) old new)
+        → (ran : RanOver (P.tells × P.D.tells) P.D.sight words statuses.WriteFault unread before after (P.home depot)
+        (P.home left) old new)
         → WrotePart before after (outcome_text (providers_in ran.happened.setting) (outcome_of words ran.happened)) }
     ensures start_fault { (words : List Bytes) (unread before after : Option Bytes) (depot left : P) (old new : Counts)
         → P.tells × P.D.tells
-        → (ran : RanOver (P.tells × P.D.tells) P.D.sight words statuses.StartFault unread before after (P.home depot) (P.home left) old new)
+        → (ran : RanOver (P.tells × P.D.tells) P.D.sight words statuses.StartFault unread before after (P.home depot)
+        (P.home left) old new)
         → after ≡ followed_by before [] }
-    ensures ended { (words : List Bytes) (status : Status) (unread before after : Option Bytes) (depot left : P) (old new : Counts)
+    ensures ended { (words : List Bytes) (status : Status) (unread before after : Option Bytes) (depot left : P)
+        (old new : Counts)
         → P.tells × P.D.tells → IsOfEnd status
-        → (ran : RanOver (P.tells × P.D.tells) P.D.sight words status unread before after (P.home depot) (P.home left) old new)
+        → (ran : RanOver (P.tells × P.D.tells) P.D.sight words status unread before after (P.home depot)
+        (P.home left) old new)
         → HasEnded words ran.happened status before after }
+    // Words that are no form are at fault, and nothing else is looked at.
+    ensures usage { (words : List Bytes) (happened : Happened) → form_in words ≡ None
+        → (outcome_of words happened).finish ≡ Ends ends.Usage }
     // Status 0: the script was played to its end.
     ensures done { (words : List Bytes) (unread before after : Option Bytes) (depot left : P) (old new : Counts)
         → P.tells × P.D.tells
-        → (ran : RanOver (P.tells × P.D.tells) P.D.sight words statuses.Done unread before after (P.home depot) (P.home left) old new)
+        → (ran : RanOver (P.tells × P.D.tells) P.D.sight words statuses.Done unread before after (P.home depot)
+        (P.home left) old new)
         → IsDone words ran.happened }
 {}

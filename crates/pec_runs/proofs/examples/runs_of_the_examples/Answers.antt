@@ -33,6 +33,7 @@ returns g c = record {
   unfinished = refl;
   no_frame_first = refl;
   at_rest = (refl, (refl, tt));
-  headline = c.the_books_belong_to_the_ledger.ensures small c.a_world_is_there.ensures (calmly to_the_end) (at_start small) to_the_end
+  headline = c.the_books_belong_to_the_ledger.ensures small c.a_world_is_there.ensures (calmly to_the_end)
+      (at_start small) to_the_end
       (c.soundness.ensures.start small) none_at_start c.a_run_is_there.ensures.unforged;
 }

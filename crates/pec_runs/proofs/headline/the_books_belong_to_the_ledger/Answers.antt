@@ -23,7 +23,8 @@ returns c =
     in record {
       each = each;
       books = book_at trade lucks start commands;
-      notices = λ number p now marks. notices_at trade lucks start commands number p now marks (each (number + 1)).kept.notice_by_the_day;
+      notices = λ number p now marks. notices_at trade lucks start commands number p now marks
+          (each (number + 1)).kept.notice_by_the_day;
       decided = c.no_two_answers.ensures.decided trade world lucks start commands sound given;
       learned = c.no_two_answers.ensures.learned trade world lucks start commands sound given;
     }

@@ -8,5 +8,9 @@ use Rattle.pec_runs.proofs.inputs.an_input_is_parted_in_one_way.Goals as goal
 pub returns : goal.returns
 returns c = record {
   whole = lines_whole;
-  parts = λ text parts. (parts_one text parts, λ same. subst (λ (p : Parts). AreParts text p) (sym same) (parts_are text));
+  parts = λ text parts. (
+    parts_one text parts,
+    λ same. subst (λ (p : Parts). AreParts text p) (sym same)
+        (parts_are text),
+  );
 }

@@ -8,8 +8,8 @@ use Rattle.pec_runs.proofs.resuming.a_resumed_run_begins_where_the_last_left.Goa
 
 pub returns : goal.returns
 returns g c =
-    λ words others status other unread before after other_unread other_before other_after depot left last old between behind new told
-    ran again form script rest begun at_hand begun_again at_hand_again same at_home fit honest hand.
+    λ words others status other unread before after other_unread other_before other_after depot left found last old between behind new told
+    ran again form script rest begun at_hand begun_again at_hand_again same found_so fit honest hand.
     let trade = world ran.happened
     in let first = has_begun words status unread before after _ _ _ old between ran form script begun
     in let second = has_begun others other other_unread other_before other_after _ _ _ behind new again Resume rest begun_again
@@ -21,8 +21,9 @@ returns g c =
       ends = c.a_network_stays_sound.ensures.ends trade is;
     })
     (c.soundness.ensures.start trade) c.a_line_has_one_reading.ensures at_hand fit honest hand
-    in again_fit _ g.P.D.Disk.sight (g.P.Depot.home left) told trade (world again.happened) (ap (λ (s : Setting). trade_in s) same) (c.licences_stand.ensures.conditions trade)
-    first.left fits _ ran.happened.opening again.happened.opening
+    in again_fit _ _ trade (world again.happened) (ap (λ (s : Setting). trade_in s) same)
+    (c.licences_stand.ensures.conditions trade)
+    first.left fits _ form ran.happened.opening again.happened.opening
     (all_there trade _ form ran.happened.opening first.opening at_hand)
     (all_there (world again.happened) _ Resume again.happened.opening second.opening at_hand_again)
-    first.disks second.opening at_home c.a_disk_holds_one_list.ensures
+    first.disks second.opening found_so c.a_disk_holds_one_list.ensures

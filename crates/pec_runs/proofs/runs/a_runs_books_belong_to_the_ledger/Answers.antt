@@ -11,9 +11,11 @@ returns g c =
     let trade = world ran.happened
     in let start = beginning ran.happened
     in let is = has_begun words status unread before after _ _ _ old new ran form script begun
-    in c.the_books_belong_to_the_ledger.ensures trade (is_world words status unread before after _ _ _ old new ran form script begun)
+    in c.the_books_belong_to_the_ledger.ensures trade
+    (is_world words status unread before after _ _ _ old new ran form script begun)
     ran.happened.lucks start script.commands
-    (sound_beginning trade _ form ran.happened.opening (c.licences_stand.ensures.conditions trade) (c.soundness.ensures.start trade)
+    (sound_beginning trade _ form ran.happened.opening (c.licences_stand.ensures.conditions trade)
+    (c.soundness.ensures.start trade)
     is.opening at_hand fit)
     (none_interrupted trade ran.happened.opening.journals)
     (all_unforged trade ran.happened.lucks start script.commands
