@@ -1,5 +1,6 @@
 -- What the append of an entry leaves of a provider.
-use Rattle.std.proofs.Common.{◌≡◌, ℕ, ◌+◌, ◌<◌, ◌≤◌, Bool, true, false, not, List, refl, sym, subst, ◌∙◌, arith, Option, Ok, Err}
+use Rattle.std.proofs.Common.{◌≡◌, ℕ, ◌+◌, ◌<◌, ◌≤◌, Bool, true, false, not, List, refl, sym, subst, ◌∙◌, arith, Option}
+use Rattle.std.proofs.Common.{Ok, Err}
 use Rattle.std.specs.Prelude.{nat_lt}
 use Rattle.pec_types.specs.declared.letters.Letter.{Letter}
 use Rattle.pec_types.specs.declared.turns.ProviderFault.{ProviderFault}
@@ -39,7 +40,8 @@ room_is_not trade me list entry end is full = rw (← is) (is_above (end + size_
 
 -- ---- desks
 
-same_desk : (journal journal2 : List Entry) (owed : List Letter) (down down2 : Bool) (interrupted interrupted2 : Option Entry)
+same_desk : (journal journal2 : List Entry) (owed : List Letter) (down down2 : Bool)
+    (interrupted interrupted2 : Option Entry)
     → journal2 ≡ journal → down2 ≡ down → interrupted2 ≡ interrupted
     → ◌≡◌ {A = Desk} (record { journal = journal2; owed = owed; up = not down2; interrupted = interrupted2 })
     (record { journal = journal; owed = owed; up = not down; interrupted = interrupted })
@@ -53,7 +55,8 @@ module _ {D : Type 0} (old new : ChronicleState D) (before after : Seen) (owed :
   desk_after = desk_of (record { chronicle = new; shelf = after; owed = owed; places = places })
 
   pub same_desks : Same old new → desk_after ≡ desk_before
-  same_desks same = same_desk old.entries new.entries owed old.down new.down old.interrupted new.interrupted same.entries same.down same.interrupted
+  same_desks same = same_desk old.entries new.entries owed old.down new.down old.interrupted new.interrupted
+      same.entries same.down same.interrupted
 
   entered_desk : (entry : Entry) → Entered old new entry → desk_after ≡ entered desk_before entry
   entered_desk entry came = rw (came.entries, came.down, came.interrupted) refl
@@ -67,23 +70,34 @@ module _ {D : Type 0} (old new : ChronicleState D) (before after : Seen) (owed :
 
     pub appends_err : (X : Type 0) (fault : ProviderFault) → Failed old new entry fault
         → Appends {X = X} trade me entry desk_before desk_after (Err fault)
-    appends_err X faults.DiskFault torn = (room_is trade me old.entries entry old.end end torn.fits, torn_desk entry torn)
+    appends_err X faults.DiskFault torn = (
+      room_is trade me old.entries entry old.end end torn.fits,
+      torn_desk entry
+          torn,
+    )
     appends_err X faults.Down none = absurd none
     appends_err X (faults.ClockBack moment) none = absurd none
     appends_err X faults.NoAccount none = absurd none
     appends_err X faults.Full none = absurd none
     appends_err X faults.NoItem none = absurd none
-    appends_err X faults.JournalFull full = (room_is_not trade me old.entries entry old.end end full.full, same_desks full.same)
+    appends_err X faults.JournalFull full = (
+      room_is_not trade me old.entries entry old.end end full.full,
+      same_desks
+          full.same,
+    )
     appends_err X faults.NoMemory same = same_desks same
 
 -- a provider whose entries and half went on together runs as before
-pub runs_on : {D : Type 0} (kept : List Kept) (me : ℕ) (old new : ProviderState D) → Runs kept me old → new.shelf.me ≡ old.shelf.me
+pub runs_on : {D : Type 0} (kept : List Kept) (me : ℕ) (old new : ProviderState D) → Runs kept me old
+    → new.shelf.me ≡ old.shelf.me
     → Agree kept new.chronicle new.shelf → Runs kept me new
 runs_on kept me old new runs same agree = record { number = runs.number; is = same ∙ runs.is; agree = agree }
 
 -- what the append of an entry leaves, by what it leaves of the entries
-module _ {D : Type 0} (kept : List Kept) (me : ℕ) (inside old : ProviderState D) (view : inside ≡ old) (new : ChronicleState D)
-    (after : Seen) (places : ℕ) (entry : Entry) (runs : Runs kept me old) (up : old.chronicle.down ≡ false) (trade : Trade)
+module _ {D : Type 0} (kept : List Kept) (me : ℕ) (inside old : ProviderState D) (view : inside ≡ old)
+    (new : ChronicleState D)
+    (after : Seen) (places : ℕ) (entry : Entry) (runs : Runs kept me old) (up : old.chronicle.down ≡ false)
+    (trade : Trade)
     (of : IsOf kept trade) where
   abbrev pub left : Desk
   left = desk_of {D = D} (record { chronicle = new; shelf = after; owed = inside.owed; places = places })
@@ -92,11 +106,13 @@ module _ {D : Type 0} (kept : List Kept) (me : ℕ) (inside old : ProviderState 
   ends = subst (λ (p : ProviderState D). p.chronicle.end ≡ (half trade me p.chronicle.entries).end) (sym view)
       (end_runs kept me old trade runs of up)
 
-  pub left_ok : {X : Type 0} (x : X) → Entered inside.chronicle new entry → Appends trade me entry (desk_of old) left (Ok x)
+  pub left_ok : {X : Type 0} (x : X) → Entered inside.chronicle new entry
+      → Appends trade me entry (desk_of old) left (Ok x)
   left_ok x came = subst (λ (p : ProviderState D). Appends trade me entry (desk_of p) left (Ok x)) view
       (appends_ok inside.chronicle new inside.shelf after inside.owed places trade me entry ends x came)
 
   pub left_err : (X : Type 0) (fault : ProviderFault) → Failed inside.chronicle new entry fault
       → Appends {X = X} trade me entry (desk_of old) left (Err fault)
-  left_err X fault failed = subst (λ (p : ProviderState D). Appends {X = X} trade me entry (desk_of p) left (Err fault)) view
+  left_err X fault failed = subst (λ (p : ProviderState D). Appends {X = X} trade me entry (desk_of p) left
+      (Err fault)) view
       (appends_err inside.chronicle new inside.shelf after inside.owed places trade me entry ends X fault failed)

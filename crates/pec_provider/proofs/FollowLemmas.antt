@@ -21,7 +21,8 @@ half_push : (trade : Trade) (me : ℕ) (list : List Entry) (entry : Entry)
 unfolding half
 half_push trade me list entry = fold-append (step trade me) empty list (entry ∷ [])
 
-all_follow : (trade : Trade) (journals : Journals) (me : ℕ) (list further : List Entry) → AllFollow (MayFollow trade journals me) list further
+all_follow : (trade : Trade) (journals : Journals) (me : ℕ) (list further : List Entry)
+    → AllFollow (MayFollow trade journals me) list further
     → Follows trade journals me (half trade me list) further
 all_follow trade journals me list [] follow = tt
 all_follow trade journals me list (e ∷ es) follow = (
@@ -30,7 +31,8 @@ all_follow trade journals me list (e ∷ es) follow = (
       (all_follow trade journals me (with_entry list e) es follow.1),
 )
 
-pub goes_on : (trade : Trade) (journals : Journals) (me : ℕ) (old : List Entry) (interrupted : Option Entry) (list : List Entry)
+pub goes_on : (trade : Trade) (journals : Journals) (me : ℕ) (old : List Entry) (interrupted : Option Entry)
+    (list : List Entry)
     → GoesOn (MayFollow trade journals me) old interrupted list → GoesOnInLedger trade journals me old interrupted list
 goes_on trade journals me old interrupted list goes = record {
   choice = goes.choice;
@@ -39,27 +41,32 @@ goes_on trade journals me old interrupted list goes = record {
   follows = all_follow trade journals me (old ++ chosen goes.choice interrupted) goes.further goes.follow;
 }
 
-module _ {D : Type 0} (sight : D → Sight) (trade : Trade) (journals : Journals) (me : ℕ) (old new : ChronicleState D) where
-  -- an entry that may follow was appended, or its append failed
-  pub carries_entry : (entry : Entry) → Meets trade journals me (half trade me old.entries) entry
-      → CarriesOn sight (OnlyMay old.entries (Some entry)) old new → CarriesOn sight (MayFollow trade journals me) old new
-  carries_entry entry meets = carries_wider sight (OnlyMay old.entries (Some entry)) (MayFollow trade journals me)
-      (λ list e is. subst (λ (l : List Entry). Meets trade journals me (half trade me l) e) (sym is.0)
-      (subst (λ (x : Entry). Meets trade journals me (half trade me old.entries) x) (same_Some entry e is.1) meets)) old new
+module _ {D : Type 0} (sight : D → Sight) (trade : Trade) (journals : Journals) (me : ℕ) (old new : ChronicleState D)
+  where
+    -- an entry that may follow was appended, or its append failed
+    pub carries_entry : (entry : Entry) → Meets trade journals me (half trade me old.entries) entry
+        → CarriesOn sight (OnlyMay old.entries (Some entry)) old new
+        → CarriesOn sight (MayFollow trade journals me) old new
+    carries_entry entry meets = carries_wider sight (OnlyMay old.entries (Some entry)) (MayFollow trade journals me)
+        (λ list e is. subst (λ (l : List Entry). Meets trade journals me (half trade me l) e) (sym is.0)
+        (subst (λ (x : Entry). Meets trade journals me (half trade me old.entries) x) (same_Some entry e is.1) meets))
+        old new
 
-  -- so where there was an entry at all
-  pub carries_any : (entry : Option Entry)
-      → ((e : Entry) → entry ≡ Some e → Meets trade journals me (half trade me old.entries) e)
-      → CarriesOn sight (OnlyMay old.entries entry) old new → CarriesOn sight (MayFollow trade journals me) old new
-  carries_any entry meets = carries_wider sight (OnlyMay old.entries entry) (MayFollow trade journals me)
-      (λ list e is. subst (λ (l : List Entry). Meets trade journals me (half trade me l) e) (sym is.0) (meets e is.1)) old new
+    -- so where there was an entry at all
+    pub carries_any : (entry : Option Entry)
+        → ((e : Entry) → entry ≡ Some e → Meets trade journals me (half trade me old.entries) e)
+        → CarriesOn sight (OnlyMay old.entries entry) old new → CarriesOn sight (MayFollow trade journals me) old new
+    carries_any entry meets = carries_wider sight (OnlyMay old.entries entry) (MayFollow trade journals me)
+        (λ list e is. subst (λ (l : List Entry). Meets trade journals me (half trade me l) e) (sym is.0) (meets e is.1))
+        old new
 
-  -- no entry came
-  pub carries_none : CarriesOn sight NothingMay old new → CarriesOn sight (MayFollow trade journals me) old new
-  carries_none = carries_nothing sight (MayFollow trade journals me) old new
+    -- no entry came
+    pub carries_none : CarriesOn sight NothingMay old new → CarriesOn sight (MayFollow trade journals me) old new
+    carries_none = carries_nothing sight (MayFollow trade journals me) old new
 
 -- a provider that isn't touched
-pub carries_still : {D : Type 0} (sight : D → Sight) (trade : Trade) (journals : Journals) (me : ℕ) (inside old : ProviderState D) → inside ≡ old
+pub carries_still : {D : Type 0} (sight : D → Sight) (trade : Trade) (journals : Journals) (me : ℕ)
+    (inside old : ProviderState D) → inside ≡ old
     → CarriesOn sight NothingMay inside.chronicle inside.chronicle
     → CarriesOn sight (MayFollow trade journals me) old.chronicle old.chronicle
 carries_still {D} sight trade journals me inside old view still =
@@ -78,5 +85,6 @@ pub only_inside : {D : Type 0} (sight : D → Sight) (entry : Option Entry) (ins
     → CarriesOn sight NothingMay inside.chronicle inside.chronicle
     → CarriesOn sight (OnlyMay old.chronicle.entries entry) old.chronicle inside.chronicle
 only_inside {D} sight entry inside old view still =
-    subst (λ (p : ProviderState D). CarriesOn sight (OnlyMay p.chronicle.entries entry) p.chronicle inside.chronicle) view
+    subst (λ (p : ProviderState D). CarriesOn sight (OnlyMay p.chronicle.entries entry) p.chronicle inside.chronicle)
+    view
     (carries_nothing sight (OnlyMay inside.chronicle.entries entry) inside.chronicle inside.chronicle still)

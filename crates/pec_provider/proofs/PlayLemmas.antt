@@ -1,5 +1,6 @@
 -- How commands are played on a provider among others.
-use Rattle.std.proofs.Common.{◌≡◌, ℕ, ◌<◌, ◌≤◌, Bool, true, false, List, map, refl, sym, ap, subst, ◌∙◌, arith, Some, Result, Ok, Err}
+use Rattle.std.proofs.Common.{◌≡◌, ℕ, ◌<◌, ◌≤◌, Bool, true, false, List, map, refl, sym, ap, subst, ◌∙◌, arith, Some}
+use Rattle.std.proofs.Common.{Result, Ok, Err}
 use Rattle.std.specs.Prelude.{nat_lt, if◌then◌else◌, IsErrAnd, length}
 use Rattle.std.proofs.lemmas.Result.{err_from_is_err_and}
 use Rattle.pec_types.specs.Bytes.{Bytes, Path}
@@ -13,7 +14,9 @@ use Rattle.pec_ledger.specs.Network.{Site, journal_at, site_at}
 use Rattle.pec_ledger.specs.Pairs.{id_of}
 use Rattle.pec_ledger.specs.Steps.{half, marks_by}
 use Rattle.pec_ledger.specs.Trade.{Trade}
-use Rattle.pec_plays.specs.Commands.{Answer, Luck, Marks, Played, Refuses, Submit, Submits, Tick, answers, append, appended, at_work, entry_by, messages_at, played, told_by, told_mark, with_entry, with_site}
+use Rattle.pec_plays.specs.Commands.{Answer, Luck, Marks, Played, Refuses, Submit, Submits, Tick, answers, append}
+use Rattle.pec_plays.specs.Commands.{appended, at_work, entry_by, messages_at, played, told_by, told_mark, with_entry}
+use Rattle.pec_plays.specs.Commands.{with_site}
 use Rattle.pec_plays.specs.Steps.{has_no_room}
 use Rattle.pec_plays.specs.Turns.{broken as broken_site, last_of}
 use Rattle.pec_provider.specs.Appending.{Admits, Appends, ComesTo, IsRefused, WorksAt, entered}
@@ -85,11 +88,15 @@ module _ (trade : Trade) (luck : Luck) (sites : List Site) (me : ℕ) (entry : E
   appended_is false = refl
 
   abbrev roomed : Bool → Site → Played
-  roomed fails site = if has_no_room trade me site.journal entry then answers sites (Refuses faults.JournalFull) else appended_by fails site
+  roomed fails site =
+      if has_no_room trade me site.journal entry then answers sites (Refuses faults.JournalFull)
+      else appended_by fails site
 
   put_at : (site : Site) → site_at sites me ≡ site → append trade luck sites me entry answer ≡ roomed luck.fails site
   put_at site is =
-      ap (λ (p : Played). if has_no_room trade me (journal_at sites me) entry then answers sites (Refuses faults.JournalFull) else p)
+      ap
+      (λ (p : Played).
+      if has_no_room trade me (journal_at sites me) entry then answers sites (Refuses faults.JournalFull) else p)
       (appended_is luck.fails)
       ∙ ap (λ (s : Site). roomed luck.fails s) is
 
@@ -101,7 +108,11 @@ module _ (trade : Trade) (luck : Luck) (sites : List Site) (me : ℕ) (entry : E
         (appended_by luck.fails (site_of desk waiting)) full
 
     append_done : has_no_room trade me desk.journal entry ≡ false → luck.fails ≡ false
-        → append trade luck sites me entry answer ≡ record { answer = answer; after = with_site sites me (site_of (entered desk entry) waiting) }
+        → append trade luck sites me entry answer ≡ record {
+          answer = answer;
+          after = with_site sites me
+              (site_of (entered desk entry) waiting);
+        }
     unfolding appended_by
     append_done room works = put_at (site_of desk waiting) is
         ∙ (if_not (has_no_room trade me desk.journal entry) (answers sites (Refuses faults.JournalFull))
@@ -119,7 +130,8 @@ module _ (trade : Trade) (luck : Luck) (sites : List Site) (me : ℕ) (entry : E
 
 -- ---- commands
 
-module _ {X : Type 0} (tells : X → Answer) (play : Luck → List Site → Played) (trade : Trade) (me : ℕ) (old new : Desk) where
+module _ {X : Type 0} (tells : X → Answer) (play : Luck → List Site → Played) (trade : Trade) (me : ℕ)
+    (old new : Desk) where
   -- a command that appends an entry
   pub plays_done : (entry : Entry) (answer : Answer) (x : X) → ComesTo play trade me old entry answer
       → Appends trade me entry old new (Ok x) → tells x ≡ answer → Plays tells play me old new (Ok x)
@@ -127,13 +139,15 @@ module _ {X : Type 0} (tells : X → Answer) (play : Luck → List Site → Play
       rw (appends.1, told) (comes sites waiting is (luck_of false)
       ∙ append_done trade (luck_of false) sites me entry answer old waiting is appends.0 refl)
 
-  plays_failed : (entry : Entry) (answer : Answer) (Y : Type 0) (fault : ProviderFault) → ComesTo play trade me old entry answer
+  plays_failed : (entry : Entry) (answer : Answer) (Y : Type 0) (fault : ProviderFault)
+      → ComesTo play trade me old entry answer
       → Appends {X = Y} trade me entry old new (Err fault) → Plays tells play me old new (Err fault)
   plays_failed entry answer Y faults.DiskFault comes appends = λ sites waiting is.
       rw appends.1 (comes sites waiting is (luck_of true)
       ∙ append_fails trade (luck_of true) sites me entry answer old waiting is appends.0 refl)
   plays_failed entry answer Y faults.JournalFull comes appends = λ sites waiting is. (
-    comes sites waiting is (luck_of false) ∙ append_full trade (luck_of false) sites me entry answer old waiting is appends.0,
+    comes sites waiting is (luck_of false) ∙ append_full trade (luck_of false) sites me entry answer old waiting is
+        appends.0,
     rw appends.1 (sym is),
   )
   plays_failed entry answer Y faults.NoMemory comes appends = λ sites waiting is. rw appends (sym is)
@@ -143,20 +157,28 @@ module _ {X : Type 0} (tells : X → Answer) (play : Luck → List Site → Play
   plays_failed entry answer Y faults.Full comes appends = absurd appends
   plays_failed entry answer Y faults.NoItem comes appends = absurd appends
 
-  pub plays_torn : (entry : Entry) (answer : Answer) (Y : Type 0) (fault : ProviderFault) (result : Result X ProviderFault)
-      → IsErrAnd result (λ f. f ≡ fault) → ComesTo play trade me old entry answer → Appends {X = Y} trade me entry old new (Err fault)
+  pub plays_torn : (entry : Entry) (answer : Answer) (Y : Type 0) (fault : ProviderFault)
+      (result : Result X ProviderFault)
+      → IsErrAnd result (λ f. f ≡ fault) → ComesTo play trade me old entry answer
+      → Appends {X = Y} trade me entry old new (Err fault)
       → Plays tells play me old new result
   plays_torn entry answer Y fault result is comes appends =
       let p = err_from_is_err_and result is in
       subst (λ (r : Result X ProviderFault). Plays tells play me old new r) (sym p.1)
-      (subst (λ (f : ProviderFault). Plays tells play me old new (Err f)) (sym p.2) (plays_failed entry answer Y fault comes appends))
+      (subst (λ (f : ProviderFault). Plays tells play me old new (Err f)) (sym p.2)
+      (plays_failed entry answer Y fault comes appends))
 
   -- a command that is refused, and leaves the provider as it was
-  pub plays_refused : (fault : ProviderFault) → IsRefused play me old fault → new ≡ old → Plays tells play me old new (Err fault)
+  pub plays_refused : (fault : ProviderFault) → IsRefused play me old fault → new ≡ old
+      → Plays tells play me old new (Err fault)
   plays_refused faults.DiskFault none same = absurd none
   plays_refused faults.NoMemory refused same = λ sites waiting is. rw same (sym is)
   plays_refused faults.Down refused same = λ sites waiting is. (refused sites waiting is, rw same (sym is))
-  plays_refused (faults.ClockBack moment) refused same = λ sites waiting is. (refused sites waiting is, rw same (sym is))
+  plays_refused (faults.ClockBack moment) refused same = λ sites waiting is. (
+    refused sites waiting is,
+    rw same
+        (sym is),
+  )
   plays_refused faults.NoAccount refused same = λ sites waiting is. (refused sites waiting is, rw same (sym is))
   plays_refused faults.Full refused same = λ sites waiting is. (refused sites waiting is, rw same (sym is))
   plays_refused faults.NoItem refused same = λ sites waiting is. (refused sites waiting is, rw same (sym is))
@@ -173,22 +195,31 @@ module _ {X : Type 0} (tells : X → Answer) (play : Luck → List Site → Play
 -- ---- refusals
 
 -- a command that is played as another is refused as that one
-refused_as : (play other : Luck → List Site → Played) → ((luck : Luck) (sites : List Site) → play luck sites ≡ other luck sites)
+refused_as : (play other : Luck → List Site → Played) → ((luck : Luck) (sites : List Site)
+    → play luck sites ≡ other luck sites)
     → (me : ℕ) (desk : Desk) (fault : ProviderFault) → IsRefused other me desk fault → IsRefused play me desk fault
 refused_as play other same me desk faults.DiskFault none = absurd none
 refused_as play other same me desk faults.NoMemory refused = tt
-refused_as play other same me desk faults.Down refused = λ sites waiting is. same (luck_of false) sites ∙ refused sites waiting is
-refused_as play other same me desk (faults.ClockBack moment) refused = λ sites waiting is. same (luck_of false) sites ∙ refused sites waiting is
-refused_as play other same me desk faults.NoAccount refused = λ sites waiting is. same (luck_of false) sites ∙ refused sites waiting is
-refused_as play other same me desk faults.Full refused = λ sites waiting is. same (luck_of false) sites ∙ refused sites waiting is
-refused_as play other same me desk faults.NoItem refused = λ sites waiting is. same (luck_of false) sites ∙ refused sites waiting is
-refused_as play other same me desk faults.JournalFull refused = λ sites waiting is. same (luck_of false) sites ∙ refused sites waiting is
+refused_as play other same me desk faults.Down refused = λ sites waiting is. same (luck_of false) sites
+    ∙ refused sites waiting is
+refused_as play other same me desk (faults.ClockBack moment) refused = λ sites waiting is. same (luck_of false) sites
+    ∙ refused sites waiting is
+refused_as play other same me desk faults.NoAccount refused = λ sites waiting is. same (luck_of false) sites
+    ∙ refused sites waiting is
+refused_as play other same me desk faults.Full refused = λ sites waiting is. same (luck_of false) sites
+    ∙ refused sites waiting is
+refused_as play other same me desk faults.NoItem refused = λ sites waiting is. same (luck_of false) sites
+    ∙ refused sites waiting is
+refused_as play other same me desk faults.JournalFull refused = λ sites waiting is. same (luck_of false) sites
+    ∙ refused sites waiting is
 
 module _ (X : Type 0) (trade : Trade) (me now : ℕ) (desk : Desk) where
   -- a provider that isn't at work refuses whatever it would do
-  works_refused : (done : Luck → List Site → Played) (fault : ProviderFault) → WorksAt {X = X} trade me now desk (Err fault)
+  works_refused : (done : Luck → List Site → Played) (fault : ProviderFault)
+      → WorksAt {X = X} trade me now desk (Err fault)
       → IsRefused (λ luck sites. at_work trade sites me now (done luck sites)) me desk fault
-  works_refused done faults.Down down = λ sites waiting is. at_work_down trade sites me now (done (luck_of false) sites) desk waiting is down
+  works_refused done faults.Down down = λ sites waiting is. at_work_down trade sites me now
+      (done (luck_of false) sites) desk waiting is down
   works_refused done (faults.ClockBack moment) back = λ sites waiting is.
       at_work_back trade sites me now (done (luck_of false) sites) desk waiting is back.0 back.1
       ∙ ap (λ (m : ℕ). answers sites (Refuses (faults.ClockBack m))) (sym back.2)
@@ -205,7 +236,8 @@ module _ (X : Type 0) (trade : Trade) (me now : ℕ) (desk : Desk) where
       → IsRefused (λ luck sites. played trade luck sites (Tick me now)) me desk fault
   unfolding played
   tick_refused fault works = works_refused (λ luck sites. append trade luck sites me (entries.Ticked now)
-      (Marks (map told_mark (marks_by trade me (half trade me (journal_at sites me)) (entries.Ticked now))))) fault works
+      (Marks (map told_mark (marks_by trade me (half trade me (journal_at sites me)) (entries.Ticked now))))) fault
+      works
 
   -- ---- submissions
 
@@ -214,26 +246,33 @@ module _ (X : Type 0) (trade : Trade) (me now : ℕ) (desk : Desk) where
     submission luck sites = played trade luck sites (Submit me now sender path message)
 
     abbrev numbered : Luck → List Site → Played
-    numbered luck sites = append trade luck sites me (entry_by (trade.cause me sender path message) now sender path message)
+    numbered luck sites =
+        append trade luck sites me (entry_by (trade.cause me sender path message) now sender path message)
         (Submits (told_by (trade.cause me sender path message) (id_of me (messages_at trade sites me))))
 
     abbrev counted : Luck → List Site → Played
-    counted luck sites = if nat_lt (messages_at trade sites me) MESSAGES then numbered luck sites else answers sites (Refuses faults.Full)
+    counted luck sites =
+        if nat_lt (messages_at trade sites me) MESSAGES then numbered luck sites
+        else answers sites (Refuses faults.Full)
 
     from_account : trade.is_account me sender ≡ true → (luck : Luck) (sites : List Site)
         → submission luck sites ≡ at_work trade sites me now (counted luck sites)
     unfolding played
     from_account account luck sites =
-        if_so (trade.is_account me sender) (at_work trade sites me now (counted luck sites)) (answers sites (Refuses faults.NoAccount)) account
+        if_so (trade.is_account me sender) (at_work trade sites me now (counted luck sites))
+        (answers sites (Refuses faults.NoAccount)) account
 
     pub no_account : trade.is_account me sender ≡ false → IsRefused submission me desk faults.NoAccount
     unfolding played
     no_account none = λ sites waiting is.
-        if_not (trade.is_account me sender) (at_work trade sites me now (counted (luck_of false) sites)) (answers sites (Refuses faults.NoAccount)) none
+        if_not (trade.is_account me sender) (at_work trade sites me now (counted (luck_of false) sites))
+        (answers sites (Refuses faults.NoAccount)) none
 
-    pub submission_refused : trade.is_account me sender ≡ true → (fault : ProviderFault) → WorksAt {X = X} trade me now desk (Err fault)
+    pub submission_refused : trade.is_account me sender ≡ true → (fault : ProviderFault)
+        → WorksAt {X = X} trade me now desk (Err fault)
         → IsRefused submission me desk fault
-    submission_refused account fault works = refused_as submission (λ luck sites. at_work trade sites me now (counted luck sites))
+    submission_refused account fault works = refused_as submission (λ luck sites. at_work trade sites me now
+        (counted luck sites))
         (from_account account) me desk fault (works_refused counted fault works)
 
     -- how many messages there are
@@ -241,25 +280,31 @@ module _ (X : Type 0) (trade : Trade) (me now : ℕ) (desk : Desk) where
         → messages_at trade sites me ≡ length (half trade me desk.journal).messages
     count_at sites waiting is = ap (λ (s : Site). length (half trade me s.journal).messages) is
 
-    pub no_number : trade.is_account me sender ≡ true → IsAtWork trade me now desk → MESSAGES ≤ length (half trade me desk.journal).messages
+    pub no_number : trade.is_account me sender ≡ true → IsAtWork trade me now desk
+        → MESSAGES ≤ length (half trade me desk.journal).messages
         → IsRefused submission me desk faults.Full
     no_number account works full = λ sites waiting is.
         from_account account (luck_of false) sites
         ∙ (at_work_done trade sites me now (counted (luck_of false) sites) desk waiting is works
-        ∙ if_not (nat_lt (messages_at trade sites me) MESSAGES) (numbered (luck_of false) sites) (answers sites (Refuses faults.Full))
+        ∙ if_not (nat_lt (messages_at trade sites me) MESSAGES) (numbered (luck_of false) sites)
+        (answers sites (Refuses faults.Full))
         (ap (λ (n : ℕ). nat_lt n MESSAGES) (count_at sites waiting is)
         ∙ is_late (length (half trade me desk.journal).messages) MESSAGES full))
 
-    pub comes_to : trade.is_account me sender ≡ true → IsAtWork trade me now desk → length (half trade me desk.journal).messages < MESSAGES
+    pub comes_to : trade.is_account me sender ≡ true → IsAtWork trade me now desk
+        → length (half trade me desk.journal).messages < MESSAGES
         → ComesTo submission trade me desk (entry_by (trade.cause me sender path message) now sender path message)
-        (Submits (told_by (trade.cause me sender path message) (id_of me (length (half trade me desk.journal).messages))))
+        (Submits (told_by (trade.cause me sender path message)
+        (id_of me (length (half trade me desk.journal).messages))))
     comes_to account works few = λ sites waiting is luck.
         from_account account luck sites
         ∙ (at_work_done trade sites me now (counted luck sites) desk waiting is works
-        ∙ (if_so (nat_lt (messages_at trade sites me) MESSAGES) (numbered luck sites) (answers sites (Refuses faults.Full))
+        ∙ (if_so (nat_lt (messages_at trade sites me) MESSAGES) (numbered luck sites)
+        (answers sites (Refuses faults.Full))
         (ap (λ (n : ℕ). nat_lt n MESSAGES) (count_at sites waiting is)
         ∙ is_early (length (half trade me desk.journal).messages) MESSAGES few)
-        ∙ ap (λ (n : ℕ). append trade luck sites me (entry_by (trade.cause me sender path message) now sender path message)
+        ∙ ap (λ (n : ℕ). append trade luck sites me (entry_by (trade.cause me sender path message) now sender path
+        message)
         (Submits (told_by (trade.cause me sender path message) (id_of me n)))) (count_at sites waiting is)))
 
 -- a clock call appends its entry
@@ -269,7 +314,8 @@ pub tick_comes : (trade : Trade) (me now : ℕ) (desk : Desk) → IsAtWork trade
 unfolding played
 tick_comes trade me now desk works = λ sites waiting is luck.
     at_work_done trade sites me now (append trade luck sites me (entries.Ticked now)
-    (Marks (map told_mark (marks_by trade me (half trade me (journal_at sites me)) (entries.Ticked now))))) desk waiting is works
+    (Marks (map told_mark (marks_by trade me (half trade me (journal_at sites me)) (entries.Ticked now))))) desk
+    waiting is works
     ∙ ap (λ (s : Site). append trade luck sites me (entries.Ticked now)
     (Marks (map told_mark (marks_by trade me (half trade me s.journal) (entries.Ticked now))))) is
 

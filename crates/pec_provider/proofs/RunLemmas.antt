@@ -19,28 +19,34 @@ use Rattle.pec_provider.specs.Appending.{MayEnter}
 use Rattle.pec_provider.specs.Provider.{ProviderState, Runs}
 
 -- its half is what its entries come to
-pub half_runs : {D : Type 0} (kept : List Kept) (me : ℕ) (provider : ProviderState D) (trade : Trade) → Runs kept me provider → IsOf kept trade
+pub half_runs : {D : Type 0} (kept : List Kept) (me : ℕ) (provider : ProviderState D) (trade : Trade)
+    → Runs kept me provider → IsOf kept trade
     → provider.shelf.half ≡ half trade me provider.chronicle.entries
 half_runs kept me provider trade runs of =
     runs.agree.holds.is_half trade of ∙ ap (λ (n : ℕ). half trade n provider.chronicle.entries) runs.is
 
 -- while it is up its journal ends where the half says
-pub end_runs : {D : Type 0} (kept : List Kept) (me : ℕ) (provider : ProviderState D) (trade : Trade) → Runs kept me provider → IsOf kept trade
+pub end_runs : {D : Type 0} (kept : List Kept) (me : ℕ) (provider : ProviderState D) (trade : Trade)
+    → Runs kept me provider → IsOf kept trade
     → provider.chronicle.down ≡ false → provider.chronicle.end ≡ (half trade me provider.chronicle.entries).end
-end_runs kept me provider trade runs of up = runs.agree.ends up ∙ ap (λ (h : Half). h.end) (half_runs kept me provider trade runs of)
+end_runs kept me provider trade runs of up = runs.agree.ends up
+    ∙ ap (λ (h : Half). h.end) (half_runs kept me provider trade runs of)
 
 -- a step of its entries is one of its shelf
-pub step_runs : {D : Type 0} (kept : List Kept) (me : ℕ) (provider : ProviderState D) (entry : Entry) → Runs kept me provider
+pub step_runs : {D : Type 0} (kept : List Kept) (me : ℕ) (provider : ProviderState D) (entry : Entry)
+    → Runs kept me provider
     → MayEnter kept me provider.chronicle.entries entry → Steps kept provider.shelf entry
 step_runs kept me provider entry runs may = record {
   trade = may.trade;
   of = may.of;
   step = subst (λ (n : ℕ). IsStep may.trade n provider.shelf.half entry) (sym runs.is)
-      (subst (λ (h : Half). IsStep may.trade me h entry) (sym (half_runs kept me provider may.trade runs may.of)) may.step);
+      (subst (λ (h : Half). IsStep may.trade me h entry) (sym (half_runs kept me provider may.trade runs may.of))
+      may.step);
 }
 
 -- what may follow in the ledger of some journals is a step
-pub enters_by : (kept : List Kept) (me : ℕ) (list : List Entry) (entry : Entry) (trade : Trade) (journals : Journals) → IsOf kept trade
+pub enters_by : (kept : List Kept) (me : ℕ) (list : List Entry) (entry : Entry) (trade : Trade) (journals : Journals)
+    → IsOf kept trade
     → Meets trade journals me (half trade me list) entry → MayEnter kept me list entry
 enters_by kept me list entry trade journals of meets =
     record { trade = trade; of = of; step = record { own = meets.own; in_time = meets.in_time } }
@@ -55,37 +61,46 @@ agree_down kept old new shelf agree entries interrupted down = record {
   own = λ trade of choice. rw (entries, interrupted) (agree.own trade of choice);
 }
 
-pub runs_down : {D : Type 0} (kept : List Kept) (me : ℕ) (inside old : ProviderState D) → inside ≡ old → (new : ChronicleState D)
-    (after : Seen) (owed : List Letter) (places : ℕ) → after ≡ inside.shelf → new ≡ down_over (past_of inside.chronicle) new.disk
+pub runs_down : {D : Type 0} (kept : List Kept) (me : ℕ) (inside old : ProviderState D) → inside ≡ old
+    → (new : ChronicleState D)
+    (after : Seen) (owed : List Letter) (places : ℕ) → after ≡ inside.shelf
+    → new ≡ down_over (past_of inside.chronicle) new.disk
     → Runs kept me old → Runs kept me (record { chronicle = new; shelf = after; owed = owed; places = places })
 runs_down {D} kept me inside old view new after owed places same down runs =
     let before : Runs kept me inside = subst (λ (p : ProviderState D). Runs kept me p) (sym view) runs in
     rw same (record {
       number = before.number;
       is = before.is;
-      agree = agree_down kept inside.chronicle new inside.shelf before.agree (ap (λ s. s.entries) down) (ap (λ s. s.interrupted) down)
+      agree = agree_down kept inside.chronicle new inside.shelf before.agree (ap (λ s. s.entries) down)
+          (ap (λ s. s.interrupted) down)
           (ap (λ s. s.down) down);
     })
 
 -- ---- by what stands in the provider
 
-pub me_runs : {D : Type 0} (kept : List Kept) (me : ℕ) (inside old : ProviderState D) → inside ≡ old → Runs kept me old → inside.shelf.me ≡ me
+pub me_runs : {D : Type 0} (kept : List Kept) (me : ℕ) (inside old : ProviderState D) → inside ≡ old → Runs kept me old
+    → inside.shelf.me ≡ me
 me_runs {D} kept me inside old view runs = ap (λ (p : ProviderState D). p.shelf.me) view ∙ runs.is
 
-pub count_runs : {D : Type 0} (kept : List Kept) (me : ℕ) (inside old : ProviderState D) → inside ≡ old → (trade : Trade) → Runs kept me old
+pub count_runs : {D : Type 0} (kept : List Kept) (me : ℕ) (inside old : ProviderState D) → inside ≡ old
+    → (trade : Trade) → Runs kept me old
     → IsOf kept trade → length inside.shelf.half.messages ≡ length (half trade me old.chronicle.entries).messages
 count_runs {D} kept me inside old view trade runs of =
     ap (λ (p : ProviderState D). length p.shelf.half.messages) view
     ∙ ap (λ (h : Half). length h.messages) (half_runs kept me old trade runs of)
 
-pub half_inside : {D : Type 0} (kept : List Kept) (me : ℕ) (inside old : ProviderState D) → inside ≡ old → (trade : Trade) → Runs kept me old
+pub half_inside : {D : Type 0} (kept : List Kept) (me : ℕ) (inside old : ProviderState D) → inside ≡ old
+    → (trade : Trade) → Runs kept me old
     → IsOf kept trade → inside.shelf.half ≡ half trade inside.shelf.me old.chronicle.entries
 half_inside {D} kept me inside old view trade runs of =
-    subst (λ (p : ProviderState D). p.shelf.half ≡ half trade p.shelf.me old.chronicle.entries) (sym view) (runs.agree.holds.is_half trade of)
+    subst (λ (p : ProviderState D). p.shelf.half ≡ half trade p.shelf.me old.chronicle.entries) (sym view)
+    (runs.agree.holds.is_half trade of)
 
 -- each of its entries is a step of those before it
-pub steps_inside : {D : Type 0} (kept : List Kept) (me : ℕ) (inside old : ProviderState D) → inside ≡ old → (trade : Trade) → Runs kept me old
+pub steps_inside : {D : Type 0} (kept : List Kept) (me : ℕ) (inside old : ProviderState D) → inside ≡ old
+    → (trade : Trade) → Runs kept me old
     → IsOf kept trade → AreSteps trade inside.shelf.me old.chronicle.entries
 steps_inside {D} kept me inside old view trade runs of =
     subst (λ (p : ProviderState D). AreSteps trade p.shelf.me old.chronicle.entries) (sym view)
-    (subst (λ (l : List Entry). AreSteps trade old.shelf.me l) (append-nil old.chronicle.entries) (runs.agree.own trade of false).steps)
+    (subst (λ (l : List Entry). AreSteps trade old.shelf.me l) (append-nil old.chronicle.entries)
+    (runs.agree.own trade of false).steps)

@@ -13,7 +13,9 @@ use Rattle.pec_ledger.specs.Pairs.{Pair, pair_of}
 use Rattle.pec_ledger.specs.Steps.{half}
 use Rattle.pec_ledger.specs.Trade.{Framed, Receipt, Seen, SeenEnvelope, SeenReceipt, Trade}
 use Rattle.pec_plays.specs.Decisions.{decide}
-use Rattle.pec_plays.specs.Reception.{accounts_with_room, ack_fits, ack_rows, anomaly, arrive, by_ack, by_frame, by_outcome, by_receipt, by_seen, charge_fits, charge_rows, envelope_fits, envelope_rows, otherwise, outcome_fits, outcome_rows}
+use Rattle.pec_plays.specs.Reception.{accounts_with_room, ack_fits, ack_rows, anomaly, arrive, by_ack, by_frame}
+use Rattle.pec_plays.specs.Reception.{by_outcome, by_receipt, by_seen, charge_fits, charge_rows, envelope_fits}
+use Rattle.pec_plays.specs.Reception.{envelope_rows, otherwise, outcome_fits, outcome_rows}
 use Rattle.pec_plays.specs.Steps.{Step}
 use Rattle.pec_provider.specs.Doing.{is_full_for}
 
@@ -28,7 +30,8 @@ module _ (trade : Trade) (me now : ℕ) (journal : List Entry) where
   otherwise_so : (framed : Framed) → IsSo (otherwise trade me now journal framed)
   otherwise_so framed = anomaly_so framed.message (accounts_with_room trade me journal framed.path)
 
-  envelope_so : (framed : Framed) (id : Id) (fits : Bool) (taken : Option Taken) → IsSo (envelope_rows trade me now journal framed id fits taken)
+  envelope_so : (framed : Framed) (id : Id) (fits : Bool) (taken : Option Taken)
+      → IsSo (envelope_rows trade me now journal framed id fits taken)
   envelope_so framed id false taken = otherwise_so framed
   envelope_so framed id true None = refl
   envelope_so framed id true (Some taken) = refl
@@ -39,7 +42,8 @@ module _ (trade : Trade) (me now : ℕ) (journal : List Entry) where
   charge_so framed receipt true None = refl
   charge_so framed receipt true (Some charged) = refl
 
-  outcome_so : (framed : Framed) (receipt : Receipt) (recipient : Bytes) (decision : Decision) (fits : Bool) (known : Option Known)
+  outcome_so : (framed : Framed) (receipt : Receipt) (recipient : Bytes) (decision : Decision) (fits : Bool)
+      (known : Option Known)
       → IsSo (outcome_rows trade me now journal framed receipt recipient decision fits known)
   outcome_so framed receipt recipient decision false known = otherwise_so framed
   outcome_so framed receipt recipient decision true None = refl
@@ -58,17 +62,21 @@ module _ (trade : Trade) (me now : ℕ) (journal : List Entry) where
       outcome_so framed receipt recipient decision (outcome_fits trade me now journal framed receipt recipient)
       (known_of (half trade me journal) (pair_of receipt.id recipient))
 
-  by_ack_so : (framed : Framed) (receipt : Receipt) (recipient : Option Bytes) → IsSo (by_ack trade me now journal framed receipt recipient)
+  by_ack_so : (framed : Framed) (receipt : Receipt) (recipient : Option Bytes)
+      → IsSo (by_ack trade me now journal framed receipt recipient)
   by_ack_so framed receipt None = otherwise_so framed
   by_ack_so framed receipt (Some recipient) =
       ack_so framed receipt recipient (ack_fits trade me now journal framed receipt recipient)
       (is_acked (half trade me journal) (pair_of receipt.id recipient))
 
-  by_receipt_so : (framed : Framed) (receipt : Receipt) (kind : Kind) → IsSo (by_receipt trade me now journal framed receipt kind)
+  by_receipt_so : (framed : Framed) (receipt : Receipt) (kind : Kind)
+      → IsSo (by_receipt trade me now journal framed receipt kind)
   by_receipt_so framed receipt kinds.Charge =
-      charge_so framed receipt (charge_fits trade me now journal framed receipt) (charged_of (half trade me journal) receipt.id receipt.by)
+      charge_so framed receipt (charge_fits trade me now journal framed receipt)
+      (charged_of (half trade me journal) receipt.id receipt.by)
   by_receipt_so framed receipt kinds.Delivery = by_outcome_so framed receipt Placed receipt.recipient
-  by_receipt_so framed receipt (kinds.DeliveryError refusal) = by_outcome_so framed receipt (Refused refusal) receipt.recipient
+  by_receipt_so framed receipt (kinds.DeliveryError refusal) = by_outcome_so framed receipt
+      (Refused refusal) receipt.recipient
   by_receipt_so framed receipt kinds.Ack = by_ack_so framed receipt receipt.recipient
   by_receipt_so framed receipt kinds.Acceptance = otherwise_so framed
   by_receipt_so framed receipt (kinds.NonAcceptance cause) = otherwise_so framed

@@ -1,5 +1,6 @@
 -- What a turn's calls do, by what they have to do.
-use Rattle.std.proofs.Common.{◌≡◌, ℕ, ◌<◌, ◌≤◌, Bool, false, not, List, [], ◌∷◌, ◌++◌, refl, sym, ap, subst, ◌∙◌, arith, Option, Some, None, Result, Ok, Err}
+use Rattle.std.proofs.Common.{◌≡◌, ℕ, ◌<◌, ◌≤◌, Bool, false, not, List, [], ◌∷◌, ◌++◌, refl, sym, ap, subst, ◌∙◌, arith}
+use Rattle.std.proofs.Common.{Option, Some, None, Result, Ok, Err}
 use Rattle.std.specs.Prelude.{IfSome, IsErrAnd, Contains}
 use Rattle.std.specs.Option.{option_to_list}
 use Rattle.std.proofs.lemmas.List.{append-nil}
@@ -33,7 +34,13 @@ use Rattle.pec_provider.specs.Working.{DecidesFirst, Does, IsAtWork, Works, behi
 -- a desk that owes an answer more, if there is one
 abbrev pub owing : Desk → Option Letter → Desk
 owing desk letter =
-    record { journal = desk.journal; owed = desk.owed ++ option_to_list letter; up = desk.up; interrupted = desk.interrupted }
+    record {
+      journal = desk.journal;
+      owed = desk.owed ++ option_to_list letter;
+      up = desk.up;
+      interrupted =
+          desk.interrupted;
+    }
 
 module _ (trade : Trade) (me : ℕ) (step : Step) (old mid : Desk) (entry : Option Entry) (same : entry ≡ step.entry)
     (full : step.full ≡ is_full_for trade me old.journal step.entry) where
@@ -51,7 +58,8 @@ module _ (trade : Trade) (me : ℕ) (step : Step) (old mid : Desk) (entry : Opti
   behind_with letter owes = rw (same, owes) refl
 
 -- the entry was appended, if there was one, and the answer is owed
-pub does_ok : (trade : Trade) (me : ℕ) (step : Step) (old mid : Desk) (entry : Option Entry) (event : Event) (letter : Option Letter)
+pub does_ok : (trade : Trade) (me : ℕ) (step : Step) (old mid : Desk) (entry : Option Entry) (event : Event)
+    (letter : Option Letter)
     → entry ≡ step.entry → event ≡ step.event → option_to_list letter ≡ step.owed
     → step.full ≡ is_full_for trade me old.journal step.entry → AppendsAny {X = Unit {0}} trade me entry old mid (Ok tt)
     → Does step old (owing mid letter) (Ok event)
@@ -59,7 +67,12 @@ does_ok trade me step old mid None event letter same told owes full appends = (
   told,
   full_by trade me step old mid None same full false refl,
   ap (λ (d : Desk). owing d letter) appends
-      ∙ (ap (λ (l : List Entry). record { journal = l; owed = old.owed ++ option_to_list letter; up = old.up; interrupted = old.interrupted })
+      ∙ (ap (λ (l : List Entry). record {
+        journal = l;
+        owed = old.owed ++ option_to_list letter;
+        up = old.up;
+        interrupted = old.interrupted;
+      })
       (sym (append-nil old.journal))
       ∙ behind_with trade me step old mid None same full letter owes),
 )
@@ -96,7 +109,8 @@ does_handed step old new fault result is does =
 
 module _ (trade : Trade) (me now : ℕ) (old new : Desk) where
   -- a step that is done at work
-  pub works_step : (step : Step) (answer : Result Event ProviderFault) → IsAtWork trade me now old → Does step old new answer
+  pub works_step : (step : Step) (answer : Result Event ProviderFault) → IsAtWork trade me now old
+      → Does step old new answer
       → Works trade me now (Does step old new) old new answer
   works_step step (Ok event) works does = (works, does)
   works_step step (Err faults.DiskFault) works does = (works, does)
@@ -109,7 +123,8 @@ module _ (trade : Trade) (me now : ℕ) (old new : Desk) where
   works_step step (Err faults.NoItem) works does = absurd does
 
   pub works_first : (pairs : List Pair) (answer : Result (Option Event) ProviderFault) → IsAtWork trade me now old
-      → DecidesFirst trade me now pairs old new answer → Works trade me now (DecidesFirst trade me now pairs old new) old new answer
+      → DecidesFirst trade me now pairs old new answer
+      → Works trade me now (DecidesFirst trade me now pairs old new) old new answer
   works_first [] (Ok None) works does = (works, does)
   works_first [] (Ok (Some event)) works does = absurd does
   works_first [] (Err faults.NoMemory) works does = (works, does)
@@ -131,7 +146,8 @@ module _ (trade : Trade) (me now : ℕ) (old new : Desk) where
   works_first (pair ∷ pairs) (Err faults.NoItem) works does = absurd does
 
   -- want of memory leaves the pairs as they are
-  pub first_unread : (pairs : List Pair) (result : Result (Option Event) ProviderFault) → IsErrAnd result (λ f. f ≡ faults.NoMemory)
+  pub first_unread : (pairs : List Pair) (result : Result (Option Event) ProviderFault)
+      → IsErrAnd result (λ f. f ≡ faults.NoMemory)
       → new ≡ old → DecidesFirst trade me now pairs old new result
   first_unread [] result is same =
       let p = err_from_is_err_and result is in
@@ -143,7 +159,8 @@ module _ (trade : Trade) (me now : ℕ) (old new : Desk) where
       (subst (λ (f : ProviderFault). DecidesFirst trade me now (pair ∷ pairs) old new (Err f)) (sym p.2) same)
 
   -- the first pair's step ended with a fault
-  pub first_handed : (pairs : List Pair) (pair : Pair) (rest : List Pair) → pairs ≡ pair ∷ rest → (fault : ProviderFault)
+  pub first_handed : (pairs : List Pair) (pair : Pair) (rest : List Pair) → pairs ≡ pair ∷ rest
+      → (fault : ProviderFault)
       (result : Result (Option Event) ProviderFault) → IsErrAnd result (λ f. f ≡ fault)
       → Does (decide trade me now old.journal pair) old new (Err fault) → DecidesFirst trade me now pairs old new result
   first_handed pairs pair rest first fault result is does =
@@ -153,7 +170,8 @@ module _ (trade : Trade) (me now : ℕ) (old new : Desk) where
       (subst (λ (f : ProviderFault). DecidesFirst trade me now (pair ∷ rest) old new (Err f)) (sym p.2) does))
 
 -- a provider that isn't at work does nothing
-idles : (X Y : Type 0) (trade : Trade) (me now : ℕ) (Done : Result X ProviderFault → Type 0) (old : Desk) (fault : ProviderFault)
+idles : (X Y : Type 0) (trade : Trade) (me now : ℕ) (Done : Result X ProviderFault → Type 0) (old : Desk)
+    (fault : ProviderFault)
     → WorksAt {X = Y} trade me now old (Err fault) → Works trade me now Done old old (Err fault)
 idles X Y trade me now Done old faults.Down works = (works, refl)
 idles X Y trade me now Done old (faults.ClockBack moment) works = (works.0, works.1, works.2, refl)
@@ -170,12 +188,14 @@ pub idles_handed : (X Y : Type 0) (trade : Trade) (me now : ℕ) (Done : Result 
 idles_handed X Y trade me now Done old fault result is works =
     let p = err_from_is_err_and result is in
     subst (λ (r : Result X ProviderFault). Works trade me now Done old old r) (sym p.1)
-    (subst (λ (f : ProviderFault). Works trade me now Done old old (Err f)) (sym p.2) (idles X Y trade me now Done old fault works))
+    (subst (λ (f : ProviderFault). Works trade me now Done old old (Err f)) (sym p.2)
+    (idles X Y trade me now Done old fault works))
 
 -- ---- what is appended
 
 -- what a step appends is a step of the entries
-pub step_may : (kept : List Kept) (me now : ℕ) (trade : Trade) (journal : List Entry) (step : Step) (entry : Option Entry)
+pub step_may : (kept : List Kept) (me now : ℕ) (trade : Trade) (journal : List Entry) (step : Step)
+    (entry : Option Entry)
     → IsOf kept trade → entry ≡ step.entry → (half trade me journal).last ≤ now
     → ((e : Entry) → step.entry ≡ Some e → Own trade me (half trade me journal) e × (moment_of e ≡ now))
     → IfSome entry (MayEnter kept me journal)
@@ -189,7 +209,8 @@ step_may kept me now trade journal step (Some e) of same late own =
     }
 
 -- a decision may follow in the ledger of any journals
-pub decision_follows : (trade : Trade) (journals : Journals) (me now : ℕ) (journal : List Entry) (pair : Pair) (entry : Entry)
+pub decision_follows : (trade : Trade) (journals : Journals) (me now : ℕ) (journal : List Entry) (pair : Pair)
+    (entry : Entry)
     → (half trade me journal).last ≤ now → now < END_OF_TIME
     → Own trade me (half trade me journal) entry × (moment_of entry ≡ now)
     → (decide trade me now journal pair).entry ≡ Some entry → Meets trade journals me (half trade me journal) entry
@@ -199,7 +220,8 @@ decision_follows trade journals me now journal pair entry late below own is = re
   in_time = subst (λ (n : ℕ). (half trade me journal).last ≤ n) (sym own.1) late;
   in_range = subst (λ (n : ℕ). n < END_OF_TIME) (sym own.1) below;
   joint = subst (λ (e : Entry). Joint trade journals me e)
-      (same_Some (entries.Decided now pair.id pair.recipient (decision_at trade me (half trade me journal) pair.recipient)) entry is) tt;
+      (same_Some (entries.Decided now pair.id pair.recipient
+      (decision_at trade me (half trade me journal) pair.recipient)) entry is) tt;
 }
 
 -- the first of pairs is one of them
@@ -236,14 +258,16 @@ appends_as X Y trade me entry old new faults.NoAccount appends = appends
 appends_as X Y trade me entry old new faults.Full appends = appends
 appends_as X Y trade me entry old new faults.NoItem appends = appends
 
-pub any_handed : (X Y : Type 0) (trade : Trade) (me : ℕ) (some : Option Entry) (entry : Entry) (old new : Desk) (fault : ProviderFault)
+pub any_handed : (X Y : Type 0) (trade : Trade) (me : ℕ) (some : Option Entry) (entry : Entry) (old new : Desk)
+    (fault : ProviderFault)
     (result : Result Y ProviderFault) → some ≡ Some entry → IsErrAnd result (λ f. f ≡ fault)
     → Appends {X = X} trade me entry old new (Err fault) → AppendsAny trade me some old new result
 any_handed X Y trade me some entry old new fault result same is appends =
     let p = err_from_is_err_and result is in
     subst (λ (o : Option Entry). AppendsAny trade me o old new result) (sym same)
     (subst (λ (r : Result Y ProviderFault). Appends trade me entry old new r) (sym p.1)
-    (subst (λ (f : ProviderFault). Appends {X = Y} trade me entry old new (Err f)) (sym p.2) (appends_as X Y trade me entry old new fault appends)))
+    (subst (λ (f : ProviderFault). Appends {X = Y} trade me entry old new (Err f)) (sym p.2)
+    (appends_as X Y trade me entry old new fault appends)))
 
 -- ---- the next pair
 
@@ -254,12 +278,15 @@ pub record IsFirst (trade : Trade) (me now : ℕ) (journal : List Entry) (receiv
   pub first : undecided trade me journal ≡ pair ∷ pairs
   pub shows : Shows received (decide trade me now journal pair)
 
-pub none_next : (trade : Trade) (me now : ℕ) (journal : List Entry) (next : Option Received) → ShowsNext trade me now journal next
+pub none_next : (trade : Trade) (me now : ℕ) (journal : List Entry) (next : Option Received)
+    → ShowsNext trade me now journal next
     → next ≡ None → undecided trade me journal ≡ []
-none_next trade me now journal next shows none = subst (λ (o : Option Received). ShowsNext trade me now journal o) none shows
+none_next trade me now journal next shows none = subst (λ (o : Option Received). ShowsNext trade me now journal o) none
+    shows
 
 pub some_next : (trade : Trade) (me now : ℕ) (journal : List Entry) (next : Option Received) (received : Received)
     → ShowsNext trade me now journal next → next ≡ Some received → IsFirst trade me now journal received
 some_next trade me now journal next received shows some =
-    let s : ShowsNext trade me now journal (Some received) = subst (λ (o : Option Received). ShowsNext trade me now journal o) some shows in
+    let s : ShowsNext trade me now journal (Some received) = subst
+    (λ (o : Option Received). ShowsNext trade me now journal o) some shows in
     record { pair = s.0; pairs = s.1; first = s.2; shows = s.3 }

@@ -1,5 +1,5 @@
--- Which entries may follow a provider's, in the ledger of any journals: `MayFollow`. A provider carries on in this sense
--- (`CarriesOn` of pec_chronicle). This project's profile.
+-- Which entries may follow a provider's, in the ledger of any journals: `MayFollow`. A provider carries on in this
+-- sense (`CarriesOn` of pec_chronicle). This project's profile.
 use Rattle.std.specs.Prelude.{ℕ}
 use Rattle.pec_ledger.specs.Ledger.{Journals, Meets}
 use Rattle.pec_ledger.specs.Steps.{half}

@@ -1,9 +1,8 @@
 -- What a provider's calls outside of turns answer, and what they leave: a submission and a clock call are played as the
--- commands of pec_plays, whatever other providers there are (`Plays`); what an account asks for is shown (`Asks`). This
--- project's profile.
-use Rattle.std.specs.Prelude.{◌≡◌, ℕ, Bool, true, false, List, Option, None, Result, Ok, Err}
+-- commands of pec_plays, whatever other providers there are (`Plays`); what an account asks for is shown, or why not
+-- (`IsUnasked`, `IsUnshown`). This project's profile.
+use Rattle.std.specs.Prelude.{◌≡◌, ℕ, Bool, true, false, List, slice_get, Option, None, Result, Ok, Err}
 use Rattle.std.specs.Option.{option_and_then}
-use Rattle.std.specs.Prelude.{slice_get}
 use Rattle.pec_types.specs.Bytes.{Bytes}
 use Rattle.pec_types.specs.declared.turns.ProviderFault.{ProviderFault}
 use Rattle.pec_types.specs.declared.turns.ProviderFault.TheVariants as faults
@@ -23,10 +22,12 @@ use Rattle.pec_provider.specs.Provider.{Desk, site_of}
 abbrev pub luck_of : Bool → Luck
 luck_of fails = record { cuts = λ provider. Whole; fails = fails; found = false }
 
--- A command was played on these sites, and answered so: the provider's site is then the new one. An append that fails is
--- told by the answer; all other refusals, and want of memory, leave the site as it was.
-abbrev pub PlaysOn : {X : Type 0} → (X → Answer) → (Luck → Played) → List Site → ℕ → Site → Result X ProviderFault → Type 0
-PlaysOn tells play sites me new (Ok x) = play (luck_of false) ≡ record { answer = tells x; after = with_site sites me new }
+-- A command was played on these sites, and answered so: the provider's site is then the new one. An append that fails
+-- is told by the answer; all other refusals, and want of memory, leave the site as it was.
+abbrev pub PlaysOn : {X : Type 0} → (X → Answer) → (Luck → Played) → List Site → ℕ → Site → Result X ProviderFault
+    → Type 0
+PlaysOn tells play sites me new (Ok x) =
+    play (luck_of false) ≡ record { answer = tells x; after = with_site sites me new }
 PlaysOn tells play sites me new (Err faults.DiskFault) =
     play (luck_of true) ≡ record { answer = Refuses faults.DiskFault; after = with_site sites me new }
 PlaysOn tells play sites me new (Err faults.NoMemory) = new ≡ site_at sites me
@@ -34,14 +35,16 @@ PlaysOn tells play sites me new (Err fault) =
     (play (luck_of false) ≡ answers sites (Refuses fault)) × (new ≡ site_at sites me)
 
 -- So it is on all sites among which this provider stands, whatever frames wait for it.
-abbrev pub Plays : {X : Type 0} → (X → Answer) → (Luck → List Site → Played) → ℕ → Desk → Desk → Result X ProviderFault → Type 0
+abbrev pub Plays : {X : Type 0} → (X → Answer) → (Luck → List Site → Played) → ℕ → Desk → Desk → Result X ProviderFault
+    → Type 0
 Plays tells play me old new answer =
     (sites : List Site) (waiting : List (List Bytes)) → site_at sites me ≡ site_of old waiting
     → PlaysOn tells (λ luck. play luck sites) sites me (site_of new waiting) answer
 
 -- ---- what accounts are shown
 
--- Why an account isn't shown what it asks for: it is none of the provider's, or the provider is down, or memory ran out.
+-- Why an account isn't shown what it asks for: it is none of the provider's, or the provider is down, or memory ran
+-- out.
 abbrev pub IsUnasked : Bool → Bool → ProviderFault → Type 0
 IsUnasked account up faults.NoAccount = account ≡ false
 IsUnasked account up faults.Down = (account ≡ true) × (up ≡ false)

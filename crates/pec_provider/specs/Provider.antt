@@ -10,16 +10,16 @@ use Rattle.pec_shelf.specs.Seen.{Seen}
 use Rattle.pec_chronicle.specs.Chronicle.{ChronicleState}
 use Rattle.pec_stock.specs.Stock.{Agree}
 
--- Its entries over its disk, its half of the ledger, and the answers that it owes in this turn, in the order in which they
--- arose.
+-- Its entries over its disk, its half of the ledger, and the answers that it owes in this turn, in the order in which
+-- they arose.
 pub record ProviderState (D : Type 0) : Type 0 where
   pub chronicle : ChronicleState D
   pub shelf : Seen
   pub owed : List Letter
   pub places : ℕ  -- there is memory for so many answers more
 
--- It is the provider of this number of the directory: its half is what its entries come to, and these are its own, with an
--- interrupted one or without it. Every call keeps this, on every answer.
+-- It is the provider of this number of the directory: its half is what its entries come to, and these are its own, with
+-- an interrupted one or without it. Every call keeps this, on every answer.
 pub record Runs {D : Type 0} (kept : List Kept) (me : ℕ) (provider : ProviderState D) : Type 0 where
   pub number : me < length kept
   pub is : provider.shelf.me ≡ me
@@ -42,7 +42,8 @@ desk_of provider = record {
 
 -- the provider among others, with the frames that wait for it
 abbrev pub site_of : Desk → List (List Bytes) → Site
-site_of desk waiting = record { journal = desk.journal; up = desk.up; interrupted = desk.interrupted; waiting = waiting }
+site_of desk waiting =
+    record { journal = desk.journal; up = desk.up; interrupted = desk.interrupted; waiting = waiting }
 
 -- up, over these entries, and nothing is owed
 abbrev pub fresh : List Entry → Desk

@@ -1,5 +1,5 @@
--- What a provider's calls in a turn answer, and what they leave: each is one step of pec_plays, or one of the faults that
--- it may meet, in their order. This project's profile.
+-- What a provider's calls in a turn answer, and what they leave: each is one step of pec_plays, or one of the faults
+-- that it may meet, in their order. This project's profile.
 use Rattle.std.specs.Prelude.{◌≡◌, ℕ, ◌<◌, ◌≤◌, true, false, List, [], ◌∷◌, ◌++◌, Option, Some, None, Result, Ok, Err}
 use Rattle.pec_types.specs.Bytes.{Bytes}
 use Rattle.pec_types.specs.declared.turns.Event.{Event}
@@ -31,8 +31,8 @@ broken desk entry = record { journal = desk.journal; owed = desk.owed; up = fals
 
 -- ---- steps
 
--- A step is done, and its event told; or the append of its entry failed, the journal has no room for the entry, or memory
--- ran out.
+-- A step is done, and its event told; or the append of its entry failed, the journal has no room for the entry, or
+-- memory ran out.
 abbrev pub Does : Step → Desk → Desk → Result Event ProviderFault → Type 0
 Does step old new (Ok event) = (event ≡ step.event) × (step.full ≡ false) × (new ≡ behind old step)
 Does step old new (Err faults.DiskFault) =
@@ -48,8 +48,10 @@ DecidesFirst trade me now [] old new (Ok (Some event)) = ⊥
 DecidesFirst trade me now [] old new (Err faults.NoMemory) = new ≡ old
 DecidesFirst trade me now [] old new (Err _) = ⊥
 DecidesFirst trade me now (pair ∷ pairs) old new (Ok None) = ⊥
-DecidesFirst trade me now (pair ∷ pairs) old new (Ok (Some event)) = Does (decide trade me now old.journal pair) old new (Ok event)
-DecidesFirst trade me now (pair ∷ pairs) old new (Err fault) = Does (decide trade me now old.journal pair) old new (Err fault)
+DecidesFirst trade me now (pair ∷ pairs) old new (Ok (Some event)) =
+    Does (decide trade me now old.journal pair) old new (Ok event)
+DecidesFirst trade me now (pair ∷ pairs) old new (Err fault) =
+    Does (decide trade me now old.journal pair) old new (Err fault)
 
 -- ---- calls
 
@@ -59,8 +61,8 @@ module _ (trade : Trade) (me now : ℕ) where
     pub up : desk.up ≡ true
     pub in_time : last_of trade me desk.journal ≤ now
 
-  -- Before anything is looked at a call is refused where the provider is down, and where the moment is before the greatest
-  -- of its journal, which is told; else it is done so.
+  -- Before anything is looked at a call is refused where the provider is down, and where the moment is before the
+  -- greatest of its journal, which is told; else it is done so.
   abbrev pub Works : {X : Type 0} → (Result X ProviderFault → Type 0) → Desk → Desk → Result X ProviderFault → Type 0
   Works Done old new (Err faults.Down) = (old.up ≡ false) × (new ≡ old)
   Works Done old new (Err (faults.ClockBack moment)) =

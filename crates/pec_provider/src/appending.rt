@@ -42,8 +42,8 @@ impl<D> Provider<D> {
 }
 
 impl<D: Disk> Provider<D> {
-    /// Appends an entry that is a step, and takes it in once it is durable. All memory is taken before. The answer is the
-    /// marks of a clock call, and none for another entry.
+    /// Appends an entry that is a step, and takes it in once it is durable. All memory is taken before. The answer is
+    /// the marks of a clock call, and none for another entry.
     pub(crate) fn append<S>(
         &mut self,
         alloc: Global,
@@ -57,11 +57,14 @@ impl<D: Disk> Provider<D> {
         ensures appends { (trade : Trade) → IsOf house.now.directory.now trade
             → Appends trade house.now.me entry.now (desk_of self.old) (desk_of self.new) result }
         ensures marks { (trade : Trade) → IsOf house.now.directory.now trade → IfOk result (λ marks. marks.items
-            ≡ map told_mark (marks_by trade house.now.me (half trade house.now.me self.old.chronicle.entries) entry.now)) }
+            ≡ map told_mark
+            (marks_by trade house.now.me (half trade house.now.me self.old.chronicle.entries) entry.now)) }
         ensures owed { (self.new.owed ≡ self.old.owed) × (self.new.places ≡ self.old.places) }
         ensures runs { Runs house.now.directory.now house.now.me self.new }
-        ensures carries { D.tells → CarriesOn D.sight (OnlyMay self.old.chronicle.entries (Some entry.now)) self.old.chronicle self.new.chronicle }
-        ensures disk_fault { IsErrOf result faults.DiskFault → HasRisen (D.faults self.old.chronicle.disk) (D.faults self.new.chronicle.disk) }
+        ensures carries { D.tells → CarriesOn D.sight (OnlyMay self.old.chronicle.entries (Some entry.now))
+            self.old.chronicle self.new.chronicle }
+        ensures disk_fault { IsErrOf result faults.DiskFault → HasRisen (D.faults self.old.chronicle.disk)
+            (D.faults self.new.chronicle.disk) }
         ensures later { D.faults self.old.chronicle.disk ≤ D.faults self.new.chronicle.disk }
     {
         let marks = enter(

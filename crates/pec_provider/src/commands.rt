@@ -28,10 +28,10 @@ use pec_types::{
 use std::alloc::Global;
 
 impl<D: Disk> Provider<D> {
-    /// Takes in a message that an account submits for a forward path (RFC 6109, section 3.1), in bytes as it was handed in.
-    /// The receipt of acceptance, or the notice that it wasn't accepted, is then an item of the account's mailbox. The first of
-    /// these refusals that applies is answered: `NoAccount`, `Down`, `ClockBack`, `Full`, `NoMemory`, `JournalFull`,
-    /// `DiskFault`.
+    /// Takes in a message that an account submits for a forward path (RFC 6109, section 3.1), in bytes as it was handed
+    /// in. The receipt of acceptance, or the notice that it wasn't accepted, is then an item of the account's mailbox.
+    /// The first of these refusals that applies is answered: `NoAccount`, `Down`, `ClockBack`, `Full`, `NoMemory`,
+    /// `JournalFull`, `DiskFault`.
     pub fn submit<S: Sealer>(
         &mut self,
         alloc: Global,
@@ -49,16 +49,18 @@ impl<D: Disk> Provider<D> {
         // It is played as the command.
         ensures plays { Plays Submits (λ luck sites.
             played (trade_of house.now.directory.now (S.seals house.now.sealer.now)) luck sites
-            (Submit house.now.me moment sender.now path.now message.now)) house.now.me (desk_of self.old) (desk_of self.new) result }
+            (Submit house.now.me moment sender.now path.now message.now)) house.now.me (desk_of self.old)
+            (desk_of self.new) result }
         ensures owed { self.new.owed ≡ self.old.owed }
         ensures runs { Runs house.now.directory.now house.now.me self.new }
 
-        // At every moment a crash leaves the journal of the entries, with or without the one that the call appends, which may
-        // follow in the ledger of any journals.
+        // At every moment a crash leaves the journal of the entries, with or without the one that the call appends,
+        // which may follow in the ledger of any journals.
         ensures carries { D.tells → (journals : Journals) → CarriesOn D.sight
             (MayFollow (trade_of house.now.directory.now (S.seals house.now.sealer.now)) journals house.now.me)
             self.old.chronicle self.new.chronicle }
-        ensures disk_fault { IsErrOf result faults.DiskFault → HasRisen (D.faults self.old.chronicle.disk) (D.faults self.new.chronicle.disk) }
+        ensures disk_fault { IsErrOf result faults.DiskFault → HasRisen (D.faults self.old.chronicle.disk)
+            (D.faults self.new.chronicle.disk) }
         ensures later { D.faults self.old.chronicle.disk ≤ D.faults self.new.chronicle.disk }
     {
         a_house_is_a_trade(house);
@@ -68,9 +70,9 @@ impl<D: Disk> Provider<D> {
         Ok(answer)
     }
 
-    /// Looks at the clock: the sender of each pair whose outcome isn't known in time gets a warning or a notice. The answer
-    /// tells the pairs, in order of number and recipients. The first of these refusals that applies is answered: `Down`,
-    /// `ClockBack`, `NoMemory`, `JournalFull`, `DiskFault`.
+    /// Looks at the clock: the sender of each pair whose outcome isn't known in time gets a warning or a notice. The
+    /// answer tells the pairs, in order of number and recipients. The first of these refusals that applies is answered:
+    /// `Down`, `ClockBack`, `NoMemory`, `JournalFull`, `DiskFault`.
     pub fn tick<S: Sealer>(
         &mut self,
         alloc: Global,
@@ -79,14 +81,15 @@ impl<D: Disk> Provider<D> {
     ) -> Result<Vec<Mark>, ProviderFault>
         requires { Runs house.now.directory.now house.now.me self.old }
         ensures plays { Plays (λ marks. Marks marks.items) (λ luck sites.
-            played (trade_of house.now.directory.now (S.seals house.now.sealer.now)) luck sites (Tick house.now.me moment))
-            house.now.me (desk_of self.old) (desk_of self.new) result }
+            played (trade_of house.now.directory.now (S.seals house.now.sealer.now)) luck sites
+            (Tick house.now.me moment)) house.now.me (desk_of self.old) (desk_of self.new) result }
         ensures owed { self.new.owed ≡ self.old.owed }
         ensures runs { Runs house.now.directory.now house.now.me self.new }
         ensures carries { D.tells → (journals : Journals) → CarriesOn D.sight
             (MayFollow (trade_of house.now.directory.now (S.seals house.now.sealer.now)) journals house.now.me)
             self.old.chronicle self.new.chronicle }
-        ensures disk_fault { IsErrOf result faults.DiskFault → HasRisen (D.faults self.old.chronicle.disk) (D.faults self.new.chronicle.disk) }
+        ensures disk_fault { IsErrOf result faults.DiskFault → HasRisen (D.faults self.old.chronicle.disk)
+            (D.faults self.new.chronicle.disk) }
         ensures later { D.faults self.old.chronicle.disk ≤ D.faults self.new.chronicle.disk }
     {
         a_house_is_a_trade(house);
@@ -113,13 +116,15 @@ impl<D> Provider<D> {
         requires fits { Fits (S.seals house.now.sealer.now) (providers_of house.now.directory.now) }
         requires path { (0 < length path.now) × (length path.now ≤ most_addresses) }
         requires message { length message.now ≤ longest_message }
-        ensures admits { Admits (trade_of house.now.directory.now (S.seals house.now.sealer.now)) house.now.me moment sender.now path.now
+        ensures admits { Admits (trade_of house.now.directory.now (S.seals house.now.sealer.now)) house.now.me moment
+            sender.now path.now
             message.now (desk_of self.now) result }
         ensures up { OnOk result (self.now.chronicle.down ≡ false) }
         ensures limits { IfOk result (λ made. IsWithinLimits made.0) }
         ensures follows { (journals : Journals) → IfOk result (λ made.
             Meets (trade_of house.now.directory.now (S.seals house.now.sealer.now)) journals house.now.me
-            (half (trade_of house.now.directory.now (S.seals house.now.sealer.now)) house.now.me self.now.chronicle.entries) made.0) }
+            (half (trade_of house.now.directory.now (S.seals house.now.sealer.now)) house.now.me
+            self.now.chronicle.entries) made.0) }
     {
         a_house_is_a_trade(house);
         what_a_provider_does_may_follow();

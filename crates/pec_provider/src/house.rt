@@ -8,8 +8,8 @@ use pec_directory::Directory;
 use pec_seal::Sealer;
 use pec_trade::{a_trade_says_what_its_parts_say, the_texts_are_a_trade};
 
-/// Where a provider is at home: the directory, who seals for its providers, and the provider's number in it, from 0. In all
-/// calls of one provider the directory and the number are the same.
+/// Where a provider is at home: the directory, who seals for its providers, and the provider's number in it, from 0. In
+/// all calls of one provider the directory and the number are the same.
 #[derive(Drop)]
 pub struct House<'a, S> {
     pub directory: &'a Directory,
@@ -17,8 +17,8 @@ pub struct House<'a, S> {
     pub me: u32,
 }
 
-/// The world of a house is one of its directory, and meets all that the ledger asks of a trade where the sealer seals for the
-/// directory's providers. It takes no memory.
+/// The world of a house is one of its directory, and meets all that the ledger asks of a trade where the sealer seals
+/// for the directory's providers. It takes no memory.
 pub fn a_house_is_a_trade<S: Sealer>(house: &House<'_, S>)
     ensures of { IsOf house.now.directory.now (trade_of house.now.directory.now (S.seals house.now.sealer.now)) }
     ensures trade { Fits (S.seals house.now.sealer.now) (providers_of house.now.directory.now)

@@ -1,5 +1,5 @@
-//! One provider over its disk: it takes submissions and frames, decides, watches the time limits, puts the letters that it
-//! owes, and shows its accounts what is theirs. An entry is durable before anything comes from it. It knows no other
+//! One provider over its disk: it takes submissions and frames, decides, watches the time limits, puts the letters that
+//! it owes, and shows its accounts what is theirs. An entry is durable before anything comes from it. It knows no other
 //! provider's state.
 #![tactic(auto)]
 

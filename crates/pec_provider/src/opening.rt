@@ -25,8 +25,8 @@ use pec_stock::{ReopenFault, begin, open, restart};
 use std::alloc::Global;
 
 impl<D: Disk> Provider<D> {
-    /// A provider on an empty disk: its journal is made, with its Start. A crash during the call may leave a disk that holds
-    /// bytes and is no journal. With a fault the disk comes back; one that was empty may hold bytes then.
+    /// A provider on an empty disk: its journal is made, with its Start. A crash during the call may leave a disk that
+    /// holds bytes and is no journal. With a fault the disk comes back; one that was empty may hold bytes then.
     pub fn create<S>(
         alloc: Global,
         house: &House<'_, S>,
@@ -34,16 +34,18 @@ impl<D: Disk> Provider<D> {
     ) -> Result<Provider<D>, (CreateFault, D)>
         requires { house.now.me < length house.now.directory.now }
         ensures runs { IfOk result (Runs house.now.directory.now house.now.me) }
-        ensures created { IfOk result (λ provider.
-            desk_of provider ≡ fresh (entries.Start house.now.me (digest_of (providers_of house.now.directory.now)) ∷ [])) }
+        ensures created { IfOk result (λ provider. desk_of provider
+            ≡ fresh (entries.Start house.now.me (digest_of (providers_of house.now.directory.now)) ∷ [])) }
         ensures stands { D.tells → IfOk result (λ provider. Stands D.sight provider.chronicle) }
 
         // Not empty exactly where the disk holds a byte, unless the size can't be told; it then stays as it is.
         ensures empty { D.tells → OnOk result (length (D.sight disk).seen ≡ 0) }
         ensures not_empty { D.tells → IfErr result (λ fault. fault.0 ≡ create.NotEmpty →
             (length (D.sight disk).seen ≢ 0) × Rests (D.sight disk) (D.sight fault.1)) }
-        ensures as_it_was { D.tells → length (D.sight disk).seen ≢ 0 → IfErr result (λ fault. Rests (D.sight disk) (D.sight fault.1)) }
-        ensures disk_fault { IfErr result (λ fault. fault.0 ≡ create.DiskFault → HasRisen (D.faults disk) (D.faults fault.1)) }
+        ensures as_it_was { D.tells → length (D.sight disk).seen ≢ 0
+            → IfErr result (λ fault. Rests (D.sight disk) (D.sight fault.1)) }
+        ensures disk_fault { IfErr result (λ fault. fault.0 ≡ create.DiskFault
+            → HasRisen (D.faults disk) (D.faults fault.1)) }
         ensures later { IfOk result (λ provider. D.faults disk ≤ D.faults provider.chronicle.disk) }
         ensures later_err { IfErr result (λ fault. D.faults disk ≤ D.faults fault.1) }
     {
@@ -57,9 +59,9 @@ impl<D: Disk> Provider<D> {
         }
     }
 
-    /// The provider whose journal is on a disk, which is first made durable as it reads: up, and nothing is owed. It writes
-    /// nothing, reads each entry once, and takes time and memory in proportion to the journal. With a fault the disk comes
-    /// back.
+    /// The provider whose journal is on a disk, which is first made durable as it reads: up, and nothing is owed. It
+    /// writes nothing, reads each entry once, and takes time and memory in proportion to the journal. With a fault the
+    /// disk comes back.
     pub fn reopen<S>(
         alloc: Global,
         house: &House<'_, S>,
@@ -73,12 +75,14 @@ impl<D: Disk> Provider<D> {
 
         // A journal of the provider's own entries is never refused; what is refused is unfit.
         ensures own { D.tells → (trade : Trade) (list : List SomeEntry) → IsOf house.now.directory.now trade
-            → IsOwn trade house.now.me list → IsJournalOf list (D.sight disk).seen → IfErr result (λ refused. IsOutside refused.0) }
+            → IsOwn trade house.now.me list → IsJournalOf list (D.sight disk).seen
+            → IfErr result (λ refused. IsOutside refused.0) }
         ensures unfit { D.tells → (trade : Trade) → IsOf house.now.directory.now trade
             → IfErr result (λ refused. IsUnfit trade house.now.me (D.sight disk).seen refused.0) }
         ensures stays { D.tells → IfOk result (λ provider. Stays (D.sight disk) (D.sight provider.chronicle.disk)) }
         ensures stays_err { D.tells → IfErr result (λ refused. Stays (D.sight disk) (D.sight refused.1)) }
-        ensures disk_fault { IfErr result (λ refused. refused.0 ≡ reopen.DiskFault → HasRisen (D.faults disk) (D.faults refused.1)) }
+        ensures disk_fault { IfErr result (λ refused. refused.0 ≡ reopen.DiskFault
+            → HasRisen (D.faults disk) (D.faults refused.1)) }
         ensures later { IfOk result (λ provider. D.faults disk ≤ D.faults provider.chronicle.disk) }
         ensures later_err { IfErr result (λ refused. D.faults disk ≤ D.faults refused.1) }
     {
@@ -92,15 +96,16 @@ impl<D: Disk> Provider<D> {
         }
     }
 
-    /// Crashes the provider, whose disk is one of this depot's: it is down over the disk that the depot gives, which reads as
-    /// a crash may have left the old one. It takes no memory.
+    /// Crashes the provider, whose disk is one of this depot's: it is down over the disk that the depot gives, which
+    /// reads as a crash may have left the old one. It takes no memory.
     pub fn crash<P: Depot<D = D>>(self, depot: &mut P, me: u32) -> Provider<D>
         requires { me < depot_places }
         ensures runs { (kept : List Kept) → Runs kept me self → Runs kept me result }
         ensures stopped { desk_of result ≡ stopped (desk_of self) }
         ensures carries { D.tells → CarriesOn D.sight NothingMay self.chronicle result.chronicle }
         ensures left { D.tells → (D.sight self.chronicle.disk).may_leave (D.sight result.chronicle.disk).seen }
-        ensures durable { D.tells → Only (D.sight result.chronicle.disk).seen (D.sight result.chronicle.disk).may_leave }
+        ensures durable { D.tells
+            → Only (D.sight result.chronicle.disk).seen (D.sight result.chronicle.disk).may_leave }
         ensures count { D.faults result.chronicle.disk ≡ D.faults self.chronicle.disk }
         ensures home { P.tells → Alike (P.home depot.old) (P.home depot.new) }
         ensures last { Alike (P.last depot.old) (P.last depot.new) }
@@ -118,8 +123,9 @@ impl<D: Disk> Provider<D> {
         }
     }
 
-    /// Opens the provider again over the disk that it has, after a crash or a fault of it: its entries are those before,
-    /// with the interrupted one or without it, it is up, and nothing is owed. With a fault it is what it was, down.
+    /// Opens the provider again over the disk that it has, after a crash or a fault of it: its entries are those
+    /// before, with the interrupted one or without it, it is up, and nothing is owed. With a fault it is what it was,
+    /// down.
     pub fn restart<S>(
         self,
         alloc: Global,
@@ -129,12 +135,15 @@ impl<D: Disk> Provider<D> {
         ensures runs { IfOk result (Runs house.now.directory.now house.now.me) }
         ensures up { IfOk result (λ provider. desk_of provider ≡ fresh provider.chronicle.entries) }
         ensures found { D.tells → Stands D.sight self.chronicle → IfOk result (λ provider.
-            (found : Bool) × (provider.chronicle.entries ≡ self.chronicle.entries ++ chosen found self.chronicle.interrupted)) }
-        ensures carries { D.tells → IfOk result (λ provider. CarriesOn D.sight NothingMay self.chronicle provider.chronicle) }
+            (found : Bool) × (provider.chronicle.entries
+            ≡ self.chronicle.entries ++ chosen found self.chronicle.interrupted)) }
+        ensures carries { D.tells
+            → IfOk result (λ provider. CarriesOn D.sight NothingMay self.chronicle provider.chronicle) }
 
         ensures runs_err { IfErr result (λ refused. Runs house.now.directory.now house.now.me refused.1) }
         ensures stopped { IfErr result (λ refused. desk_of refused.1 ≡ stopped (desk_of self)) }
-        ensures carries_err { D.tells → IfErr result (λ refused. CarriesOn D.sight NothingMay self.chronicle refused.1.chronicle) }
+        ensures carries_err { D.tells
+            → IfErr result (λ refused. CarriesOn D.sight NothingMay self.chronicle refused.1.chronicle) }
 
         // What a provider stands on is never refused as unfit.
         ensures outside { D.tells → Stands D.sight self.chronicle → IfErr result (λ refused. IsOutside refused.0) }

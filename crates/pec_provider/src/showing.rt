@@ -16,7 +16,8 @@ use pec_seal::Sealer;
 use pec_types::{Address, BookLine, ItemLine, NoMemory, ProviderFault};
 use std::alloc::Global;
 
-/// What an account is shown. The first of these refusals that applies is answered: `NoAccount`, `Down`, `NoItem`, `NoMemory`.
+/// What an account is shown. The first of these refusals that applies is answered: `NoAccount`, `Down`, `NoItem`,
+/// `NoMemory`.
 impl<D> Provider<D> {
     /// Its book: a line for each of its accepted messages and certified recipients, in order of number and recipients.
     pub fn book<S>(
@@ -58,8 +59,8 @@ impl<D> Provider<D> {
         Ok(lines)
     }
 
-    /// The bytes of the item at a place of its mailbox, counted from 0. An item of which the provider may compose nothing has
-    /// no byte.
+    /// The bytes of the item at a place of its mailbox, counted from 0. An item of which the provider may compose
+    /// nothing has no byte.
     pub fn item<S: Sealer>(
         &self,
         alloc: Global,
@@ -70,14 +71,15 @@ impl<D> Provider<D> {
         requires runs { Runs house.now.directory.now house.now.me self.now }
         requires fits { Fits (S.seals house.now.sealer.now) (providers_of house.now.directory.now) }
         ensures shown { IfOk result (λ bytes.
-            item_at (trade_of house.now.directory.now (S.seals house.now.sealer.now)) house.now.me self.now.chronicle.entries
-            account.now place ≡ Some bytes.items) }
+            item_at (trade_of house.now.directory.now (S.seals house.now.sealer.now)) house.now.me
+            self.now.chronicle.entries account.now place ≡ Some bytes.items) }
         ensures asked { (trade : Trade) → IsOf house.now.directory.now trade
             → OnOk result ((trade.is_account house.now.me account.now ≡ true) × (self.now.chronicle.down ≡ false)) }
         ensures refused { IfErr result (IsUnshown
             ((trade_of house.now.directory.now (S.seals house.now.sealer.now)).is_account house.now.me account.now)
             (not self.now.chronicle.down)
-            (item_at (trade_of house.now.directory.now (S.seals house.now.sealer.now)) house.now.me self.now.chronicle.entries
+            (item_at (trade_of house.now.directory.now (S.seals house.now.sealer.now)) house.now.me
+            self.now.chronicle.entries
             account.now place)) }
     {
         a_house_is_a_trade(house);
@@ -99,8 +101,8 @@ impl<D> Provider<D> {
         requires runs { Runs house.now.directory.now house.now.me self.now }
         requires fits { Fits (S.seals house.now.sealer.now) (providers_of house.now.directory.now) }
         ensures { IfOk result (λ found. option_map (λ bytes. bytes.items) found
-            ≡ item_at (trade_of house.now.directory.now (S.seals house.now.sealer.now)) house.now.me self.now.chronicle.entries
-            account.now place) }
+            ≡ item_at (trade_of house.now.directory.now (S.seals house.now.sealer.now)) house.now.me
+            self.now.chronicle.entries account.now place) }
     {
         a_house_is_a_trade(house);
         let found = item(

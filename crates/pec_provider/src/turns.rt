@@ -33,8 +33,8 @@ use pec_types::{Event, Frame, Letter, Moment, NoMemory, ProviderFault};
 use std::alloc::Global;
 
 impl<D: Disk> Provider<D> {
-    /// Receives one frame (RFC 6109, sections 3.1 to 3.3, within this project's profile). The first of these refusals that
-    /// applies is answered: `Down`, `ClockBack`, `NoMemory`, `JournalFull`, `DiskFault`.
+    /// Receives one frame (RFC 6109, sections 3.1 to 3.3, within this project's profile). The first of these refusals
+    /// that applies is answered: `Down`, `ClockBack`, `NoMemory`, `JournalFull`, `DiskFault`.
     pub fn arrive<S: Sealer>(
         &mut self,
         alloc: Global,
@@ -44,16 +44,20 @@ impl<D: Disk> Provider<D> {
     ) -> Result<Event, ProviderFault>
         requires runs { Runs house.now.directory.now house.now.me self.old }
         requires fits { Fits (S.seals house.now.sealer.now) (providers_of house.now.directory.now) }
-        ensures arrives { Arrives (trade_of house.now.directory.now (S.seals house.now.sealer.now)) house.now.me moment frame.now
+        ensures arrives { Arrives (trade_of house.now.directory.now (S.seals house.now.sealer.now)) house.now.me moment
+            frame.now
             (desk_of self.old) (desk_of self.new) result }
         ensures runs { Runs house.now.directory.now house.now.me self.new }
 
         // Where the frame is genuine in some journals, what is appended may follow in their ledger.
-        ensures carries { D.tells → (journals : Journals) → Fit (trade_of house.now.directory.now (S.seals house.now.sealer.now)) journals
+        ensures carries { D.tells → (journals : Journals)
+            → Fit (trade_of house.now.directory.now (S.seals house.now.sealer.now)) journals
             → IsGenuine (trade_of house.now.directory.now (S.seals house.now.sealer.now)) journals frame.now
-            → CarriesOn D.sight (MayFollow (trade_of house.now.directory.now (S.seals house.now.sealer.now)) journals house.now.me)
+            → CarriesOn D.sight (MayFollow (trade_of house.now.directory.now (S.seals house.now.sealer.now)) journals
+            house.now.me)
             self.old.chronicle self.new.chronicle }
-        ensures disk_fault { IsErrOf result faults.DiskFault → HasRisen (D.faults self.old.chronicle.disk) (D.faults self.new.chronicle.disk) }
+        ensures disk_fault { IsErrOf result faults.DiskFault → HasRisen (D.faults self.old.chronicle.disk)
+            (D.faults self.new.chronicle.disk) }
         ensures later { D.faults self.old.chronicle.disk ≤ D.faults self.new.chronicle.disk }
     {
         a_house_is_a_trade(house);
@@ -73,8 +77,8 @@ impl<D: Disk> Provider<D> {
         Ok(event)
     }
 
-    /// Decides on the first taken pair, in order of taking and of recipients, that isn't decided (RFC 6109, section 3.3,
-    /// within this project's profile); `None` says that there is none. The refusals are those of `arrive`.
+    /// Decides on the first taken pair, in order of taking and of recipients, that isn't decided (RFC 6109, section
+    /// 3.3, within this project's profile); `None` says that there is none. The refusals are those of `arrive`.
     pub fn decide_next<S: Sealer>(
         &mut self,
         alloc: Global,
@@ -88,7 +92,8 @@ impl<D: Disk> Provider<D> {
         ensures carries { D.tells → (journals : Journals) → CarriesOn D.sight
             (MayFollow (trade_of house.now.directory.now (S.seals house.now.sealer.now)) journals house.now.me)
             self.old.chronicle self.new.chronicle }
-        ensures disk_fault { IsErrOf result faults.DiskFault → HasRisen (D.faults self.old.chronicle.disk) (D.faults self.new.chronicle.disk) }
+        ensures disk_fault { IsErrOf result faults.DiskFault → HasRisen (D.faults self.old.chronicle.disk)
+            (D.faults self.new.chronicle.disk) }
         ensures later { D.faults self.old.chronicle.disk ≤ D.faults self.new.chronicle.disk }
     {
         a_house_is_a_trade(house);
@@ -112,13 +117,16 @@ impl<D: Disk> Provider<D> {
         requires up { self.old.chronicle.down ≡ false }
         requires runs { Runs house.now.directory.now house.now.me self.old }
         requires limits { IfSome received.entry IsWithinLimits }
-        requires step { IfSome received.entry (MayEnter house.now.directory.now house.now.me self.old.chronicle.entries) }
+        requires step { IfSome received.entry (MayEnter house.now.directory.now house.now.me
+            self.old.chronicle.entries) }
         ensures does { (trade : Trade) (step : Step) → IsOf house.now.directory.now trade
             → Undertakes trade house.now.me self.old.chronicle.entries received step
             → Does step (desk_of self.old) (desk_of self.new) result }
         ensures runs { Runs house.now.directory.now house.now.me self.new }
-        ensures carries { D.tells → CarriesOn D.sight (OnlyMay self.old.chronicle.entries received.entry) self.old.chronicle self.new.chronicle }
-        ensures disk_fault { IsErrOf result faults.DiskFault → HasRisen (D.faults self.old.chronicle.disk) (D.faults self.new.chronicle.disk) }
+        ensures carries { D.tells → CarriesOn D.sight (OnlyMay self.old.chronicle.entries received.entry)
+            self.old.chronicle self.new.chronicle }
+        ensures disk_fault { IsErrOf result faults.DiskFault → HasRisen (D.faults self.old.chronicle.disk)
+            (D.faults self.new.chronicle.disk) }
         ensures later { D.faults self.old.chronicle.disk ≤ D.faults self.new.chronicle.disk }
     {
         let Received { entry, event, owed } = received;
@@ -144,8 +152,10 @@ impl<D: Disk> Provider<D> {
             → AppendsAny trade house.now.me entry.now (desk_of self.old) (desk_of self.new) result }
         ensures owed { (self.new.owed ≡ self.old.owed) × (self.new.places ≡ self.old.places) }
         ensures runs { Runs house.now.directory.now house.now.me self.new }
-        ensures carries { D.tells → CarriesOn D.sight (OnlyMay self.old.chronicle.entries entry.now) self.old.chronicle self.new.chronicle }
-        ensures disk_fault { IsErrOf result faults.DiskFault → HasRisen (D.faults self.old.chronicle.disk) (D.faults self.new.chronicle.disk) }
+        ensures carries { D.tells → CarriesOn D.sight (OnlyMay self.old.chronicle.entries entry.now) self.old.chronicle
+            self.new.chronicle }
+        ensures disk_fault { IsErrOf result faults.DiskFault → HasRisen (D.faults self.old.chronicle.disk)
+            (D.faults self.new.chronicle.disk) }
         ensures later { D.faults self.old.chronicle.disk ≤ D.faults self.new.chronicle.disk }
     {
         stands_still(&self.chronicle);
@@ -160,9 +170,10 @@ impl<D: Disk> Provider<D> {
 }
 
 impl<D> Provider<D> {
-    /// The frames of the letters that are due to a provider, itself included, no more than its link has room for (RFC 6109,
-    /// section 3, within this project's profile): the answers that are owed, in their order, the outcomes that nobody
-    /// acknowledged, and the envelopes of messages of which nothing was heard. Each is composed of durable entries.
+    /// The frames of the letters that are due to a provider, itself included, no more than its link has room for (RFC
+    /// 6109, section 3, within this project's profile): the answers that are owed, in their order, the outcomes that
+    /// nobody acknowledged, and the envelopes of messages of which nothing was heard. Each is composed of durable
+    /// entries.
     pub fn put_due<S: Sealer>(
         &self,
         alloc: Global,
@@ -193,7 +204,10 @@ impl<D> Provider<D> {
     /// Owes an answer, if there is one, for which there is memory.
     fn owe(&mut self, letter: Option<Letter>)
         requires { 0 < self.old.places }
-        ensures { self.new ≡ record self.old { owed = self.old.owed ++ option_to_list letter; places = self.new.places } }
+        ensures { self.new ≡ record self.old {
+          owed = self.old.owed ++ option_to_list letter;
+          places = self.new.places;
+        } }
     {
         if let Some(letter) = letter {
             self.owed.push_reserved(letter);

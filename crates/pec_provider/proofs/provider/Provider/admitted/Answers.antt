@@ -15,7 +15,8 @@ use Rattle.pec_provider.proofs.provider.Provider.admitted.Goals as goal
 
 pub returns-then-not-is_account_of-clause-admits : goal.returns-then-not-is_account_of-clause-admits
 returns-then-not-is_account_of-clause-admits g c =
-    no_account (Entry × Submitted) (trade_of c.args.house.now.directory.now (g.S.Sealer.seals c.args.house.now.sealer.now)) c.args.house.now.me
+    no_account (Entry × Submitted) (trade_of c.args.house.now.directory.now
+    (g.S.Sealer.seals c.args.house.now.sealer.now)) c.args.house.now.me
     c.args.moment (desk_of c.args.self.now) c.args.sender.now c.args.path.now c.args.message.now
     (sym c.is_account_of.ensures.value ∙ c.if-not-is_account_of.true)
 
@@ -35,10 +36,12 @@ returns-in_default-clause-admits g c =
     let me = c.args.house.now.me in
     let trade = trade_of kept (g.S.Sealer.seals c.args.house.now.sealer.now) in
     let of = c.a_house_is_a_trade.ensures.of in
-    no_number (Entry × Submitted) trade me c.args.moment (desk_of c.args.self.now) c.args.sender.now c.args.path.now c.args.message.now
+    no_number (Entry × Submitted) trade me c.args.moment (desk_of c.args.self.now) c.args.sender.now c.args.path.now
+    c.args.message.now
     (sym c.is_account_of.ensures.value ∙ c.if-not-is_account_of.false)
     (c.in_ok-at_work.ensures.works kept me trade c.requires.runs of)
-    (subst (λ (n : ℕ). MESSAGES ≤ n) (count_runs kept me _ c.args.self.now c.self.view_is trade c.requires.runs of) c.in_default.ensures)
+    (subst (λ (n : ℕ). MESSAGES ≤ n) (count_runs kept me _ c.args.self.now c.self.view_is trade c.requires.runs of)
+    c.in_default.ensures)
 
 pub returns-clause-admits : goal.returns-clause-admits
 returns-clause-admits g c =
@@ -48,22 +51,31 @@ returns-clause-admits g c =
     let of = c.a_house_is_a_trade.ensures.of in
     let count = count_runs kept me _ c.args.self.now c.self.view_is trade c.requires.runs of in
     let id : c.in-Some.id ≡ id_of me (length (half trade me c.args.self.now.chronicle.entries).messages) =
-    c.in-Some.ensures.1 ∙ (ap (λ (n : ℕ). id_of n (length c.self.inside.shelf.half.messages)) (me_runs kept me _ c.args.self.now c.self.view_is c.requires.runs)
+    c.in-Some.ensures.1
+    ∙ (ap (λ (n : ℕ). id_of n (length c.self.inside.shelf.half.messages))
+    (me_runs kept me _ c.args.self.now c.self.view_is c.requires.runs)
     ∙ ap (λ (n : ℕ). id_of me n) count) in
     let submitted : c.told_by.result ≡ told_by (trade.cause me c.args.sender.now c.args.path.now c.args.message.now)
     (id_of me (length (half trade me c.args.self.now.chronicle.entries).messages)) =
     c.told_by.ensures ∙ (ap (λ cause. told_by cause c.in-Some.id) c.in_ok-cause.ensures
     ∙ ap (λ i. told_by (trade.cause me c.args.sender.now c.args.path.now c.args.message.now) i) id) in
-    let entry : c.in_ok-entry.entry ≡ entry_by (trade.cause me c.args.sender.now c.args.path.now c.args.message.now) c.args.moment
+    let entry : c.in_ok-entry.entry ≡ entry_by (trade.cause me c.args.sender.now c.args.path.now c.args.message.now)
+    c.args.moment
     c.args.sender.now c.args.path.now c.args.message.now =
-    c.in_ok-entry.ensures ∙ ap (λ cause. entry_by cause c.args.moment c.args.sender.now c.args.path.now c.args.message.now) c.in_ok-cause.ensures in
-    subst (λ (e : Entry). ComesTo (λ luck sites. played trade luck sites (Submit me c.args.moment c.args.sender.now c.args.path.now c.args.message.now))
+    c.in_ok-entry.ensures
+    ∙ ap (λ cause. entry_by cause c.args.moment c.args.sender.now c.args.path.now c.args.message.now)
+    c.in_ok-cause.ensures in
+    subst (λ (e : Entry). ComesTo (λ luck sites. played trade luck sites
+    (Submit me c.args.moment c.args.sender.now c.args.path.now c.args.message.now))
     trade me (desk_of c.args.self.now) e (Submits c.told_by.result)) (sym entry)
-    (subst (λ (s : Submitted). ComesTo (λ luck sites. played trade luck sites (Submit me c.args.moment c.args.sender.now c.args.path.now c.args.message.now))
+    (subst (λ (s : Submitted). ComesTo (λ luck sites. played trade luck sites
+    (Submit me c.args.moment c.args.sender.now c.args.path.now c.args.message.now))
     trade me (desk_of c.args.self.now)
-    (entry_by (trade.cause me c.args.sender.now c.args.path.now c.args.message.now) c.args.moment c.args.sender.now c.args.path.now c.args.message.now)
+    (entry_by (trade.cause me c.args.sender.now c.args.path.now c.args.message.now) c.args.moment c.args.sender.now
+    c.args.path.now c.args.message.now)
     (Submits s)) (sym submitted)
-    (comes_to (Entry × Submitted) trade me c.args.moment (desk_of c.args.self.now) c.args.sender.now c.args.path.now c.args.message.now
+    (comes_to (Entry × Submitted) trade me c.args.moment (desk_of c.args.self.now) c.args.sender.now c.args.path.now
+    c.args.message.now
     (sym c.is_account_of.ensures.value ∙ c.if-not-is_account_of.false)
     (c.in_ok-at_work.ensures.works kept me trade c.requires.runs of)
     (subst (λ (n : ℕ). n < MESSAGES) count c.in-Some.ensures.0)))
@@ -75,12 +87,17 @@ returns-clause-follows g c = λ journals.
     let trade = trade_of kept (g.S.Sealer.seals c.args.house.now.sealer.now) in
     let of = c.a_house_is_a_trade.ensures.of in
     let count = count_runs kept me _ c.args.self.now c.self.view_is trade c.requires.runs of in
-    let entry : c.in_ok-entry.entry ≡ entry_by (trade.cause me c.args.sender.now c.args.path.now c.args.message.now) c.args.moment
+    let entry : c.in_ok-entry.entry ≡ entry_by (trade.cause me c.args.sender.now c.args.path.now c.args.message.now)
+    c.args.moment
     c.args.sender.now c.args.path.now c.args.message.now =
-    c.in_ok-entry.ensures ∙ ap (λ cause. entry_by cause c.args.moment c.args.sender.now c.args.path.now c.args.message.now) c.in_ok-cause.ensures in
+    c.in_ok-entry.ensures
+    ∙ ap (λ cause. entry_by cause c.args.moment c.args.sender.now c.args.path.now c.args.message.now)
+    c.in_ok-cause.ensures in
     subst (λ (e : Entry). Meets trade journals me (half trade me c.args.self.now.chronicle.entries) e) (sym entry)
-    (c.what_a_provider_does_may_follow.ensures.submissions trade (c.a_house_is_a_trade.ensures.trade c.requires.fits) journals me c.args.moment
-    c.args.self.now.chronicle.entries (c.in_ok-at_work.ensures.works kept me trade c.requires.runs of).in_time c.at_work.ensures.in_range
+    (c.what_a_provider_does_may_follow.ensures.submissions trade (c.a_house_is_a_trade.ensures.trade c.requires.fits)
+    journals me c.args.moment
+    c.args.self.now.chronicle.entries (c.in_ok-at_work.ensures.works kept me trade c.requires.runs of).in_time
+    c.at_work.ensures.in_range
     c.args.sender.now c.args.path.now c.args.message.now
     (sym c.is_account_of.ensures.value ∙ c.if-not-is_account_of.false)
     (subst (λ (n : ℕ). n < MESSAGES) count c.in-Some.ensures.0) c.requires.path.0 c.requires.path.1)

@@ -12,14 +12,19 @@ returns-in_err-marks-clause-appends g c = λ trade of.
     let p = err_from_is_err_and c.from_residual.result c.from_residual.ensures.1 in
     let kept = c.args.house.now.directory.now in
     let me = c.args.house.now.me in
-    let new = left {D = g.row.D.Denot} kept me _ c.args.self.now c.self.view_is c.enter.new.chronicle c.enter.new.shelf 0 c.args.entry.now c.requires.runs
+    let new = left {D = g.row.D.Denot} kept me _ c.args.self.now c.self.view_is c.enter.new.chronicle c.enter.new.shelf
+    0 c.args.entry.now c.requires.runs
     c.requires.up trade of in
-    subst (λ (r : Result (Vec Mark Global) ProviderFault). Appends trade me c.args.entry.now (desk_of c.args.self.now) new r) (sym p.1)
-    (subst (λ (f : ProviderFault). Appends {X = Vec Mark Global} trade me c.args.entry.now (desk_of c.args.self.now) new (Err f)) (sym p.2)
-    (left_err kept me _ c.args.self.now c.self.view_is c.enter.new.chronicle c.enter.new.shelf 0 c.args.entry.now c.requires.runs c.requires.up
+    subst (λ (r : Result (Vec Mark Global) ProviderFault). Appends trade me c.args.entry.now (desk_of c.args.self.now)
+    new r) (sym p.1)
+    (subst (λ (f : ProviderFault). Appends {X = Vec Mark Global} trade me c.args.entry.now (desk_of c.args.self.now)
+    new (Err f)) (sym p.2)
+    (left_err kept me _ c.args.self.now c.self.view_is c.enter.new.chronicle c.enter.new.shelf 0 c.args.entry.now
+    c.requires.runs c.requires.up
     trade of (Vec Mark Global) c.in_err-marks.field-0.0 c.in_err-marks.ensures.failed))
 
 pub returns-clause-appends : goal.returns-clause-appends
 returns-clause-appends g c = λ trade of.
-    left_ok c.args.house.now.directory.now c.args.house.now.me _ c.args.self.now c.self.view_is c.enter.new.chronicle c.enter.new.shelf 0
+    left_ok c.args.house.now.directory.now c.args.house.now.me _ c.args.self.now c.self.view_is c.enter.new.chronicle
+    c.enter.new.shelf 0
     c.args.entry.now c.requires.runs c.requires.up trade of c.in_ok-marks.marks c.in_ok-marks.ensures.entered

@@ -7,7 +7,8 @@ use Rattle.pec_provider.proofs.provider.Provider.append_any.Goals as goal
 
 pub returns-in_err-append-in-Some-clause-appends : goal.returns-in_err-append-in-Some-clause-appends
 returns-in_err-append-in-Some-clause-appends g c = λ trade of.
-    any_handed (Vec Mark Global) _ trade c.args.house.now.me c.args.entry.now _ (desk_of c.args.self.now) (desk_of c.append.new.self)
+    any_handed (Vec Mark Global) _ trade c.args.house.now.me c.args.entry.now _ (desk_of c.args.self.now)
+    (desk_of c.append.new.self)
     c.in_err-append-in-Some.field-0.0 c.from_residual.result c.in-Some.is c.from_residual.ensures.1
     (c.in_err-append-in-Some.ensures.appends trade of)
 

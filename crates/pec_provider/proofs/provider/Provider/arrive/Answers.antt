@@ -19,13 +19,15 @@ returns-in_err-at_work-clause-arrives g c =
     let of = c.a_house_is_a_trade.ensures.of in
     let journal = c.args.self.now.chronicle.entries in
     let desk = desk_of c.args.self.now in
-    idles_handed Event Event trade me c.args.moment (Does (arrive trade me c.args.moment journal c.args.frame.now) desk desk) desk
+    idles_handed Event Event trade me c.args.moment (Does (arrive trade me c.args.moment journal c.args.frame.now) desk
+    desk) desk
     c.in_err-at_work.field-0.0 c.from_residual.result c.from_residual.ensures.1
     (c.in_err-at_work.ensures.works kept me trade c.requires.runs of)
 
 pub returns-in_err-at_work-clause-carries : goal.returns-in_err-at_work-clause-carries
 returns-in_err-at_work-clause-carries g c = λ tells journals fit genuine.
-    carries_still g.D.Disk.sight (trade_of c.args.house.now.directory.now (g.S.Sealer.seals c.args.house.now.sealer.now)) journals
+    carries_still g.D.Disk.sight (trade_of c.args.house.now.directory.now
+    (g.S.Sealer.seals c.args.house.now.sealer.now)) journals
     c.args.house.now.me _ c.args.self.now c.self.view_is (c.stands_still.ensures tells)
 
 pub undertake-requires-clause-step : goal.undertake-requires-clause-step
@@ -35,13 +37,17 @@ undertake-requires-clause-step g c =
     let trade = trade_of kept (g.S.Sealer.seals c.args.house.now.sealer.now) in
     let of = c.a_house_is_a_trade.ensures.of in
     let journal = c.args.self.now.chronicle.entries in
-    let shows = subst (λ (n : ℕ). Shows c.in_ok-received.received (arrive trade n c.args.moment journal c.args.frame.now))
+    let shows = subst (λ (n : ℕ). Shows c.in_ok-received.received
+    (arrive trade n c.args.moment journal c.args.frame.now))
     (me_runs kept me _ c.args.self.now c.self.view_is c.requires.runs)
-    (c.in_ok-received.ensures.exact journal (half_inside kept me _ c.args.self.now c.self.view_is trade c.requires.runs of)) in
+    (c.in_ok-received.ensures.exact journal (half_inside kept me _ c.args.self.now c.self.view_is trade c.requires.runs
+    of)) in
     let works = c.in_ok-at_work.ensures.works kept me trade c.requires.runs of in
-    step_may kept me c.args.moment trade journal (arrive trade me c.args.moment journal c.args.frame.now) c.in_ok-received.received.entry of shows.0
+    step_may kept me c.args.moment trade journal (arrive trade me c.args.moment journal c.args.frame.now)
+    c.in_ok-received.received.entry of shows.0
     works.in_time
-    (λ e is. c.what_a_provider_does_is_its_own.ensures.arrivals trade (c.a_house_is_a_trade.ensures.trade c.requires.fits) me c.args.moment journal
+    (λ e is. c.what_a_provider_does_is_its_own.ensures.arrivals trade
+    (c.a_house_is_a_trade.ensures.trade c.requires.fits) me c.args.moment journal
     c.args.frame.now e is)
 
 pub returns-in_err-event-clause-arrives : goal.returns-in_err-event-clause-arrives
@@ -51,15 +57,18 @@ returns-in_err-event-clause-arrives g c =
     let trade = trade_of kept (g.S.Sealer.seals c.args.house.now.sealer.now) in
     let of = c.a_house_is_a_trade.ensures.of in
     let journal = c.args.self.now.chronicle.entries in
-    let shows = subst (λ (n : ℕ). Shows c.in_ok-received.received (arrive trade n c.args.moment journal c.args.frame.now))
+    let shows = subst (λ (n : ℕ). Shows c.in_ok-received.received
+    (arrive trade n c.args.moment journal c.args.frame.now))
     (me_runs kept me _ c.args.self.now c.self.view_is c.requires.runs)
-    (c.in_ok-received.ensures.exact journal (half_inside kept me _ c.args.self.now c.self.view_is trade c.requires.runs of)) in
+    (c.in_ok-received.ensures.exact journal (half_inside kept me _ c.args.self.now c.self.view_is trade c.requires.runs
+    of)) in
     let old = desk_of c.args.self.now in
     let new = desk_of c.undertake.new.self in
     let step = arrive trade me c.args.moment journal c.args.frame.now in
     works_step trade me c.args.moment old new step c.from_residual-in_err-event.result
     (c.in_ok-at_work.ensures.works kept me trade c.requires.runs of)
-    (does_handed step old new c.in_err-event.field-0.0 c.from_residual-in_err-event.result c.from_residual-in_err-event.ensures.1
+    (does_handed step old new c.in_err-event.field-0.0 c.from_residual-in_err-event.result
+    c.from_residual-in_err-event.ensures.1
     (c.in_err-event.ensures.does trade step of
     (record { shows = shows; full = arrive_so trade me c.args.moment journal c.args.frame.now })))
 
@@ -70,12 +79,16 @@ returns-in_err-event-clause-carries g c = λ tells journals fit genuine.
     let trade = trade_of kept (g.S.Sealer.seals c.args.house.now.sealer.now) in
     let of = c.a_house_is_a_trade.ensures.of in
     let journal = c.args.self.now.chronicle.entries in
-    let shows = subst (λ (n : ℕ). Shows c.in_ok-received.received (arrive trade n c.args.moment journal c.args.frame.now))
+    let shows = subst (λ (n : ℕ). Shows c.in_ok-received.received
+    (arrive trade n c.args.moment journal c.args.frame.now))
     (me_runs kept me _ c.args.self.now c.self.view_is c.requires.runs)
-    (c.in_ok-received.ensures.exact journal (half_inside kept me _ c.args.self.now c.self.view_is trade c.requires.runs of)) in
+    (c.in_ok-received.ensures.exact journal (half_inside kept me _ c.args.self.now c.self.view_is trade c.requires.runs
+    of)) in
     let works = c.in_ok-at_work.ensures.works kept me trade c.requires.runs of in
-    carries_any g.D.Disk.sight trade journals me c.args.self.now.chronicle c.undertake.new.self.chronicle c.in_ok-received.received.entry
-    (λ e is. c.what_a_provider_does_may_follow.ensures.arrivals trade (c.a_house_is_a_trade.ensures.trade c.requires.fits) journals fit me
+    carries_any g.D.Disk.sight trade journals me c.args.self.now.chronicle c.undertake.new.self.chronicle
+    c.in_ok-received.received.entry
+    (λ e is. c.what_a_provider_does_may_follow.ensures.arrivals trade
+    (c.a_house_is_a_trade.ensures.trade c.requires.fits) journals fit me
     c.args.moment journal works.in_time c.at_work.ensures.in_range c.args.frame.now genuine e (sym shows.0 ∙ is))
     (c.undertake.ensures.carries tells)
 
@@ -86,11 +99,14 @@ returns-clause-arrives g c =
     let trade = trade_of kept (g.S.Sealer.seals c.args.house.now.sealer.now) in
     let of = c.a_house_is_a_trade.ensures.of in
     let journal = c.args.self.now.chronicle.entries in
-    let shows = subst (λ (n : ℕ). Shows c.in_ok-received.received (arrive trade n c.args.moment journal c.args.frame.now))
+    let shows = subst (λ (n : ℕ). Shows c.in_ok-received.received
+    (arrive trade n c.args.moment journal c.args.frame.now))
     (me_runs kept me _ c.args.self.now c.self.view_is c.requires.runs)
-    (c.in_ok-received.ensures.exact journal (half_inside kept me _ c.args.self.now c.self.view_is trade c.requires.runs of)) in
+    (c.in_ok-received.ensures.exact journal (half_inside kept me _ c.args.self.now c.self.view_is trade c.requires.runs
+    of)) in
     let step = arrive trade me c.args.moment journal c.args.frame.now in
-    works_step trade me c.args.moment (desk_of c.args.self.now) (desk_of c.undertake.new.self) step (Ok c.in_ok-event.event)
+    works_step trade me c.args.moment (desk_of c.args.self.now) (desk_of c.undertake.new.self) step
+    (Ok c.in_ok-event.event)
     (c.in_ok-at_work.ensures.works kept me trade c.requires.runs of)
     (c.in_ok-event.ensures.does trade step of
     (record { shows = shows; full = arrive_so trade me c.args.moment journal c.args.frame.now }))
@@ -102,11 +118,15 @@ returns-clause-carries g c = λ tells journals fit genuine.
     let trade = trade_of kept (g.S.Sealer.seals c.args.house.now.sealer.now) in
     let of = c.a_house_is_a_trade.ensures.of in
     let journal = c.args.self.now.chronicle.entries in
-    let shows = subst (λ (n : ℕ). Shows c.in_ok-received.received (arrive trade n c.args.moment journal c.args.frame.now))
+    let shows = subst (λ (n : ℕ). Shows c.in_ok-received.received
+    (arrive trade n c.args.moment journal c.args.frame.now))
     (me_runs kept me _ c.args.self.now c.self.view_is c.requires.runs)
-    (c.in_ok-received.ensures.exact journal (half_inside kept me _ c.args.self.now c.self.view_is trade c.requires.runs of)) in
+    (c.in_ok-received.ensures.exact journal (half_inside kept me _ c.args.self.now c.self.view_is trade c.requires.runs
+    of)) in
     let works = c.in_ok-at_work.ensures.works kept me trade c.requires.runs of in
-    carries_any g.D.Disk.sight trade journals me c.args.self.now.chronicle c.undertake.new.self.chronicle c.in_ok-received.received.entry
-    (λ e is. c.what_a_provider_does_may_follow.ensures.arrivals trade (c.a_house_is_a_trade.ensures.trade c.requires.fits) journals fit me
+    carries_any g.D.Disk.sight trade journals me c.args.self.now.chronicle c.undertake.new.self.chronicle
+    c.in_ok-received.received.entry
+    (λ e is. c.what_a_provider_does_may_follow.ensures.arrivals trade
+    (c.a_house_is_a_trade.ensures.trade c.requires.fits) journals fit me
     c.args.moment journal works.in_time c.at_work.ensures.in_range c.args.frame.now genuine e (sym shows.0 ∙ is))
     (c.undertake.ensures.carries tells)

@@ -9,7 +9,8 @@ use Rattle.pec_provider.specs.Working.{DecidesFirst}
 use Rattle.pec_provider.proofs.FollowLemmas.{carries_any, carries_still}
 use Rattle.pec_provider.proofs.RunLemmas.{half_inside, me_runs, steps_inside}
 use Rattle.pec_provider.proofs.StepLemmas.{decide_so}
-use Rattle.pec_provider.proofs.TurnLemmas.{decision_follows, first_handed, first_there, idles_handed, none_next, some_next, step_may, works_first}
+use Rattle.pec_provider.proofs.TurnLemmas.{decision_follows, first_handed, first_there, idles_handed, none_next}
+use Rattle.pec_provider.proofs.TurnLemmas.{some_next, step_may, works_first}
 use Rattle.pec_provider.proofs.provider.Provider.decide_next.Goals as goal
 
 pub returns-in_err-at_work-clause-decides : goal.returns-in_err-at_work-clause-decides
@@ -20,13 +21,15 @@ returns-in_err-at_work-clause-decides g c =
     let of = c.a_house_is_a_trade.ensures.of in
     let journal = c.args.self.now.chronicle.entries in
     let desk = desk_of c.args.self.now in
-    idles_handed (Option Event) Event trade me c.args.moment (DecidesFirst trade me c.args.moment (undecided trade me journal) desk desk) desk
+    idles_handed (Option Event) Event trade me c.args.moment (DecidesFirst trade me c.args.moment
+    (undecided trade me journal) desk desk) desk
     c.in_err-at_work.field-0.0 c.from_residual.result c.from_residual.ensures.1
     (c.in_err-at_work.ensures.works kept me trade c.requires.runs of)
 
 pub returns-in_err-at_work-clause-carries : goal.returns-in_err-at_work-clause-carries
 returns-in_err-at_work-clause-carries g c = λ tells journals.
-    carries_still g.D.Disk.sight (trade_of c.args.house.now.directory.now (g.S.Sealer.seals c.args.house.now.sealer.now)) journals
+    carries_still g.D.Disk.sight (trade_of c.args.house.now.directory.now
+    (g.S.Sealer.seals c.args.house.now.sealer.now)) journals
     c.args.house.now.me _ c.args.self.now c.self.view_is (c.stands_still.ensures tells)
 
 pub returns-in_default-clause-decides : goal.returns-in_default-clause-decides
@@ -38,7 +41,8 @@ returns-in_default-clause-decides g c =
     let journal = c.args.self.now.chronicle.entries in
     let next = subst (λ (n : ℕ). ShowsNext trade n c.args.moment journal c.in_ok-received.field-0)
     (me_runs kept me _ c.args.self.now c.self.view_is c.requires.runs)
-    (c.in_ok-received.ensures.exact trade of journal (steps_inside kept me _ c.args.self.now c.self.view_is trade c.requires.runs of)
+    (c.in_ok-received.ensures.exact trade of journal (steps_inside kept me _ c.args.self.now c.self.view_is trade
+    c.requires.runs of)
     (half_inside kept me _ c.args.self.now c.self.view_is trade c.requires.runs of)) in
     let works = c.in_ok-at_work.ensures.works kept me trade c.requires.runs of in
     let desk = desk_of c.args.self.now in (
@@ -56,11 +60,14 @@ undertake-requires-clause-step g c =
     let journal = c.args.self.now.chronicle.entries in
     let next = subst (λ (n : ℕ). ShowsNext trade n c.args.moment journal c.in_ok-received.field-0)
     (me_runs kept me _ c.args.self.now c.self.view_is c.requires.runs)
-    (c.in_ok-received.ensures.exact trade of journal (steps_inside kept me _ c.args.self.now c.self.view_is trade c.requires.runs of)
+    (c.in_ok-received.ensures.exact trade of journal (steps_inside kept me _ c.args.self.now c.self.view_is trade
+    c.requires.runs of)
     (half_inside kept me _ c.args.self.now c.self.view_is trade c.requires.runs of)) in
-    let first = some_next trade me c.args.moment journal c.in_ok-received.field-0 c.in-Some.received next c.in-Some.is in
+    let first = some_next trade me c.args.moment journal c.in_ok-received.field-0 c.in-Some.received next c.in-Some.is
+    in
     let works = c.in_ok-at_work.ensures.works kept me trade c.requires.runs of in
-    step_may kept me c.args.moment trade journal (decide trade me c.args.moment journal first.pair) c.in-Some.received.entry of first.shows.0
+    step_may kept me c.args.moment trade journal (decide trade me c.args.moment journal first.pair)
+    c.in-Some.received.entry of first.shows.0
     works.in_time
     (λ e is. c.what_a_provider_does_is_its_own.ensures.decisions trade me c.args.moment journal first.pair
     (first_there (undecided trade me journal) first.pair first.pairs first.first) e is)
@@ -74,14 +81,17 @@ returns-in_err-event-clause-decides g c =
     let journal = c.args.self.now.chronicle.entries in
     let next = subst (λ (n : ℕ). ShowsNext trade n c.args.moment journal c.in_ok-received.field-0)
     (me_runs kept me _ c.args.self.now c.self.view_is c.requires.runs)
-    (c.in_ok-received.ensures.exact trade of journal (steps_inside kept me _ c.args.self.now c.self.view_is trade c.requires.runs of)
+    (c.in_ok-received.ensures.exact trade of journal (steps_inside kept me _ c.args.self.now c.self.view_is trade
+    c.requires.runs of)
     (half_inside kept me _ c.args.self.now c.self.view_is trade c.requires.runs of)) in
-    let first = some_next trade me c.args.moment journal c.in_ok-received.field-0 c.in-Some.received next c.in-Some.is in
+    let first = some_next trade me c.args.moment journal c.in_ok-received.field-0 c.in-Some.received next c.in-Some.is
+    in
     let works = c.in_ok-at_work.ensures.works kept me trade c.requires.runs of in
     let old = desk_of c.args.self.now in
     let new = desk_of c.undertake.new.self in
     works_first trade me c.args.moment old new (undecided trade me journal) c.from_residual-in_err-event.result works
-    (first_handed trade me c.args.moment old new (undecided trade me journal) first.pair first.pairs first.first c.in_err-event.field-0.0
+    (first_handed trade me c.args.moment old new (undecided trade me journal) first.pair first.pairs first.first
+    c.in_err-event.field-0.0
     c.from_residual-in_err-event.result c.from_residual-in_err-event.ensures.1
     (c.in_err-event.ensures.does trade (decide trade me c.args.moment journal first.pair) of
     (record { shows = first.shows; full = decide_so trade me c.args.moment journal first.pair })))
@@ -95,14 +105,19 @@ returns-in_err-event-clause-carries g c = λ tells journals.
     let journal = c.args.self.now.chronicle.entries in
     let next = subst (λ (n : ℕ). ShowsNext trade n c.args.moment journal c.in_ok-received.field-0)
     (me_runs kept me _ c.args.self.now c.self.view_is c.requires.runs)
-    (c.in_ok-received.ensures.exact trade of journal (steps_inside kept me _ c.args.self.now c.self.view_is trade c.requires.runs of)
+    (c.in_ok-received.ensures.exact trade of journal (steps_inside kept me _ c.args.self.now c.self.view_is trade
+    c.requires.runs of)
     (half_inside kept me _ c.args.self.now c.self.view_is trade c.requires.runs of)) in
-    let first = some_next trade me c.args.moment journal c.in_ok-received.field-0 c.in-Some.received next c.in-Some.is in
+    let first = some_next trade me c.args.moment journal c.in_ok-received.field-0 c.in-Some.received next c.in-Some.is
+    in
     let works = c.in_ok-at_work.ensures.works kept me trade c.requires.runs of in
-    carries_any g.D.Disk.sight trade journals me c.args.self.now.chronicle c.undertake.new.self.chronicle c.in-Some.received.entry
-    (λ e is. decision_follows trade journals me c.args.moment journal first.pair e works.in_time c.at_work.ensures.in_range
+    carries_any g.D.Disk.sight trade journals me c.args.self.now.chronicle c.undertake.new.self.chronicle
+    c.in-Some.received.entry
+    (λ e is. decision_follows trade journals me c.args.moment journal first.pair e works.in_time
+    c.at_work.ensures.in_range
     (c.what_a_provider_does_is_its_own.ensures.decisions trade me c.args.moment journal first.pair
-    (first_there (undecided trade me journal) first.pair first.pairs first.first) e (sym first.shows.0 ∙ is)) (sym first.shows.0 ∙ is))
+    (first_there (undecided trade me journal) first.pair first.pairs first.first) e (sym first.shows.0 ∙ is))
+    (sym first.shows.0 ∙ is))
     (c.undertake.ensures.carries tells)
 
 pub returns-clause-decides : goal.returns-clause-decides
@@ -114,14 +129,17 @@ returns-clause-decides g c =
     let journal = c.args.self.now.chronicle.entries in
     let next = subst (λ (n : ℕ). ShowsNext trade n c.args.moment journal c.in_ok-received.field-0)
     (me_runs kept me _ c.args.self.now c.self.view_is c.requires.runs)
-    (c.in_ok-received.ensures.exact trade of journal (steps_inside kept me _ c.args.self.now c.self.view_is trade c.requires.runs of)
+    (c.in_ok-received.ensures.exact trade of journal (steps_inside kept me _ c.args.self.now c.self.view_is trade
+    c.requires.runs of)
     (half_inside kept me _ c.args.self.now c.self.view_is trade c.requires.runs of)) in
-    let first = some_next trade me c.args.moment journal c.in_ok-received.field-0 c.in-Some.received next c.in-Some.is in
+    let first = some_next trade me c.args.moment journal c.in_ok-received.field-0 c.in-Some.received next c.in-Some.is
+    in
     let works = c.in_ok-at_work.ensures.works kept me trade c.requires.runs of in
     let old = desk_of c.args.self.now in
     let new = desk_of c.undertake.new.self in (
       works,
-      subst (λ (l : List Pair). DecidesFirst trade me c.args.moment l old new (Ok (Some c.in_ok-event.event))) (sym first.first)
+      subst (λ (l : List Pair). DecidesFirst trade me c.args.moment l old new (Ok (Some c.in_ok-event.event)))
+          (sym first.first)
           (c.in_ok-event.ensures.does trade (decide trade me c.args.moment journal first.pair) of
           (record { shows = first.shows; full = decide_so trade me c.args.moment journal first.pair })),
     )
@@ -135,12 +153,17 @@ returns-clause-carries g c = λ tells journals.
     let journal = c.args.self.now.chronicle.entries in
     let next = subst (λ (n : ℕ). ShowsNext trade n c.args.moment journal c.in_ok-received.field-0)
     (me_runs kept me _ c.args.self.now c.self.view_is c.requires.runs)
-    (c.in_ok-received.ensures.exact trade of journal (steps_inside kept me _ c.args.self.now c.self.view_is trade c.requires.runs of)
+    (c.in_ok-received.ensures.exact trade of journal (steps_inside kept me _ c.args.self.now c.self.view_is trade
+    c.requires.runs of)
     (half_inside kept me _ c.args.self.now c.self.view_is trade c.requires.runs of)) in
-    let first = some_next trade me c.args.moment journal c.in_ok-received.field-0 c.in-Some.received next c.in-Some.is in
+    let first = some_next trade me c.args.moment journal c.in_ok-received.field-0 c.in-Some.received next c.in-Some.is
+    in
     let works = c.in_ok-at_work.ensures.works kept me trade c.requires.runs of in
-    carries_any g.D.Disk.sight trade journals me c.args.self.now.chronicle c.undertake.new.self.chronicle c.in-Some.received.entry
-    (λ e is. decision_follows trade journals me c.args.moment journal first.pair e works.in_time c.at_work.ensures.in_range
+    carries_any g.D.Disk.sight trade journals me c.args.self.now.chronicle c.undertake.new.self.chronicle
+    c.in-Some.received.entry
+    (λ e is. decision_follows trade journals me c.args.moment journal first.pair e works.in_time
+    c.at_work.ensures.in_range
     (c.what_a_provider_does_is_its_own.ensures.decisions trade me c.args.moment journal first.pair
-    (first_there (undecided trade me journal) first.pair first.pairs first.first) e (sym first.shows.0 ∙ is)) (sym first.shows.0 ∙ is))
+    (first_there (undecided trade me journal) first.pair first.pairs first.first) e (sym first.shows.0 ∙ is))
+    (sym first.shows.0 ∙ is))
     (c.undertake.ensures.carries tells)

@@ -9,14 +9,18 @@ use Rattle.pec_provider.proofs.provider.Provider.item.Goals as goal
 pub returns-in_err-asked-clause-refused : goal.returns-in_err-asked-clause-refused
 returns-in_err-asked-clause-refused g c =
     let trade = trade_of c.args.house.now.directory.now (g.S.Sealer.seals c.args.house.now.sealer.now) in
-    not_asked (is_account_of (providers_of c.args.house.now.directory.now) c.args.house.now.me c.args.account.now) (not c.args.self.now.chronicle.down)
-    (item_at trade c.args.house.now.me c.args.self.now.chronicle.entries c.args.account.now c.args.place) c.in_err-asked.field-0.0
-    c.from_residual.result c.from_residual.ensures.1 (c.in_err-asked.ensures.refused trade c.a_house_is_a_trade.ensures.of)
+    not_asked (is_account_of (providers_of c.args.house.now.directory.now) c.args.house.now.me c.args.account.now)
+    (not c.args.self.now.chronicle.down)
+    (item_at trade c.args.house.now.me c.args.self.now.chronicle.entries c.args.account.now c.args.place)
+    c.in_err-asked.field-0.0
+    c.from_residual.result c.from_residual.ensures.1
+    (c.in_err-asked.ensures.refused trade c.a_house_is_a_trade.ensures.of)
 
 pub returns-in_err-bytes-clause-refused : goal.returns-in_err-bytes-clause-refused
 returns-in_err-bytes-clause-refused g c =
     let trade = trade_of c.args.house.now.directory.now (g.S.Sealer.seals c.args.house.now.sealer.now) in
-    no_memory (is_account_of (providers_of c.args.house.now.directory.now) c.args.house.now.me c.args.account.now) c.args.self.now.chronicle.down
+    no_memory (is_account_of (providers_of c.args.house.now.directory.now) c.args.house.now.me c.args.account.now)
+    c.args.self.now.chronicle.down
     (item_at trade c.args.house.now.me c.args.self.now.chronicle.entries c.args.account.now c.args.place)
     c.from_residual-in_err-bytes.result c.from_residual-in_err-bytes.ensures.1
     (c.in_ok-asked.ensures.asked trade c.a_house_is_a_trade.ensures.of)

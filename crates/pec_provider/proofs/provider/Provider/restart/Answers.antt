@@ -3,5 +3,6 @@ use Rattle.pec_provider.proofs.provider.Provider.restart.Goals as goal
 
 pub returns-in-Err-clause-runs_err : goal.returns-in-Err-clause-runs_err
 returns-in-Err-clause-runs_err g c =
-    runs_down c.args.house.now.directory.now c.args.house.now.me _ c.args.self c.self.view_is c.in-Err.chronicle c.in-Err.shelf c.self.inside.owed.items _
+    runs_down c.args.house.now.directory.now c.args.house.now.me _ c.args.self c.self.view_is c.in-Err.chronicle
+    c.in-Err.shelf c.self.inside.owed.items _
     c.in-Err.ensures.shelf c.in-Err.ensures.down c.requires

@@ -15,18 +15,21 @@ returns-in_err-entry-clause-plays g c =
     let trade = trade_of c.args.house.now.directory.now (g.S.Sealer.seals c.args.house.now.sealer.now) in
     let desk = desk_of c.args.self.now in
     plays_handed (λ (told : Submitted). Submits told)
-    (λ luck sites. played trade luck sites (Submit me c.args.moment c.args.sender.now c.args.path.now c.args.message.now)) trade me desk desk
+    (λ luck sites. played trade luck sites (Submit me c.args.moment c.args.sender.now c.args.path.now
+    c.args.message.now)) trade me desk desk
     c.in_err-entry.field-0.0 c.from_residual.result c.from_residual.ensures.1 c.in_err-entry.ensures.admits refl
 
 pub returns-in_err-entry-clause-carries : goal.returns-in_err-entry-clause-carries
 returns-in_err-entry-clause-carries g c = λ tells journals.
-    carries_still g.D.Disk.sight (trade_of c.args.house.now.directory.now (g.S.Sealer.seals c.args.house.now.sealer.now)) journals
+    carries_still g.D.Disk.sight (trade_of c.args.house.now.directory.now
+    (g.S.Sealer.seals c.args.house.now.sealer.now)) journals
     c.args.house.now.me _ c.args.self.now c.self.view_is (c.stands_still.ensures tells)
 
 pub append-requires-clause-step : goal.append-requires-clause-step
 append-requires-clause-step g c =
     enters_by c.args.house.now.directory.now c.args.house.now.me c.args.self.now.chronicle.entries c.in_ok-entry.entry
-    (trade_of c.args.house.now.directory.now (g.S.Sealer.seals c.args.house.now.sealer.now)) (λ p. []) c.a_house_is_a_trade.ensures.of
+    (trade_of c.args.house.now.directory.now (g.S.Sealer.seals c.args.house.now.sealer.now))
+    (λ p. []) c.a_house_is_a_trade.ensures.of
     (c.in_ok-entry.ensures.follows (λ p. []))
 
 pub returns-in_err-append-clause-plays : goal.returns-in_err-append-clause-plays
@@ -34,15 +37,20 @@ returns-in_err-append-clause-plays g c =
     let me = c.args.house.now.me in
     let trade = trade_of c.args.house.now.directory.now (g.S.Sealer.seals c.args.house.now.sealer.now) in
     plays_torn (λ (told : Submitted). Submits told)
-    (λ luck sites. played trade luck sites (Submit me c.args.moment c.args.sender.now c.args.path.now c.args.message.now)) trade me
-    (desk_of c.args.self.now) (desk_of c.append.new.self) c.in_ok-entry.entry (Submits c.in_ok-entry.answer) (Vec Mark Global)
-    c.in_err-append.field-0.0 c.from_residual-in_err-append.result c.from_residual-in_err-append.ensures.1 c.in_ok-entry.ensures.admits
+    (λ luck sites. played trade luck sites (Submit me c.args.moment c.args.sender.now c.args.path.now
+    c.args.message.now)) trade me
+    (desk_of c.args.self.now) (desk_of c.append.new.self) c.in_ok-entry.entry (Submits c.in_ok-entry.answer)
+    (Vec Mark Global)
+    c.in_err-append.field-0.0 c.from_residual-in_err-append.result c.from_residual-in_err-append.ensures.1
+    c.in_ok-entry.ensures.admits
     (c.in_err-append.ensures.appends trade c.a_house_is_a_trade.ensures.of)
 
 pub returns-in_err-append-clause-carries : goal.returns-in_err-append-clause-carries
 returns-in_err-append-clause-carries g c = λ tells journals.
-    carries_entry g.D.Disk.sight (trade_of c.args.house.now.directory.now (g.S.Sealer.seals c.args.house.now.sealer.now)) journals
-    c.args.house.now.me c.args.self.now.chronicle c.append.new.self.chronicle c.in_ok-entry.entry (c.in_ok-entry.ensures.follows journals)
+    carries_entry g.D.Disk.sight (trade_of c.args.house.now.directory.now
+    (g.S.Sealer.seals c.args.house.now.sealer.now)) journals
+    c.args.house.now.me c.args.self.now.chronicle c.append.new.self.chronicle c.in_ok-entry.entry
+    (c.in_ok-entry.ensures.follows journals)
     (c.append.ensures.carries tells)
 
 pub returns-clause-plays : goal.returns-clause-plays
@@ -50,12 +58,16 @@ returns-clause-plays g c =
     let me = c.args.house.now.me in
     let trade = trade_of c.args.house.now.directory.now (g.S.Sealer.seals c.args.house.now.sealer.now) in
     plays_done (λ (told : Submitted). Submits told)
-    (λ luck sites. played trade luck sites (Submit me c.args.moment c.args.sender.now c.args.path.now c.args.message.now)) trade me
-    (desk_of c.args.self.now) (desk_of c.append.new.self) c.in_ok-entry.entry (Submits c.in_ok-entry.answer) c.in_ok-entry.answer
+    (λ luck sites. played trade luck sites (Submit me c.args.moment c.args.sender.now c.args.path.now
+    c.args.message.now)) trade me
+    (desk_of c.args.self.now) (desk_of c.append.new.self) c.in_ok-entry.entry (Submits c.in_ok-entry.answer)
+    c.in_ok-entry.answer
     c.in_ok-entry.ensures.admits (c.in_ok-append.ensures.appends trade c.a_house_is_a_trade.ensures.of) refl
 
 pub returns-clause-carries : goal.returns-clause-carries
 returns-clause-carries g c = λ tells journals.
-    carries_entry g.D.Disk.sight (trade_of c.args.house.now.directory.now (g.S.Sealer.seals c.args.house.now.sealer.now)) journals
-    c.args.house.now.me c.args.self.now.chronicle c.append.new.self.chronicle c.in_ok-entry.entry (c.in_ok-entry.ensures.follows journals)
+    carries_entry g.D.Disk.sight (trade_of c.args.house.now.directory.now
+    (g.S.Sealer.seals c.args.house.now.sealer.now)) journals
+    c.args.house.now.me c.args.self.now.chronicle c.append.new.self.chronicle c.in_ok-entry.entry
+    (c.in_ok-entry.ensures.follows journals)
     (c.append.ensures.carries tells)

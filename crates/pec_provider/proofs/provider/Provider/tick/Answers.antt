@@ -14,14 +14,16 @@ returns-in_err-at_work-clause-plays g c =
     let me = c.args.house.now.me in
     let trade = trade_of kept (g.S.Sealer.seals c.args.house.now.sealer.now) in
     let desk = desk_of c.args.self.now in
-    plays_handed (λ (marks : Vec Mark Global). Marks marks.items) (λ luck sites. played trade luck sites (Tick me c.args.moment)) trade me desk desk
+    plays_handed (λ (marks : Vec Mark Global). Marks marks.items) (λ luck sites. played trade luck sites
+    (Tick me c.args.moment)) trade me desk desk
     c.in_err-at_work.field-0.0 c.from_residual.result c.from_residual.ensures.1
     (tick_refused (Vec Mark Global) trade me c.args.moment desk c.in_err-at_work.field-0.0
     (c.in_err-at_work.ensures.works kept me trade c.requires c.a_house_is_a_trade.ensures.of)) refl
 
 pub returns-in_err-at_work-clause-carries : goal.returns-in_err-at_work-clause-carries
 returns-in_err-at_work-clause-carries g c = λ tells journals.
-    carries_still g.D.Disk.sight (trade_of c.args.house.now.directory.now (g.S.Sealer.seals c.args.house.now.sealer.now)) journals
+    carries_still g.D.Disk.sight (trade_of c.args.house.now.directory.now
+    (g.S.Sealer.seals c.args.house.now.sealer.now)) journals
     c.args.house.now.me _ c.args.self.now c.self.view_is (c.stands_still.ensures tells)
 
 pub returns-in_err-marks-clause-plays : goal.returns-in_err-marks-clause-plays
@@ -31,8 +33,10 @@ returns-in_err-marks-clause-plays g c =
     let trade = trade_of kept (g.S.Sealer.seals c.args.house.now.sealer.now) in
     let of = c.a_house_is_a_trade.ensures.of in
     let desk = desk_of c.args.self.now in
-    plays_torn (λ (marks : Vec Mark Global). Marks marks.items) (λ luck sites. played trade luck sites (Tick me c.args.moment)) trade me desk
-    (desk_of c.append.new.self) (entries.Ticked c.args.moment) _ (Vec Mark Global) c.in_err-marks.field-0.0 c.from_residual-in_err-marks.result
+    plays_torn (λ (marks : Vec Mark Global). Marks marks.items) (λ luck sites. played trade luck sites
+    (Tick me c.args.moment)) trade me desk
+    (desk_of c.append.new.self) (entries.Ticked c.args.moment) _ (Vec Mark Global) c.in_err-marks.field-0.0
+    c.from_residual-in_err-marks.result
     c.from_residual-in_err-marks.ensures.1
     (tick_comes trade me c.args.moment desk (c.in_ok-at_work.ensures.works kept me trade c.requires of))
     (c.in_err-marks.ensures.appends trade of)
@@ -43,8 +47,10 @@ returns-in_err-marks-clause-carries g c = λ tells journals.
     let me = c.args.house.now.me in
     let trade = trade_of kept (g.S.Sealer.seals c.args.house.now.sealer.now) in
     let works = c.in_ok-at_work.ensures.works kept me trade c.requires c.a_house_is_a_trade.ensures.of in
-    carries_entry g.D.Disk.sight trade journals me c.args.self.now.chronicle c.append.new.self.chronicle (entries.Ticked c.args.moment)
-    (c.what_a_provider_does_may_follow.ensures.clock_calls trade journals me c.args.moment c.args.self.now.chronicle.entries works.in_time
+    carries_entry g.D.Disk.sight trade journals me c.args.self.now.chronicle c.append.new.self.chronicle
+    (entries.Ticked c.args.moment)
+    (c.what_a_provider_does_may_follow.ensures.clock_calls trade journals me c.args.moment
+    c.args.self.now.chronicle.entries works.in_time
     c.at_work.ensures.in_range) (c.append.ensures.carries tells)
 
 pub returns-clause-plays : goal.returns-clause-plays
@@ -54,7 +60,8 @@ returns-clause-plays g c =
     let trade = trade_of kept (g.S.Sealer.seals c.args.house.now.sealer.now) in
     let of = c.a_house_is_a_trade.ensures.of in
     let desk = desk_of c.args.self.now in
-    plays_done (λ (marks : Vec Mark Global). Marks marks.items) (λ luck sites. played trade luck sites (Tick me c.args.moment)) trade me desk
+    plays_done (λ (marks : Vec Mark Global). Marks marks.items) (λ luck sites. played trade luck sites
+    (Tick me c.args.moment)) trade me desk
     (desk_of c.append.new.self) (entries.Ticked c.args.moment) _ c.in_ok-marks.marks
     (tick_comes trade me c.args.moment desk (c.in_ok-at_work.ensures.works kept me trade c.requires of))
     (c.in_ok-marks.ensures.appends trade of) (ap (λ l. Marks l) (c.in_ok-marks.ensures.marks trade of))
@@ -65,6 +72,8 @@ returns-clause-carries g c = λ tells journals.
     let me = c.args.house.now.me in
     let trade = trade_of kept (g.S.Sealer.seals c.args.house.now.sealer.now) in
     let works = c.in_ok-at_work.ensures.works kept me trade c.requires c.a_house_is_a_trade.ensures.of in
-    carries_entry g.D.Disk.sight trade journals me c.args.self.now.chronicle c.append.new.self.chronicle (entries.Ticked c.args.moment)
-    (c.what_a_provider_does_may_follow.ensures.clock_calls trade journals me c.args.moment c.args.self.now.chronicle.entries works.in_time
+    carries_entry g.D.Disk.sight trade journals me c.args.self.now.chronicle c.append.new.self.chronicle
+    (entries.Ticked c.args.moment)
+    (c.what_a_provider_does_may_follow.ensures.clock_calls trade journals me c.args.moment
+    c.args.self.now.chronicle.entries works.in_time
     c.at_work.ensures.in_range) (c.append.ensures.carries tells)

@@ -29,7 +29,8 @@ returns-clause-does g c = λ trade step of undertakes.
     let mid = desk_of c.append_any.new.self in
     let room = room_desk _ c.args.self.now c.reserve.new.self.items c.self.view_is c.reserve.ensures.items in
     subst (λ (d : Desk). Does step old d (Ok c.args.received.event)) (sym (ap (λ p. desk_of p) c.owe.ensures))
-    (does_ok trade me step old mid c.args.received.entry c.args.received.event c.args.received.owed undertakes.shows.0 undertakes.shows.1
+    (does_ok trade me step old mid c.args.received.entry c.args.received.event c.args.received.owed undertakes.shows.0
+    undertakes.shows.1
     undertakes.shows.2 undertakes.full
     (subst (λ (d : Desk). AppendsAny {X = Unit {0}} trade me c.args.received.entry d mid (Ok tt)) room
     (c.in_ok-append_any.ensures.appends trade of)))
