@@ -8,7 +8,8 @@ use Rattle.pec_plays.specs.Commands.{Command, Luck, played}
 use Rattle.pec_plays.specs.Possible.{MayMeet}
 use Rattle.pec_plays.specs.Scripts.{script}
 use Rattle.pec_runs.specs.Endings.{End}
-use Rattle.pec_runs.specs.Plays.{HasMemory, MayPlay, MayStray, Rest, RoseBy, Stopped, Strayed, ToTheEnd, faults_by, faults_told, onto_outcome, outcome_from}
+use Rattle.pec_runs.specs.Plays.{HasMemory, MayPlay, MayStray, Rest, RoseBy, Stopped, Strayed, ToTheEnd, faults_by}
+use Rattle.pec_runs.specs.Plays.{faults_told, onto_outcome, outcome_from}
 use Rattle.pec_runs.specs.ScriptLines.{Script, nothing_but, onto_script}
 
 rose_none : (a b : ℕ) → a ≤ b → RoseBy 0 a b
@@ -84,7 +85,8 @@ rose_since n a b c l rose =
     let k = rose.0
     in (omega arith, λ h. let x : b + n ≤ c = rose.1 h in omega (arith, x, l))
 
-pub plays_since : (trade : Trade) (tells : Type 0) (sites : List Site) (earlier from upto : ℕ → ℕ) (written : Script) (lucks : List Luck)
+pub plays_since : (trade : Trade) (tells : Type 0) (sites : List Site) (earlier from upto : ℕ → ℕ) (written : Script)
+    (lucks : List Luck)
     (rest : Rest) → ((p : ℕ) → earlier p ≤ from p) → MayPlay trade tells sites from upto written lucks rest
     → MayPlay trade tells sites earlier upto written lucks rest
 plays_since trade tells sites earlier from upto written lucks rest before may = record {
@@ -92,7 +94,8 @@ plays_since trade tells sites earlier from upto written lucks rest before may = 
   meet = may.meet;
   memory = may.memory;
   counts = λ p.
-      rose_since (faults_told p written.commands (script trade lucks sites written.commands).answers) (earlier p) (from p) (upto p) (before p)
+      rose_since (faults_told p written.commands (script trade lucks sites written.commands).answers) (earlier p)
+      (from p) (upto p) (before p)
       (may.counts p);
   strays = may.strays;
 }

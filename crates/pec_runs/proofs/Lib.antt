@@ -3,6 +3,7 @@ pub mod ClimbLemmas
 pub mod CutLemmas
 pub mod HeadlineLemmas
 pub mod InputLemmas
+pub mod LeavingLemmas
 pub mod LineLemmas
 pub mod LoopLemmas
 pub mod NextLemmas
@@ -14,4 +15,5 @@ pub mod StageLemmas
 pub mod StatusLemmas
 pub mod StepLemmas
 pub mod TextLemmas
+pub mod ThereLemmas
 pub mod TranscriptLemmas

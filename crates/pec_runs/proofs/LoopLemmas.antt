@@ -14,7 +14,8 @@ use Rattle.pec_runs.specs.AnswerLines.{answer_text, answers_text}
 use Rattle.pec_runs.specs.Climbing.{AreLinesLeft, Comes, Goes, IsLineRead, Place, TellsOn, behind_answers}
 use Rattle.pec_runs.specs.Endings.{Done, End}
 use Rattle.pec_runs.specs.Inputs.{raw_lines}
-use Rattle.pec_runs.specs.Plays.{Ends, HasMemory, MayPlay, MayStray, Outcome, RoseBy, Stopped, Stops, Strayed, Strays, ToTheEnd, faults_by, finish_text, onto_outcome, outcome_from, outcome_text}
+use Rattle.pec_runs.specs.Plays.{Ends, HasMemory, MayPlay, MayStray, Outcome, RoseBy, Stopped, Stops, Strayed, Strays}
+use Rattle.pec_runs.specs.Plays.{ToTheEnd, faults_by, finish_text, onto_outcome, outcome_from, outcome_text}
 use Rattle.pec_runs.specs.ScriptLines.{Line, PassedOver, Says, Script, behind_line, nothing_but, said_by, script_of}
 use Rattle.pec_runs.proofs.ClimbLemmas.{outcome_on, plays_astray, plays_none, plays_on, plays_over}
 
@@ -28,10 +29,13 @@ answers_one providers answers answer =
 
 -- the text of more answers before an outcome
 pub text_behind : (providers : List Provider) (answers : List Answer) (outcome : Outcome)
-    → outcome_text providers (behind_answers answers outcome) ≡ answers_text providers answers ++ outcome_text providers outcome
+    → outcome_text providers (behind_answers answers outcome) ≡ answers_text providers answers ++ outcome_text
+    providers outcome
 text_behind providers answers outcome =
-    ap (λ (t : Bytes). t ++ finish_text providers outcome.finish) (flat_map-append (answer_text providers) answers outcome.answers)
-    ∙ append_assoc (answers_text providers answers) (answers_text providers outcome.answers) (finish_text providers outcome.finish)
+    ap (λ (t : Bytes). t ++ finish_text providers outcome.finish)
+    (flat_map-append (answer_text providers) answers outcome.answers)
+    ∙ append_assoc (answers_text providers answers) (answers_text providers outcome.answers)
+    (finish_text providers outcome.finish)
 
 followed_nothing : (held : Option Bytes) → held ≡ followed_by held []
 followed_nothing None = refl
@@ -62,7 +66,13 @@ module _ (trade : Trade) (providers : List Provider) (tells : Type 0) where
       (λ (w : Line). behind_line number w (script_of providers (number + 1) lines)) e
 
   abbrev next_place : Place → List Site → Option Bytes → (ℕ → ℕ) → Place
-  next_place here sites behind counts = record { sites = sites; number = here.number + 1; unread = behind; counts = counts }
+  next_place here sites behind counts = record {
+    sites = sites;
+    number = here.number + 1;
+    unread = behind;
+    counts =
+        counts;
+  }
 
   -- ---- steps
 
@@ -102,7 +112,8 @@ module _ (trade : Trade) (providers : List Provider) (tells : Type 0) where
         left = lines_on here.unread line behind comes.lines read on comes.left;
         may = subst (λ (s : Script). MayPlay trade tells here.sites here.counts upto s
             (luck ∷ comes.lucks) comes.rest) (sym same)
-            (plays_on trade tells here.sites here.counts mid upto command luck later comes.lucks comes.rest meets has rose comes.may);
+            (plays_on trade tells here.sites here.counts mid upto command luck later comes.lucks comes.rest meets has
+            rose comes.may);
         is = ap (onto_outcome (played trade luck here.sites command).answer) comes.is
             ∙ (sym (outcome_on trade here.sites command luck later comes.lucks comes.rest)
             ∙ ap (outcome_from trade (luck ∷ comes.lucks) comes.rest here.sites) (sym same));
@@ -168,7 +179,8 @@ module _ (trade : Trade) (providers : List Provider) (tells : Type 0) where
         rest = Strayed;
         left = left;
         may = subst (λ (s : Script). MayPlay trade tells here.sites here.counts upto s [] Strayed) (sym same)
-            (plays_astray trade tells here.sites here.counts upto command (script_of providers (here.number + 1) lines) later may);
+            (plays_astray trade tells here.sites here.counts upto command (script_of providers (here.number + 1) lines)
+            later may);
         is = refl;
       }
 

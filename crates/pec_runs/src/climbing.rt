@@ -9,8 +9,10 @@ ghost use Rattle.pec_plays.specs.Possible.{MayMeet};
 ghost use Rattle.pec_runs.specs.AnswerLines.{answer_text, answers_text};
 ghost use Rattle.pec_runs.specs.Climbing.{AreLinesLeft, Comes, Goes, IsLineRead, Place, TellsOn, behind_answers};
 ghost use Rattle.pec_runs.specs.Endings.{Done, End};
-ghost use Rattle.pec_runs.specs.Plays.{Ends, HasMemory, MayPlay, MayStray, Outcome, Rest, RoseBy, Stopped, Stops, Strayed, Strays, ToTheEnd, faults_by, onto_outcome, outcome_from, outcome_text};
-ghost use Rattle.pec_runs.specs.ScriptLines.{PassedOver, Says, Script, behind_line, nothing_but, onto_script, said_by, script_of};
+ghost use Rattle.pec_runs.specs.Plays.{Ends, HasMemory, MayPlay, MayStray, Outcome, Rest, RoseBy, Stopped, Stops};
+ghost use Rattle.pec_runs.specs.Plays.{Strayed, Strays, ToTheEnd, faults_by, onto_outcome, outcome_from, outcome_text};
+ghost use Rattle.pec_runs.specs.ScriptLines.{PassedOver, Says, Script, behind_line, nothing_but, onto_script, said_by};
+ghost use Rattle.pec_runs.specs.ScriptLines.{script_of};
 
 use pec_outside::Depot;
 

@@ -6,6 +6,7 @@ mod climbing;
 mod examples;
 mod headline;
 mod inputs;
+mod leaving;
 mod quiet;
 mod resuming;
 mod runs;
@@ -15,7 +16,11 @@ pub use climbing::{a_run_is_climbed, a_script_is_played_line_by_line};
 pub use examples::{runs_of_the_examples, texts_of_the_examples};
 pub use headline::the_books_belong_to_the_ledger;
 pub use inputs::{a_line_is_one_thing, an_input_is_parted_in_one_way};
-pub use quiet::{a_run_without_faults_has_one_transcript, a_script_without_faults_is_one};
+pub use leaving::a_run_leaves_its_journals;
+pub use quiet::{
+    a_run_without_faults_has_one_transcript, a_run_without_faults_is_there,
+    a_script_without_faults_is_one,
+};
 pub use resuming::{a_resumed_run_begins_where_the_last_left, a_script_may_be_cut};
 pub use runs::a_runs_books_belong_to_the_ledger;
 pub use writing::{a_status_says_what_was_written, answers_are_whole_lines};
