@@ -98,7 +98,8 @@ module _ (trade : Trade) (laws : PlayLaws trade) where
       let genuine = All-contains (IsGenuine trade (journals_of now)) (frames_between now from to) frame
       (sound.genuine from to) waits
       in let text = genuine is.framed is.stands (world.seen_opens is.framed.message (SeenReceipt is.receipt) is.seen)
-      in let known = laws.acked (journals_of now) sound.fit is.framed.message text is.receipt is.seen is.kind is.recipient is.names
+      in let known = laws.acked (journals_of now) sound.fit is.framed.message text is.receipt is.seen is.kind
+      is.recipient is.names
       in subst (λ (p : Pair). HasReceipt trade (journals_of now) p) (sym is.is)
       (some_receipt (journals_of now) sound.fit (pair_of is.receipt.id is.recipient)
       (known_of (ledger trade (journals_of now) is.receipt.id.provider)

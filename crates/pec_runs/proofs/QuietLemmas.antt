@@ -212,7 +212,8 @@ module _ (trade : Trade) (sites : List Site) (luck : Luck) where
       pub memory : All (λ (turn : Turn). turn.ended ≢ Some faults.NoMemory) (told_from number turns)
 
     abbrev told_of : ℕ → Turned → Turn
-    told_of number turn = record { provider = number; events = turn.events; sent = sent_from 0 turn.out; ended = turn.ended }
+    told_of number turn =
+        record { provider = number; events = turn.events; sent = sent_from 0 turn.out; ended = turn.ended }
 
     well_first : (number : ℕ) (turn : Turned) (turns : List Turned) → AllWell number (turn ∷ turns)
         → WentWell turn.ended
@@ -539,7 +540,8 @@ module _ (trade : Trade) where
       → ((k : ℕ) → faults_told k commands (script trade lucks sites commands).answers ≡ 0)
       → Twins trade lucks sites commands
   twins [] sites commands meet memory none = record { calms = []; quiet = tt; count = refl; same = refl }
-  twins (luck ∷ lucks) sites [] meet memory none = record { calms = luck ∷ lucks; quiet = tt; count = refl; same = refl }
+  twins (luck ∷ lucks) sites [] meet memory none =
+      record { calms = luck ∷ lucks; quiet = tt; count = refl; same = refl }
   twins (luck ∷ lucks) sites (c ∷ commands) meet memory none =
       let here = played trade luck sites c
       in let told = (script trade lucks here.after commands).answers

@@ -120,7 +120,8 @@ module _ (words : List Bytes) (status : Status) (unread before after : Option By
       → ReadsSo → ran.happened.opening.next ≡ NoMore
       → (form ≡ Resume → Fit (world ran.happened) (journals_in ran.happened.opening.journals))
       → AllHonest (world ran.happened) ran.happened.lucks (beginning ran.happened) script.commands
-      → ((command : Command) → command_in_hand status ran.happened.opening.next ran.happened.rest ran.happened.lucks script ≡ Some command
+      → ((command : Command) → command_in_hand status ran.happened.opening.next ran.happened.rest ran.happened.lucks script
+      ≡ Some command
       → IsHonest (world ran.happened) (outcome_of words ran.happened).after command)
       → FitsAnyWay (world ran.happened) has_begun.left
   fits_left stays plays start reads at_hand fit honest hand =

@@ -133,7 +133,8 @@ module _ (one : OneWay) (there : QuietThere) (words : List Bytes) (status : Stat
   tells_transcript : HasEnded words ran.happened status before after
       → TellsTranscript words ran.happened status before after
   tells_transcript ended =
-      let same = ended_same one there tells old_disks new_disks old new status words ran.happened none ended.end ran.is_at ended.finish
+      let same = ended_same one there tells old_disks new_disks old new status words ran.happened none
+      ended.end ran.is_at ended.finish
       in let finish : (transcript words ran.happened).finish
       ≡ plays.Ends ended.end = ap (λ (o : Outcome). o.finish) (sym same) ∙ ended.finish
       in record {

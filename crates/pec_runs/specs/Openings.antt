@@ -57,7 +57,8 @@ next_of opening = length opening.journals
 
 -- a journal as the network has it at the beginning: its provider is up, and nothing waits
 abbrev pub opened : Trade → List Entry → Site
-opened trade journal = record { journal = journal; up = true; interrupted = None; waiting = replicate trade.providers [] }
+opened trade journal =
+    record { journal = journal; up = true; interrupted = None; waiting = replicate trade.providers [] }
 
 -- The state at the beginning of a script.
 abbrev pub opened_all : Trade → List (List Entry) → List Site

@@ -3,11 +3,14 @@
 use Rattle.std.specs.Prelude.{◌≡◌, ℕ, ◌-◌, ◌^◌, ◌<◌, false, List, [], Option, Some}
 use Rattle.pec_types.specs.Bytes.{Bytes}
 use Rattle.pec_outside.specs.Flow.{followed_by}
+use Rattle.pec_records.specs.declared.entries.Entry.{Entry}
 use Rattle.pec_plays.specs.Commands.{Luck}
 use Rattle.pec_plays.specs.Possible.{quiet_lucks}
-use Rattle.pec_runs.specs.Happened.{Begun, Happened, Stage, outcome_at, providers_in, stage_of}
-use Rattle.pec_runs.specs.Plays.{Outcome, ToTheEnd, outcome_text}
+use Rattle.pec_runs.specs.Happened.{Begun, Happened, Setting, Stage, outcome_at, providers_in, stage_of, trade_in}
+use Rattle.pec_runs.specs.Openings.{opened_all}
+use Rattle.pec_runs.specs.Plays.{Outcome, ToTheEnd, outcome_from, outcome_text}
 use Rattle.pec_runs.specs.Ran.{Counts, beginning, status_at, world}
+use Rattle.pec_runs.specs.ScriptLines.{Script}
 use Rattle.pec_runs.specs.Statuses.{Status}
 
 -- A count stood still, below its greatest value.
@@ -25,6 +28,13 @@ pub record NoFaults (old new : Counts) : Type 0 where
 abbrev pub quiet_at : Happened → Stage → List Luck
 quiet_at happened (Begun form script) = quiet_lucks (world happened) (beginning happened) script.commands
 quiet_at happened _ = []
+
+-- what a script comes to without a fault, from journals that are at hand
+abbrev pub quiet_outcome : Setting → List (List Entry) → Script → Outcome
+quiet_outcome setting journals written =
+    outcome_from (trade_in setting)
+    (quiet_lucks (trade_in setting) (opened_all (trade_in setting) journals) written.commands) ToTheEnd
+    (opened_all (trade_in setting) journals) written
 
 abbrev pub transcript_at : Happened → Stage → Outcome
 transcript_at happened stage = outcome_at (record happened { lucks = quiet_at happened stage; rest = ToTheEnd }) stage

@@ -112,8 +112,8 @@ pub fn a_script_is_played_line_by_line<P: Depot>()
         ≡ onto_outcome (played trade luck sites command).answer
         (outcome_from trade lucks rest (played trade luck sites command).after written)) }
     // The counts may be taken earlier.
-    ensures since { (trade : Trade) (sites : List Site) (earlier from upto : ℕ → ℕ) (written : Script) (lucks : List Luck)
-        (rest : Rest) → ((provider : ℕ) → earlier provider ≤ from provider)
+    ensures since { (trade : Trade) (sites : List Site) (earlier from upto : ℕ → ℕ) (written : Script)
+        (lucks : List Luck) (rest : Rest) → ((provider : ℕ) → earlier provider ≤ from provider)
         → MayPlay trade (P.tells × P.D.tells) sites from upto written lucks rest
         → MayPlay trade (P.tells × P.D.tells) sites earlier upto written lucks rest }
 {}

@@ -43,7 +43,8 @@ pub fn texts_of_the_examples()
         ++ ends.end_text two (ends.NotEmpty 0) ++ ends.end_text two (ends.NotFit 1 (unfits.Entry 3))
         ++ ends.end_text two (ends.LongLine 5)
         ++ ends.end_text two ends.LongScript ++ ends.end_text two (ends.LineRefused 5 (line_faults.BadNumber 2))
-        ≡ codes "usage\ntoo-long directory\nrefused no-script\nrefused directory bad-field 0 key\nnot-empty alfa\nnot-fit beta entry 3\n"
+        ≡ codes "usage\ntoo-long directory\nrefused no-script\nrefused directory bad-field 0 key\n"
+        ++ codes "not-empty alfa\nnot-fit beta entry 3\n"
         ++ codes "too-long line 5\ntoo-long script\nrefused line 5 bad-number 2\n" }
 {}
 

@@ -17,16 +17,18 @@ use pec_outside::Depot;
 pub fn a_run_leaves_its_journals<P: Depot>()
     ensures journals { (words : List Bytes) (status : Status) (unread before after : Option Bytes) (depot left : P)
         (old new : Counts)
-        (ran : RanOver (P.tells × P.D.tells) P.D.sight words status unread before after (P.home depot) (P.home left) old new)
+        (ran : RanOver (P.tells × P.D.tells) P.D.sight words status unread before after (P.home depot) (P.home left)
+        old new)
         (form : Form) (script : Script) → stage_of words ran.happened.early ran.happened.parts ≡ Begun form script
         → status ≢ statuses.NoMemory
         → (provider : ℕ) (bytes : Bytes) → provider < next_of ran.happened.opening
         → (disks_at (P.tells × P.D.tells) P.D.sight (P.home left)).reads provider bytes
         ⊎ (disks_at (P.tells × P.D.tells) P.D.sight (P.home left)).may_leave provider bytes
         → IsLeft (outcome_of words ran.happened).after provider bytes }
-    ensures no_further_entry { (words : List Bytes) (status : Status) (unread before after : Option Bytes) (depot left : P)
-        (old new : Counts)
-        (ran : RanOver (P.tells × P.D.tells) P.D.sight words status unread before after (P.home depot) (P.home left) old new)
+    ensures no_further_entry { (words : List Bytes) (status : Status) (unread before after : Option Bytes)
+        (depot left : P) (old new : Counts)
+        (ran : RanOver (P.tells × P.D.tells) P.D.sight words status unread before after (P.home depot) (P.home left)
+        old new)
         (form : Form) (script : Script) → stage_of words ran.happened.early ran.happened.parts ≡ Begun form script
         → ran.happened.opening.next ≢ NoMore
         → (provider : ℕ) (journal : List Entry) (bytes : Bytes)

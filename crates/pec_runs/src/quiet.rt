@@ -10,14 +10,14 @@ ghost use Rattle.pec_plays.specs.Possible.{NoneInterrupted, quiet_lucks};
 ghost use Rattle.pec_plays.specs.Scripts.{script};
 ghost use Rattle.pec_runs.specs.Happened.{Begun, IsSetting, Setting, directory_in, providers_in, stage_of, trade_in};
 ghost use Rattle.pec_runs.specs.Inputs.{parts_of, raw_lines};
-ghost use Rattle.pec_runs.specs.Openings.{AreLeft, disks_at, Form, IsOpening, NoMore, opened_all};
+ghost use Rattle.pec_runs.specs.Openings.{AreLeft, disks_at, Form, IsOpening, NoMore};
 ghost use Rattle.pec_runs.specs.Plays.{AllMeet, Ends, HasMemory, MayPlay, ToTheEnd, faults_told, outcome_from};
 ghost use Rattle.pec_runs.specs.Plays.{outcome_text};
 ghost use Rattle.pec_runs.specs.Ran.{Counts, RanOver};
 ghost use Rattle.pec_runs.specs.ScriptLines.{Script};
 ghost use Rattle.pec_runs.specs.Statuses.{Status, status_of};
 ghost use Rattle.pec_runs.specs.Statuses as statuses;
-ghost use Rattle.pec_runs.specs.Transcripts.{NoFaults, TellsTranscript};
+ghost use Rattle.pec_runs.specs.Transcripts.{NoFaults, TellsTranscript, quiet_outcome};
 
 use pec_outside::Depot;
 use pec_plays::quiet_runs_are_one;
@@ -54,8 +54,8 @@ pub fn a_run_without_faults_has_one_transcript<P: Depot>()
     quiet_runs_are_one();
 }
 
-/// There are such runs: what a script would come to without a fault, from the journals that are at hand, is a run of the
-/// program, where the disks are left so.
+/// There are such runs: what a script would come to without a fault, from the journals that are at hand, is a run of
+/// the program, where the disks are left so.
 pub fn a_run_without_faults_is_there<P: Depot>()
     ensures { (words : List Bytes) (text : Bytes) (setting : Setting) (form : Form) (written : Script)
         (journals : List (List Entry)) (before : Option Bytes) (depot left : P) (counts : Counts)
@@ -66,12 +66,9 @@ pub fn a_run_without_faults_is_there<P: Depot>()
         (record { journals = journals; next = NoMore })
         → AreLeft (disks_at (P.tells × P.D.tells) P.D.sight (P.home depot))
         (disks_at (P.tells × P.D.tells) P.D.sight (P.home left)) form (record { journals = journals; next = NoMore })
-        (outcome_from (trade_in setting) (quiet_lucks (trade_in setting) (opened_all (trade_in setting) journals) written.commands)
-        ToTheEnd (opened_all (trade_in setting) journals) written).after
+        (quiet_outcome setting journals written).after
         → RanOver (P.tells × P.D.tells) P.D.sight words (status_of written.end) (Some text) before
-        (followed_by before (outcome_text (providers_in setting) (outcome_from (trade_in setting)
-        (quiet_lucks (trade_in setting) (opened_all (trade_in setting) journals) written.commands)
-        ToTheEnd (opened_all (trade_in setting) journals) written)))
+        (followed_by before (outcome_text (providers_in setting) (quiet_outcome setting journals written)))
         (P.home depot) (P.home left) counts counts }
 {
     quiet_runs_are_one();

@@ -64,7 +64,8 @@ pub fn a_resumed_run_begins_where_the_last_left<P: Depot>()
         (disks_at (P.tells × P.D.tells) P.D.sight (P.home found)) provider)
         → (form ≡ Resume → Fit (world ran.happened) (journals_in ran.happened.opening.journals))
         → AllHonest (world ran.happened) ran.happened.lucks (beginning ran.happened) script.commands
-        → ((command : Command) → command_in_hand status ran.happened.opening.next ran.happened.rest ran.happened.lucks script ≡ Some command
+        → ((command : Command) → command_in_hand status ran.happened.opening.next ran.happened.rest ran.happened.lucks script
+        ≡ Some command
         → IsHonest (world ran.happened) (outcome_of words ran.happened).after command)
         → Fit (world again.happened) (journals_in again.happened.opening.journals) }
 {

@@ -7,10 +7,13 @@ returns g c = record {
   start = λ trade providers first before. goes_start trade providers _ first before;
   passed = λ trade providers first here before after line behind said read on goes.
       goes_passed trade providers _ first here before after line behind said read on goes;
-  played = λ trade providers first here before after later line command luck behind mid said read on meets has rose wrote goes.
-      goes_played trade providers _ first here before after later line command luck behind mid said read on meets has rose wrote goes;
+  played = λ trade providers first here before after later line command luck behind mid said read on meets has rose wrote
+      goes.
+      goes_played trade providers _ first here before after later line command luck behind mid said read on meets has
+      rose wrote goes;
   over = λ trade providers here upto done later. comes_over trade providers _ here upto done later;
-  ended = λ trade providers here line lines end upto ends left later. comes_ended trade providers _ here line lines end upto ends left later;
+  ended = λ trade providers here line lines end upto ends left later.
+      comes_ended trade providers _ here line lines end upto ends left later;
   stopped = λ trade providers here lines upto left later. comes_stopped trade providers _ here lines upto left later;
   strayed = λ trade providers here line lines command upto said left may later.
       comes_strayed trade providers _ here line lines command upto said left may later;

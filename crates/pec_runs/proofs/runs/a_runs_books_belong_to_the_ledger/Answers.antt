@@ -19,4 +19,5 @@ returns g c =
     is.opening at_hand fit)
     (none_interrupted trade ran.happened.opening.journals)
     (all_unforged trade ran.happened.lucks start script.commands
-    (commands_can words status unread before after _ _ _ old new ran form script begun c.a_line_has_one_reading.ensures) honest)
+    (commands_can words status unread before after _ _ _ old new ran form script begun
+    c.a_line_has_one_reading.ensures) honest)
