@@ -5,13 +5,14 @@ ghost use Rattle.pec_letters.specs.Fitting.{Fits};
 
 use crate::texts::{
     HEADLESS, HEADLESS_ANOMALY, LONGEST, LONGEST_ENVELOPE, PROVA, PROVA_ANOMALY, SALVE,
-    SALVE_ENVELOPE, UFFICIO, UFFICIO_ENVELOPE,
+    SALVE_ENVELOPE, SALVE_SEAL, UFFICIO, UFFICIO_ENVELOPE,
 };
-use crate::{directory, sealer_of};
+use crate::{directory, sealed, written};
 use pec_directory::Directory;
 use pec_heads::Head;
+use pec_house::sealer_of;
 use pec_letters::{compose_anomaly, compose_envelope};
-use pec_seal::{HmacSealer, Sealer, seal};
+use pec_seal::{HmacSealer, Sealer};
 use pec_types::{Moment, MsgId};
 use std::alloc::{AllocError, Global};
 use std::test::Fail;
@@ -24,57 +25,110 @@ const LONGEST_DOMAIN: &str = concat!(
     "dddddddddddddddddddddddddddddddddddddddddddd"
 );
 
-/// Whether a text begins with the seal of the envelope of `SALVE`, by another implementation of HMAC-SHA-256.
-fn has_its_seal(text: &[u8]) -> bool {
-    text.starts_with(b"X-Sigillo: alfa; YmmApmIDuSf74bl4tN6/rTDx8rhbG+0MDPrRwNmeEs4=\r\n")
-}
-
-/// A message and its envelope: by which provider, when, the message, and the envelope. The table is a function without a clause, since
-/// the proof of a test is then spared the texts.
-fn envelope_row(place: u32) -> Option<(u32, u64, &'static str, &'static str)> {
-    match place {
-        0 => Some((0, 1_704_186_000, SALVE, SALVE_ENVELOPE)),
-        1 => Some((0, 1_719_824_400, UFFICIO, UFFICIO_ENVELOPE)),
-        2 => Some((2, 0, LONGEST, LONGEST_ENVELOPE)),
-        _ => None,
-    }
-}
-
-/// A message and its anomaly: by which provider, of which entry, when, the message, and the anomaly.
-fn anomaly_row(place: u32) -> Option<(u32, u64, u64, &'static str, &'static str)> {
-    match place {
-        0 => Some((1, 7, 1_704_186_001, PROVA, PROVA_ANOMALY)),
-        1 => Some((0, 1_234_567, 1_719_824_400, HEADLESS, HEADLESS_ANOMALY)),
-        _ => None,
-    }
-}
-
-/// A text as it is sent: its lines end with CRLF, and the third provider's domain is written out.
-fn written(alloc: Global, text: &str) -> Result<String, AllocError> {
-    let text = text.replace(alloc, "GAMMA", LONGEST_DOMAIN)?;
-    text.replace(alloc, "\n", "\r\n")
-}
-
-/// The letter that a provider sealed.
-fn sealed(
-    alloc: Global,
-    sealer: &HmacSealer,
+/// A letter that a provider composes of a message, and the message.
+struct Row {
     provider: u32,
-    letter: &str,
-) -> Result<Vec<u8>, Fail> {
-    let letter = written(alloc, letter)?;
-    if sealer.name(provider).is_none() {
-        return Err(Fail::new("no such provider"));
-    }
-    Ok(seal(alloc, sealer, provider, letter.as_bytes())?)
+    /// The number of the message or of the anomaly's entry.
+    number: u64,
+    /// Seconds since 1970.
+    moment: u64,
+    message: &'static str,
+    /// What its seal line begins with.
+    seal: &'static str,
+    letter: &'static str,
 }
 
-/// The envelope of a message, the first of its sender's provider.
+static ENVELOPES: [Row; 3] = [
+    Row {
+        provider: 0,
+        number: 0,
+        moment: 1_704_186_000,
+        message: SALVE,
+        seal: SALVE_SEAL,
+        letter: SALVE_ENVELOPE,
+    },
+    Row {
+        provider: 0,
+        number: 0,
+        moment: 1_719_824_400,
+        message: UFFICIO,
+        seal: "X-Sigillo: alfa; ",
+        letter: UFFICIO_ENVELOPE,
+    },
+    Row {
+        provider: 2,
+        number: 0,
+        moment: 0,
+        message: LONGEST,
+        seal: "X-Sigillo: gamma; ",
+        letter: LONGEST_ENVELOPE,
+    },
+];
+
+static ANOMALIES: [Row; 2] = [
+    Row {
+        provider: 1,
+        number: 7,
+        moment: 1_704_186_001,
+        message: PROVA,
+        seal: "X-Sigillo: beta; ",
+        letter: PROVA_ANOMALY,
+    },
+    Row {
+        provider: 0,
+        number: 1_234_567,
+        moment: 1_719_824_400,
+        message: HEADLESS,
+        seal: "X-Sigillo: alfa; ",
+        letter: HEADLESS_ANOMALY,
+    },
+];
+
+/// The tables, by functions without a clause: the proofs of the tests are then spared their texts.
+fn envelopes() -> &'static [Row] {
+    &ENVELOPES
+}
+
+fn anomalies() -> &'static [Row] {
+    &ANOMALIES
+}
+
+#[test]
+fn an_envelope_is_composed_byte_by_byte(rt: HostRuntime) -> Result<(), Fail> {
+    let directory = directory(rt.alloc(), LONGEST_DOMAIN)?;
+    let sealer = sealer_of(rt.alloc(), &directory)?;
+    for row in envelopes() {
+        let message = in_full(rt.alloc(), row.message)?;
+        let letter = envelope(rt.alloc(), &sealer, &directory, row, message.as_bytes())?;
+        assert!(rt; is_letter_of(rt.alloc(), &sealer, row, &letter)?);
+    }
+    Ok(())
+}
+
+#[test]
+fn an_anomaly_is_composed_byte_by_byte(rt: HostRuntime) -> Result<(), Fail> {
+    let directory = directory(rt.alloc(), LONGEST_DOMAIN)?;
+    let sealer = sealer_of(rt.alloc(), &directory)?;
+    for row in anomalies() {
+        let message = in_full(rt.alloc(), row.message)?;
+        let letter = anomaly(rt.alloc(), &sealer, &directory, row, message.as_bytes())?;
+        assert!(rt; is_letter_of(rt.alloc(), &sealer, row, &letter)?);
+    }
+    Ok(())
+}
+
+/// The text of a message, with the third provider's domain.
+fn in_full(alloc: Global, text: &str) -> Result<String, AllocError> {
+    let text = text.replace(alloc, "GAMMA", LONGEST_DOMAIN)?;
+    written(alloc, text.as_str())
+}
+
+/// The envelope of a message of its sender's provider.
 fn envelope(
     alloc: Global,
     sealer: &HmacSealer,
     directory: &Directory,
-    seconds: u64,
+    row: &Row,
     original: &[u8],
 ) -> Result<Vec<u8>, Fail>
     requires { Fits (⟦<HmacSealer as Sealer>⟧.seals sealer.now) (providers_of directory.now) }
@@ -82,28 +136,13 @@ fn envelope(
     let (head, _) = Head::read(alloc, original)?;
     let facts = head.facts(alloc)?.ok_or("no facts")?;
     let provider = directory.home_of(&facts.sender).ok_or("no home")?;
-    let moment = Moment::new(seconds).ok_or("no moment")?;
+    let moment = Moment::new(row.moment).ok_or("no moment")?;
     let id = MsgId {
         provider,
         number: 0,
     };
-    Ok(compose_envelope(alloc, sealer, directory, id, moment, &facts, original)?)
-}
-
-#[test]
-fn envelopes(rt: HostRuntime) -> Result<(), Fail> {
-    let alloc = rt.alloc();
-    let directory = directory(alloc, LONGEST_DOMAIN)?;
-    let sealer = sealer_of(alloc, &directory)?;
-    for place in 0..3 {
-        let (provider, seconds, message, wanted) = envelope_row(place).ok_or("no row")?;
-        let message = written(alloc, message)?;
-        let letter = envelope(alloc, &sealer, &directory, seconds, message.as_bytes())?;
-        let wanted = sealed(alloc, &sealer, provider, wanted)?;
-        assert_eq!(rt; letter.as_slice(), wanted.as_slice());
-        assert!(rt; place > 0 || has_its_seal(letter.as_slice()));
-    }
-    Ok(())
+    let letter = compose_envelope(alloc, sealer, directory, id, moment, &facts, original)?;
+    Ok(letter)
 }
 
 /// The anomaly in which a provider hands on a message.
@@ -111,39 +150,30 @@ fn anomaly(
     alloc: Global,
     sealer: &HmacSealer,
     directory: &Directory,
-    provider: u32,
-    number: u64,
-    seconds: u64,
+    row: &Row,
     message: &[u8],
 ) -> Result<Vec<u8>, Fail>
     requires fits { Fits (⟦<HmacSealer as Sealer>⟧.seals sealer.now) (providers_of directory.now) }
 {
+    let provider = row.provider;
     if provider >= directory.count() {
-        return Err(Fail::new("no such provider"));
+        return Err("no such provider".into());
     }
-    let moment = Moment::new(seconds).ok_or("no moment")?;
-    Ok(compose_anomaly(alloc, sealer, directory, provider, number, moment, message)?)
+    let moment = Moment::new(row.moment).ok_or("no moment")?;
+    let letter = compose_anomaly(
+        alloc, sealer, directory, provider, row.number, moment, message,
+    )?;
+    Ok(letter)
 }
 
-#[test]
-fn anomalies(rt: HostRuntime) -> Result<(), Fail> {
-    let alloc = rt.alloc();
-    let directory = directory(alloc, LONGEST_DOMAIN)?;
-    let sealer = sealer_of(alloc, &directory)?;
-    for place in 0..2 {
-        let (provider, number, seconds, message, wanted) = anomaly_row(place).ok_or("no row")?;
-        let message = written(alloc, message)?;
-        let letter = anomaly(
-            alloc,
-            &sealer,
-            &directory,
-            provider,
-            number,
-            seconds,
-            message.as_bytes(),
-        )?;
-        let wanted = sealed(alloc, &sealer, provider, wanted)?;
-        assert_eq!(rt; letter.as_slice(), wanted.as_slice());
-    }
-    Ok(())
+/// Whether these are the bytes of the row's letter, under the seal of its provider.
+fn is_letter_of(
+    alloc: Global,
+    sealer: &HmacSealer,
+    row: &Row,
+    letter: &[u8],
+) -> Result<bool, Fail> {
+    let wanted = row.letter.replace(alloc, "GAMMA", LONGEST_DOMAIN)?;
+    let wanted = sealed(alloc, sealer, row.provider, wanted.as_str())?;
+    Ok(wanted.as_slice() == letter && letter.starts_with(row.seal.as_bytes()))
 }

@@ -1,10 +1,12 @@
-//! Tests of `pec_letters` over its public calls, and the providers of tests of letters with their sealer. Letters that are expected were
+//! Tests of `pec_letters` over its public calls, with the directory and the sealing of tests of letters. Letters that are expected were
 //! composed by another program; the fault of an edited one was found by hand in this project's table.
 #![tactic(auto)]
 
 mod providers;
+mod sealing;
 
-pub use providers::{directory, sealer_of};
+pub use providers::directory;
+pub use sealing::{sealed, written};
 
 #[cfg(test)]
 mod composing;

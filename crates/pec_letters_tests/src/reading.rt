@@ -1,17 +1,16 @@
 //! The table of faults: a letter for each row and for each pair of rows that both apply, and letters that no row refuses.
-use crate::texts::{SALVE, SALVE_ENVELOPE};
-use crate::{directory, sealer_of};
+use crate::texts::{SALVE, SALVE_ENVELOPE, SALVE_SEAL};
+use crate::{directory, sealed, written};
 use pec_directory::Directory;
-use pec_letters::read_envelope;
-use pec_seal::{HmacSealer, Sealer, seal};
+use pec_house::sealer_of;
+use pec_letters::{EnvelopeView, read_envelope};
+use pec_seal::HmacSealer;
 use pec_types::Disputed::{Identifier, Moment, Recipient, Sealer as Sealed, Sender, Wish};
 use pec_types::LetterFault::{self, Body, Cert, Disagree, Head, NotThis, Seal};
-use pec_types::MsgId;
-use std::alloc::Global;
-use std::process::Abort;
+use std::alloc::{AllocError, Global};
 use std::test::Fail;
 
-/// A fault with what is changed in a letter: everywhere that stands in the place of this.
+/// A fault, and what is changed in a letter: everywhere that stands in the place of this.
 type Row = (LetterFault, &'static str, &'static str);
 
 /// Each fault with what is changed in the envelope of `SALVE`: everywhere that stands in the place of this. In the order of the table.
@@ -148,6 +147,64 @@ static PASSED: [(&str, &str); 8] = [
     ("=_pec_0", "confine"),
 ];
 
+#[test]
+fn the_first_row_that_applies_is_the_fault(rt: HostRuntime) -> Result<(), Fail> {
+    let directory = directory(rt.alloc(), "gamma.example")?;
+    let sealer = sealer_of(rt.alloc(), &directory)?;
+    assert_eq!(rt; first_wrong(rt.alloc(), &sealer, &directory, rows())?, None);
+    Ok(())
+}
+
+#[test]
+fn what_no_row_looks_at_is_read(rt: HostRuntime) -> Result<(), Fail> {
+    let directory = directory(rt.alloc(), "gamma.example")?;
+    let sealer = sealer_of(rt.alloc(), &directory)?;
+    for (from, to) in passed() {
+        let letter = salve_envelope().replace(rt.alloc(), *from, *to)?;
+        assert!(rt; is_read(rt.alloc(), &sealer, &directory, letter.as_str())?);
+    }
+    Ok(())
+}
+
+/// Letters that a stranger makes of one of ours: under its seal with other bytes behind it, and with its seal line twice. What is sealed
+/// by us in the same form is another thing.
+#[test]
+fn a_seal_is_of_the_bytes_behind_it(rt: HostRuntime) -> Result<(), Fail> {
+    let directory = directory(rt.alloc(), "gamma.example")?;
+    let sealer = sealer_of(rt.alloc(), &directory)?;
+    let exchanged = exchanged(rt.alloc(), salve_envelope())?;
+    assert!(rt; fault_of(rt.alloc(), &sealer, &directory, 0, exchanged.as_str())?.is_none());
+    let letter = written(rt.alloc(), salve_envelope())?;
+    let whole = joined(rt.alloc(), &[salve_seal(), letter.as_str()])?;
+    assert!(rt; !is_unsealed(rt.alloc(), &sealer, &directory, whole.as_str()));
+    for other in [salve_envelope(), exchanged.as_str(), whole.as_str()] {
+        let text = joined(rt.alloc(), &[salve_seal(), other])?;
+        assert!(rt; is_unsealed(rt.alloc(), &sealer, &directory, text.as_str()));
+    }
+    Ok(())
+}
+
+#[test]
+fn no_other_provider_seals_a_message(rt: HostRuntime) -> Result<(), Fail> {
+    let directory = directory(rt.alloc(), "gamma.example")?;
+    let sealer = sealer_of(rt.alloc(), &directory)?;
+    let letter = salve_envelope().replace(rt.alloc(), "emittente>alfa<", "emittente>beta<")?;
+    let fault = fault_of(rt.alloc(), &sealer, &directory, 1, letter.as_str())?;
+    assert!(rt; fault == Some(Disagree(Sealed)));
+    Ok(())
+}
+
+#[test]
+fn an_original_with_a_line_too_long_has_no_sender(rt: HostRuntime) -> Result<(), Fail> {
+    let directory = directory(rt.alloc(), "gamma.example")?;
+    let sealer = sealer_of(rt.alloc(), &directory)?;
+    let long = "x".repeat(rt.alloc(), 10_000)?;
+    let letter = salve_envelope().replace(rt.alloc(), "Ciao\n\nSalve", long.as_str())?;
+    let fault = fault_of(rt.alloc(), &sealer, &directory, 0, letter.as_str())?;
+    assert!(rt; fault == Some(Disagree(Sender)));
+    Ok(())
+}
+
 /// The tables and the texts, by functions without a clause: the proofs of the tests are then spared them.
 fn rows() -> &'static [Row] {
     &ROWS
@@ -165,18 +222,51 @@ fn salve_envelope() -> &'static str {
     SALVE_ENVELOPE
 }
 
-/// A letter as it is sent, sealed by this provider.
-fn sealed(
+fn salve_seal() -> &'static str {
+    SALVE_SEAL
+}
+
+/// The place of the first row that isn't the fault of each letter to which it and a later one apply; none where each is.
+fn first_wrong(
     alloc: Global,
     sealer: &HmacSealer,
-    provider: u32,
-    letter: &str,
-) -> Result<Vec<u8>, Fail> {
-    let letter = letter.replace(alloc, "\n", "\r\n")?;
-    if sealer.name(provider).is_none() {
-        return Err(Fail::new("no such provider"));
+    directory: &Directory,
+    rows: &[Row],
+) -> Result<Option<usize>, Fail> {
+    for (place, (fault, from, to)) in rows.iter().enumerate() {
+        let letter = salve_envelope().replace(alloc, *from, *to)?;
+        let sealed = keeps_fault(
+            alloc,
+            sealer,
+            directory,
+            letter.as_str(),
+            *fault,
+            &rows[place..],
+        )?;
+        // A letter that nobody sealed, whatever else is wrong with it.
+        if !sealed || !is_unsealed(alloc, sealer, directory, letter.as_str()) {
+            return Ok(Some(place));
+        }
     }
-    Ok(seal(alloc, sealer, provider, letter.as_bytes())?)
+    Ok(None)
+}
+
+/// Whether the letter, to which the first of the rows applies, has this fault, also where a further row applies to it.
+fn keeps_fault(
+    alloc: Global,
+    sealer: &HmacSealer,
+    directory: &Directory,
+    letter: &str,
+    fault: LetterFault,
+    rows: &[Row],
+) -> Result<bool, Fail> {
+    for (_, from, to) in rows.iter().skip(1) {
+        let further = letter.replace(alloc, *from, *to)?;
+        if fault_of(alloc, sealer, directory, 0, further.as_str())? != Some(fault) {
+            return Ok(false);
+        }
+    }
+    Ok(fault_of(alloc, sealer, directory, 0, letter)? == Some(fault))
 }
 
 /// Why a letter that a provider sealed is no envelope.
@@ -191,74 +281,40 @@ fn fault_of(
     Ok(read_envelope(alloc, sealer, directory, text.as_slice()).err())
 }
 
-/// The letter has this fault, also where a further row applies to it.
-fn has_fault(
-    rt: &impl Abort,
+/// Whether nobody sealed a text.
+fn is_unsealed(alloc: Global, sealer: &HmacSealer, directory: &Directory, text: &str) -> bool {
+    matches!(
+        read_envelope(alloc, sealer, directory, text.as_bytes()),
+        Err(Seal)
+    )
+}
+
+/// Whether a letter that the first provider sealed is read as the envelope of `SALVE`.
+fn is_read(
     alloc: Global,
     sealer: &HmacSealer,
     directory: &Directory,
     letter: &str,
-    fault: LetterFault,
-    further: &[Row],
-) -> Result<(), Fail> {
-    assert_eq!(rt; fault_of(alloc, sealer, directory, 0, letter)?, Some(fault));
-    for (_, from, to) in further {
-        let letter = letter.replace(alloc, *from, *to)?;
-        assert_eq!(rt;
-            fault_of(alloc, sealer, directory, 0, letter.as_str())?,
-            Some(fault)
-        );
+) -> Result<bool, Fail> {
+    let original = written(alloc, salve())?;
+    let text = sealed(alloc, sealer, 0, letter)?;
+    match read_envelope(alloc, sealer, directory, text.as_slice()) {
+        Ok(view) => Ok(is_salve(&view, original.as_bytes())),
+        Err(_) => Ok(false),
     }
-    Ok(())
 }
 
-#[test]
-fn the_first_row_that_applies_is_the_fault(rt: HostRuntime) -> Result<(), Fail> {
-    let alloc = rt.alloc();
-    let directory = directory(alloc, "gamma.example")?;
-    let sealer = sealer_of(alloc, &directory)?;
-    let mut rows = rows();
-    while let [(fault, from, to), further @ ..] = rows {
-        let letter = salve_envelope().replace(alloc, *from, *to)?;
-        has_fault(
-            &rt,
-            alloc,
-            &sealer,
-            &directory,
-            letter.as_str(),
-            *fault,
-            further,
-        )?;
-        // A letter that nobody sealed, whatever else is wrong with it.
-        let unsealed = read_envelope(alloc, &sealer, &directory, letter.as_bytes());
-        assert_eq!(rt; unsealed.err(), Some(Seal));
-        rows = further;
+fn is_salve(view: &EnvelopeView<'_>, original: &[u8]) -> bool {
+    if view.id.provider != 0 || view.id.number != 0 {
+        return false;
     }
-    Ok(())
-}
-
-#[test]
-fn what_no_row_looks_at_is_read(rt: HostRuntime) -> Result<(), Fail> {
-    let alloc = rt.alloc();
-    let directory = directory(alloc, "gamma.example")?;
-    let sealer = sealer_of(alloc, &directory)?;
-    let original = salve().replace(alloc, "\n", "\r\n")?;
-    for (from, to) in passed() {
-        let letter = salve_envelope().replace(alloc, *from, *to)?;
-        let text = sealed(alloc, &sealer, 0, letter.as_str())?;
-        let view = read_envelope(alloc, &sealer, &directory, text.as_slice())?;
-        assert_eq!(rt;
-            view.id,
-            MsgId {
-                provider: 0,
-                number: 0
-            }
-        );
-        assert_eq!(rt; view.moment.seconds(), 1_704_186_000);
-        assert_eq!(rt; view.facts.sender.bytes(), b"alice@alfa.example".as_slice());
-        assert!(rt; view.original == original.as_bytes());
+    if view.moment.seconds() != 1_704_186_000 {
+        return false;
     }
-    Ok(())
+    if view.facts.sender.bytes() != b"alice@alfa.example".as_slice() {
+        return false;
+    }
+    view.original == original
 }
 
 /// The letter with its second and its third part exchanged.
@@ -270,50 +326,22 @@ fn exchanged(alloc: Global, letter: &str) -> Result<String, Fail> {
         .split_once("--=_pec_0\nContent-Type: app")
         .ok_or("a certificate")?;
     let (certificate, _) = certificate.split_once("--=_pec_0--").ok_or("an end")?;
-    Ok(format!(in alloc;
-        "{front}--=_pec_0\nContent-Type: app{certificate}--=_pec_0\nContent-Type: message{message}--=_pec_0--\n"
-    )?)
+    let pieces = [
+        front,
+        "--=_pec_0\nContent-Type: app",
+        certificate,
+        "--=_pec_0\nContent-Type: message",
+        message,
+        "--=_pec_0--\n",
+    ];
+    Ok(joined(alloc, &pieces)?)
 }
 
-/// Letters that a stranger makes of one of ours: under its seal with other bytes behind it, and with its seal line twice. What is sealed
-/// by us in the same form is another thing.
-#[test]
-fn a_seal_is_of_the_bytes_behind_it(rt: HostRuntime) -> Result<(), Fail> {
-    let alloc = rt.alloc();
-    let directory = directory(alloc, "gamma.example")?;
-    let sealer = sealer_of(alloc, &directory)?;
-    let exchanged = exchanged(alloc, salve_envelope())?;
-    assert_eq!(rt;
-        fault_of(alloc, &sealer, &directory, 0, exchanged.as_str())?,
-        None
-    );
-    let text = sealed(alloc, &sealer, 0, salve_envelope())?;
-    let text = std::str::from_utf8(text.as_slice())?;
-    let (line, _) = text.split_once("\r\n").ok_or("a line")?;
-    for letter in [salve_envelope(), exchanged.as_str(), text] {
-        let other = format!(in alloc; "{line}\r\n{letter}")?;
-        let read = read_envelope(alloc, &sealer, &directory, other.as_bytes());
-        assert_eq!(rt; read.err(), Some(Seal));
+/// The pieces, one behind the other.
+fn joined(alloc: Global, pieces: &[&str]) -> Result<String, AllocError> {
+    let mut text = String::new(alloc);
+    for piece in pieces {
+        text.push_str(piece)?;
     }
-    Ok(())
-}
-
-/// The provider of the message seals it, by its own name; and an original whose head doesn't read has no facts.
-#[test]
-fn no_other_provider_and_no_line_too_long(rt: HostRuntime) -> Result<(), Fail> {
-    let alloc = rt.alloc();
-    let directory = directory(alloc, "gamma.example")?;
-    let sealer = sealer_of(alloc, &directory)?;
-    let letter = salve_envelope().replace(alloc, "emittente>alfa<", "emittente>beta<")?;
-    assert_eq!(rt;
-        fault_of(alloc, &sealer, &directory, 1, letter.as_str())?,
-        Some(Disagree(Sealed))
-    );
-    let long = "x".repeat(alloc, 10_000)?;
-    let letter = salve_envelope().replace(alloc, "Ciao\n\nSalve", long.as_str())?;
-    assert_eq!(rt;
-        fault_of(alloc, &sealer, &directory, 0, letter.as_str())?,
-        Some(Disagree(Sender))
-    );
-    Ok(())
+    Ok(text)
 }

@@ -9,6 +9,10 @@ Subject: Ciao
 Salve
 "#;
 
+/// The seal line of its envelope, by another implementation of HMAC-SHA-256.
+pub(crate) const SALVE_SEAL: &str =
+    "X-Sigillo: alfa; YmmApmIDuSf74bl4tN6/rTDx8rhbG+0MDPrRwNmeEs4=\r\n";
+
 /// Its envelope, without its seal: it was accepted at 1704186000.
 pub(crate) const SALVE_ENVELOPE: &str = r#"X-Trasporto: posta-certificata
 X-TipoRicevuta: completa

@@ -4,13 +4,13 @@ use crate::texts::{
     ACCEPTANCE, ACKNOWLEDGEMENT, CHARGE, DELAY, DELIVERY, ERROR, REFUSAL, WHOLE, worded,
 };
 use pec_directory::Directory;
-use pec_letters_tests::{directory, sealer_of};
+use pec_house::sealer_of;
+use pec_letters_tests::{directory, sealed};
 use pec_receipts::read;
-use pec_seal::{HmacSealer, Sealer, seal};
+use pec_seal::HmacSealer;
 use pec_types::Disputed::{Identifier, Moment, Recipient, Sealer as Sealed, Sender, Wish};
 use pec_types::LetterFault::{self, Body, Cert, Disagree, Head, NotThis, Seal};
-use std::alloc::Global;
-use std::process::Abort;
+use std::alloc::{AllocError, Global};
 use std::test::Fail;
 
 /// A fault with what is changed in a letter: everywhere that stands in the place of this.
@@ -267,116 +267,123 @@ fn passed() -> &'static [(Letter, &'static str, &'static str)] {
     &PASSED
 }
 
-/// Why a letter that a provider sealed is no receipt.
-fn fault_of(
-    alloc: Global,
-    sealer: &HmacSealer,
-    directory: &Directory,
-    provider: u32,
-    letter: &str,
-) -> Result<Option<LetterFault>, Fail> {
-    let letter = letter.replace(alloc, "\n", "\r\n")?;
-    if sealer.name(provider).is_none() {
-        return Err(Fail::new("no such provider"));
-    }
-    let text = seal(alloc, sealer, provider, letter.as_bytes())?;
-    Ok(read(alloc, sealer, directory, text.as_slice()).err())
-}
-
-/// The letter has this fault, also where a further row applies to it.
-fn has_fault(
-    rt: &impl Abort,
-    alloc: Global,
-    sealer: &HmacSealer,
-    directory: &Directory,
-    provider: u32,
-    letter: &str,
-    fault: LetterFault,
-    further: &[Row],
-) -> Result<(), Fail> {
-    assert_eq!(rt;
-        fault_of(alloc, sealer, directory, provider, letter)?,
-        Some(fault)
-    );
-    for (_, from, to) in further {
-        let letter = letter.replace(alloc, *from, *to)?;
-        assert_eq!(rt;
-            fault_of(alloc, sealer, directory, provider, letter.as_str())?,
-            Some(fault)
-        );
-    }
-    Ok(())
-}
-
-/// Each row is the fault of the letter to which it applies, and of all to which a later one applies too; unsealed, none is a letter.
-fn have_faults(rt: &impl Abort, alloc: Global, letter: Letter, rows: &[Row]) -> Result<(), Fail> {
-    let directory = directory(alloc, "gamma.example")?;
-    let sealer = sealer_of(alloc, &directory)?;
-    let (text, words, provider) = letter;
-    let whole = worded(alloc, text, "bob@beta.example", words)?;
-    let mut rows = rows;
-    while let [(fault, from, to), further @ ..] = rows {
-        let letter = whole.replace(alloc, *from, *to)?;
-        has_fault(
-            rt,
-            alloc,
-            &sealer,
-            &directory,
-            provider,
-            letter.as_str(),
-            *fault,
-            further,
-        )?;
-        let unsealed = read(alloc, &sealer, &directory, letter.as_bytes());
-        assert_eq!(rt; unsealed.err(), Some(Seal));
-        rows = further;
-    }
-    Ok(())
-}
-
 #[test]
 fn the_first_row_that_applies_is_the_fault(rt: HostRuntime) -> Result<(), Fail> {
+    let directory = directory(rt.alloc(), "gamma.example")?;
+    let sealer = sealer_of(rt.alloc(), &directory)?;
     let (letter, rows) = delivered();
-    have_faults(&rt, rt.alloc(), letter, rows)?;
+    assert!(rt; have_faults(rt.alloc(), &sealer, &directory, &letter, rows)?);
     let (letter, rows) = acknowledged();
-    have_faults(&rt, rt.alloc(), letter, rows)?;
+    assert!(rt; have_faults(rt.alloc(), &sealer, &directory, &letter, rows)?);
     for (letter, row) in others() {
-        have_faults(&rt, rt.alloc(), *letter, &[*row])?;
+        assert!(rt; have_faults(rt.alloc(), &sealer, &directory, letter, &[*row])?);
     }
     Ok(())
 }
 
 #[test]
-fn who_may_seal_a_letter(rt: HostRuntime) -> Result<(), Fail> {
-    let alloc = rt.alloc();
-    let directory = directory(alloc, "gamma.example")?;
-    let sealer = sealer_of(alloc, &directory)?;
-    for (text, words, _) in elsewhere() {
-        let letter = worded(alloc, *text, "bob@beta.example", *words)?;
-        let letter = letter.replace(alloc, "emittente>alfa<", "emittente>beta<")?;
-        let fault = fault_of(alloc, &sealer, &directory, 1, letter.as_str())?;
-        assert_eq!(rt; fault, Some(Disagree(Sealed)));
+fn a_letter_that_the_messages_provider_alone_may_seal_is_sealed_by_no_other(
+    rt: HostRuntime,
+) -> Result<(), Fail> {
+    let directory = directory(rt.alloc(), "gamma.example")?;
+    let sealer = sealer_of(rt.alloc(), &directory)?;
+    for letter in elsewhere() {
+        let text = edited(rt.alloc(), letter, "emittente>alfa<", "emittente>beta<")?;
+        let fault = fault_of(rt.alloc(), &sealer, &directory, 1, text.as_str())?;
+        assert!(rt; fault == Some(Disagree(Sealed)));
     }
-    // Any provider acknowledges.
-    let ((text, words, _), _) = acknowledged();
-    let letter = worded(alloc, text, "bob@beta.example", words)?;
-    let fault = fault_of(alloc, &sealer, &directory, 2, letter.as_str())?;
-    assert_eq!(rt; fault, None);
+    Ok(())
+}
+
+#[test]
+fn any_provider_acknowledges(rt: HostRuntime) -> Result<(), Fail> {
+    let directory = directory(rt.alloc(), "gamma.example")?;
+    let sealer = sealer_of(rt.alloc(), &directory)?;
+    let text = whole(rt.alloc(), &acknowledged().0)?;
+    assert!(rt; fault_of(rt.alloc(), &sealer, &directory, 2, text.as_str())?.is_none());
     Ok(())
 }
 
 #[test]
 fn what_no_row_looks_at_is_read(rt: HostRuntime) -> Result<(), Fail> {
-    let alloc = rt.alloc();
-    let directory = directory(alloc, "gamma.example")?;
-    let sealer = sealer_of(alloc, &directory)?;
-    for ((text, words, provider), from, to) in passed() {
-        let letter = worded(alloc, *text, "bob@beta.example", *words)?;
-        let letter = letter.replace(alloc, *from, *to)?;
-        assert_eq!(rt;
-            fault_of(alloc, &sealer, &directory, *provider, letter.as_str())?,
-            None
-        );
+    let directory = directory(rt.alloc(), "gamma.example")?;
+    let sealer = sealer_of(rt.alloc(), &directory)?;
+    for (letter, from, to) in passed() {
+        let text = edited(rt.alloc(), letter, *from, *to)?;
+        assert!(rt; fault_of(rt.alloc(), &sealer, &directory, letter.2, text.as_str())?.is_none());
     }
     Ok(())
+}
+
+/// Whether each row is the fault of the letter to which it applies, and of all to which a later one applies too; unsealed, none is a letter.
+fn have_faults(
+    alloc: Global,
+    sealer: &HmacSealer,
+    directory: &Directory,
+    letter: &Letter,
+    rows: &[Row],
+) -> Result<bool, Fail> {
+    for (place, (fault, from, to)) in rows.iter().enumerate() {
+        let text = edited(alloc, letter, *from, *to)?;
+        let by = letter.2;
+        let sealed = keeps_fault(
+            alloc,
+            sealer,
+            directory,
+            by,
+            text.as_str(),
+            *fault,
+            &rows[place..],
+        )?;
+        if !sealed || !is_unsealed(alloc, sealer, directory, text.as_str()) {
+            return Ok(false);
+        }
+    }
+    Ok(true)
+}
+
+/// Whether the letter of this provider, to which the first of the rows applies, has this fault, also where a further row applies to it.
+fn keeps_fault(
+    alloc: Global,
+    sealer: &HmacSealer,
+    directory: &Directory,
+    by: u32,
+    letter: &str,
+    fault: LetterFault,
+    rows: &[Row],
+) -> Result<bool, Fail> {
+    for (_, from, to) in rows.iter().skip(1) {
+        let further = letter.replace(alloc, *from, *to)?;
+        if fault_of(alloc, sealer, directory, by, further.as_str())? != Some(fault) {
+            return Ok(false);
+        }
+    }
+    Ok(fault_of(alloc, sealer, directory, by, letter)? == Some(fault))
+}
+
+/// Why a letter that a provider sealed is no receipt.
+fn fault_of(
+    alloc: Global,
+    sealer: &HmacSealer,
+    directory: &Directory,
+    by: u32,
+    letter: &str,
+) -> Result<Option<LetterFault>, Fail> {
+    let text = sealed(alloc, sealer, by, letter)?;
+    Ok(read(alloc, sealer, directory, text.as_slice()).err())
+}
+
+/// Whether nobody sealed a text.
+fn is_unsealed(alloc: Global, sealer: &HmacSealer, directory: &Directory, text: &str) -> bool {
+    matches!(read(alloc, sealer, directory, text.as_bytes()), Err(Seal))
+}
+
+/// The text of a letter, where this stands everywhere in the place of that.
+fn edited(alloc: Global, letter: &Letter, from: &str, to: &str) -> Result<String, AllocError> {
+    let text = whole(alloc, letter)?;
+    text.replace(alloc, from, to)
+}
+
+fn whole(alloc: Global, letter: &Letter) -> Result<String, AllocError> {
+    worded(alloc, letter.0, "bob@beta.example", letter.1)
 }

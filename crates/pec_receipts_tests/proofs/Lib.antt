@@ -1,1 +1,0 @@
--- No lemmas: the functions of tests need measures alone.
