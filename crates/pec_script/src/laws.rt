@@ -1,4 +1,4 @@
-ghost use Rattle.std.specs.Prelude.{◌≡◌, ℕ, ◌<◌, ◌^◌, List, length};
+ghost use Rattle.std.specs.Prelude.{◌≡◌, ℕ, ◌<◌, ◌^◌, List, ◌++◌, length};
 ghost use Rattle.std.specs.List.{AllByRecursion};
 ghost use Rattle.pec_directory.specs.Directory.{Provider};
 ghost use Rattle.pec_directory.specs.Lawful.{IsLawful};
@@ -14,6 +14,7 @@ ghost use Rattle.pec_types.specs.declared.turns.Submitted.{Submitted};
 ghost use Rattle.pec_script.specs.declared.faults.LineFault.{LineFault};
 ghost use Rattle.pec_script.specs.Lines.{IsCommand, IsLineFault};
 ghost use Rattle.pec_script.specs.LinesReading.{command_of};
+ghost use Rattle.pec_script.specs.Pages.{text_after};
 ghost use Rattle.pec_script.specs.Printed.{AreAlike, AreSameEvents, IsBookLine, IsEvent, IsItemLine, IsLineRefusal, IsMark, IsNamed, IsRefusal, IsSubmitted};
 ghost use Rattle.pec_script.specs.Rows.{AreRows};
 ghost use Rattle.pec_script.specs.Texts.{Row, book_text, event_words, fault_text, id_of, items_text, marks_text, refused_text, submitted_text, text_of};
@@ -32,6 +33,11 @@ pub fn a_line_has_one_reading()
     a_path_has_one_reading();
     a_text_is_cut_in_one_way();
 }
+
+/// Lines that are put behind a text, word by word, are the text of these lines behind it.
+pub fn lines_are_put_in_their_order()
+    ensures { (text : Bytes) (rows : List Row) → text_after text rows ≡ text ++ text_of rows }
+{}
 
 /// A text of lines is made of one list of lines, each of one list of words, where no word has a space or a line feed.
 pub fn a_text_has_one_list_of_lines()

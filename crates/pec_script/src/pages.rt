@@ -5,14 +5,15 @@ ghost use Rattle.pec_script.specs.Pages.{line_after};
 use pec_types::NoMemory;
 use std::alloc::Global;
 
-/// Text that grows at its end, line by line: a line is begun with its first word, and ended behind its last.
+/// Text that grows at its end, line by line: a line is begun with its first word, and ended behind its last. This project's
+/// profile.
 #[derive(Drop)]
-pub(crate) struct Page {
-    pub(crate) text: Vec<u8>,
+pub struct Page {
+    pub text: Vec<u8>,
 }
 
 impl Page {
-    pub(crate) fn new(alloc: Global) -> Page
+    pub fn new(alloc: Global) -> Page
         ensures { result.text.items ≡ [] }
     {
         Page {
@@ -21,7 +22,7 @@ impl Page {
     }
 
     /// Adds the first word of a line.
-    pub(crate) fn begin(mut self, word: &[u8]) -> Result<Page, NoMemory>
+    pub fn begin(mut self, word: &[u8]) -> Result<Page, NoMemory>
         ensures { IfOk result (λ page. page.text.items ≡ self.text.items ++ word.now) }
     {
         self.text.extend_from_slice(word)?;
@@ -29,7 +30,7 @@ impl Page {
     }
 
     /// Adds a space and a further word.
-    pub(crate) fn word(self, word: &[u8]) -> Result<Page, NoMemory>
+    pub fn word(self, word: &[u8]) -> Result<Page, NoMemory>
         ensures { IfOk result (λ page. page.text.items ≡ self.text.items ++ codes " " ++ word.now) }
     {
         let page = self.begin(b" ")?.begin(word)?;
@@ -37,7 +38,7 @@ impl Page {
     }
 
     /// Adds a space and a number in decimal.
-    pub(crate) fn number(self, number: u64) -> Result<Page, NoMemory>
+    pub fn number(self, number: u64) -> Result<Page, NoMemory>
         ensures { IfOk result (λ page. page.text.items ≡ self.text.items ++ codes " " ++ decimal number) }
     {
         let mut buffer = itoa::Buffer::new();
@@ -47,7 +48,7 @@ impl Page {
     }
 
     /// Ends the line.
-    pub(crate) fn end(self) -> Result<Page, NoMemory>
+    pub fn end(self) -> Result<Page, NoMemory>
         ensures { IfOk result (λ page. page.text.items ≡ self.text.items ++ codes "\n") }
     {
         let page = self.begin(b"\n")?;
@@ -55,7 +56,7 @@ impl Page {
     }
 
     /// Adds a line of this word alone.
-    pub(crate) fn word_line(self, word: &[u8]) -> Result<Page, NoMemory>
+    pub fn word_line(self, word: &[u8]) -> Result<Page, NoMemory>
         ensures { IfOk result (λ page. page.text.items ≡ line_after self.text.items (word.now ∷ [])) }
     {
         let page = self.begin(word)?.end()?;
@@ -63,7 +64,7 @@ impl Page {
     }
 
     /// Adds a line of this word and a number.
-    pub(crate) fn count_line(self, word: &[u8], count: usize) -> Result<Page, NoMemory>
+    pub fn count_line(self, word: &[u8], count: usize) -> Result<Page, NoMemory>
         ensures { IfOk result (λ page. page.text.items ≡ line_after self.text.items (word.now ∷ decimal count ∷ [])) }
     {
         let page = self.begin(word)?.number(count as u64)?.end()?;
