@@ -1,0 +1,6 @@
+mod FindingLemmas
+mod LineLemmas
+mod OpeningLemmas
+mod PartsLemmas
+mod PieceLemmas
+mod TextLemmas

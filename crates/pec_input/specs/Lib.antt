@@ -1,0 +1,7 @@
+pub mod Directory
+pub mod Faults
+pub mod Finding
+pub mod Lines
+pub mod Opening
+pub mod Parts
+pub mod Pieces
