@@ -1,11 +1,7 @@
--- Lemmas on bytes that flow: reads and writes one after another, and what is written before a fault.
+-- Lemmas on bytes that are written one after another, and before a fault.
 use Rattle.std.proofs.Common.{◌≡◌, ℕ, List, [], ◌++◌, Option, None, Some, Result, Ok, Err, OnErr, refl, sym, ap, ◌∙◌, append_assoc}
 use Rattle.std.proofs.lemmas.List.{append-nil}
-use Rattle.pec_outside.specs.Flow.{behind, followed_by, Wrote, WrotePart}
-
-pub behind-append : (a b : List ℕ) (o : Option (List ℕ)) → behind a (behind b o) ≡ behind (a ++ b) o
-behind-append a b None = refl
-behind-append a b (Some rest) = ap Some (sym (append_assoc a b rest))
+use Rattle.pec_outside.specs.Flow.{followed_by, Wrote, WrotePart}
 
 pub followed_by-append : (o : Option (List ℕ)) (a b : List ℕ) → followed_by (followed_by o a) b ≡ followed_by o (a ++ b)
 followed_by-append None a b = refl

@@ -1,8 +1,6 @@
 mod FlowLemmas
-mod InputLaws
 mod LedgerLaws
 mod LineGrammarLaws
-mod LineLaws
 mod NumberLaws
 mod OpeningLaws
 mod PathGrammarLaws
@@ -10,6 +8,5 @@ mod PathLaws
 mod PlayLaws
 mod RunLaws
 mod ScriptLaws
-mod TextLaws
 mod WholeLaws
 mod WordLaws

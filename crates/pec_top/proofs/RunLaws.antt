@@ -1,76 +1,17 @@
--- One line more of the input, and what the run comes to.
-use Rattle.std.proofs.Common.{◌≡◌, ℕ, ◌+◌, ◌<◌, ◌⊎◌, Bool, true, false, cond, ltb, ◌||◌, List, [], ◌∷◌, ◌++◌, length, Option, Some, None, option_map, IfSome, codes, refl, sym, ◌∙◌, ap, subst, arith, append_assoc, append-nil, lt-ltb, length-append}
-use Rattle.std.proofs.lemmas.Slice.Eq.{bytes_eq-Decides}
+-- One line more of the script, and what the run comes to.
+use Rattle.std.proofs.Common.{◌≡◌, ℕ, ◌+◌, ◌<◌, Bool, true, false, cond, ltb, ◌||◌, List, [], ◌++◌, length, Option, Some, None, option_map, IfSome, refl, sym, ◌∙◌, ap, subst, append-nil, lt-ltb}
 use Rattle.pec_outside.specs.Flow.{behind, followed_by, WrotePart}
 use Rattle.pec_top.proofs.FlowLemmas.{wrote_nothing, wrote_more, wrote_part, wrote_last}
 use Rattle.pec_directory.specs.Directory.{Provider}
-use Rattle.pec_top.specs.Input.{IsAtEnd, IsEnded, IsFound}
-use Rattle.pec_top.specs.Lines.{raw_lines, content_of, HasNoEnd}
-use Rattle.pec_top.specs.Run.{parts_left, script_left, found_turn, Finishes, Stops, Goes}
-use Rattle.pec_top.specs.Transcript.{Outcome, Next, goes_on, ends, Turn, ended, Parts, is_mark, onto_directory, parts_of, directory_bytes, line_bytes, script_lines, from_turn, onto_text, script_from, line_turn, long_turn, too_long_line_text, too_long_script_text}
+use Rattle.pec_input.specs.Finding.{IsAtEnd, IsFound, IsLong, lines_left}
+use Rattle.pec_input.specs.Lines.{raw_lines, content_of}
+use Rattle.pec_input.specs.declared.buffers.Found.{Found}
+use Rattle.pec_input.specs.declared.buffers.Found.TheVariants as found
+use Rattle.pec_top.specs.Run.{script_left, found_turn, Finishes, Stops, Goes}
+use Rattle.pec_top.specs.Transcript.{Outcome, Next, goes_on, ends, Turn, ended, line_bytes, script_lines, from_turn, onto_text, script_from, line_turn, long_turn, too_long_line_text, too_long_script_text}
 use Rattle.pec_top.specs.declared.ending.End.{End}
 use Rattle.pec_top.specs.declared.ending.End.TheVariants.{TooLong}
 use Rattle.pec_top.specs.declared.entries.Entry.{Entry}
-use Rattle.pec_top.specs.declared.input.Found.{Found}
-use Rattle.pec_top.specs.declared.input.Found.TheVariants as found
-use Rattle.pec_top.proofs.LineLaws.{line_there, long_there, said_size}
-
--- Reading the directory.
-
-onto_twice : (front line : List ℕ) (parts : Parts) → onto_directory front (onto_directory line parts) ≡ onto_directory (front ++ line) parts
-onto_twice front line parts = ap (λ d. record { directory = d; script = parts.script }) (sym (append_assoc front line parts.directory))
-
-parts_line : (line : List ℕ) (lines : List (List ℕ)) (x : Bool) → is_mark line ≡ x → parts_of (line ∷ lines) ≡ cond x (record { directory = []; script = Some lines }) (onto_directory line (parts_of lines))
-parts_line line lines x is = ap (λ m. cond m (record { directory = []; script = Some lines }) (onto_directory line (parts_of lines))) is
-
-abbrev IsLine : List ℕ → Option (List ℕ) → Type 0
-IsLine line after = IsEnded line ⊎ (HasNoEnd line × IsAtEnd after)
-
-pub directory_line : (start before after : Option (List ℕ)) (directory line more : List ℕ) → parts_left start ≡ option_map (λ parts. onto_directory directory parts) (parts_left before)
-    → before ≡ behind line after → 0 < length line → IsLine line after → is_mark line ≡ false → more ≡ directory ++ line
-    → parts_left start ≡ option_map (λ parts. onto_directory more parts) (parts_left after)
-directory_line start before None directory line more so_far read some is mark added = so_far ∙ ap (λ o. option_map (λ parts. onto_directory directory parts) (parts_left o)) read
-directory_line start before (Some rest) directory line more so_far read some is mark added =
-    so_far ∙ (ap (λ o. option_map (λ parts. onto_directory directory parts) (parts_left o)) read
-    ∙ (ap (λ lines. Some (onto_directory directory (parts_of lines))) (line_there line rest some is)
-    ∙ (ap (λ parts. Some (onto_directory directory parts)) (parts_line line (raw_lines rest) false mark)
-    ∙ (ap (λ parts. Some parts) (onto_twice directory line (parts_of (raw_lines rest))) ∙ ap (λ front. Some (onto_directory front (parts_of (raw_lines rest)))) (sym added)))))
-
-pub mark_line : (start before after : Option (List ℕ)) (directory line : List ℕ) → parts_left start ≡ option_map (λ parts. onto_directory directory parts) (parts_left before)
-    → before ≡ behind line after → 0 < length line → IsLine line after → is_mark line ≡ true
-    → parts_left start ≡ option_map (λ rest. record { directory = directory; script = Some (raw_lines rest) }) after
-mark_line start before None directory line so_far read some is mark = so_far ∙ ap (λ o. option_map (λ parts. onto_directory directory parts) (parts_left o)) read
-mark_line start before (Some rest) directory line so_far read some is mark =
-    so_far ∙ (ap (λ o. option_map (λ parts. onto_directory directory parts) (parts_left o)) read
-    ∙ (ap (λ lines. Some (onto_directory directory (parts_of lines))) (line_there line rest some is)
-    ∙ (ap (λ parts. Some (onto_directory directory parts)) (parts_line line (raw_lines rest) true mark)
-    ∙ ap (λ front. Some (record { directory = front; script = Some (raw_lines rest) })) (append-nil directory))))
-
-mark_size : (line : List ℕ) → 4 < length line → is_mark line ≡ false
-mark_size line long = by_test (is_mark line) refl
-  where
-    by_test : (x : Bool) → is_mark line ≡ x → x ≡ false
-    by_test false is = refl
-    by_test true is = let same : content_of line ≡ codes "%%" = (bytes_eq-Decides (content_of line) (codes "%%")).0 is in let size : length (content_of line) ≡ 2 = ap (λ x. length x) same in let h : ⊥ = omega (arith, said_size line) in absurd h
-
-long_parts : (directory first : List ℕ) (more : List (List ℕ)) → directory_bytes + 2 < length first → directory_bytes < length (onto_directory directory (parts_of (first ∷ more))).directory
-long_parts directory first more long =
-    let mark : is_mark first ≡ false = mark_size first (omega arith) in
-    let whole : length (directory ++ (first ++ (parts_of more).directory)) ≡ length directory + (length first + length (parts_of more).directory) =
-    length-append directory (first ++ (parts_of more).directory) ∙ ap (λ n. length directory + n) (length-append first (parts_of more).directory) in
-    subst (λ (parts : Parts). directory_bytes < length (onto_directory directory parts).directory) (sym (parts_line first more false mark)) (omega (arith, whole))
-
-pub long_line : (start before after : Option (List ℕ)) (directory line : List ℕ) → parts_left start ≡ option_map (λ parts. onto_directory directory parts) (parts_left before)
-    → before ≡ behind line after → directory_bytes + 2 < length line → IsEnded line ⊎ HasNoEnd line → IfSome (parts_left start) (λ parts. directory_bytes < length parts.directory)
-long_line start before None directory line so_far read long is =
-    subst (λ o. IfSome o (λ parts. directory_bytes < length parts.directory)) (sym (so_far ∙ ap (λ o. option_map (λ parts. onto_directory directory parts) (parts_left o)) read)) tt
-long_line start before (Some rest) directory line so_far read long is =
-    let first = long_there line rest (omega arith) is in
-    subst (λ o. IfSome o (λ parts. directory_bytes < length parts.directory))
-    (sym (so_far ∙ (ap (λ o. option_map (λ parts. onto_directory directory parts) (parts_left o)) read ∙ ap (λ lines. Some (onto_directory directory (parts_of lines))) first.are)))
-    (long_parts directory first.first first.more (omega (arith, first.long)))
-
--- A script.
 
 abbrev leads_to : Turn → (List (List Entry) → Outcome) → Outcome
 leads_to turn f = from_turn turn.text turn.next f
@@ -88,27 +29,30 @@ or_true : (a b : Bool) → b ≡ true → (a || b) ≡ true
 or_true true b e = refl
 or_true false b e = e
 
-long_is : (providers : List Provider) (ledgers : List (List Entry)) (number : ℕ) (line : List ℕ) → line_bytes + 2 < length line → line_turn providers ledgers number line ≡ long_turn number
+long_is : (providers : List Provider) (ledgers : List (List Entry)) (number : ℕ) (line : List ℕ) → line_bytes < length (content_of line) → line_turn providers ledgers number line ≡ long_turn number
 unfolding line_turn
 long_is providers ledgers number line long =
-    let over : line_bytes < length (content_of line) = omega (arith, said_size line) in
-    rw (or_true (ltb script_lines number) (ltb line_bytes (length (content_of line))) (lt-ltb line_bytes (length (content_of line)) over)) refl
+    rw (or_true (ltb script_lines number) (ltb line_bytes (length (content_of line))) (lt-ltb line_bytes (length (content_of line)) long)) refl
 
 abbrev led : List Provider → ℕ → Turn → Option (List ℕ) → Option Outcome
 led providers number turn after = option_map (λ rest. from_turn turn.text turn.next (λ ledgers. script_from providers ledgers (number + 1) (raw_lines rest))) after
 
-pub found_leads : (providers : List Provider) (ledgers : List (List Entry)) (number : ℕ) (what : Found) (line : List ℕ) (before after : Option (List ℕ)) → before ≡ behind line after → IsFound (line_bytes + 2) what line after
+-- what the lines that are left come to
+abbrev from_lines : List Provider → List (List Entry) → ℕ → Option (List (List ℕ)) → Option Outcome
+from_lines providers ledgers number found = option_map (λ lines. script_from providers ledgers number lines) found
+
+pub found_leads : (providers : List Provider) (ledgers : List (List Entry)) (number : ℕ) (what : Found) (line : List ℕ) (before after : Option (List ℕ)) → before ≡ behind line after → IsFound line_bytes what line before after
     → script_left providers ledgers number before ≡ led providers number (found_turn providers ledgers number what line) after
 found_leads providers ledgers number what line before None read is = ap (λ o. script_left providers ledgers number o) read
 found_leads providers ledgers number found.End line before (Some rest) read is =
-    ap (λ o. script_left providers ledgers number o) (read ∙ (ap (λ l. Some (l ++ rest)) is.0 ∙ ap (λ r. Some r) is.1))
-found_leads providers ledgers number found.Line line before (Some rest) read is =
-    ap (λ o. script_left providers ledgers number o) read ∙ ap (λ lines. Some (script_from providers ledgers number lines)) (line_there line rest is.1 is.2)
+    ap (λ o. script_left providers ledgers number o) read
+    ∙ ap (λ text. Some (script_from providers ledgers number (raw_lines text))) (subst (λ o. IsAtEnd o) read is.1)
+found_leads providers ledgers number found.Line line before (Some rest) read is = ap (from_lines providers ledgers number) is.2
 found_leads providers ledgers number found.Long line before (Some rest) read is =
-    let first = long_there line rest (omega (arith, is.0)) is.1 in
+    let first = subst (λ o. IfSome (lines_left o) (λ lines. IsLong line_bytes lines)) read is in
     ap (λ o. script_left providers ledgers number o) read
     ∙ (ap (λ lines. Some (script_from providers ledgers number lines)) first.are
-    ∙ (ap (λ (t : Turn). Some (from_turn t.text t.next (λ es. script_from providers es (number + 1) first.more))) (long_is providers ledgers number first.first (omega (arith, is.0, first.long)))
+    ∙ (ap (λ (t : Turn). Some (from_turn t.text t.next (λ es. script_from providers es (number + 1) first.more))) (long_is providers ledgers number first.first first.long)
     ∙ ap (λ o. Some o) (ends_alike number (λ es. script_from providers es (number + 1) first.more) (λ es. script_from providers es (number + 1) (raw_lines rest)))))
 
 -- what a turn writes is a front of what it leads to
@@ -176,7 +120,7 @@ ends_here (Some whole) now before middle after providers number turn end unread 
     ends_in whole now before middle after providers number turn.text end unread goes
     (leads ∙ ap (λ n. option_map (λ rest. from_turn turn.text n (λ es. script_from providers es (number + 1) (raw_lines rest))) unread) next) written
 
-pub turn_leads : (providers : List Provider) (ledgers : List (List Entry)) (number : ℕ) (what : Found) (line said : List ℕ) (before after : Option (List ℕ)) (turn : Turn) → before ≡ behind line after → IsFound (line_bytes + 2) what line after
+pub turn_leads : (providers : List Provider) (ledgers : List (List Entry)) (number : ℕ) (what : Found) (line said : List ℕ) (before after : Option (List ℕ)) (turn : Turn) → before ≡ behind line after → IsFound line_bytes what line before after
     → said ≡ line → turn ≡ found_turn providers ledgers number what said → script_left providers ledgers number before ≡ led providers number turn after
 turn_leads providers ledgers number what line said before after turn read is same turns =
     found_leads providers ledgers number what line before after read is ∙ ap (λ t. led providers number t after) (sym (turns ∙ ap (λ l. found_turn providers ledgers number what l) same))
@@ -184,5 +128,5 @@ turn_leads providers ledgers number what line said before after turn read is sam
 pub part_as : (before after : Option (List ℕ)) (bytes text : List ℕ) → bytes ≡ text → WrotePart before after bytes → WrotePart before after text
 part_as before after bytes text same part = subst (λ b. WrotePart before after b) same part
 
-pub all_read : (what : Found) (line : List ℕ) (most : ℕ) (rest : Option (List ℕ)) → what ≡ found.End → IsFound most what line rest → IsAtEnd rest
-all_read what line most rest same is = (subst (λ w. IsFound most w line rest) same is).1
+pub all_read : (what : Found) (line : List ℕ) (most : ℕ) (before rest : Option (List ℕ)) → what ≡ found.End → IsFound most what line before rest → IsAtEnd rest
+all_read what line most before rest same is = (subst (λ w. IsFound most w line before rest) same is).2

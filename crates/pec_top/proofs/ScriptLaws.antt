@@ -3,7 +3,7 @@ use Rattle.std.proofs.Common.{◌≡◌, ℕ, ◌+◌, Bool, true, false, ◌||�
 use Rattle.std.proofs.lemmas.Bool.{le-ltb, lt-ltb, ltb-false, ltb-true}
 use Rattle.pec_top.specs.Commands.{Command, command_of}
 use Rattle.pec_directory.specs.Directory.{Provider}
-use Rattle.pec_top.specs.Lines.{content_of}
+use Rattle.pec_input.specs.Lines.{content_of}
 use Rattle.pec_top.specs.Play.{played}
 use Rattle.pec_top.specs.Script.{PlaysScript, over, too_many, too_long, passed_over, refused, plays}
 use Rattle.pec_top.specs.Transcript.{Outcome, Turn, command_turn, content_turn, ended, from_turn, goes_on, is_passed_over, line_bytes, line_turn, long_turn, onto_text, script_from, script_lines, too_long_line_text, too_long_script_text}

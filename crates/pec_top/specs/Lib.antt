@@ -1,12 +1,8 @@
 pub mod Booking
 pub mod Commands
-pub mod Directory
 pub mod Ending
-pub mod Faults
-pub mod Input
 pub mod Ledger
 pub mod LineGrammar
-pub mod Lines
 pub mod Numbers
 pub mod Paths
 pub mod Play

@@ -1,33 +1,20 @@
 -- What is left of the input, and what a run does with it: the words of the contracts of its parts.
-use Rattle.std.specs.Prelude.{◌≡◌, ℕ, ◌<◌, ◌≤◌, List, [], length, Option, Some, None, option_map, IfSome, Result, IsErrOf}
+use Rattle.std.specs.Prelude.{◌≡◌, ℕ, ◌≤◌, List, [], Option, Some, None, option_map, IfSome, Result, IsErrOf}
 use Rattle.pec_outside.specs.Flow.{followed_by, HasRisen, Wrote, WrotePart}
 use Rattle.pec_directory.specs.Directory.{Provider}
-use Rattle.pec_top.specs.Lines.{raw_lines}
-use Rattle.pec_top.specs.Transcript.{Outcome, Turn, Parts, ended, directory_bytes, line_turn, long_turn, parts_of, script_from}
+use Rattle.pec_input.specs.Finding.{lines_left}
+use Rattle.pec_input.specs.declared.buffers.Found.{Found}
+use Rattle.pec_input.specs.declared.buffers.Found.TheVariants as found
+use Rattle.pec_top.specs.Transcript.{Outcome, Turn, ended, line_turn, long_turn, script_from}
 use Rattle.pec_top.specs.declared.ending.End.{End}
 use Rattle.pec_top.specs.declared.ending.End.TheVariants.{Done}
 use Rattle.pec_top.specs.declared.ending.Stop.{Stop}
 use Rattle.pec_top.specs.declared.ending.Stop.TheVariants as stops
 use Rattle.pec_top.specs.declared.entries.Entry.{Entry}
-use Rattle.pec_top.specs.declared.input.Found.{Found}
-use Rattle.pec_top.specs.declared.input.Found.TheVariants as found
-use Rattle.pec_top.specs.declared.opening.Opening.{Opening}
-use Rattle.pec_top.specs.declared.opening.Opening.TheVariants.{Script, NoScript, TooLong}
-
--- the parts of what is left to read
-abbrev pub parts_left : Option (List ℕ) → Option Parts
-parts_left unread = option_map (λ text. parts_of (raw_lines text)) unread
-
--- What reading a directory gives, from what there was to read to what is left.
-abbrev pub Opens : Opening → Option (List ℕ) → Option (List ℕ) → Type 0
-Opens (Script directory) before after = (length directory.items ≤ directory_bytes)
-    × (parts_left before ≡ option_map (λ rest. record { directory = directory.items; script = Some (raw_lines rest) }) after)
-Opens NoScript before after = IfSome (parts_left before) (λ parts. (length parts.directory ≤ directory_bytes) × (parts.script ≡ None))
-Opens TooLong before after = IfSome (parts_left before) (λ parts. directory_bytes < length parts.directory)
 
 -- what the script that is left comes to, from these entries and this number on
 abbrev pub script_left : List Provider → List (List Entry) → ℕ → Option (List ℕ) → Option Outcome
-script_left providers ledgers number unread = option_map (λ text. script_from providers ledgers number (raw_lines text)) unread
+script_left providers ledgers number unread = option_map (λ lines. script_from providers ledgers number lines) (lines_left unread)
 
 -- what is found leads where its line does; the end of the input ends the run
 abbrev pub found_turn : List Provider → List (List Entry) → ℕ → Found → List ℕ → Turn

@@ -2,7 +2,7 @@
 use Rattle.std.specs.Prelude.{◌≡◌, ℕ, ◌+◌, ◌<◌, ◌≤◌, true, false, List, [], ◌∷◌, ◌++◌, length, Some, None}
 use Rattle.pec_top.specs.Commands.{Command, command_of}
 use Rattle.pec_directory.specs.Directory.{Provider}
-use Rattle.pec_top.specs.Lines.{content_of}
+use Rattle.pec_input.specs.Lines.{content_of}
 use Rattle.pec_top.specs.Play.{Plays}
 use Rattle.pec_top.specs.Transcript.{is_passed_over, line_bytes, refused_line_text, script_lines, too_long_line_text, too_long_script_text}
 use Rattle.pec_top.specs.declared.entries.Entry.{Entry}

@@ -4,21 +4,20 @@ use Rattle.std.specs.Prelude.{ℕ, ◌+◌, ◌==◌, Bool, true, false, ◌||�
 use Rattle.std.specs.Fmt.{decimal}
 use Rattle.std.specs.Str.{bytes_eq}
 use Rattle.pec_top.specs.Commands.{Command, command_of}
-use Rattle.pec_top.specs.Directory.{opened_of}
-use Rattle.pec_top.specs.Faults.{refused_directory_text}
 use Rattle.pec_top.specs.Ledger.{no_entries}
 use Rattle.pec_directory.specs.Directory.{Provider}
 use Rattle.pec_directory.specs.declared.faults.DirectoryFault.{DirectoryFault}
-use Rattle.pec_top.specs.Lines.{raw_lines, content_of}
+use Rattle.pec_input.specs.Directory.{directory_in}
+use Rattle.pec_input.specs.Faults.{refused_directory_text}
+use Rattle.pec_input.specs.Lines.{raw_lines, content_of}
+use Rattle.pec_input.specs.Parts.{Parts, parts_of}
+use Rattle.pec_input.specs.declared.opening.TheConstants.{LONGEST_DIRECTORY}
 use Rattle.pec_top.specs.Play.{played}
 use Rattle.pec_top.specs.declared.entries.Entry.{Entry}
 use Rattle.pec_top.specs.declared.ending.End.{End}
 use Rattle.pec_top.specs.declared.ending.End.TheVariants.{Done, Usage, Refused, TooLong}
 
--- The limits: bytes of a directory, lines of a script, bytes of a line without its end.
-abbrev pub directory_bytes : ℕ
-directory_bytes = 1048576
-
+-- The limits: lines of a script, bytes of a line without its end.
 abbrev pub script_lines : ℕ
 script_lines = 1000000
 
@@ -86,31 +85,16 @@ script_from providers ledgers number [] = record { text = []; end = Done }
 script_from providers ledgers number (line ∷ lines) =
     from_turn (line_turn providers ledgers number line).text (line_turn providers ledgers number line).next (λ after. script_from providers after (number + 1) lines)
 
--- The directory is what stands before the first line `%%`, and the script what stands behind it.
-pub record Parts : Type 0 where
-  pub directory : List ℕ
-  pub script : Option (List (List ℕ))
-
-abbrev pub is_mark : List ℕ → Bool
-is_mark line = bytes_eq (content_of line) (codes "%%")
-
-abbrev pub onto_directory : List ℕ → Parts → Parts
-onto_directory front parts = record { directory = front ++ parts.directory; script = parts.script }
-
-abbrev pub parts_of : List (List ℕ) → Parts
-parts_of [] = record { directory = []; script = None }
-parts_of (line ∷ lines) = if is_mark line then record { directory = []; script = Some lines } else onto_directory line (parts_of lines)
-
 abbrev pub opened_outcome : List (List ℕ) → Result (List Provider) DirectoryFault → Outcome
 opened_outcome lines (Err fault) = record { text = refused_directory_text fault; end = Refused }
 opened_outcome lines (Ok providers) = script_from providers (no_entries providers) 1 lines
 
 abbrev pub script_outcome : List ℕ → Option (List (List ℕ)) → Outcome
 script_outcome directory None = record { text = codes "refused no-script\n"; end = Refused }
-script_outcome directory (Some lines) = opened_outcome lines (opened_of directory)
+script_outcome directory (Some lines) = opened_outcome lines (directory_in directory)
 
 unfoldable pub parts_outcome : Parts → Outcome
-parts_outcome parts = if nat_lt directory_bytes (length parts.directory) then record { text = codes "too-long directory\n"; end = TooLong } else script_outcome parts.directory parts.script
+parts_outcome parts = if nat_lt LONGEST_DIRECTORY (length parts.directory) then record { text = codes "too-long directory\n"; end = TooLong } else script_outcome parts.directory parts.script
 
 -- the words of the program are `run` alone
 abbrev pub is_run : List (List ℕ) → Bool

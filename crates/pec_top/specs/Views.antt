@@ -1,14 +1,10 @@
 -- What contracts see of the crate's own types.
-use Rattle.std.specs.Prelude.{ℕ, List, Option, Some, None, Result, Ok, Err}
-use Rattle.pec_directory.specs.Directory.{Provider, providers_of}
-use Rattle.pec_directory.specs.declared.faults.DirectoryFault.{DirectoryFault}
+use Rattle.std.specs.Prelude.{ℕ, List, Option, Some, None}
 use Rattle.pec_top.specs.Commands as commands
 use Rattle.pec_top.specs.Play as play
 use Rattle.pec_top.specs.declared.commands.Command.{Command}
 use Rattle.pec_top.specs.declared.commands.Command.TheVariants.{Submit, Book}
 use Rattle.pec_top.specs.declared.commands.Submission.{Submission}
-use Rattle.pec_top.specs.declared.directory.Opened.{Opened}
-use Rattle.pec_top.specs.declared.directory.Opened.TheVariants.{Opens, Refused}
 use Rattle.pec_top.specs.Transcript as transcript
 use Rattle.pec_top.specs.declared.ending.End.{End}
 use Rattle.pec_top.specs.declared.entries.Entry.{Entry}
@@ -20,10 +16,6 @@ submission_shown s = record { provider = s.provider; moment = s.moment; sender =
 abbrev pub command_shown : Command → commands.Command
 command_shown (Submit s) = commands.submit (submission_shown s)
 command_shown (Book address) = commands.book address
-
-abbrev pub opened_shown : Opened → Result (List Provider) DirectoryFault
-opened_shown (Refused fault) = Err fault
-opened_shown (Opens directory) = Ok (providers_of directory)
 
 abbrev pub played_shown : List ℕ → List (List Entry) → play.Played
 played_shown text after = record { text = text; after = after }

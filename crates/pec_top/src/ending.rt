@@ -2,7 +2,7 @@ ghost use Rattle.pec_top.specs.Ending.{stop_of};
 ghost use Rattle.pec_top.specs.declared.ending.Stop.TheVariants as stops;
 ghost use Rattle.std.specs.Prelude.{◌≡◌};
 
-use crate::input::InputFault;
+use pec_input::InputFault;
 use pec_outside::Failed;
 use pec_types::NoMemory;
 

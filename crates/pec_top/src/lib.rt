@@ -3,16 +3,11 @@
 
 mod booking;
 mod commands;
-mod directory;
 mod ending;
 mod entries;
-mod faults;
-mod input;
 mod ledger;
 mod ledgers;
-mod lines;
 mod numbers;
-mod opening;
 mod paths;
 mod play;
 mod printing;
@@ -25,7 +20,6 @@ mod turns;
 
 pub use commands::a_line_says_one_command;
 pub use ledgers::an_entry_is_its_providers_own;
-pub use lines::lines_are_the_text;
 pub use numbers::numbers_are_read_as_they_are_printed;
 pub use play::a_command_plays_in_one_way;
 pub use script::a_script_plays_in_one_way;

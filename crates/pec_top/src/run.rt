@@ -1,19 +1,17 @@
 ghost use Rattle.std.specs.Prelude.{◌≡◌, ◌≢◌, ◌≤◌, ℕ, List, Some, false, map, string_bytes, IfOk, IfErr, OnErr, IsErrOf, MatchResult};
 ghost use Rattle.pec_outside.specs.Flow.{behind, followed_by, HasRisen, WrotePart};
-ghost use Rattle.pec_top.specs.Directory.{opened_of};
-ghost use Rattle.pec_top.specs.Input.{IsAtEnd};
-ghost use Rattle.pec_top.specs.Lines.{raw_lines};
+ghost use Rattle.pec_input.specs.Directory.{directory_in};
+ghost use Rattle.pec_input.specs.Finding.{IsAtEnd};
+ghost use Rattle.pec_input.specs.Lines.{raw_lines};
+ghost use Rattle.pec_input.specs.Parts.{parts_of};
 ghost use Rattle.pec_top.specs.Run.{BlamesDevices};
 ghost use Rattle.pec_top.specs.Status.{EndsAs};
-ghost use Rattle.pec_top.specs.Transcript.{is_run, opened_outcome, parts_of, parts_outcome, transcript};
+ghost use Rattle.pec_top.specs.Transcript.{is_run, opened_outcome, parts_outcome, transcript};
 ghost use Rattle.pec_top.specs.declared.ending.End.TheVariants.{Done, Usage};
 
-use crate::directory::{Opened, open_directory};
 use crate::ending::{End, Stop};
-use crate::faults::refused_directory_text;
-use crate::input::Buffer;
-use crate::opening::{Opening, read_directory};
 use crate::script::play_script;
+use pec_input::{Buffer, Opened, Opening, open_directory, read_directory, refused_directory_text};
 use pec_outside::{Sink, Source, write_all};
 use std::alloc::Global;
 
@@ -81,8 +79,8 @@ fn run_opened<S: Source, W: Sink>(
     buffer: &mut Buffer,
     out: &mut W,
 ) -> Result<End, Stop>
-    ensures ok { IfOk result (λ end. (text : List ℕ) → behind buffer.old (S.left source.old) ≡ Some text → EndsAs (opened_outcome (raw_lines text) (opened_of directory.now)) (W.held out.old) (W.held out.new) end) }
-    ensures err { OnErr result ((text : List ℕ) → behind buffer.old (S.left source.old) ≡ Some text → WrotePart (W.held out.old) (W.held out.new) (opened_outcome (raw_lines text) (opened_of directory.now)).text) }
+    ensures ok { IfOk result (λ end. (text : List ℕ) → behind buffer.old (S.left source.old) ≡ Some text → EndsAs (opened_outcome (raw_lines text) (directory_in directory.now)) (W.held out.old) (W.held out.new) end) }
+    ensures err { OnErr result ((text : List ℕ) → behind buffer.old (S.left source.old) ≡ Some text → WrotePart (W.held out.old) (W.held out.new) (opened_outcome (raw_lines text) (directory_in directory.now)).text) }
     ensures not_usage { IfOk result (λ end. end ≢ Usage) }
     ensures all_read { IfOk result (λ end. end ≡ Done → IsAtEnd (behind buffer.new (S.left source.new))) }
     ensures blame { BlamesDevices result (S.faults source.old) (S.faults source.new) (W.faults out.old) (W.faults out.new) }

@@ -1,7 +1,7 @@
 ghost use Rattle.std.specs.Prelude.{◌≡◌, ◌≢◌, ◌≤◌, ℕ, List, Some, None, IfOk, OnErr};
 ghost use Rattle.pec_directory.specs.Directory.{Provider, providers_of};
 ghost use Rattle.pec_outside.specs.Flow.{behind};
-ghost use Rattle.pec_top.specs.Input.{IsAtEnd};
+ghost use Rattle.pec_input.specs.Finding.{IsAtEnd};
 ghost use Rattle.pec_top.specs.Ledger.{no_entries};
 ghost use Rattle.pec_top.specs.Run.{BlamesDevices, Finishes, Stops, found_turn, script_left};
 ghost use Rattle.pec_top.specs.Script.{PlaysScript};
@@ -11,10 +11,10 @@ ghost use Rattle.pec_top.specs.declared.ending.End.TheVariants.{Done, Usage};
 ghost use Rattle.pec_top.specs.declared.entries.Entry as entry;
 
 use crate::ending::{End, Stop};
-use crate::input::{Buffer, Found, next_line};
 use crate::ledgers::Ledgers;
 use crate::turns::{LINE_BYTES, Turn, take_line, take_long_line};
 use pec_directory::Directory;
+use pec_input::{Buffer, Found, next_line};
 use pec_outside::{Sink, Source, write_all};
 use pec_types::NoMemory;
 use std::alloc::Global;
@@ -38,7 +38,7 @@ pub(crate) fn play_script<S: Source, W: Sink>(
     let mut number = 1u64;
     'lines: loop {
         line.clear();
-        let found = next_line(source, buffer, &mut line, LINE_BYTES + 2)?;
+        let found = next_line(source, buffer, &mut line, LINE_BYTES)?;
         let turn = take_found(alloc, directory, &mut ledgers, number, found, &line)?;
         write_all(out, &turn.text)?;
         if let Some(end) = turn.end {

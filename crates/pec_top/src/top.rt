@@ -1,6 +1,6 @@
 ghost use Rattle.std.specs.Prelude.{◌≡◌, ◌≤◌, ◌⊎◌, ℕ, List, Some, false, map, string_bytes};
 ghost use Rattle.pec_outside.specs.Flow.{HasRisen};
-ghost use Rattle.pec_top.specs.Input.{IsAtEnd};
+ghost use Rattle.pec_input.specs.Finding.{IsAtEnd};
 ghost use Rattle.pec_top.specs.Status.{Quiet, Tells, status_of};
 ghost use Rattle.pec_top.specs.Transcript.{is_run, transcript};
 

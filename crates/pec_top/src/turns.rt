@@ -7,10 +7,10 @@ ghost use Rattle.pec_top.specs.declared.ending.End.TheVariants.{Done, TooLong, U
 use crate::commands::read_command;
 use crate::ending::End;
 use crate::ledgers::Ledgers;
-use crate::lines::content;
 use crate::play::play;
 use crate::printing::Page;
 use pec_directory::Directory;
+use pec_input::content;
 use pec_types::NoMemory;
 use std::alloc::Global;
 

@@ -1,4 +1,4 @@
-use Rattle.std.proofs.Common.{◌≡◌, ◌+◌, ◌≤◌, Some, None, ◌∙◌, ap, arith, rules}
+use Rattle.std.proofs.Common.{◌≡◌, ◌≤◌, Some, None, ◌∙◌, ap, arith, rules}
 use Rattle.pec_top.proofs.FlowLemmas.{on_err}
 use Rattle.pec_directory.specs.Directory.{providers_of}
 use Rattle.pec_outside.specs.Flow.{followed_by}
@@ -30,7 +30,7 @@ returns-in-Some-clause-ok g c =
 pub returns-in-Some-clause-all_read : goal.returns-in-Some-clause-all_read
 returns-in-Some-clause-all_read g c = λ done.
     let ended : c.in_ok-turn.turn.end ≡ Some c.in-Some.end = search rules in
-    all_read c.in_ok-found.found c.next_line.new.line.items (line_bytes + 2) _ (c.in_ok-turn.ensures.done (ended ∙ ap (λ e. Some e) done)) c.in_ok-found.ensures.found
+    all_read c.in_ok-found.found c.next_line.new.line.items line_bytes _ _ (c.in_ok-turn.ensures.done (ended ∙ ap (λ e. Some e) done)) c.in_ok-found.ensures.found
 
 pub lines-preserved : goal.lines-preserved
 lines-preserved g c =
