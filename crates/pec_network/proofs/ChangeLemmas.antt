@@ -1,0 +1,95 @@
+-- What a call on one provider leaves of a network, by what it leaves of the provider.
+use Rattle.std.proofs.Common.{◌≡◌, ℕ, zero, suc, ◌<◌, ◌≤◌, List, [], ◌∷◌, length, get_or, set, refl, ap, sym, subst, ◌∙◌, arith}
+use Rattle.std.specs.Prelude.{Result}
+use Rattle.std.proofs.lemmas.List.{get_or-set_same}
+use Rattle.pec_types.specs.declared.turns.ProviderFault.{ProviderFault}
+use Rattle.pec_outside.specs.DiskModel.{Sight}
+use Rattle.pec_outside.specs.Flow.{HasRisen}
+use Rattle.pec_directory.specs.Directory.{Kept}
+use Rattle.pec_ledger.specs.Ledger.{Journals}
+use Rattle.pec_ledger.specs.Network.{Site, journal_at, site_at}
+use Rattle.pec_ledger.specs.Trade.{Trade}
+use Rattle.pec_plays.specs.Commands.{Answer, Luck, Played}
+use Rattle.pec_posts.specs.Arrivals.{Waiting, waiting_for}
+use Rattle.pec_chronicle.specs.Carrying.{CarriesOn, NothingMay}
+use Rattle.pec_chronicle.specs.Chronicle.{ChronicleState, Stands}
+use Rattle.pec_provider.specs.Following.{MayFollow}
+use Rattle.pec_provider.specs.Playing.{Plays}
+use Rattle.pec_provider.specs.Provider.{ProviderState, Runs, desk_of, site_of}
+use Rattle.pec_network.specs.Carrying.{AllCarryOn, NoneFalls}
+use Rattle.pec_network.specs.Changing.{HasRisenAt, StandsAt}
+use Rattle.pec_network.specs.Network.{IsOfDirectory, NetworkState, sites_of}
+use Rattle.pec_network.specs.Playing.{IsPlayed}
+use Rattle.pec_network.proofs.ProviderLemmas.{carries_at, falls_at, played_so, whole_at}
+use Rattle.pec_network.proofs.SiteLemmas.{provider_changes, site_is}
+
+-- a number of the directory is one of a provider
+pub number_within : {D S : Type 0} (inside now : NetworkState D S) → inside ≡ now
+    → IsOfDirectory inside.kept inside.providers inside.waiting → (number : ℕ) → number < length now.kept → number < length inside.providers
+number_within {D} {S} inside now view whole number within =
+    let count = whole.count in
+    let same = ap (λ (n : NetworkState D S). length n.kept) view in
+    omega arith
+
+any_default : {X : Type 0} (list : List X) (number : ℕ) (one other : X) → number < length list → get_or list number one ≡ get_or list number other
+any_default [] number one other l = absurd (omega arith)
+any_default (x ∷ xs) zero one other l = refl
+any_default (x ∷ xs) (suc number) one other l = any_default xs number one other (omega arith)
+
+module _ {D : Type 0} (providers : List (ProviderState D)) (number : ℕ) (old new : ProviderState D) (within : number < length providers)
+    (here : old ≡ get_or providers number old) where
+  pub at_old : (other : ProviderState D) → get_or providers number other ≡ old
+  at_old other = any_default providers number other old within ∙ sym here
+
+  pub at_new : (other : ProviderState D) → get_or (set providers number new) number other ≡ new
+  at_new other = get_or-set_same providers number new other within
+
+  pub runs_from : (kept : List Kept) (waiting : List Waiting) → IsOfDirectory kept providers waiting → Runs kept number old
+  runs_from kept waiting whole = subst (λ (p : ProviderState D). Runs kept number p) (at_old old) (whole.runs number old within)
+
+  pub owed_from : (kept : List Kept) (waiting : List Waiting) → IsOfDirectory kept providers waiting → old.owed ≡ []
+  owed_from kept waiting whole = ap (λ (p : ProviderState D). p.owed) here ∙ whole.nothing_owed number old within
+
+  pub whole_from : (kept : List Kept) (waiting : List Waiting) → IsOfDirectory kept providers waiting → Runs kept number new → new.owed ≡ old.owed
+      → IsOfDirectory kept (set providers number new) waiting
+  whole_from kept waiting whole runs owed =
+      whole_at providers number new within kept waiting whole runs (owed ∙ owed_from kept waiting whole)
+
+  pub carries_from : (sight : D → Sight) (trade : Trade) (journals : Journals) → ((state : ChronicleState D) → CarriesOn sight NothingMay state state)
+      → CarriesOn sight (MayFollow trade journals number) old.chronicle new.chronicle
+      → AllCarryOn sight trade journals providers (set providers number new)
+  carries_from sight trade journals rests carries = carries_at providers number new within sight trade journals rests
+      (λ other. subst (λ (p : ProviderState D). CarriesOn sight (MayFollow trade journals number) p.chronicle new.chronicle) (sym (at_old other)) carries)
+
+  pub falls_from : (count : D → ℕ) → count old.chronicle.disk ≤ count new.chronicle.disk → NoneFalls count providers (set providers number new)
+  falls_from count later = falls_at providers number new within count
+      (λ other. subst (λ (p : ProviderState D). count p.chronicle.disk ≤ count new.chronicle.disk) (sym (at_old other)) later)
+
+  pub risen_from : (count : D → ℕ) → HasRisen (count old.chronicle.disk) (count new.chronicle.disk)
+      → HasRisenAt count number providers (set providers number new)
+  risen_from count risen = λ other.
+      subst (λ (p : ProviderState D). HasRisen (count p.chronicle.disk) (count (get_or (set providers number new) number other).chronicle.disk))
+      (sym (at_old other))
+      (subst (λ (p : ProviderState D). HasRisen (count old.chronicle.disk) (count p.chronicle.disk)) (sym (at_new other)) risen)
+
+  pub stands_from : (sight : D → Sight) → StandsAt sight number providers → Stands sight old.chronicle
+  stands_from sight stands = subst (λ (p : ProviderState D). Stands sight p.chronicle) (at_old old) (stands old)
+
+  pub entries_from : (waiting : List Waiting) → length waiting ≡ length providers
+      → length (journal_at (sites_of providers waiting) number) ≡ length old.chronicle.entries
+  entries_from waiting count =
+      ap (λ (s : Site). length s.journal) (site_is providers waiting number old within count
+      ∙ ap (λ (p : ProviderState D). site_of (desk_of p) (waiting_for waiting number)) (sym here))
+
+  -- what is played on the provider is played on the network
+  pub plays_from : {X : Type 0} (tells : X → Answer) (play : Luck → List Site → Played) (waiting : List Waiting)
+      → length waiting ≡ length providers → (r : Result X ProviderFault) → Plays tells play number (desk_of old) (desk_of new) r
+      → IsPlayed tells (λ (luck : Luck). play luck (sites_of providers waiting)) (sites_of providers waiting)
+      (sites_of (set providers number new) waiting) r
+  plays_from tells play waiting count r plays =
+      let all = sites_of providers waiting in
+      let links = waiting_for waiting number in
+      let there : site_at all number ≡ site_of (desk_of old) links =
+      site_is providers waiting number old within count ∙ ap (λ (p : ProviderState D). site_of (desk_of p) links) (sym here) in
+      played_so tells (λ (luck : Luck). play luck all) all (sites_of (set providers number new) waiting) number (site_of (desk_of new) links) r
+      (provider_changes providers waiting number new within count) (plays all links there)

@@ -1,0 +1,186 @@
+-- What an account is shown, by what its provider answers.
+use Rattle.std.proofs.Common.{◌≡◌, ℕ, ◌<◌, Bool, true, false, Global, List, Vec, get_or, length, refl, ap, sym, ◌∙◌, Option, Some, None, Result, Ok, Err}
+use Rattle.std.specs.Prelude.{IfErr, IfOk, OnOk, if◌then◌else◌, not, slice_get}
+use Rattle.std.specs.Option.{option_and_then}
+use Rattle.pec_types.specs.Bytes.{Bytes}
+use Rattle.pec_types.specs.declared.turns.ProviderFault.{ProviderFault}
+use Rattle.pec_types.specs.declared.turns.ProviderFault.TheVariants as faults
+use Rattle.pec_types.specs.declared.mailboxes.ItemLine.{ItemLine}
+use Rattle.pec_types.specs.declared.messages.BookLine.{BookLine}
+use Rattle.pec_ledger.specs.Books.{book, mailbox_lines}
+use Rattle.pec_ledger.specs.Half.{Half, Posted}
+use Rattle.pec_ledger.specs.Items.{item_text}
+use Rattle.pec_ledger.specs.Lookups.{mailbox}
+use Rattle.pec_ledger.specs.Network.{Site, site_at}
+use Rattle.pec_ledger.specs.Steps.{half}
+use Rattle.pec_ledger.specs.Trade.{Trade}
+use Rattle.pec_plays.specs.Commands.{Answer, Book, Items, Lines, Luck, Mailbox, Played, Refuses, Show, Shown, account_home, answers, asked, played, shown, shown_bytes}
+use Rattle.pec_posts.specs.Arrivals.{Waiting, waiting_for}
+use Rattle.pec_provider.specs.Playing.{IsUnasked, IsUnshown, item_at}
+use Rattle.pec_provider.specs.Provider.{Desk, ProviderState, desk_of, site_of}
+use Rattle.pec_network.specs.Network.{sites_of}
+use Rattle.pec_network.specs.Playing.{IsShown}
+use Rattle.pec_network.proofs.SiteLemmas.{site_is}
+
+module _ {X : Type 0} (trade : Trade) (sites : List Site) (address : Bytes) (show : ℕ → Half → Played) (tells : X → Answer) where
+  abbrev asks : Option ℕ → Played
+  asks home = asked sites show trade (account_home trade address home)
+
+  -- the address is that of no provider
+  pub shown_nowhere : trade.home address ≡ None → asks (trade.home address) ≡ answers sites (Refuses faults.NoAccount)
+  shown_nowhere none = ap (λ (home : Option ℕ). asks home) none
+
+  module _ (me : ℕ) (desk : Desk) (waiting : List (List Bytes)) (home : trade.home address ≡ Some me)
+      (here : site_at sites me ≡ site_of desk waiting) where
+    abbrev at_home : Bool → Played
+    at_home account = asked sites show trade (if account then Some me else None)
+
+    abbrev open_at : Site → Played
+    open_at site = if site.up then show me (half trade me site.journal) else answers sites (Refuses faults.Down)
+
+    not_ours : trade.is_account me address ≡ false → asks (trade.home address) ≡ answers sites (Refuses faults.NoAccount)
+    not_ours account = ap (λ (h : Option ℕ). asks h) home ∙ ap (λ (b : Bool). at_home b) account
+
+    ours : trade.is_account me address ≡ true → asks (trade.home address) ≡ open_at (site_of desk waiting)
+    ours account = ap (λ (h : Option ℕ). asks h) home ∙ ap (λ (b : Bool). at_home b) account ∙ ap (λ (s : Site). open_at s) here
+
+    pub shown_so : (down : Bool) → desk.up ≡ not down → (r : Result X ProviderFault)
+        → OnOk r ((trade.is_account me address ≡ true) × (down ≡ false))
+        → IfErr r (IsUnasked (trade.is_account me address) (not down))
+        → IfOk r (λ x. show me (half trade me desk.journal) ≡ answers sites (tells x))
+        → IsShown tells (asks (trade.home address)) sites r
+    shown_so down up (Ok x) asked unasked shows =
+        ours asked.0 ∙ open_up (up ∙ ap not asked.1) ∙ shows
+      where
+        open_up : desk.up ≡ true → open_at (site_of desk waiting) ≡ show me (half trade me desk.journal)
+        open_up e = rw e refl
+    shown_so down up (Err faults.NoAccount) asked unasked shows = not_ours unasked
+    shown_so down up (Err faults.Down) asked unasked shows =
+        ours unasked.0 ∙ shut (up ∙ unasked.1)
+      where
+        shut : desk.up ≡ false → open_at (site_of desk waiting) ≡ answers sites (Refuses faults.Down)
+        shut e = rw e refl
+    shown_so down up (Err faults.NoMemory) asked unasked shows = tt
+    shown_so down up (Err faults.DiskFault) asked unasked shows = absurd unasked
+    shown_so down up (Err (faults.ClockBack moment)) asked unasked shows = absurd unasked
+    shown_so down up (Err faults.Full) asked unasked shows = absurd unasked
+    shown_so down up (Err faults.NoItem) asked unasked shows = absurd unasked
+    shown_so down up (Err faults.JournalFull) asked unasked shows = absurd unasked
+
+-- ---- books and mailboxes
+
+module _ (trade : Trade) (luck : Luck) (sites : List Site) (address : Bytes) where
+  pub book_nowhere : trade.home address ≡ None → played trade luck sites (Book address) ≡ answers sites (Refuses faults.NoAccount)
+  unfolding played
+  book_nowhere none =
+      shown_nowhere {X = List BookLine} trade sites address (λ provider half. answers sites (Lines (book trade provider half address))) (λ lines. Lines lines) none
+
+  pub mailbox_nowhere : trade.home address ≡ None → played trade luck sites (Mailbox address) ≡ answers sites (Refuses faults.NoAccount)
+  unfolding played
+  mailbox_nowhere none =
+      shown_nowhere {X = List ItemLine} trade sites address (λ provider half. answers sites (Items (mailbox_lines half address))) (λ lines. Items lines) none
+
+module _ {D : Type 0} (trade : Trade) (luck : Luck) (providers : List (ProviderState D)) (waiting : List Waiting) (address : Bytes) (me : ℕ)
+    (old : ProviderState D) (within : me < length providers) (count : length waiting ≡ length providers) (here : old ≡ get_or providers me old)
+    (home : trade.home address ≡ Some me) where
+  abbrev all : List Site
+  all = sites_of providers waiting
+
+  there : site_at all me ≡ site_of (desk_of old) (waiting_for waiting me)
+  there = site_is providers waiting me old within count ∙ ap (λ (p : ProviderState D). site_of (desk_of p) (waiting_for waiting me)) (sym here)
+
+  pub book_so : (r : Result (Vec BookLine Global) ProviderFault)
+      → OnOk r ((trade.is_account me address ≡ true) × (old.chronicle.down ≡ false))
+      → IfErr r (IsUnasked (trade.is_account me address) (not old.chronicle.down))
+      → IfOk r (λ lines. lines.items ≡ book trade me (half trade me old.chronicle.entries) address)
+      → IsShown (λ (lines : Vec BookLine Global). Lines lines.items) (played trade luck all (Book address)) all r
+  unfolding played
+  book_so r asked refused lines =
+      shown_so trade all address (λ provider half. answers all (Lines (book trade provider half address))) (λ (told : Vec BookLine Global). Lines told.items)
+      me (desk_of old) (waiting_for waiting me) home there old.chronicle.down refl r asked refused (told r lines)
+    where
+      told : (s : Result (Vec BookLine Global) ProviderFault) → IfOk s (λ l. l.items ≡ book trade me (half trade me old.chronicle.entries) address)
+          → IfOk s (λ l. answers all (Lines (book trade me (half trade me old.chronicle.entries) address)) ≡ answers all (Lines l.items))
+      told (Ok l) e = ap (λ (shown : List BookLine). answers all (Lines shown)) (sym e)
+      told (Err f) e = e
+
+  pub mailbox_so : (r : Result (Vec ItemLine Global) ProviderFault)
+      → OnOk r ((trade.is_account me address ≡ true) × (old.chronicle.down ≡ false))
+      → IfErr r (IsUnasked (trade.is_account me address) (not old.chronicle.down))
+      → IfOk r (λ lines. lines.items ≡ mailbox_lines (half trade me old.chronicle.entries) address)
+      → IsShown (λ (lines : Vec ItemLine Global). Items lines.items) (played trade luck all (Mailbox address)) all r
+  unfolding played
+  mailbox_so r asked refused lines =
+      shown_so trade all address (λ provider half. answers all (Items (mailbox_lines half address))) (λ (told : Vec ItemLine Global). Items told.items)
+      me (desk_of old) (waiting_for waiting me) home there old.chronicle.down refl r asked refused (told r lines)
+    where
+      told : (s : Result (Vec ItemLine Global) ProviderFault) → IfOk s (λ l. l.items ≡ mailbox_lines (half trade me old.chronicle.entries) address)
+          → IfOk s (λ l. answers all (Items (mailbox_lines (half trade me old.chronicle.entries) address)) ≡ answers all (Items l.items))
+      told (Ok l) e = ap (λ (shown : List ItemLine). answers all (Items shown)) (sym e)
+      told (Err f) e = e
+
+-- ---- items
+
+module _ (trade : Trade) (luck : Luck) (sites : List Site) (address : Bytes) (place : ℕ) where
+  pub show_nowhere : trade.home address ≡ None → played trade luck sites (Show address place) ≡ answers sites (Refuses faults.NoAccount)
+  unfolding played
+  show_nowhere none =
+      shown_nowhere {X = Bytes} trade sites address (λ provider half. shown trade sites provider (slice_get (mailbox half address) place))
+      (λ bytes. Shown bytes) none
+
+module _ {D : Type 0} (trade : Trade) (luck : Luck) (providers : List (ProviderState D)) (waiting : List Waiting) (address : Bytes) (place me : ℕ)
+    (old : ProviderState D) (within : me < length providers) (count : length waiting ≡ length providers) (here : old ≡ get_or providers me old)
+    (home : trade.home address ≡ Some me) where
+  abbrev everywhere : List Site
+  everywhere = sites_of providers waiting
+
+  is_there : site_at everywhere me ≡ site_of (desk_of old) (waiting_for waiting me)
+  is_there = site_is providers waiting me old within count ∙ ap (λ (p : ProviderState D). site_of (desk_of p) (waiting_for waiting me)) (sym here)
+
+  abbrev shows : ℕ → Half → Played
+  shows provider half = shown trade everywhere provider (slice_get (mailbox half address) place)
+
+  abbrev item : Option Bytes
+  item = item_at trade me old.chronicle.entries address place
+
+  shown_by : (found : Option Posted)
+      → shown trade everywhere me found ≡ shown_bytes everywhere (option_and_then (item_text trade me old.chronicle.entries) found)
+  shown_by None = refl
+  shown_by (Some posted) = ap (λ (s : Site). shown_bytes everywhere (item_text trade me s.journal posted)) is_there
+
+  open_shows : trade.is_account me address ≡ true → old.chronicle.down ≡ false
+      → asked everywhere shows trade (account_home trade address (trade.home address)) ≡ shown_bytes everywhere item
+  open_shows account up =
+      ours {X = Bytes} trade everywhere address shows (λ bytes. Shown bytes) me (desk_of old) (waiting_for waiting me) home is_there account
+      ∙ at_work (ap not up)
+      ∙ shown_by (slice_get (mailbox (half trade me old.chronicle.entries) address) place)
+    where
+      at_work : not old.chronicle.down ≡ true
+          → (if not old.chronicle.down then shows me (half trade me old.chronicle.entries) else answers everywhere (Refuses faults.Down))
+          ≡ shows me (half trade me old.chronicle.entries)
+      at_work e = rw e refl
+
+  pub show_so : (r : Result (Vec ℕ Global) ProviderFault)
+      → OnOk r ((trade.is_account me address ≡ true) × (old.chronicle.down ≡ false))
+      → IfErr r (IsUnshown (trade.is_account me address) (not old.chronicle.down) item)
+      → IfOk r (λ bytes. item ≡ Some bytes.items)
+      → IsShown (λ (bytes : Vec ℕ Global). Shown bytes.items) (played trade luck everywhere (Show address place)) everywhere r
+  unfolding played
+  show_so (Ok bytes) asked refused found = open_shows asked.0 asked.1 ∙ ap (λ (o : Option Bytes). shown_bytes everywhere o) found
+  show_so (Err faults.NoItem) asked refused found =
+      open_shows refused.0 (is_open old.chronicle.down refused.1) ∙ ap (λ (o : Option Bytes). shown_bytes everywhere o) refused.2
+    where
+      is_open : (down : Bool) → not down ≡ true → down ≡ false
+      is_open false e = refl
+      is_open true e = absurd (cc)
+  show_so (Err faults.NoAccount) asked refused found =
+      shown_so trade everywhere address shows (λ (bytes : Vec ℕ Global). Shown bytes.items) me (desk_of old) (waiting_for waiting me) home is_there
+      old.chronicle.down refl (Err faults.NoAccount) asked refused tt
+  show_so (Err faults.Down) asked refused found =
+      shown_so trade everywhere address shows (λ (bytes : Vec ℕ Global). Shown bytes.items) me (desk_of old) (waiting_for waiting me) home is_there
+      old.chronicle.down refl (Err faults.Down) asked refused tt
+  show_so (Err faults.NoMemory) asked refused found = tt
+  show_so (Err faults.DiskFault) asked refused found = absurd refused
+  show_so (Err (faults.ClockBack moment)) asked refused found = absurd refused
+  show_so (Err faults.Full) asked refused found = absurd refused
+  show_so (Err faults.JournalFull) asked refused found = absurd refused

@@ -1,0 +1,49 @@
+-- Sites of a network, where one provider or what waits for one changes.
+use Rattle.std.proofs.Common.{◌≡◌, ℕ, zero, suc, ◌<◌, List, [], ◌∷◌, length, get_or, set, refl, ap, arith}
+use Rattle.std.proofs.lemmas.List.{set-get_or}
+use Rattle.pec_ledger.specs.Network.{Site, empty_site, site_at}
+use Rattle.pec_plays.specs.Commands.{with_site}
+use Rattle.pec_plays.specs.Rounds.{with_waiting}
+use Rattle.pec_posts.specs.Arrivals.{Waiting, waiting_for}
+use Rattle.pec_provider.specs.Provider.{ProviderState, desk_of, site_of}
+use Rattle.pec_network.specs.Network.{sites_of}
+
+-- a site in its own place
+pub site_again : (all : List Site) (number : ℕ) → with_site all number (site_at all number) ≡ all
+site_again all number = set-get_or all number empty_site
+
+module _ {D : Type 0} where
+  pub sites_count : (providers : List (ProviderState D)) (waiting : List Waiting) → length (sites_of providers waiting) ≡ length providers
+  sites_count [] waiting = refl
+  sites_count (provider ∷ providers) [] = ap suc (sites_count providers [])
+  sites_count (provider ∷ providers) (links ∷ waiting) = ap suc (sites_count providers waiting)
+
+  pub site_is : (providers : List (ProviderState D)) (waiting : List Waiting) (number : ℕ) (other : ProviderState D)
+      → number < length providers → length waiting ≡ length providers
+      → site_at (sites_of providers waiting) number ≡ site_of (desk_of (get_or providers number other)) (waiting_for waiting number)
+  site_is [] waiting number other l e = absurd (omega arith)
+  site_is (provider ∷ providers) [] number other l e = absurd (omega arith)
+  site_is (provider ∷ providers) (links ∷ waiting) zero other l e = refl
+  site_is (provider ∷ providers) (links ∷ waiting) (suc number) other l e = site_is providers waiting number other (omega arith) (omega arith)
+
+  -- another provider in the place of one
+  pub provider_changes : (providers : List (ProviderState D)) (waiting : List Waiting) (number : ℕ) (new : ProviderState D)
+      → number < length providers → length waiting ≡ length providers
+      → sites_of (set providers number new) waiting
+      ≡ with_site (sites_of providers waiting) number (site_of (desk_of new) (waiting_for waiting number))
+  provider_changes [] waiting number new l e = absurd (omega arith)
+  provider_changes (provider ∷ providers) [] number new l e = absurd (omega arith)
+  provider_changes (provider ∷ providers) (links ∷ waiting) zero new l e = refl
+  provider_changes (provider ∷ providers) (links ∷ waiting) (suc number) new l e =
+      ap (λ (more : List Site). site_of (desk_of provider) links ∷ more) (provider_changes providers waiting number new (omega arith) (omega arith))
+
+  -- other frames wait for one
+  pub waiting_changes : (providers : List (ProviderState D)) (waiting : List Waiting) (number : ℕ) (new : Waiting)
+      → number < length providers → length waiting ≡ length providers
+      → sites_of providers (set waiting number new)
+      ≡ with_site (sites_of providers waiting) number (with_waiting (site_at (sites_of providers waiting) number) new)
+  waiting_changes [] waiting number new l e = absurd (omega arith)
+  waiting_changes (provider ∷ providers) [] number new l e = absurd (omega arith)
+  waiting_changes (provider ∷ providers) (links ∷ waiting) zero new l e = refl
+  waiting_changes (provider ∷ providers) (links ∷ waiting) (suc number) new l e =
+      ap (λ (more : List Site). site_of (desk_of provider) links ∷ more) (waiting_changes providers waiting number new (omega arith) (omega arith))

@@ -1,0 +1,32 @@
+-- What a network's calls answer, and what they leave: each is played as a command of pec_plays, with the luck that its
+-- answer tells. This project's profile.
+use Rattle.std.specs.Prelude.{◌≡◌, true, false, List, Result, Ok, Err}
+use Rattle.pec_types.specs.declared.turns.ProviderFault.{ProviderFault}
+use Rattle.pec_types.specs.declared.turns.ProviderFault.TheVariants as faults
+use Rattle.pec_link.specs.declared.faults.LinkFault.{LinkFault}
+use Rattle.pec_link.specs.declared.faults.LinkFault.TheVariants as link_faults
+use Rattle.pec_ledger.specs.Network.{Site}
+use Rattle.pec_plays.specs.Commands.{Answer, LinkFull, Luck, NoFrame, Played, Refuses, answers}
+use Rattle.pec_provider.specs.Playing.{luck_of}
+
+-- A command of a provider was played, and answered so. An append that failed is told by the answer; all other refusals, and
+-- want of memory, leave the state as it was.
+abbrev pub IsPlayed : {X : Type 0} → (X → Answer) → (Luck → Played) → List Site → List Site → Result X ProviderFault → Type 0
+IsPlayed tells play old new (Ok x) = play (luck_of false) ≡ record { answer = tells x; after = new }
+IsPlayed tells play old new (Err faults.DiskFault) =
+    play (luck_of true) ≡ record { answer = Refuses faults.DiskFault; after = new }
+IsPlayed tells play old new (Err faults.NoMemory) = new ≡ old
+IsPlayed tells play old new (Err fault) = (play (luck_of false) ≡ answers old (Refuses fault)) × (new ≡ old)
+
+-- A command of a link was played, which answers so where it is done.
+abbrev pub IsPlayedOnLink : Answer → Played → List Site → List Site → Result (Unit {0}) LinkFault → Type 0
+IsPlayedOnLink done played old new (Ok x) = played ≡ record { answer = done; after = new }
+IsPlayedOnLink done played old new (Err link_faults.NoFrame) = (played ≡ answers old NoFrame) × (new ≡ old)
+IsPlayedOnLink done played old new (Err link_faults.Full) = (played ≡ answers old LinkFull) × (new ≡ old)
+IsPlayedOnLink done played old new (Err link_faults.NoMemory) = new ≡ old
+
+-- An account was shown what it asked for, or refused.
+abbrev pub IsShown : {X : Type 0} → (X → Answer) → Played → List Site → Result X ProviderFault → Type 0
+IsShown tells played sites (Ok x) = played ≡ answers sites (tells x)
+IsShown tells played sites (Err faults.NoMemory) = Unit {0}
+IsShown tells played sites (Err fault) = played ≡ answers sites (Refuses fault)

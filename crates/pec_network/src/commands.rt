@@ -1,0 +1,83 @@
+ghost use Rattle.std.specs.Prelude.{◌≡◌, ℕ, ◌<◌, ◌≤◌, List, length, IsErrOf};
+ghost use Rattle.pec_types.specs.declared.turns.ProviderFault.TheVariants as faults;
+ghost use Rattle.pec_directory.specs.Directory.{providers_of};
+ghost use Rattle.pec_letters.specs.Fitting.{Fits};
+ghost use Rattle.pec_records.specs.Entry.{longest_message, most_addresses};
+ghost use Rattle.pec_ledger.specs.Ledger.{Journals};
+ghost use Rattle.pec_plays.specs.Commands.{Marks, Submit, Submits, Tick, played};
+ghost use Rattle.pec_trade.specs.TradeOf.{trade_of};
+ghost use Rattle.pec_network.specs.Carrying.{AllCarryOn, NoneFalls};
+ghost use Rattle.pec_network.specs.Changing.{ChangesOnly, HasRisenAt};
+ghost use Rattle.pec_network.specs.Network.{sites};
+ghost use Rattle.pec_network.specs.Playing.{IsPlayed};
+
+use crate::laws::what_rests_carries_on;
+use crate::network::Network;
+use pec_outside::Disk;
+use pec_provider::House;
+use pec_seal::Sealer;
+use pec_types::{Address, Mark, Moment, ProviderFault, Submitted};
+use std::alloc::Global;
+
+/// Commands of one provider, by its number in the directory.
+impl<D: Disk, S: Sealer> Network<D, S> {
+    /// Hands a provider a message that an account submits for a forward path, in bytes as it was handed in. The first of
+    /// these refusals that applies is answered, and leaves all as it was: `NoAccount`, `Down`, `ClockBack`, `Full`,
+    /// `NoMemory`, `JournalFull`. After `DiskFault` the provider is down.
+    pub fn submit(
+        &mut self,
+        alloc: Global,
+        provider: u32,
+        moment: Moment,
+        sender: &Address,
+        path: &[Address],
+        message: &[u8],
+    ) -> Result<Submitted, ProviderFault>
+        requires provider { provider < length self.old.kept }
+        requires fits { Fits (S.seals self.old.sealer) (providers_of self.old.kept) }
+        requires path { (0 < length path.now) × (length path.now ≤ most_addresses) }
+        requires message { length message.now ≤ longest_message }
+        ensures plays { IsPlayed Submits (λ luck. played (trade_of self.old.kept (S.seals self.old.sealer)) luck (sites self.old)
+            (Submit provider moment sender.now path.now message.now)) (sites self.old) (sites self.new) result }
+        ensures others { ChangesOnly provider self.old self.new }
+        ensures carries { D.tells → (journals : Journals) → AllCarryOn D.sight (trade_of self.old.kept (S.seals self.old.sealer)) journals
+            self.old.providers self.new.providers }
+        ensures disk_fault { IsErrOf result faults.DiskFault → HasRisenAt D.faults provider self.old.providers self.new.providers }
+        ensures later { NoneFalls D.faults self.old.providers self.new.providers }
+    {
+        what_rests_carries_on::<D>();
+        let house = House {
+            directory: &self.directory,
+            sealer: &self.sealer,
+            me: provider,
+        };
+        self.providers[provider as usize].submit(alloc, &house, moment, sender, path, message)
+    }
+
+    /// Has a provider look at the clock: the marks that are due by then are set, and told. The first of these refusals that
+    /// applies is answered, and leaves all as it was: `Down`, `ClockBack`, `NoMemory`, `JournalFull`. After `DiskFault` the
+    /// provider is down.
+    pub fn tick(
+        &mut self,
+        alloc: Global,
+        provider: u32,
+        moment: Moment,
+    ) -> Result<Vec<Mark>, ProviderFault>
+        requires { provider < length self.old.kept }
+        ensures plays { IsPlayed (λ marks. Marks marks.items) (λ luck. played (trade_of self.old.kept (S.seals self.old.sealer)) luck
+            (sites self.old) (Tick provider moment)) (sites self.old) (sites self.new) result }
+        ensures others { ChangesOnly provider self.old self.new }
+        ensures carries { D.tells → (journals : Journals) → AllCarryOn D.sight (trade_of self.old.kept (S.seals self.old.sealer)) journals
+            self.old.providers self.new.providers }
+        ensures disk_fault { IsErrOf result faults.DiskFault → HasRisenAt D.faults provider self.old.providers self.new.providers }
+        ensures later { NoneFalls D.faults self.old.providers self.new.providers }
+    {
+        what_rests_carries_on::<D>();
+        let house = House {
+            directory: &self.directory,
+            sealer: &self.sealer,
+            me: provider,
+        };
+        self.providers[provider as usize].tick(alloc, &house, moment)
+    }
+}

@@ -1,0 +1,42 @@
+ghost use Rattle.std.specs.Prelude.{◌≡◌, ◌<◌, length, slice_index_or};
+
+use pec_directory::Directory;
+use pec_posts::Arrivals;
+use pec_provider::Provider;
+use std::marker::Model;
+
+/// A network of certified mail providers, each over its own disk, by their numbers in a directory. `S` seals for them.
+#[derive(Drop)]
+pub struct Network<D, S> {
+    pub(crate) directory: Directory,
+    pub(crate) sealer: S,
+    pub(crate) providers: Vec<Provider<D>>,
+    /// What waits for each provider.
+    pub(crate) arrivals: Vec<Arrivals>,
+}
+
+impl<D, S> Model for Network<D, S> {
+    ghost use Rattle.pec_network.specs.Network.{NetworkState};
+
+    ghost Value = { NetworkState D S };
+
+    ghost use Rattle.pec_network.specs.Network.{IsOfDirectory};
+
+    ghost view = { λ network. record {
+      kept = network.directory;
+      sealer = network.sealer;
+      providers = network.providers.items;
+      waiting = network.arrivals.items;
+    } };
+
+    ghost invariant = { λ network. IsOfDirectory network.directory network.providers.items network.arrivals.items };
+}
+
+impl<D, S> Network<D, S> {
+    /// The directory of its providers. It takes no memory.
+    pub fn directory(&self) -> &Directory
+        ensures { result.now ≡ self.now.kept }
+    {
+        &self.directory
+    }
+}
