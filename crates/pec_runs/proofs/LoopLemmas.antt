@@ -13,7 +13,7 @@ use Rattle.pec_plays.specs.Possible.{MayMeet}
 use Rattle.pec_runs.specs.AnswerLines.{answer_text, answers_text}
 use Rattle.pec_runs.specs.Climbing.{AreLinesLeft, Comes, Goes, IsLineRead, Place, TellsOn, behind_answers}
 use Rattle.pec_runs.specs.Endings.{Done, End}
-use Rattle.pec_runs.specs.Inputs.{raw_lines}
+use Rattle.pec_input.specs.Lines.{raw_lines}
 use Rattle.pec_runs.specs.Plays.{Ends, HasMemory, MayPlay, MayStray, Outcome, RoseBy, Stopped, Stops, Strayed, Strays}
 use Rattle.pec_runs.specs.Plays.{ToTheEnd, faults_by, finish_text, onto_outcome, outcome_from, outcome_text}
 use Rattle.pec_runs.specs.ScriptLines.{Line, PassedOver, Says, Script, behind_line, nothing_but, said_by, script_of}

@@ -5,8 +5,10 @@ use Rattle.pec_types.specs.Bytes.{Bytes}
 use Rattle.pec_directory.specs.Directory.{Provider}
 use Rattle.pec_directory.specs.declared.faults.DirectoryFault.{DirectoryFault}
 use Rattle.pec_runs.specs.Endings as ends
-use Rattle.pec_runs.specs.Happened.{Over, Begun, by_directory, by_form, by_script, directory_in, longest_directory, stage_of}
-use Rattle.pec_runs.specs.Inputs.{Parts}
+use Rattle.pec_input.specs.Directory.{directory_in}
+use Rattle.pec_input.specs.declared.opening.TheConstants.{LONGEST_DIRECTORY}
+use Rattle.pec_runs.specs.Happened.{Over, Begun, by_directory, by_form, by_script, stage_of}
+use Rattle.pec_input.specs.Parts.{Parts}
 use Rattle.pec_runs.specs.Openings.{Form, form_in}
 use Rattle.pec_runs.specs.ScriptLines.{Script, script_of}
 
@@ -14,7 +16,7 @@ use Rattle.pec_runs.specs.ScriptLines.{Script, script_of}
 pub record HasAll (words : List Bytes) (early : Bool) (parts : Parts) (form : Form) (script : Script) : Type 0 where
   pub words_are : form_in words ≡ Some form
   pub late : early ≡ false
-  pub short : nat_lt longest_directory (length parts.directory) ≡ false
+  pub short : nat_lt LONGEST_DIRECTORY (length parts.directory) ≡ false
   pub providers : List Provider
   pub lines : List Bytes
   pub directory : directory_in parts.directory ≡ Ok providers
@@ -30,7 +32,7 @@ same_script a b x y e = cc
 module _ (words : List Bytes) (early : Bool) (parts : Parts) (form : Form) (script : Script) where
   by_read : (asked : Form) (lines : List Bytes) (told : Result (List Provider) DirectoryFault)
       → form_in words ≡ Some asked → early ≡ false
-      → nat_lt longest_directory (length parts.directory) ≡ false → parts.script ≡ Some lines
+      → nat_lt LONGEST_DIRECTORY (length parts.directory) ≡ false → parts.script ≡ Some lines
       → directory_in parts.directory ≡ told
       → by_directory asked lines told ≡ Begun form script → HasAll words early parts form script
   by_read asked lines (Err fault) w l s c d e = cc
@@ -46,13 +48,13 @@ module _ (words : List Bytes) (early : Bool) (parts : Parts) (form : Form) (scri
   }
 
   by_lines : (asked : Form) (found : Option (List Bytes)) → form_in words ≡ Some asked → early ≡ false
-      → nat_lt longest_directory (length parts.directory) ≡ false → parts.script ≡ found
+      → nat_lt LONGEST_DIRECTORY (length parts.directory) ≡ false → parts.script ≡ found
       → by_script asked parts.directory found ≡ Begun form script → HasAll words early parts form script
   by_lines asked None w l s c e = cc
   by_lines asked (Some lines) w l s c e = by_read asked lines (directory_in parts.directory) w l s c refl e
 
   by_length : (asked : Form) (long : Bool) → form_in words ≡ Some asked → early ≡ false
-      → nat_lt longest_directory (length parts.directory) ≡ long
+      → nat_lt LONGEST_DIRECTORY (length parts.directory) ≡ long
       → (if long then Over ends.LongDirectory else by_script asked parts.directory parts.script) ≡ Begun form script
       → HasAll words early parts form script
   by_length asked true w l s e = cc
@@ -64,7 +66,7 @@ module _ (words : List Bytes) (early : Bool) (parts : Parts) (form : Form) (scri
   by_words true None l w e = cc
   by_words false None l w e = cc
   by_words true (Some asked) l w e = cc
-  by_words false (Some asked) l w e = by_length asked (nat_lt longest_directory (length parts.directory)) w l refl e
+  by_words false (Some asked) l w e = by_length asked (nat_lt LONGEST_DIRECTORY (length parts.directory)) w l refl e
 
   pub has_all : stage_of words early parts ≡ Begun form script → HasAll words early parts form script
   unfolding stage_of

@@ -14,8 +14,10 @@ use Rattle.pec_plays.specs.Scripts.{script}
 use Rattle.pec_runs.specs.AnswerLines.{answers_text}
 use Rattle.pec_runs.specs.Endings.{End, end_text}
 use Rattle.pec_runs.specs.Endings as ends
-use Rattle.pec_runs.specs.Happened.{Begun, Halted, Happened, Over, Stage, by_directory, by_form, by_next, by_script, directory_in, longest_directory, outcome_at, outcome_of, providers_in, stage_of}
-use Rattle.pec_runs.specs.Inputs.{Parts}
+use Rattle.pec_input.specs.Directory.{directory_in}
+use Rattle.pec_input.specs.declared.opening.TheConstants.{LONGEST_DIRECTORY}
+use Rattle.pec_runs.specs.Happened.{Begun, Halted, Happened, Over, Stage, by_directory, by_form, by_next, by_script, outcome_at, outcome_of, providers_in, stage_of}
+use Rattle.pec_input.specs.Parts.{Parts}
 use Rattle.pec_runs.specs.Openings.{Disks, Form, Next, NoMore, Holds, Unfits, Fails, Stops, form_in}
 use Rattle.pec_runs.specs.Plays.{Finish, MayPlay, Outcome, Rest, Stopped, Strayed, ToTheEnd, at_end, finish_of, finish_text, outcome_from, outcome_text}
 use Rattle.pec_runs.specs.Plays as plays
@@ -233,7 +235,7 @@ module _ (words : List Bytes) (happened : Happened) where
   done_form true parts None e = cc
   done_form false parts None e = cc
   done_form true parts (Some form) e = cc
-  done_form false parts (Some form) e = done_long parts form (nat_lt longest_directory (length parts.directory)) e
+  done_form false parts (Some form) e = done_long parts form (nat_lt LONGEST_DIRECTORY (length parts.directory)) e
 
   no_form : (early : Bool) (parts : Parts) (found : Option Form) → found ≡ None
       → by_form early parts found ≡ Over ends.Usage

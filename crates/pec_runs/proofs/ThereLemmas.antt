@@ -10,9 +10,11 @@ use Rattle.pec_plays.specs.Commands.{Luck}
 use Rattle.pec_plays.specs.Possible.{quiet_lucks}
 use Rattle.pec_runs.specs.Endings.{End}
 use Rattle.pec_runs.specs.Endings as ends
-use Rattle.pec_runs.specs.Happened.{Begun, Happened, IsSetting, Setting, Stage, directory_in, outcome_at, outcome_of}
+use Rattle.pec_input.specs.Directory.{directory_in}
+use Rattle.pec_runs.specs.Happened.{Begun, Happened, IsSetting, Setting, Stage, outcome_at, outcome_of}
 use Rattle.pec_runs.specs.Happened.{providers_in, stage_of, trade_in}
-use Rattle.pec_runs.specs.Inputs.{parts_of, raw_lines}
+use Rattle.pec_input.specs.Lines.{raw_lines}
+use Rattle.pec_input.specs.Parts.{parts_of}
 use Rattle.pec_runs.specs.Openings.{AreLeft, Disks, Form, IsOpening, NoMore, opened_all}
 use Rattle.pec_runs.specs.Plays.{Ends, Finish, Outcome, ToTheEnd, outcome_from, outcome_text}
 use Rattle.pec_runs.specs.Ran.{Behind, Blames, Counts, IsAt, NoneFell, Ran, TellsAs}

@@ -12,7 +12,7 @@ use Rattle.pec_plays.specs.Scripts.{Told, script}
 use Rattle.pec_runs.specs.AnswerLines.{answers_text}
 use Rattle.pec_runs.specs.Endings.{End}
 use Rattle.pec_runs.specs.Happened.{Begun, Halted, Happened, Over, Stage, by_form, by_next, outcome_at, outcome_of, providers_in, stage_of}
-use Rattle.pec_runs.specs.Inputs.{Parts}
+use Rattle.pec_input.specs.Parts.{Parts}
 use Rattle.pec_runs.specs.Openings.{Disks, Form, Next, NoMore, Holds, Unfits, Fails, Stops, form_in}
 use Rattle.pec_runs.specs.Plays.{AllMeet, Finish, HasMemory, MayPlay, Outcome, Rest, RoseBy, Stopped, Strayed, ToTheEnd, at_end, faults_told, finish_of, finish_text, outcome_from, outcome_text}
 use Rattle.pec_runs.specs.Plays as plays

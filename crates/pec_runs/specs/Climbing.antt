@@ -9,7 +9,7 @@ use Rattle.pec_ledger.specs.Network.{Site}
 use Rattle.pec_ledger.specs.Trade.{Trade}
 use Rattle.pec_plays.specs.Commands.{Answer, Luck}
 use Rattle.pec_runs.specs.AnswerLines.{answers_text}
-use Rattle.pec_runs.specs.Inputs.{raw_lines}
+use Rattle.pec_input.specs.Lines.{raw_lines}
 use Rattle.pec_runs.specs.Plays.{MayPlay, Outcome, Rest, outcome_from}
 use Rattle.pec_runs.specs.ScriptLines.{script_of}
 

@@ -5,9 +5,7 @@ use Rattle.std.specs.Fmt.{decimal}
 use Rattle.pec_types.specs.Bytes.{Bytes}
 use Rattle.pec_directory.specs.Directory.{Provider}
 use Rattle.pec_directory.specs.declared.faults.DirectoryFault.{DirectoryFault}
-use Rattle.pec_directory.specs.declared.faults.DirectoryFault.TheVariants as refusals
-use Rattle.pec_directory.specs.declared.faults.Field.{Field}
-use Rattle.pec_directory.specs.declared.faults.Field.TheVariants as fields
+use Rattle.pec_input.specs.Faults.{refused_directory_words}
 use Rattle.pec_script.specs.Texts.{Row, name_of, refused_rows, text_of, unfit_words}
 use Rattle.pec_script.specs.declared.answers.Unfit.{Unfit}
 use Rattle.pec_script.specs.declared.faults.LineFault.{LineFault}
@@ -26,43 +24,13 @@ pub data End : Type 0 where
 
 -- ---- last lines
 
-abbrev pub field_word : Field → Bytes
-field_word fields.Name = codes "name"
-field_word fields.MailReceipt = codes "mailReceipt"
-field_word fields.ManagedDomains = codes "managedDomains"
-field_word fields.Key = codes "key"
-field_word fields.Zone = codes "zone"
-field_word fields.Limit = codes "limit"
-field_word fields.Account = codes "account"
-field_word fields.Address = codes "address"
-field_word fields.Quota = codes "quota"
-
--- a provider from 0, and an account of it from 1, where 0 is its receipt address
-abbrev pub account_words : Bytes → ℕ → ℕ → Row
-account_words word provider account = word ∷ decimal provider ∷ decimal account ∷ []
-
--- A fault of a directory by its word and its numbers. Want of memory is never written.
-abbrev pub directory_words : DirectoryFault → Row
-directory_words refusals.NotToml = codes "not-toml" ∷ []
-directory_words (refusals.BadField provider field) = codes "bad-field" ∷ decimal provider ∷ field_word field ∷ []
-directory_words (refusals.NameTwice provider) = codes "name-twice" ∷ decimal provider ∷ []
-directory_words (refusals.DomainTwice provider) = codes "domain-twice" ∷ decimal provider ∷ []
-directory_words (refusals.BadAddress provider account) = account_words (codes "bad-address") provider account
-directory_words (refusals.AccountOutside provider account) = account_words (codes "account-outside") provider account
-directory_words (refusals.AccountTwice provider account) = account_words (codes "account-twice") provider account
-directory_words (refusals.BadKey provider) = codes "bad-key" ∷ decimal provider ∷ []
-directory_words (refusals.BadZone provider) = codes "bad-zone" ∷ decimal provider ∷ []
-directory_words refusals.TooMany = codes "too-many" ∷ []
-directory_words refusals.NoProvider = codes "no-provider" ∷ []
-directory_words refusals.NoMemory = []
-
 -- The last line that a run writes, in a directory of these providers; a run that is done writes none.
 abbrev pub end_rows : List Provider → End → List Row
 end_rows providers Done = []
 end_rows providers Usage = (codes "usage" ∷ []) ∷ []
 end_rows providers LongDirectory = (codes "too-long" ∷ codes "directory" ∷ []) ∷ []
 end_rows providers NoScript = (codes "refused" ∷ codes "no-script" ∷ []) ∷ []
-end_rows providers (DirectoryRefused fault) = (codes "refused" ∷ codes "directory" ∷ directory_words fault) ∷ []
+end_rows providers (DirectoryRefused fault) = refused_directory_words fault ∷ []
 end_rows providers (NotEmpty provider) = (codes "not-empty" ∷ name_of providers provider ∷ []) ∷ []
 end_rows providers (NotFit provider unfit) = (codes "not-fit" ∷ name_of providers provider ∷ unfit_words unfit) ∷ []
 end_rows providers (LongLine number) = (codes "too-long" ∷ codes "line" ∷ decimal number ∷ []) ∷ []

@@ -1,13 +1,10 @@
 -- What happened in a run, `Happened`: what stood in its input, in which world it played, which journals it had, and how
 -- its commands went; and what it comes to, `outcome_of`. This project's profile.
-use Rattle.std.specs.Prelude.{◌≡◌, ℕ, nat_lt, Bool, true, false, List, [], length, Option, Some, None, Result, Ok, Err, if◌then◌else◌}
-use Rattle.std.specs.Str.{is_utf8}
+use Rattle.std.specs.Prelude.{◌≡◌, nat_lt, Bool, true, false, List, [], length, Option, Some, None, Result, Ok, Err, if◌then◌else◌}
 use Rattle.pec_types.specs.Bytes.{Bytes}
 use Rattle.pec_directory.specs.Directory.{Kept, Provider, providers_of}
 use Rattle.pec_directory.specs.Lawful.{IsLawful}
-use Rattle.pec_directory.specs.Walk.{directory_of}
 use Rattle.pec_directory.specs.declared.faults.DirectoryFault.{DirectoryFault}
-use Rattle.pec_directory.specs.declared.faults.DirectoryFault.TheVariants.{NotToml}
 use Rattle.pec_seal.specs.Hmac.{hmac_seals}
 use Rattle.pec_seal.specs.Seals.{Seals}
 use Rattle.pec_house.specs.Keys.{keys_of, names_of}
@@ -15,23 +12,17 @@ use Rattle.pec_ledger.specs.Trade.{Trade}
 use Rattle.pec_ledger.specs.TradeLaws.{IsTrade}
 use Rattle.pec_plays.specs.Commands.{Luck}
 use Rattle.pec_trade.specs.TradeOf.{trade_of}
+use Rattle.pec_input.specs.Directory.{directory_in}
+use Rattle.pec_input.specs.Parts.{Parts}
+use Rattle.pec_input.specs.declared.opening.TheConstants.{LONGEST_DIRECTORY}
 use Rattle.pec_runs.specs.Endings.{End}
 use Rattle.pec_runs.specs.Endings as ends
-use Rattle.pec_runs.specs.Inputs.{Parts}
 use Rattle.pec_runs.specs.Openings.{Form, Next, NoMore, Holds, Unfits, Fails, Stops, Opening, form_in, next_of, opened_all}
 use Rattle.pec_runs.specs.Plays.{Finish, Outcome, Rest, outcome_from}
 use Rattle.pec_runs.specs.Plays as plays
 use Rattle.pec_runs.specs.ScriptLines.{Script, script_of}
 
--- ---- the directory
-
--- bytes of a directory at most
-abbrev pub longest_directory : ℕ
-longest_directory = 1048576
-
--- The providers that the bytes of a directory say, or its first fault. Bytes that are no UTF-8 are no TOML.
-unfoldable pub directory_in : Bytes → Result (List Provider) DirectoryFault
-directory_in bytes = if is_utf8 bytes then directory_of bytes else Err NotToml
+-- ---- the setting
 
 -- The directory as it is kept, and those who seal for its providers.
 pub record Setting : Type 0 where
@@ -81,7 +72,7 @@ abbrev pub by_form : Bool → Parts → Option Form → Stage
 by_form early parts None = Over ends.Usage
 by_form true parts (Some form) = Halted
 by_form false parts (Some form) =
-    if nat_lt longest_directory (length parts.directory) then Over ends.LongDirectory
+    if nat_lt LONGEST_DIRECTORY (length parts.directory) then Over ends.LongDirectory
     else by_script form parts.directory parts.script
 
 -- The words first, then the directory's length, the script's mark, and the directory itself.

@@ -4,7 +4,6 @@ pub mod Endings
 pub mod Examples
 pub mod Happened
 pub mod Headline
-pub mod Inputs
 pub mod Openings
 pub mod Plays
 pub mod Ran

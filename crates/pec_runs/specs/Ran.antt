@@ -10,8 +10,10 @@ use Rattle.pec_directory.specs.Directory.{Provider}
 use Rattle.pec_ledger.specs.Network.{Site, interrupted_at, journal_at}
 use Rattle.pec_ledger.specs.Trade.{Trade}
 use Rattle.pec_plays.specs.Commands.{Command, Luck, played}
-use Rattle.pec_runs.specs.Happened.{Happened, IsSetting, Stage, Over, Halted, Begun, directory_in, outcome_of, providers_in, stage_of, trade_in}
-use Rattle.pec_runs.specs.Inputs.{Parts, parts_of, raw_lines}
+use Rattle.pec_input.specs.Directory.{directory_in}
+use Rattle.pec_runs.specs.Happened.{Happened, IsSetting, Stage, Over, Halted, Begun, outcome_of, providers_in, stage_of, trade_in}
+use Rattle.pec_input.specs.Opening.{parts_left}
+use Rattle.pec_input.specs.Parts.{Parts}
 use Rattle.pec_runs.specs.Openings.{disks_at, AreLeft, AreUntouched, Disks, Form, IsOpening, Next, NoMore, opened_all}
 use Rattle.pec_runs.specs.Plays.{Ends, Fails, Finish, MayPlay, Outcome, Rest, Stopped, Stops, Strays, outcome_text}
 use Rattle.pec_runs.specs.ScriptLines.{Script}
@@ -22,7 +24,7 @@ use Rattle.pec_runs.specs.Statuses as statuses
 
 -- Where the input tells its bytes, these are its parts.
 abbrev pub IsInput : Option Bytes → Parts → Type 0
-IsInput unread parts = IfSome unread (λ text. parts ≡ parts_of (raw_lines text))
+IsInput unread parts = IfSome (parts_left unread) (λ told. parts ≡ told)
 
 -- ---- output
 

@@ -10,7 +10,7 @@ use Rattle.pec_script.specs.declared.commands.Command.TheVariants as written
 use Rattle.pec_script.specs.declared.faults.LineFault.{LineFault}
 use Rattle.pec_runs.specs.Endings.{End}
 use Rattle.pec_runs.specs.Endings as ends
-use Rattle.pec_runs.specs.Inputs.{content_of}
+use Rattle.pec_input.specs.Lines.{content_of}
 
 -- The limits: lines of a script, bytes of a line without its end.
 abbrev pub most_lines : ℕ

@@ -1,21 +1,13 @@
-ghost use Rattle.std.specs.Prelude.{◌≡◌, ◌↔◌, ℕ, ◌<◌, ◌≤◌, true, false, List, length};
-ghost use Rattle.std.specs.List.{concat};
+ghost use Rattle.std.specs.Prelude.{◌≡◌, ℕ, ◌<◌, ◌≤◌, true, false, List, length};
 ghost use Rattle.pec_types.specs.Bytes.{Bytes};
 ghost use Rattle.pec_directory.specs.Directory.{Provider};
 ghost use Rattle.pec_script.specs.Lines.{IsCommand, IsLineFault};
 ghost use Rattle.pec_script.specs.declared.commands.Command.{Command as Written};
 ghost use Rattle.pec_script.specs.declared.faults.LineFault.{LineFault};
-ghost use Rattle.pec_runs.specs.Inputs.{AreParts, Parts, content_of, parts_of, raw_lines};
+ghost use Rattle.pec_input.specs.Lines.{content_of};
 ghost use Rattle.pec_runs.specs.ScriptLines.{PassedOver, Says, SaysNone, TooLong, TooMany, command_in, is_passed_over, longest_line, most_lines, said_by};
 
 use pec_script::a_line_has_one_reading;
-
-/// The lines of an input are the input, and it has its parts in one way: the directory is all before the first line
-/// that says `%%`, and the script all behind it.
-pub fn an_input_is_parted_in_one_way()
-    ensures whole { (text : Bytes) → concat (raw_lines text) ≡ text }
-    ensures parts { (text : Bytes) (parts : Parts) → AreParts text parts ↔ (parts ≡ parts_of (raw_lines text)) }
-{}
 
 /// A line of a script, by its number from 1 and what it says: past the greatest number it is too many; longer than a
 /// line may be it is too long; an empty one or a remark is passed over; and any other says a command or has a fault.

@@ -15,7 +15,7 @@ mod writing;
 pub use climbing::{a_run_is_climbed, a_script_is_played_line_by_line};
 pub use examples::{runs_of_the_examples, texts_of_the_examples};
 pub use headline::the_books_belong_to_the_ledger;
-pub use inputs::{a_line_is_one_thing, an_input_is_parted_in_one_way};
+pub use inputs::a_line_is_one_thing;
 pub use leaving::a_run_leaves_its_journals;
 pub use quiet::{
     a_run_without_faults_has_one_transcript, a_run_without_faults_is_there,

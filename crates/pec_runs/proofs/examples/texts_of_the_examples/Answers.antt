@@ -6,7 +6,7 @@ use Rattle.pec_script.specs.LinesReading.{command_of, next_of, or_fault, verb_of
 use Rattle.pec_script.specs.Texts.{answer_text as one_line, fault_text, line_of, name_of, turn_rows, turns_text}
 use Rattle.pec_runs.specs.AnswerLines.{answer_text}
 use Rattle.pec_runs.specs.Endings.{end_text}
-use Rattle.pec_runs.specs.Inputs.{content_of}
+use Rattle.pec_input.specs.Lines.{content_of}
 use Rattle.pec_runs.specs.ScriptLines.{said_by}
 use Rattle.pec_runs.proofs.examples.texts_of_the_examples.Goals as goal
 
