@@ -32,6 +32,7 @@ use Rattle.pec_plays.specs.Steps.{has_no_room}
 use Rattle.pec_plays.specs.Turns.{last_of}
 use Rattle.pec_runs.specs.Headline.{Acknowledges, IsBook, NoneWithoutNotice, Stands, state_before}
 use Rattle.pec_runs.specs.Reaching.{IsReached}
+use Rattle.pec_runs.proofs.DeliveredLemmas.{delivered_once}
 use Rattle.pec_runs.proofs.NextLemmas.{WouldMeet, next_reached, would_meet}
 use Rattle.pec_runs.proofs.PlaceLemmas.{at_place, unforged_front}
 use Rattle.pec_runs.proofs.StepLemmas.{JointStays, reached_itself, reached_on}
@@ -146,6 +147,9 @@ module _ (trade : Trade) (laws : PlayLaws trade) where
         sound = behind;
         reached = reached_behind lucks sites commands sound would given;
         kept = kept_in (script trade lucks sites commands).after behind;
+        delivered = delivered_once trade (journals_of (script trade lucks sites commands).after)
+            (laws.one_outcome (journals_of (script trade lucks sites commands).after) behind.fit)
+            (laws.one_delivery (journals_of (script trade lucks sites commands).after) behind.fit);
         acknowledged = acknowledged world (script trade lucks sites commands).after behind;
       }
 

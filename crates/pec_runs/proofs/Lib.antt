@@ -1,6 +1,7 @@
 pub mod BeginningLemmas
 pub mod ClimbLemmas
 pub mod CutLemmas
+pub mod DeliveredLemmas
 pub mod HeadlineLemmas
 pub mod InputLemmas
 pub mod LeavingLemmas

@@ -8,12 +8,14 @@ use Rattle.pec_types.specs.Bytes.{Bytes}
 use Rattle.pec_types.specs.declared.limits.TheConstants.{LATE_AFTER}
 use Rattle.pec_types.specs.declared.mailboxes.Mark.{Mark as ToldMark}
 use Rattle.pec_types.specs.declared.messages.BookLine.{BookLine}
+use Rattle.pec_types.specs.declared.messages.Decision.TheVariants.{Placed}
 use Rattle.pec_types.specs.declared.moments.TheConstants.{END_OF_TIME}
 use Rattle.pec_types.specs.declared.receipts.Kind.TheVariants as kinds
 use Rattle.pec_records.specs.Entry.{most_addresses}
 use Rattle.pec_ledger.specs.Along.{AllDiffer, times}
 use Rattle.pec_ledger.specs.Books.{book}
-use Rattle.pec_ledger.specs.Guarantees.{HasReceipt, is_notice_on}
+use Rattle.pec_ledger.specs.Guarantees.{HasReceipt, is_envelope_of, is_notice_on}
+use Rattle.pec_ledger.specs.Half.{Known}
 use Rattle.pec_ledger.specs.Ledger.{Journals, ledger}
 use Rattle.pec_ledger.specs.Lookups.{Accepted, HasPair, accepted_at, known_of, mailbox}
 use Rattle.pec_ledger.specs.Network.{IsGenuine, Site, Sound, frames_between, journals_of}
@@ -88,6 +90,11 @@ pub record Stands (trade : Trade) (start now : List Site) : Type 0 where
   pub reached : IsReached trade (journals_of start) (journals_of now)
   -- one outcome, one delivery, no receipt missing, a notice by the day
   pub kept : Kept trade now
+  -- a message that its sender knows delivered lies in the recipient's mailbox, once
+  pub delivered : (pair : Pair) (row : Known) (home : ℕ)
+      → known_of (ledger trade (journals_of now) pair.id.provider) pair ≡ Some row → row.decision ≡ Placed
+      → trade.home pair.recipient ≡ Some home
+      → times (is_envelope_of pair.id) (mailbox (ledger trade (journals_of now) home) pair.recipient) ≡ 1
   -- a receipt whose acknowledgement waits on a link isn't missing
   pub acknowledged : (from to : ℕ) (frame : Bytes) (pair : Pair) → Contains (frames_between now from to) frame
       → Acknowledges trade frame pair → HasReceipt trade (journals_of now) pair
