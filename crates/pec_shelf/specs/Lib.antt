@@ -1,3 +1,5 @@
+pub mod KeyLaws
+pub mod Keys
 pub mod Lines
 pub mod Longest
 pub mod PairRows

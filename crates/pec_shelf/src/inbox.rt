@@ -2,8 +2,9 @@ ghost use Rattle.std.specs.Prelude.{◌≡◌, ◌≤◌, ◌++◌, [], length, 
 ghost use Rattle.pec_ledger.specs.Half.{Fate, Taken};
 ghost use Rattle.pec_ledger.specs.Pairs.{pair_of, same_id, same_pair};
 
-use crate::appending::append_reserved;
+use crate::keys::{OfId, OfPair};
 use crate::rows::{AckedRow, FateRow, TakenRow};
+use pec_places::Table;
 use pec_types::{Address, MsgId, NoMemory};
 use std::alloc::Global;
 use std::marker::Model;
@@ -11,29 +12,29 @@ use std::marker::Model;
 /// The recipient's side of a provider: what it took, and what became of it here.
 #[derive(Drop)]
 pub(crate) struct Inbox {
-    taken: Vec<TakenRow>,
-    decided: Vec<FateRow>,
-    acked: Vec<AckedRow>,
+    taken: Table<TakenRow>,
+    decided: Table<FateRow>,
+    acked: Table<AckedRow>,
     room: usize,
 }
 
 impl Model for Inbox {
-    ghost use Rattle.std.specs.Prelude.{◌+◌, ◌≤◌, vec_capacity, vec_len};
+    ghost use Rattle.std.specs.Prelude.{◌≤◌};
     ghost use Rattle.pec_shelf.specs.Sides.{Received};
 
     ghost Value = { Received };
 
     ghost view = { λ inbox. record {
-      taken = inbox.taken.items;
-      decided = inbox.decided.items;
-      acked = inbox.acked.items;
+      taken = inbox.taken.rows;
+      decided = inbox.decided.rows;
+      acked = inbox.acked.rows;
       room = inbox.room;
     } };
 
     ghost invariant = { λ inbox.
-        (vec_len inbox.taken + inbox.room ≤ vec_capacity inbox.taken)
-        × (vec_len inbox.decided + inbox.room ≤ vec_capacity inbox.decided)
-        × (vec_len inbox.acked + inbox.room ≤ vec_capacity inbox.acked) };
+        (inbox.room ≤ inbox.taken.room)
+        × (inbox.room ≤ inbox.decided.room)
+        × (inbox.room ≤ inbox.acked.room) };
 }
 
 /// Rows for the recipient's side.
@@ -50,9 +51,9 @@ impl Inbox {
         ensures { result ≡ record { taken = []; decided = []; acked = []; room = 0 } }
     {
         Inbox {
-            taken: Vec::new(alloc),
-            decided: Vec::new(alloc),
-            acked: Vec::new(alloc),
+            taken: Table::new(alloc),
+            decided: Table::new(alloc),
+            acked: Table::new(alloc),
             room: 0,
         }
     }
@@ -85,9 +86,9 @@ impl Inbox {
           room = 0;
         } }
     {
-        append_reserved(&mut self.taken, rows.taken);
-        append_reserved(&mut self.decided, rows.decided);
-        append_reserved(&mut self.acked, rows.acked);
+        self.taken.append(rows.taken);
+        self.decided.append(rows.decided);
+        self.acked.append(rows.acked);
         self.room = 0;
     }
 
@@ -95,21 +96,21 @@ impl Inbox {
     pub(crate) fn all_taken(&self) -> &[TakenRow]
         ensures { result.now ≡ self.now.taken }
     {
-        self.taken.as_slice()
+        self.taken.rows()
     }
 
     /// All decisions, in order.
     pub(crate) fn all_decided(&self) -> &[FateRow]
         ensures { result.now ≡ self.now.decided }
     {
-        self.decided.as_slice()
+        self.decided.rows()
     }
 
     /// How an id was taken.
     pub(crate) fn taken(&self, id: MsgId) -> Option<&TakenRow>
         ensures { option_map (λ row. row.now) result ≡ find (λ (taken : Taken). same_id id taken.id) self.now.taken }
     {
-        taken_in(self.taken.as_slice(), id)
+        self.taken.find(&OfId { id })
     }
 
     /// What was decided on a pair.
@@ -117,46 +118,13 @@ impl Inbox {
         ensures { option_map (λ row. row.now) result
             ≡ find (λ (fate : Fate). same_pair (pair_of id recipient.now) fate.pair) self.now.decided }
     {
-        fate_in(self.decided.as_slice(), id, recipient)
+        self.decided.find(&OfPair { id, recipient })
     }
 
     /// Whether the sender's provider knows what was decided on a pair.
     pub(crate) fn is_acked(&self, id: MsgId, recipient: &Address) -> bool
         ensures { result ≡ is_some (find (same_pair (pair_of id recipient.now)) self.now.acked) }
     {
-        is_acked_in(self.acked.as_slice(), id, recipient)
+        self.acked.find(&OfPair { id, recipient }).is_some()
     }
-}
-
-fn taken_in(rows: &[TakenRow], id: MsgId) -> Option<&TakenRow>
-    ensures { option_map (λ row. row.now) result ≡ find (λ (taken : Taken). same_id id taken.id) rows.now }
-{
-    for row in rows {
-        if row.is_of(id) {
-            return Some(row);
-        }
-    }
-    None
-}
-
-fn fate_in<'a>(rows: &'a [FateRow], id: MsgId, recipient: &Address) -> Option<&'a FateRow>
-    ensures { option_map (λ row. row.now) result ≡ find (λ (fate : Fate). same_pair (pair_of id recipient.now) fate.pair) rows.now }
-{
-    for row in rows {
-        if row.is_of(id, recipient) {
-            return Some(row);
-        }
-    }
-    None
-}
-
-fn is_acked_in(rows: &[AckedRow], id: MsgId, recipient: &Address) -> bool
-    ensures { result ≡ is_some (find (same_pair (pair_of id recipient.now)) rows.now) }
-{
-    for row in rows {
-        if row.is_of(id, recipient) {
-            return true;
-        }
-    }
-    false
 }

@@ -11,6 +11,7 @@ mod certified;
 mod faults;
 mod figures;
 mod inbox;
+mod keys;
 mod laws;
 mod lookups;
 mod marking;

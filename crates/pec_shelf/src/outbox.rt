@@ -4,7 +4,9 @@ ghost use Rattle.pec_ledger.specs.Lookups.{is_notice, is_warning};
 ghost use Rattle.pec_ledger.specs.Pairs.{pair_of, same_id, same_pair};
 
 use crate::appending::append_reserved;
+use crate::keys::{Noticed, OfCharge, OfPair, Warned};
 use crate::rows::{ChargeRow, KnownRow, MarkRow, MessageRow};
+use pec_places::Table;
 use pec_types::{Address, MsgId, NoMemory};
 use std::alloc::Global;
 use std::marker::Model;
@@ -13,9 +15,9 @@ use std::marker::Model;
 #[derive(Drop)]
 pub(crate) struct Outbox {
     messages: Vec<MessageRow>,
-    charged: Vec<ChargeRow>,
-    marks: Vec<MarkRow>,
-    known: Vec<KnownRow>,
+    charged: Table<ChargeRow>,
+    marks: Table<MarkRow>,
+    known: Table<KnownRow>,
     room: usize,
 }
 
@@ -27,17 +29,17 @@ impl Model for Outbox {
 
     ghost view = { λ outbox. record {
       messages = outbox.messages.items;
-      charged = outbox.charged.items;
-      marks = outbox.marks.items;
-      known = outbox.known.items;
+      charged = outbox.charged.rows;
+      marks = outbox.marks.rows;
+      known = outbox.known.rows;
       room = outbox.room;
     } };
 
     ghost invariant = { λ outbox.
         (vec_len outbox.messages + outbox.room ≤ vec_capacity outbox.messages)
-        × (vec_len outbox.charged + outbox.room ≤ vec_capacity outbox.charged)
-        × (vec_len outbox.marks + outbox.room ≤ vec_capacity outbox.marks)
-        × (vec_len outbox.known + outbox.room ≤ vec_capacity outbox.known) };
+        × (outbox.room ≤ outbox.charged.room)
+        × (outbox.room ≤ outbox.marks.room)
+        × (outbox.room ≤ outbox.known.room) };
 }
 
 /// Rows for the sender's side.
@@ -56,9 +58,9 @@ impl Outbox {
     {
         Outbox {
             messages: Vec::new(alloc),
-            charged: Vec::new(alloc),
-            marks: Vec::new(alloc),
-            known: Vec::new(alloc),
+            charged: Table::new(alloc),
+            marks: Table::new(alloc),
+            known: Table::new(alloc),
             room: 0,
         }
     }
@@ -95,9 +97,9 @@ impl Outbox {
         } }
     {
         append_reserved(&mut self.messages, rows.messages);
-        append_reserved(&mut self.charged, rows.charged);
-        append_reserved(&mut self.marks, rows.marks);
-        append_reserved(&mut self.known, rows.known);
+        self.charged.append(rows.charged);
+        self.marks.append(rows.marks);
+        self.known.append(rows.known);
         self.room = 0;
     }
 
@@ -120,7 +122,7 @@ impl Outbox {
         ensures { option_map (λ row. row.now) result
             ≡ find (λ (charge : Charge). same_id id charge.id && (by == charge.by)) self.now.charged }
     {
-        charge_in(self.charged.as_slice(), id, by)
+        self.charged.find(&OfCharge { id, by })
     }
 
     /// The warning of a pair.
@@ -128,7 +130,7 @@ impl Outbox {
         ensures { option_map (λ row. row.now) result
             ≡ find (λ (mark : Mark). is_warning mark.due && same_pair (pair_of id recipient.now) mark.pair) self.now.marks }
     {
-        warning_in(self.marks.as_slice(), id, recipient)
+        self.marks.find(&Warned { id, recipient })
     }
 
     /// The notice of a pair.
@@ -136,7 +138,7 @@ impl Outbox {
         ensures { option_map (λ row. row.now) result
             ≡ find (λ (mark : Mark). is_notice mark.due && same_pair (pair_of id recipient.now) mark.pair) self.now.marks }
     {
-        notice_in(self.marks.as_slice(), id, recipient)
+        self.marks.find(&Noticed { id, recipient })
     }
 
     /// The outcome of a pair.
@@ -144,52 +146,6 @@ impl Outbox {
         ensures { option_map (λ row. row.now) result
             ≡ find (λ (known : Known). same_pair (pair_of id recipient.now) known.pair) self.now.known }
     {
-        known_in(self.known.as_slice(), id, recipient)
+        self.known.find(&OfPair { id, recipient })
     }
-}
-
-fn charge_in(rows: &[ChargeRow], id: MsgId, by: u32) -> Option<&ChargeRow>
-    ensures { option_map (λ row. row.now) result ≡ find (λ (charge : Charge). same_id id charge.id && (by == charge.by)) rows.now }
-{
-    for row in rows {
-        if row.is_of(id, by) {
-            return Some(row);
-        }
-    }
-    None
-}
-
-fn warning_in<'a>(rows: &'a [MarkRow], id: MsgId, recipient: &Address) -> Option<&'a MarkRow>
-    ensures { option_map (λ row. row.now) result
-        ≡ find (λ (mark : Mark). is_warning mark.due && same_pair (pair_of id recipient.now) mark.pair) rows.now }
-{
-    for row in rows {
-        if row.warns_of(id, recipient) {
-            return Some(row);
-        }
-    }
-    None
-}
-
-fn notice_in<'a>(rows: &'a [MarkRow], id: MsgId, recipient: &Address) -> Option<&'a MarkRow>
-    ensures { option_map (λ row. row.now) result
-        ≡ find (λ (mark : Mark). is_notice mark.due && same_pair (pair_of id recipient.now) mark.pair) rows.now }
-{
-    for row in rows {
-        if row.notes(id, recipient) {
-            return Some(row);
-        }
-    }
-    None
-}
-
-fn known_in<'a>(rows: &'a [KnownRow], id: MsgId, recipient: &Address) -> Option<&'a KnownRow>
-    ensures { option_map (λ row. row.now) result ≡ find (λ (known : Known). same_pair (pair_of id recipient.now) known.pair) rows.now }
-{
-    for row in rows {
-        if row.is_of(id, recipient) {
-            return Some(row);
-        }
-    }
-    None
 }

@@ -1,0 +1,26 @@
+-- Numbers by which rows are found: what is one thing has one number, and most things have one of their own. No promise
+-- rests on which numbers these are.
+use Rattle.std.specs.Prelude.{ℕ, ◌+◌, ◌*◌, ◌^◌}
+use Rattle.std.specs.Hash.{u64}
+use Rattle.std.specs.Hash.DefaultHasher.{finish, initial, write}
+use Rattle.std.specs.List.{fold}
+use Rattle.pec_types.specs.Bytes.{Bytes}
+use Rattle.pec_types.specs.Message.{Id}
+use Rattle.pec_types.specs.declared.messages.TheConstants.{MESSAGES}
+use Rattle.pec_ledger.specs.Pairs.{Pair}
+
+-- the number of an id: its own
+unfoldable pub number_of_id : Id → ℕ
+number_of_id id = id.provider * MESSAGES + id.number
+
+-- the number of a message of this provider, and of a provider that may have taken charge of it: its own
+unfoldable pub number_of_charge : Id → ℕ → ℕ
+number_of_charge id by = id.number * 2 ^ 32 + by
+
+-- the number of a pair: SipHash of both parts
+unfoldable pub number_of_pair : Pair → ℕ
+number_of_pair pair = finish (write (fold write initial (u64 (number_of_id pair.id))) pair.recipient)
+
+-- the number of an item of a mailbox: SipHash of its rank and of the account
+unfoldable pub number_of_item : Bytes → ℕ → ℕ
+number_of_item account rank = finish (write (fold write initial (u64 rank)) account)
