@@ -16,13 +16,15 @@ ChangesOnly {D} number old new =
 abbrev pub HasRisenAt : {D : Type 0} → (D → ℕ) → ℕ → List (ProviderState D) → List (ProviderState D) → Type 0
 HasRisenAt {D} faults number old new =
     (other : ProviderState D)
-    → HasRisen (faults (slice_index_or old number other).chronicle.disk) (faults (slice_index_or new number other).chronicle.disk)
+    → HasRisen (faults (slice_index_or old number other).chronicle.disk)
+    (faults (slice_index_or new number other).chronicle.disk)
 
 -- What is kept of the provider stands on its disk.
 abbrev pub StandsAt : {D : Type 0} → (D → Sight) → ℕ → List (ProviderState D) → Type 0
-StandsAt {D} sight number providers = (other : ProviderState D) → Stands sight (slice_index_or providers number other).chronicle
+StandsAt {D} sight number providers =
+    (other : ProviderState D) → Stands sight (slice_index_or providers number other).chronicle
 
--- The provider's disk reads as a crash may have left the old one, and holds that durably; it has the old one's count.
+-- The provider's disk reads as a crash may have left the old one, and holds that durably.
 pub record IsCrashedDisk {D : Type 0} (sight : D → Sight) (old new : D) : Type 0 where
   pub left : (sight old).may_leave (sight new).seen
   pub durable : Only (sight new).seen (sight new).may_leave
@@ -30,7 +32,8 @@ pub record IsCrashedDisk {D : Type 0} (sight : D → Sight) (old new : D) : Type
 abbrev pub CrashedAt : {D : Type 0} → (D → Sight) → ℕ → List (ProviderState D) → List (ProviderState D) → Type 0
 CrashedAt {D} sight number old new =
     (other : ProviderState D)
-    → IsCrashedDisk sight (slice_index_or old number other).chronicle.disk (slice_index_or new number other).chronicle.disk
+    → IsCrashedDisk sight (slice_index_or old number other).chronicle.disk
+    (slice_index_or new number other).chronicle.disk
 
 -- The count of faults of no disk changes.
 abbrev pub SameCounts : {D : Type 0} → (D → ℕ) → List (ProviderState D) → List (ProviderState D) → Type 0

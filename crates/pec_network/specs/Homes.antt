@@ -5,7 +5,8 @@ use Rattle.pec_provider.specs.Provider.{ProviderState}
 module _ {D X : Type 0} (given : ProviderState D → X) (old new : ℕ → X) (providers : List (ProviderState D)) where
   -- Of each provider this stands at its number; at all other numbers stands what stood there.
   pub record AllAt : Type 0 where
-    pub here : (number : ℕ) (other : ProviderState D) → number < length providers → new number ≡ given (slice_index_or providers number other)
+    pub here : (number : ℕ) (other : ProviderState D) → number < length providers
+        → new number ≡ given (slice_index_or providers number other)
     pub elsewhere : (number : ℕ) → length providers ≤ number → new number ≡ old number
 
   -- So it is from a number on; below it stands what stood there.

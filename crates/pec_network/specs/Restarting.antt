@@ -1,5 +1,5 @@
--- What a restart answers, and what it leaves: it is played with the luck that the number of entries tells. This project's
--- profile.
+-- What a restart answers, and what it leaves: it is played with the luck that the number of entries tells. This
+-- project's profile.
 use Rattle.std.specs.Prelude.{◌≡◌, ℕ, nat_lt, true, false, List, length, slice_index_or}
 use Rattle.pec_records.specs.declared.entries.Entry.{Entry}
 use Rattle.pec_ledger.specs.Network.{Site, journal_at, site_at}
@@ -32,18 +32,20 @@ abbrev pub IsRestarted : (Luck → Played) → List Site → ℕ → List Site �
 IsRestarted play old provider new entries =
     play (luck_told old provider entries) ≡ record { answer = Restarted entries; after = new }
 
--- A restart was refused, and all is as it was: the provider is up; or its disk failed; or the journal isn't the provider's
--- own; or memory ran out.
+-- A restart was refused, and all is as it was: the provider is up; or its disk failed; or the journal isn't the
+-- provider's own; or memory ran out.
 abbrev pub IsNotRestarted : (Luck → Played) → List Site → ℕ → List Site → RestartFault → Type 0
 IsNotRestarted play old provider new faults.Up = (play (luck_of false) ≡ answers old IsUp) × (new ≡ old)
-IsNotRestarted play old provider new faults.DiskFault = (play (luck_of true) ≡ answers old (Refuses refusals.DiskFault)) × (new ≡ old)
+IsNotRestarted play old provider new faults.DiskFault =
+    (play (luck_of true) ≡ answers old (Refuses refusals.DiskFault)) × (new ≡ old)
 IsNotRestarted play old provider new (faults.NotFit why) = ((site_at old provider).up ≡ false) × (new ≡ old)
 IsNotRestarted play old provider new faults.NoMemory = new ≡ old
 
 -- The provider is up over so many entries, and nothing is interrupted.
 abbrev pub IsUpAt : {D : Type 0} → ℕ → List (ProviderState D) → ℕ → Type 0
 IsUpAt {D} number providers entries =
-    (journal : List Entry) × (length journal ≡ entries) × ((other : ProviderState D) → desk_of (slice_index_or providers number other) ≡ fresh journal)
+    (journal : List Entry) × (length journal ≡ entries)
+    × ((other : ProviderState D) → desk_of (slice_index_or providers number other) ≡ fresh journal)
 
 -- It isn't the journal that is refused.
 abbrev pub IsFit : RestartFault → Type 0

@@ -10,8 +10,10 @@ use pec_provider::Provider;
 impl<D: Disk, S: Drop> Network<D, S> {
     /// Ends the network: each provider's disk is kept in the depot, as it is. It takes no memory.
     pub fn close<P: Depot<D = D>>(self, depot: &mut P)
-        ensures kept { P.tells → AllAt (λ provider. Some provider.chronicle.disk) (P.home depot.old) (P.home depot.new) self.providers }
-        ensures last { AllAt (λ provider. D.faults provider.chronicle.disk) (P.last depot.old) (P.last depot.new) self.providers }
+        ensures kept { P.tells → AllAt (λ provider. Some provider.chronicle.disk)
+            (P.home depot.old) (P.home depot.new) self.providers }
+        ensures last { AllAt (λ provider. D.faults provider.chronicle.disk)
+            (P.last depot.old) (P.last depot.new) self.providers }
         ensures later { P.faults depot.old ≤ P.faults depot.new }
     {
         few_providers(&self.directory);
@@ -28,8 +30,10 @@ impl<D: Disk, S: Drop> Network<D, S> {
 /// Keeps the disks of providers, which are numbered from 0 on.
 pub(crate) fn keep_all<D: Disk, P: Depot<D = D>>(mut providers: Vec<Provider<D>>, depot: &mut P)
     requires { length providers.items ≤ depot_places }
-    ensures kept { P.tells → AllAt (λ provider. Some provider.chronicle.disk) (P.home depot.old) (P.home depot.new) providers.items }
-    ensures last { AllAt (λ provider. D.faults provider.chronicle.disk) (P.last depot.old) (P.last depot.new) providers.items }
+    ensures kept { P.tells → AllAt (λ provider. Some provider.chronicle.disk)
+        (P.home depot.old) (P.home depot.new) providers.items }
+    ensures last { AllAt (λ provider. D.faults provider.chronicle.disk)
+        (P.last depot.old) (P.last depot.new) providers.items }
     ensures later { P.faults depot.old ≤ P.faults depot.new }
 {
     while let Some(provider) = providers.pop() {

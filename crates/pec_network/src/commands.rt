@@ -21,8 +21,8 @@ use std::alloc::Global;
 
 /// Commands of one provider, by its number in the directory.
 impl<D: Disk, S: Sealer> Network<D, S> {
-    /// Hands a provider a message that an account submits for a forward path, in bytes as it was handed in. The first of
-    /// these refusals that applies is answered, and leaves all as it was: `NoAccount`, `Down`, `ClockBack`, `Full`,
+    /// Hands a provider a message that an account submits for a forward path, in bytes as it was handed in. The first
+    /// of these refusals that applies is answered, and leaves all as it was: `NoAccount`, `Down`, `ClockBack`, `Full`,
     /// `NoMemory`, `JournalFull`. After `DiskFault` the provider is down.
     pub fn submit(
         &mut self,
@@ -37,12 +37,14 @@ impl<D: Disk, S: Sealer> Network<D, S> {
         requires fits { Fits (S.seals self.old.sealer) (providers_of self.old.kept) }
         requires path { (0 < length path.now) × (length path.now ≤ most_addresses) }
         requires message { length message.now ≤ longest_message }
-        ensures plays { IsPlayed Submits (λ luck. played (trade_of self.old.kept (S.seals self.old.sealer)) luck (sites self.old)
+        ensures plays { IsPlayed Submits
+            (λ luck. played (trade_of self.old.kept (S.seals self.old.sealer)) luck (sites self.old)
             (Submit provider moment sender.now path.now message.now)) (sites self.old) (sites self.new) result }
         ensures others { ChangesOnly provider self.old self.new }
-        ensures carries { D.tells → (journals : Journals) → AllCarryOn D.sight (trade_of self.old.kept (S.seals self.old.sealer)) journals
-            self.old.providers self.new.providers }
-        ensures disk_fault { IsErrOf result faults.DiskFault → HasRisenAt D.faults provider self.old.providers self.new.providers }
+        ensures carries { D.tells → (journals : Journals) → AllCarryOn D.sight
+            (trade_of self.old.kept (S.seals self.old.sealer)) journals self.old.providers self.new.providers }
+        ensures disk_fault { IsErrOf result faults.DiskFault →
+            HasRisenAt D.faults provider self.old.providers self.new.providers }
         ensures later { NoneFalls D.faults self.old.providers self.new.providers }
     {
         what_rests_carries_on::<D>();
@@ -54,9 +56,9 @@ impl<D: Disk, S: Sealer> Network<D, S> {
         self.providers[provider as usize].submit(alloc, &house, moment, sender, path, message)
     }
 
-    /// Has a provider look at the clock: the marks that are due by then are set, and told. The first of these refusals that
-    /// applies is answered, and leaves all as it was: `Down`, `ClockBack`, `NoMemory`, `JournalFull`. After `DiskFault` the
-    /// provider is down.
+    /// Has a provider look at the clock: the marks that are due by then are set, and told. The first of these refusals
+    /// that applies is answered, and leaves all as it was: `Down`, `ClockBack`, `NoMemory`, `JournalFull`. After
+    /// `DiskFault` the provider is down.
     pub fn tick(
         &mut self,
         alloc: Global,
@@ -64,12 +66,14 @@ impl<D: Disk, S: Sealer> Network<D, S> {
         moment: Moment,
     ) -> Result<Vec<Mark>, ProviderFault>
         requires { provider < length self.old.kept }
-        ensures plays { IsPlayed (λ marks. Marks marks.items) (λ luck. played (trade_of self.old.kept (S.seals self.old.sealer)) luck
-            (sites self.old) (Tick provider moment)) (sites self.old) (sites self.new) result }
+        ensures plays { IsPlayed (λ marks. Marks marks.items)
+            (λ luck. played (trade_of self.old.kept (S.seals self.old.sealer)) luck (sites self.old)
+            (Tick provider moment)) (sites self.old) (sites self.new) result }
         ensures others { ChangesOnly provider self.old self.new }
-        ensures carries { D.tells → (journals : Journals) → AllCarryOn D.sight (trade_of self.old.kept (S.seals self.old.sealer)) journals
-            self.old.providers self.new.providers }
-        ensures disk_fault { IsErrOf result faults.DiskFault → HasRisenAt D.faults provider self.old.providers self.new.providers }
+        ensures carries { D.tells → (journals : Journals) → AllCarryOn D.sight
+            (trade_of self.old.kept (S.seals self.old.sealer)) journals self.old.providers self.new.providers }
+        ensures disk_fault { IsErrOf result faults.DiskFault →
+            HasRisenAt D.faults provider self.old.providers self.new.providers }
         ensures later { NoneFalls D.faults self.old.providers self.new.providers }
     {
         what_rests_carries_on::<D>();

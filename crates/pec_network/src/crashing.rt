@@ -18,8 +18,8 @@ use pec_provider::House;
 use std::alloc::Global;
 
 impl<D: Disk, S> Network<D, S> {
-    /// Crashes a provider, by its number: it is down, over the disk that the depot gives for its own. Its interrupted entry is
-    /// kept, and the frames that wait for it stay. It takes no memory.
+    /// Crashes a provider, by its number: it is down, over the disk that the depot gives for its own. Its interrupted
+    /// entry is kept, and the frames that wait for it stay. It takes no memory.
     pub fn crash<P: Depot<D = D>>(&mut self, provider: u32, depot: &mut P)
         requires { provider < length self.old.kept }
         ensures plays { (trade : Trade) (luck : Luck) → played trade luck (sites self.old) (Crash provider)
@@ -40,25 +40,28 @@ impl<D: Disk, S> Network<D, S> {
         put_back(&mut self.providers, number, crashed);
     }
 
-    /// Opens a provider again, by its number, over the disk that it has: it is up, over its entries with the interrupted one or
-    /// without it, and the answer is how many these are. The first of these refusals that applies is answered, and leaves all
-    /// as it was: `Up`, `DiskFault`, `NotFit`, `NoMemory`.
+    /// Opens a provider again, by its number, over the disk that it has: it is up, over its entries with the
+    /// interrupted one or without it, and the answer is how many these are. The first of these refusals that applies is
+    /// answered, and leaves all as it was: `Up`, `DiskFault`, `NotFit`, `NoMemory`.
     pub fn restart(&mut self, alloc: Global, provider: u32) -> Result<u64, RestartFault>
         requires { provider < length self.old.kept }
 
         // Over what it stands on it is played as the command, and `NotFit` doesn't come.
-        ensures plays { D.tells → StandsAt D.sight provider self.old.providers → IfOk result (λ entries. (trade : Trade) →
-            IsRestarted (λ luck. played trade luck (sites self.old) (Restart provider)) (sites self.old) provider (sites self.new) entries) }
+        ensures plays { D.tells → StandsAt D.sight provider self.old.providers → IfOk result (λ entries.
+            (trade : Trade) → IsRestarted (λ luck. played trade luck (sites self.old) (Restart provider))
+            (sites self.old) provider (sites self.new) entries) }
         ensures fit { D.tells → StandsAt D.sight provider self.old.providers → IfErr result IsFit }
         ensures refused { IfErr result (λ fault. (trade : Trade) →
-            IsNotRestarted (λ luck. played trade luck (sites self.old) (Restart provider)) (sites self.old) provider (sites self.new) fault) }
+            IsNotRestarted (λ luck. played trade luck (sites self.old) (Restart provider))
+            (sites self.old) provider (sites self.new) fault) }
 
         // Whatever the disk is, the provider is up.
         ensures up { IfOk result (IsUpAt provider self.new.providers) }
         ensures others { ChangesOnly provider self.old self.new }
         ensures carries { D.tells → (trade : Trade) (journals : Journals) →
             AllCarryOn D.sight trade journals self.old.providers self.new.providers }
-        ensures disk_fault { IsErrOf result faults.DiskFault → HasRisenAt D.faults provider self.old.providers self.new.providers }
+        ensures disk_fault { IsErrOf result faults.DiskFault →
+            HasRisenAt D.faults provider self.old.providers self.new.providers }
         ensures later { NoneFalls D.faults self.old.providers self.new.providers }
     {
         what_rests_carries_on::<D>();

@@ -6,13 +6,13 @@ use pec_provider::ReopenFault;
 /// Why the journal on a disk isn't a provider's own.
 #[derive(Clone, Copy, Debug, PartialEq, Eq)]
 pub enum NotFit {
-    /// The bytes are no journal: the place of the header, the gate or the length that isn't there, or of the length of an
-    /// entry that runs past the end.
+    /// The bytes are no journal: the place of the header, the gate or the length that isn't there, or of the length of
+    /// an entry that runs past the end.
     Journal(u64),
     /// The journal was made with another directory: the digest that it keeps, and that of the directory that was given.
     OtherDirectory([u8; 32], [u8; 32]),
-    /// The number, from 0, of the first entry whose bytes are none or which is no step; 0 where there is no Start of this
-    /// provider.
+    /// The number, from 0, of the first entry whose bytes are none or which is no step; 0 where there is no Start of
+    /// this provider.
     BadEntry(u64),
 }
 

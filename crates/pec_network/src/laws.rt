@@ -28,18 +28,20 @@ pub(crate) fn few_providers(directory: &Directory)
 /// What a crash may leave of a provider's disk is the journal of entries that follow the state.
 pub fn images_follow()
     ensures { (trade : Trade) (state : List Site) (number : ℕ) (bytes : Bytes)
-        → IsImage (MayFollow trade (journals_of state) number) (journal_at state number) (interrupted_at state number) bytes
+        → IsImage (MayFollow trade (journals_of state) number) (journal_at state number) (interrupted_at state number)
+        bytes
         → (list : List Entry) × FollowsState trade state number list × IsJournalOf list bytes }
 {
     what_follows_goes_on();
 }
 
-/// Whatever crashes leave of the providers' disks fits together: of a state that is Sound, take for each provider any journal
-/// that follows, by itself; these journals are Fit.
+/// Whatever crashes leave of the providers' disks fits together: of a state that is Sound, take for each provider any
+/// journal that follows, by itself; these journals are Fit.
 pub fn any_images()
     ensures { (trade : Trade) (state : List Site) → Sound trade state
         → (images : List (List Entry)) → length images ≡ trade.providers
-        → ((provider : ℕ) → provider < trade.providers → FollowsState trade state provider (slice_index_or images provider []))
+        → ((provider : ℕ) → provider < trade.providers
+        → FollowsState trade state provider (slice_index_or images provider []))
         → Fit trade (journals_in images) }
 {
     pec_ledger::any_images();

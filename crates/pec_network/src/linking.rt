@@ -9,22 +9,23 @@ use pec_link::LinkFault;
 use pec_types::Frame;
 use std::alloc::Global;
 
-/// What may befall the frames on the link from one provider to another, at a place counted from 0. After a refusal all is
-/// as it was.
+/// What may befall the frames on the link from one provider to another, at a place counted from 0. After a refusal all
+/// is as it was.
 impl<D, S> Network<D, S> {
     /// Loses a frame. `NoFrame` exactly where none waits at the place. It takes no memory.
     pub fn lose(&mut self, from: u32, to: u32, place: usize) -> Result<(), LinkFault>
         requires from { from < length self.old.kept }
         requires to { to < length self.old.kept }
         ensures plays { (trade : Trade) (luck : Luck) →
-            IsPlayedOnLink Lost (played trade luck (sites self.old) (Lose from to place)) (sites self.old) (sites self.new) result }
+            IsPlayedOnLink Lost (played trade luck (sites self.old) (Lose from to place))
+            (sites self.old) (sites self.new) result }
         ensures others { self.new ≡ record self.old { waiting = self.new.waiting } }
     {
         self.arrivals[to as usize].lose(from, place)
     }
 
-    /// Puts a copy of a frame behind those that wait. `NoFrame` exactly where none waits at the place, and otherwise `Full`
-    /// exactly where 64 wait.
+    /// Puts a copy of a frame behind those that wait. `NoFrame` exactly where none waits at the place, and otherwise
+    /// `Full` exactly where 64 wait.
     pub fn repeat(
         &mut self,
         alloc: Global,
@@ -35,7 +36,8 @@ impl<D, S> Network<D, S> {
         requires from { from < length self.old.kept }
         requires to { to < length self.old.kept }
         ensures plays { (trade : Trade) (luck : Luck) →
-            IsPlayedOnLink Repeated (played trade luck (sites self.old) (Repeat from to place)) (sites self.old) (sites self.new) result }
+            IsPlayedOnLink Repeated (played trade luck (sites self.old) (Repeat from to place))
+            (sites self.old) (sites self.new) result }
         ensures others { self.new ≡ record self.old { waiting = self.new.waiting } }
     {
         self.arrivals[to as usize].repeat(alloc, from, place)
@@ -46,7 +48,8 @@ impl<D, S> Network<D, S> {
         requires from { from < length self.old.kept }
         requires to { to < length self.old.kept }
         ensures plays { (trade : Trade) (luck : Luck) →
-            IsPlayedOnLink Swapped (played trade luck (sites self.old) (Swap from to place)) (sites self.old) (sites self.new) result }
+            IsPlayedOnLink Swapped (played trade luck (sites self.old) (Swap from to place))
+            (sites self.old) (sites self.new) result }
         ensures others { self.new ≡ record self.old { waiting = self.new.waiting } }
     {
         self.arrivals[to as usize].swap(from, place)
@@ -57,7 +60,8 @@ impl<D, S> Network<D, S> {
         requires from { from < length self.old.kept }
         requires to { to < length self.old.kept }
         ensures plays { (trade : Trade) (luck : Luck) →
-            IsPlayedOnLink Injected (played trade luck (sites self.old) (Inject from to frame)) (sites self.old) (sites self.new) result }
+            IsPlayedOnLink Injected (played trade luck (sites self.old) (Inject from to frame))
+            (sites self.old) (sites self.new) result }
         ensures others { self.new ≡ record self.old { waiting = self.new.waiting } }
     {
         self.arrivals[to as usize].inject(from, frame)

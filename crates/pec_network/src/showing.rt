@@ -19,7 +19,8 @@ impl<D, S: Sealer> Network<D, S> {
     /// The book of an account: a line for each of its accepted messages and certified recipients.
     pub fn book(&self, alloc: Global, account: &Address) -> Result<Vec<BookLine>, ProviderFault>
         ensures { (luck : Luck) → IsShown (λ lines. Lines lines.items)
-            (played (trade_of self.now.kept (S.seals self.now.sealer)) luck (sites self.now) (Book account.now)) (sites self.now) result }
+            (played (trade_of self.now.kept (S.seals self.now.sealer)) luck (sites self.now) (Book account.now))
+            (sites self.now) result }
     {
         a_trade_says_what_its_parts_say();
         let Some(me) = self.directory.home_of(account) else {
@@ -36,7 +37,8 @@ impl<D, S: Sealer> Network<D, S> {
     /// The lines of an account's mailbox, in order of placing.
     pub fn mailbox(&self, alloc: Global, account: &Address) -> Result<Vec<ItemLine>, ProviderFault>
         ensures { (luck : Luck) → IsShown (λ lines. ItemsShown lines.items)
-            (played (trade_of self.now.kept (S.seals self.now.sealer)) luck (sites self.now) (Mailbox account.now)) (sites self.now) result }
+            (played (trade_of self.now.kept (S.seals self.now.sealer)) luck (sites self.now) (Mailbox account.now))
+            (sites self.now) result }
     {
         a_trade_says_what_its_parts_say();
         let Some(me) = self.directory.home_of(account) else {
@@ -50,7 +52,8 @@ impl<D, S: Sealer> Network<D, S> {
         self.providers[me as usize].mailbox(alloc, &house, account)
     }
 
-    /// The bytes of the item at a place of an account's mailbox, counted from 0. `NoItem` where the mailbox has none there.
+    /// The bytes of the item at a place of an account's mailbox, counted from 0. `NoItem` where the mailbox has none
+    /// there.
     pub fn show(
         &self,
         alloc: Global,
@@ -59,7 +62,8 @@ impl<D, S: Sealer> Network<D, S> {
     ) -> Result<Vec<u8>, ProviderFault>
         requires { Fits (S.seals self.now.sealer) (providers_of self.now.kept) }
         ensures { (luck : Luck) → IsShown (λ bytes. Shown bytes.items)
-            (played (trade_of self.now.kept (S.seals self.now.sealer)) luck (sites self.now) (Show account.now place)) (sites self.now) result }
+            (played (trade_of self.now.kept (S.seals self.now.sealer)) luck (sites self.now) (Show account.now place))
+            (sites self.now) result }
     {
         a_trade_says_what_its_parts_say();
         let Some(me) = self.directory.home_of(account) else {
