@@ -9,19 +9,25 @@ use Rattle.pec_input.specs.Parts.{Parts, is_mark, onto_directory, parts_of}
 use Rattle.pec_input.specs.declared.opening.TheConstants.{LONGEST_DIRECTORY}
 use Rattle.pec_input.proofs.LineLemmas.{said_size}
 
-onto_twice : (front line : Bytes) (parts : Parts) → onto_directory front (onto_directory line parts) ≡ onto_directory (front ++ line) parts
-onto_twice front line parts = ap (λ d. record { directory = d; script = parts.script }) (sym (append_assoc front line parts.directory))
+onto_twice : (front line : Bytes) (parts : Parts)
+    → onto_directory front (onto_directory line parts) ≡ onto_directory (front ++ line) parts
+onto_twice front line parts =
+    ap (λ d. record { directory = d; script = parts.script }) (sym (append_assoc front line parts.directory))
 
 pub parts_line : (line : Bytes) (lines : List Bytes) (x : Bool) → is_mark line ≡ x
-    → parts_of (line ∷ lines) ≡ cond x (record { directory = []; script = Some lines }) (onto_directory line (parts_of lines))
-parts_line line lines x is = ap (λ m. cond m (record { directory = []; script = Some lines }) (onto_directory line (parts_of lines))) is
+    → parts_of (line ∷ lines) ≡ cond x (record { directory = []; script = Some lines })
+    (onto_directory line (parts_of lines))
+parts_line line lines x is =
+    ap (λ m. cond m (record { directory = []; script = Some lines }) (onto_directory line (parts_of lines))) is
 
 -- the parts of lines, behind these bytes of the directory
 abbrev pub onto_left : Bytes → Option (List Bytes) → Option Parts
 onto_left directory lines = option_map (λ parts. onto_directory directory parts) (option_map parts_of lines)
 
-pub directory_line : (start before after : Option Bytes) (directory line more : Bytes) → parts_left start ≡ onto_left directory (lines_left before)
-    → lines_left before ≡ option_map (λ rest. line ∷ raw_lines rest) after → is_mark line ≡ false → more ≡ directory ++ line
+pub directory_line : (start before after : Option Bytes) (directory line more : Bytes)
+    → parts_left start ≡ onto_left directory (lines_left before)
+    → lines_left before ≡ option_map (λ rest. line ∷ raw_lines rest) after → is_mark line ≡ false
+    → more ≡ directory ++ line
     → parts_left start ≡ onto_left more (lines_left after)
 directory_line start before None directory line more so_far taken mark added = so_far ∙ ap (onto_left directory) taken
 directory_line start before (Some rest) directory line more so_far taken mark added =
@@ -30,7 +36,8 @@ directory_line start before (Some rest) directory line more so_far taken mark ad
     ∙ (ap (λ (parts : Parts). Some parts) (onto_twice directory line (parts_of (raw_lines rest)))
     ∙ ap (λ front. Some (onto_directory front (parts_of (raw_lines rest)))) (sym added))))
 
-pub mark_line : (start before after : Option Bytes) (directory line : Bytes) → parts_left start ≡ onto_left directory (lines_left before)
+pub mark_line : (start before after : Option Bytes) (directory line : Bytes)
+    → parts_left start ≡ onto_left directory (lines_left before)
     → lines_left before ≡ option_map (λ rest. line ∷ raw_lines rest) after → is_mark line ≡ true
     → parts_left start ≡ option_map (λ rest. record { directory = directory; script = Some (raw_lines rest) }) after
 mark_line start before None directory line so_far taken mark = so_far ∙ ap (onto_left directory) taken
@@ -53,13 +60,20 @@ long_parts : (directory first : Bytes) (more : List Bytes) → LONGEST_DIRECTORY
 long_parts directory first more long =
     let mark : is_mark first ≡ false = long_mark first (is_mark first) refl (omega arith) in
     let size = said_size first in
-    let whole : length (directory ++ (first ++ (parts_of more).directory)) ≡ length directory + (length first + length (parts_of more).directory) =
-    length-append directory (first ++ (parts_of more).directory) ∙ ap (λ n. length directory + n) (length-append first (parts_of more).directory) in
-    subst (λ (parts : Parts). LONGEST_DIRECTORY < length (onto_directory directory parts).directory) (sym (parts_line first more false mark)) (omega (arith, whole, size.0))
+    let whole : length (directory ++ (first ++ (parts_of more).directory))
+    ≡ length directory + (length first + length (parts_of more).directory) =
+    length-append directory (first ++ (parts_of more).directory)
+    ∙ ap (λ n. length directory + n) (length-append first (parts_of more).directory) in
+    subst (λ (parts : Parts). LONGEST_DIRECTORY < length (onto_directory directory parts).directory)
+    (sym (parts_line first more false mark)) (omega (arith, whole, size.0))
 
-pub long_line : (start : Option Bytes) (directory : Bytes) (lines : Option (List Bytes)) → parts_left start ≡ onto_left directory lines
-    → IfSome lines (λ lines. IsLong LONGEST_DIRECTORY lines) → IfSome (parts_left start) (λ parts. LONGEST_DIRECTORY < length parts.directory)
-long_line start directory None so_far is = subst (λ o. IfSome o (λ parts. LONGEST_DIRECTORY < length parts.directory)) (sym so_far) tt
+pub long_line : (start : Option Bytes) (directory : Bytes) (lines : Option (List Bytes))
+    → parts_left start ≡ onto_left directory lines
+    → IfSome lines (λ lines. IsLong LONGEST_DIRECTORY lines)
+    → IfSome (parts_left start) (λ parts. LONGEST_DIRECTORY < length parts.directory)
+long_line start directory None so_far is =
+    subst (λ o. IfSome o (λ parts. LONGEST_DIRECTORY < length parts.directory)) (sym so_far) tt
 long_line start directory (Some lines) so_far is =
     subst (λ o. IfSome o (λ parts. LONGEST_DIRECTORY < length parts.directory))
-    (sym (so_far ∙ ap (λ lines. Some (onto_directory directory (parts_of lines))) is.are)) (long_parts directory is.first is.more is.long)
+    (sym (so_far ∙ ap (λ lines. Some (onto_directory directory (parts_of lines))) is.are))
+    (long_parts directory is.first is.more is.long)

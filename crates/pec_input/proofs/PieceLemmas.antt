@@ -26,8 +26,10 @@ pub record HasNoFeed (bytes : Bytes) : Type 0 where
 abbrev FeedTells : Bytes → ℕ → Option ℕ → Type 0
 FeedTells bytes from answer = MatchOption answer (HasNoFeed bytes) (λ at. HasFeedAt bytes from at)
 
-feed_further : (b : ℕ) (bs : Bytes) (from : ℕ) (answer : Option ℕ) → eqb b line_feed ≡ false → FeedTells bs (from + 1) answer → FeedTells (b ∷ bs) from answer
-feed_further b bs from None other told = record { piece = rw other (ap (λ x. b ∷ x) told.piece); rest = rw other told.rest; feed = rw other told.feed }
+feed_further : (b : ℕ) (bs : Bytes) (from : ℕ) (answer : Option ℕ) → eqb b line_feed ≡ false
+    → FeedTells bs (from + 1) answer → FeedTells (b ∷ bs) from answer
+feed_further b bs from None other told =
+    record { piece = rw other (ap (λ x. b ∷ x) told.piece); rest = rw other told.rest; feed = rw other told.feed }
 feed_further b bs from (Some at) other told = record {
   place = suc told.place;
   is = omega (arith, told.is);
@@ -37,9 +39,18 @@ feed_further b bs from (Some at) other told = record {
   feed = rw other told.feed;
 }
 
-feed_step : (b : ℕ) (bs : Bytes) (from : ℕ) (x : Bool) → eqb b line_feed ≡ x → FeedTells bs (from + 1) (position_from is_feed (from + 1) bs)
+feed_step : (b : ℕ) (bs : Bytes) (from : ℕ) (x : Bool) → eqb b line_feed ≡ x
+    → FeedTells bs (from + 1) (position_from is_feed (from + 1) bs)
     → FeedTells (b ∷ bs) from (cond x (Some from) (position_from is_feed (from + 1) bs))
-feed_step b bs from true here told = record { place = 0; is = omega arith; within = omega arith; piece = rw here refl; rest = rw here refl; feed = rw here refl }
+feed_step b bs from true here told =
+    record {
+      place = 0;
+      is = omega arith;
+      within = omega arith;
+      piece = rw here refl;
+      rest = rw here refl;
+      feed = rw here refl;
+    }
 feed_step b bs from false other told = feed_further b bs from (position_from is_feed (from + 1) bs) other told
 
 feed_from : (bytes : Bytes) (from : ℕ) → FeedTells bytes from (position_from is_feed from bytes)
@@ -61,7 +72,8 @@ pub feed_at : (bytes : Bytes) (at : ℕ) → Some at ≡ position is_feed bytes 
 feed_at bytes at found =
     let told : HasFeedAt bytes 0 at = subst (λ o. FeedTells bytes 0 o) (sym found) (feed_told bytes) in
     let same : suc told.place ≡ at + 1 = omega (arith, told.is) in
-    let size : length (take (at + 1) bytes) ≡ at + 1 = length-take-le (at + 1) bytes (omega (arith, told.is, told.within)) in
+    let size : length (take (at + 1) bytes) ≡ at + 1 =
+    length-take-le (at + 1) bytes (omega (arith, told.is, told.within)) in
     record {
       piece = subst (λ n. take n bytes ≡ first_piece bytes) same told.piece;
       rest = ap (λ n. drop n bytes) size ∙ subst (λ n. drop n bytes ≡ after_piece bytes) same told.rest;
@@ -69,7 +81,8 @@ feed_at bytes at found =
     }
 
 -- nothing is lost by a cut
-pieces_by : (b : ℕ) (bs : Bytes) (x : Bool) → first_piece bs ++ after_piece bs ≡ bs → cond x (b ∷ []) (b ∷ first_piece bs) ++ cond x bs (after_piece bs) ≡ b ∷ bs
+pieces_by : (b : ℕ) (bs : Bytes) (x : Bool) → first_piece bs ++ after_piece bs ≡ bs
+    → cond x (b ∷ []) (b ∷ first_piece bs) ++ cond x bs (after_piece bs) ≡ b ∷ bs
 pieces_by b bs true whole = refl
 pieces_by b bs false whole = ap (λ x. b ∷ x) whole
 
@@ -78,7 +91,8 @@ pieces_are_all [] = refl
 pieces_are_all (b ∷ bs) = pieces_by b bs (eqb b line_feed) (pieces_are_all bs)
 
 -- a piece without line feed has none, and one with it has it at its end
-no_end_by : (b : ℕ) (bs : Bytes) (x : Bool) → eqb b line_feed ≡ x → (x || has_feed bs) ≡ false → (has_feed bs ≡ false → HasNoEnd (first_piece bs)) → HasNoEnd (cond x (b ∷ []) (b ∷ first_piece bs))
+no_end_by : (b : ℕ) (bs : Bytes) (x : Bool) → eqb b line_feed ≡ x → (x || has_feed bs) ≡ false
+    → (has_feed bs ≡ false → HasNoEnd (first_piece bs)) → HasNoEnd (cond x (b ∷ []) (b ∷ first_piece bs))
 no_end_by b bs true here none rest = absurd (false≢true (sym none))
 no_end_by b bs false other none rest = (eqb-false b line_feed other, rest none)
 
@@ -86,9 +100,13 @@ pub no_end : (bytes : Bytes) → has_feed bytes ≡ false → HasNoEnd (first_pi
 no_end [] none = tt
 no_end (b ∷ bs) none = no_end_by b bs (eqb b line_feed) refl none (no_end bs)
 
-ended_by : (b : ℕ) (bs : Bytes) (x : Bool) → eqb b line_feed ≡ x → (x || has_feed bs) ≡ true → (has_feed bs ≡ true → IsEnded (first_piece bs)) → IsEnded (cond x (b ∷ []) (b ∷ first_piece bs))
-ended_by b bs true here some rest = record { said = []; none = tt; parts = ap (λ x. x ∷ []) (eqb-true b line_feed here) }
-ended_by b bs false other some rest = let more = rest some in record { said = b ∷ more.said; none = (eqb-false b line_feed other, more.none); parts = ap (λ x. b ∷ x) more.parts }
+ended_by : (b : ℕ) (bs : Bytes) (x : Bool) → eqb b line_feed ≡ x → (x || has_feed bs) ≡ true
+    → (has_feed bs ≡ true → IsEnded (first_piece bs)) → IsEnded (cond x (b ∷ []) (b ∷ first_piece bs))
+ended_by b bs true here some rest =
+    record { said = []; none = tt; parts = ap (λ x. x ∷ []) (eqb-true b line_feed here) }
+ended_by b bs false other some rest =
+    let more = rest some in
+    record { said = b ∷ more.said; none = (eqb-false b line_feed other, more.none); parts = ap (λ x. b ∷ x) more.parts }
 
 pub ended : (bytes : Bytes) → has_feed bytes ≡ true → IsEnded (first_piece bytes)
 ended [] some = absurd (false≢true some)
@@ -108,7 +126,12 @@ no_end_append [] b none none_b = none_b
 no_end_append (x ∷ a) b none none_b = (none.0, no_end_append a b none.1 none_b)
 
 pub ended_append : (a b : Bytes) → HasNoEnd a → IsEnded b → IsEnded (a ++ b)
-ended_append a b none is = record { said = a ++ is.said; none = no_end_append a is.said none is.none; parts = ap (λ x. a ++ x) is.parts ∙ sym (append_assoc a is.said (line_feed ∷ [])) }
+ended_append a b none is =
+    record {
+      said = a ++ is.said;
+      none = no_end_append a is.said none is.none;
+      parts = ap (λ x. a ++ x) is.parts ∙ sym (append_assoc a is.said (line_feed ∷ []));
+    }
 
 -- A piece was moved from what was read to the line.
 
@@ -117,28 +140,38 @@ behind-append a b None = refl
 behind-append a b (Some rest) = ap Some (sym (append_assoc a b rest))
 
 -- what was left to read is read on
-pub read_on : (before between after : Option Bytes) (line : Bytes) → before ≡ behind line between → between ≡ after → before ≡ behind line after
+pub read_on : (before between after : Option Bytes) (line : Bytes) → before ≡ behind line between → between ≡ after
+    → before ≡ behind line after
 read_on before between after line so_far more = so_far ∙ ap (λ rest. behind line rest) more
 
-pub moved_read : (before left old_left : Option (Bytes)) (line more old was now : Bytes) → before ≡ behind line (behind old old_left) → behind old old_left ≡ behind was left
+pub moved_read : (before left old_left : Option (Bytes)) (line more old was now : Bytes)
+    → before ≡ behind line (behind old old_left) → behind old old_left ≡ behind was left
     → more ≡ line ++ first_piece was → now ≡ after_piece was → before ≡ behind more (behind now left)
 moved_read before left old_left line more old was now invariant read is rest =
-    invariant ∙ (ap (λ o. behind line o) (read ∙ (ap (λ bytes. behind bytes left) (sym (pieces_are_all was)) ∙ sym (behind-append (first_piece was) (after_piece was) left)))
+    invariant ∙ (ap (λ o. behind line o) (read
+    ∙ (ap (λ bytes. behind bytes left) (sym (pieces_are_all was))
+    ∙ sym (behind-append (first_piece was) (after_piece was) left)))
     ∙ (behind-append line (first_piece was) (behind (after_piece was) left)
-    ∙ (ap (λ bytes. behind bytes (behind (after_piece was) left)) (sym is) ∙ ap (λ bytes. behind more (behind bytes left)) (sym rest))))
+    ∙ (ap (λ bytes. behind bytes (behind (after_piece was) left)) (sym is)
+    ∙ ap (λ bytes. behind more (behind bytes left)) (sym rest))))
 
-pub moved_none : (line more was : Bytes) → HasNoEnd line → more ≡ line ++ first_piece was → false ≡ has_feed was → HasNoEnd more
-moved_none line more was none is other = subst HasNoEnd (sym is) (no_end_append line (first_piece was) none (no_end was (sym other)))
+pub moved_none : (line more was : Bytes) → HasNoEnd line → more ≡ line ++ first_piece was → false ≡ has_feed was
+    → HasNoEnd more
+moved_none line more was none is other =
+    subst HasNoEnd (sym is) (no_end_append line (first_piece was) none (no_end was (sym other)))
 
-pub moved_ended : (line more was : Bytes) → HasNoEnd line → more ≡ line ++ first_piece was → true ≡ has_feed was → IsEnded more
-moved_ended line more was none is some = subst IsEnded (sym is) (ended_append line (first_piece was) none (ended was (sym some)))
+pub moved_ended : (line more was : Bytes) → HasNoEnd line → more ≡ line ++ first_piece was → true ≡ has_feed was
+    → IsEnded more
+moved_ended line more was none is some =
+    subst IsEnded (sym is) (ended_append line (first_piece was) none (ended was (sym some)))
 
 pub some_ended : (line : Bytes) → IsEnded line → 0 < length line
 some_ended line is = omega (arith, ap (λ x. length x) is.parts, length-append is.said (line_feed ∷ []))
 
 pub moved_more : (line more was : Bytes) → 0 < length was → more ≡ line ++ first_piece was → length line < length more
 moved_more line more was some is =
-    let size : length more ≡ length line + length (first_piece was) = ap (λ x. length x) is ∙ length-append line (first_piece was) in
+    let size : length more ≡ length line + length (first_piece was) =
+    ap (λ x. length x) is ∙ length-append line (first_piece was) in
     omega (arith, some_piece was some)
 
 pub where_more : (more : Bool) (P Q : Type 0) → more ≡ true → MatchBool more P Q → P

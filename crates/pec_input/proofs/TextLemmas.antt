@@ -3,7 +3,8 @@ use Rattle.std.proofs.Common.{◌≡◌, ℕ, Bool, true, false, cond, List, Som
 use Rattle.std.proofs.lemmas.Str.{IsUtf8-from_is_utf8, is_utf8-from_IsUtf8}
 use Rattle.std.specs.Str.{IsUtf8, is_utf8}
 
-pub text_there : (bytes text : List ℕ) → text ≡ bytes → IsUtf8 bytes → Some text ≡ cond (is_utf8 bytes) (Some bytes) None
+pub text_there : (bytes text : List ℕ) → text ≡ bytes → IsUtf8 bytes
+    → Some text ≡ cond (is_utf8 bytes) (Some bytes) None
 text_there bytes text same utf8 = rw (is_utf8-from_IsUtf8 bytes utf8) (ap (λ x. Some x) same)
 
 pub no_text : (bytes : List ℕ) → (IsUtf8 bytes → ⊥) → None ≡ cond (is_utf8 bytes) (Some bytes) None

@@ -1,5 +1,5 @@
--- How a refused directory is written: `refused directory`, and the fault by its word and its numbers. Providers count from
--- 0, and a provider's accounts from 1, where 0 is its receipt address. This project's profile.
+-- How a refused directory is written: `refused directory`, and the fault by its word and its numbers. Providers count
+-- from 0, and a provider's accounts from 1, where 0 is its receipt address. This project's profile.
 use Rattle.std.specs.Prelude.{ℕ, [], ◌∷◌, codes}
 use Rattle.std.specs.Fmt.{decimal}
 use Rattle.pec_types.specs.Bytes.{Bytes}

@@ -1,5 +1,5 @@
--- The next line of an input, which is read piece by piece: `IsFound` says what is found, from what was left to read before
--- and after. None stands for an input that doesn't tell what is left. This project's profile.
+-- The next line of an input, which is read piece by piece: `IsFound` says what is found, from what was left to read
+-- before and after. None stands for an input that doesn't tell what is left. This project's profile.
 use Rattle.std.specs.Prelude.{◌≡◌, ℕ, ◌<◌, ◌≤◌, ◌⊎◌, ◌==◌, nat_lt, List, [], ◌∷◌, ◌++◌, length, Option, IfSome, option_map, if◌then◌else◌}
 use Rattle.pec_types.specs.Bytes.{Bytes, line_feed}
 use Rattle.pec_input.specs.Lines.{HasNoEnd, content_of, raw_lines}

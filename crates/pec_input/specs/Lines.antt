@@ -1,5 +1,5 @@
--- The lines of an input, each with its end, so that nothing is lost: a line ends with a line feed, and the last piece is a
--- line where it isn't empty. What a line says is without its end. This project's profile.
+-- The lines of an input, each with its end, so that nothing is lost: a line ends with a line feed, and the last piece
+-- is a line where it isn't empty. What a line says is without its end. This project's profile.
 use Rattle.std.specs.Prelude.{◌≢◌, ℕ, ◌-◌, Bool, false, ◌==◌, List, [], ◌∷◌, length, take, slice_index, if◌then◌else◌}
 use Rattle.std.specs.List.{onto_first, AllByRecursion}
 use Rattle.pec_types.specs.Bytes.{Bytes, carriage_return, line_feed}

@@ -1,5 +1,5 @@
--- What stands before and behind the first line of an input that says `%%`: the directory and the script. `parts_of` makes
--- the parts of lines, and `AreParts` says the same of a text in its own words. This project's profile.
+-- What stands before and behind the first line of an input that says `%%`: the directory and the script. `parts_of`
+-- makes the parts of lines, and `AreParts` says the same of a text in its own words. This project's profile.
 use Rattle.std.specs.Prelude.{◌≡◌, Bool, false, List, [], ◌∷◌, ◌++◌, codes, Option, Some, None, if◌then◌else◌}
 use Rattle.std.specs.List.{concat, AllByRecursion}
 use Rattle.std.specs.Str.{bytes_eq}

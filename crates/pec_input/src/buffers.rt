@@ -92,8 +92,8 @@ impl Buffer {
         Ok(())
     }
 
-    /// Moves the bytes up to the first LF, and this too, to the end of a line; all of them where there is none. The
-    /// answer is whether an LF was moved.
+    /// Moves the bytes up to the first line feed, and this too, to the end of a line; all of them where there is
+    /// none. The answer is whether a line feed was moved.
     fn move_line(&mut self, line: &mut Vec<u8>) -> Result<bool, AllocError>
         ensures rest { OnOk result (self.new ≡ after_piece self.old) }
         ensures line { OnOk result (line.new.items ≡ line.old.items ++ first_piece self.old) }
@@ -108,8 +108,8 @@ impl Buffer {
     }
 }
 
-/// Takes the next line off an input, with its end, where it has at most `most` bytes without that. Of a longer one a front is
-/// taken, a little longer than `most`. Where it fails, how far it read is open. This project's profile.
+/// Takes the next line off an input, with its end, where it has at most `most` bytes without that. Of a longer one a
+/// front is taken, longer than `most`. Where it fails, how far it read is open. This project's profile.
 pub fn next_line<S: Source>(
     source: &mut S,
     buffer: &mut Buffer,
@@ -119,8 +119,10 @@ pub fn next_line<S: Source>(
     requires empty { line.old.items ≡ [] }
     requires bound { most < 2 ^ 32 }
     // What was taken is the front of what there was, and nothing is lost.
-    ensures read { OnOk result (behind buffer.old (S.left source.old) ≡ behind line.new.items (behind buffer.new (S.left source.new))) }
-    ensures found { IfOk result (λ found. IsFound most found line.new.items (behind buffer.old (S.left source.old)) (behind buffer.new (S.left source.new))) }
+    ensures read { OnOk result (behind buffer.old (S.left source.old)
+        ≡ behind line.new.items (behind buffer.new (S.left source.new))) }
+    ensures found { IfOk result (λ found. IsFound most found line.new.items
+        (behind buffer.old (S.left source.old)) (behind buffer.new (S.left source.new))) }
     // A fault is told only where the source's count of faults rose.
     ensures later { S.faults source.old ≤ S.faults source.new }
     ensures cause { IsErrOf result InputFault.ReadFault → HasRisen (S.faults source.old) (S.faults source.new) }
@@ -153,7 +155,8 @@ fn found_in(line: &[u8], most: usize) -> Found
 /// Reads on where all is used up. The answer is whether there is something.
 fn refill<S: Source>(source: &mut S, buffer: &mut Buffer) -> Result<bool, InputFault>
     ensures read { OnOk result (behind buffer.old (S.left source.old) ≡ behind buffer.new (S.left source.new)) }
-    ensures more { IfOk result (λ more. MatchBool more (0 < length buffer.new) ((buffer.new ≡ []) × IsAtEnd (S.left source.new))) }
+    ensures more { IfOk result (λ more. MatchBool more (0 < length buffer.new)
+        ((buffer.new ≡ []) × IsAtEnd (S.left source.new))) }
     ensures later { S.faults source.old ≤ S.faults source.new }
     ensures cause { IsErrOf result InputFault.ReadFault → HasRisen (S.faults source.old) (S.faults source.new) }
 {
@@ -166,7 +169,7 @@ fn refill<S: Source>(source: &mut S, buffer: &mut Buffer) -> Result<bool, InputF
     Ok(count > 0)
 }
 
-/// The bytes up to the first LF, and this too, or all of them; and whether there is one.
+/// The bytes up to the first line feed, and this too, or all of them; and whether there is one.
 fn cut_piece(bytes: &[u8]) -> (&[u8], bool)
     ensures piece { result.0.now ≡ first_piece bytes.now }
     ensures rest { drop (length result.0.now) bytes.now ≡ after_piece bytes.now }

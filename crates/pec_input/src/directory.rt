@@ -14,8 +14,8 @@ pub enum Opened {
     Refused(DirectoryFault),
 }
 
-/// What the bytes of a directory are taken for: its providers, or its first fault. Bytes that are no UTF-8 are no TOML. This
-/// project's profile.
+/// What the bytes of a directory are taken for: its providers, or its first fault. Bytes that are no UTF-8 are no TOML.
+/// This project's profile.
 #[tactic(auto, unfolding(crate::specs::Directory::directory_in))]
 pub fn open_directory(alloc: Global, bytes: &[u8]) -> Result<Opened, NoMemory>
     ensures { IfOk result (λ opened. opened_shown opened ≡ directory_in bytes.now) }

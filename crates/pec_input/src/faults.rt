@@ -7,8 +7,9 @@ use pec_script::{Page, lines_are_put_in_their_order};
 use pec_types::NoMemory;
 use std::alloc::Global;
 
-/// `refused directory FAULT`, a line: the fault by its word, and by the numbers of the provider, from 0, and of its account,
-/// from 1, where 0 is its receipt address. Want of memory has no line, and comes back as itself. This project's profile.
+/// `refused directory FAULT`, a line: the fault by its word, and by the numbers of the provider, from 0, and of its
+/// account, from 1, where 0 is its receipt address. Want of memory has no line, and comes back as itself. This
+/// project's profile.
 #[tactic(auto, unfolding(crate::specs::Faults::refused_directory_text))]
 pub fn refused_directory_text(alloc: Global, fault: DirectoryFault) -> Result<Vec<u8>, NoMemory>
     ensures { IfOk result (λ text. text.items ≡ refused_directory_text fault) }
@@ -69,7 +70,8 @@ fn add_provider(page: Page, word: &[u8], provider: u32) -> Result<Page, NoMemory
 
 /// `WORD P I`
 fn add_account(page: Page, word: &[u8], provider: u32, account: u32) -> Result<Page, NoMemory>
-    ensures { IfOk result (λ new. new.text.items ≡ rest_after page.text.items (account_words word.now provider account)) }
+    ensures { IfOk result (λ new. new.text.items
+        ≡ rest_after page.text.items (account_words word.now provider account)) }
 {
     let page = page.word(word)?.number(u64::from(provider))?;
     let page = page.number(u64::from(account))?.end()?;

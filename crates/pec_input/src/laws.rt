@@ -11,11 +11,12 @@ pub fn lines_are_the_text()
         → raw_lines (said ++ line_feed ∷ more) ≡ (said ++ line_feed ∷ []) ∷ raw_lines more }
     ensures last { (b : ℕ) (said : Bytes) → HasNoEnd (b ∷ said) → raw_lines (b ∷ said) ≡ (b ∷ said) ∷ [] }
     // What a line says is the line without its end, which takes two bytes at most.
-    ensures content { (line : Bytes) → (length (content_of line) ≤ length line) × (length line ≤ length (content_of line) + 2) }
+    ensures content { (line : Bytes) → (length (content_of line) ≤ length line)
+        × (length line ≤ length (content_of line) + 2) }
 {}
 
-/// An input has its parts in one way: the directory is all before the first line that says `%%`, and the script all behind
-/// it. This project's profile.
+/// An input has its parts in one way: the directory is all before the first line that says `%%`, and the script all
+/// behind it. This project's profile.
 pub fn an_input_is_parted_in_one_way()
     ensures { (text : Bytes) (parts : Parts) → AreParts text parts ↔ (parts ≡ parts_of (raw_lines text)) }
 {}

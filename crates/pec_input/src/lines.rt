@@ -1,8 +1,8 @@
 ghost use Rattle.std.specs.Prelude.{◌≡◌};
 ghost use Rattle.pec_input.specs.Lines.{content_of, ends_with};
 
-/// What a line says: the line without its line feed, and without a carriage return before that. It takes no memory. This
-/// project's profile.
+/// What a line says: the line without its line feed, and without a carriage return before that. It takes no memory.
+/// This project's profile.
 #[tactic(auto, unfolding(crate::specs::Lines::content_of))]
 pub fn content(line: &[u8]) -> &[u8]
     ensures { result.now ≡ content_of line.now }

@@ -22,14 +22,16 @@ pub enum Opening {
     TooLong,
 }
 
-/// Reads the directory, which stands before the first line that says `%%`, and this line too; then the script is left. An
-/// input whose directory is too long isn't read further. Where it fails, how far it read is open. This project's profile.
+/// Reads the directory, which stands before the first line that says `%%`, and this line too; then the script is left.
+/// An input whose directory is too long isn't read further. Where it fails, how far it read is open. This project's
+/// profile.
 pub fn read_directory<S: Source>(
     alloc: Global,
     source: &mut S,
     buffer: &mut Buffer,
 ) -> Result<Opening, InputFault>
-    ensures opens { IfOk result (λ opening. Opens opening (behind buffer.old (S.left source.old)) (behind buffer.new (S.left source.new))) }
+    ensures opens { IfOk result (λ opening. Opens opening
+        (behind buffer.old (S.left source.old)) (behind buffer.new (S.left source.new))) }
     // A fault is told only where the source's count of faults rose.
     ensures later { S.faults source.old ≤ S.faults source.new }
     ensures cause { IsErrOf result InputFault.ReadFault → HasRisen (S.faults source.old) (S.faults source.new) }

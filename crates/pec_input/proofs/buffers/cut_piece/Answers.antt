@@ -16,7 +16,8 @@ pub returns-in-None-clause-piece : goal.returns-in-None-clause-piece
 returns-in-None-clause-piece c = sym (no_feed c.args.bytes.now c.in-None.ensures.place).piece
 
 pub returns-in-None-clause-rest : goal.returns-in-None-clause-rest
-returns-in-None-clause-rest c = drop-length c.args.bytes.now ∙ sym (no_feed c.args.bytes.now c.in-None.ensures.place).rest
+returns-in-None-clause-rest c =
+    drop-length c.args.bytes.now ∙ sym (no_feed c.args.bytes.now c.in-None.ensures.place).rest
 
 pub returns-in-None-clause-ended : goal.returns-in-None-clause-ended
 returns-in-None-clause-ended c = sym (no_feed c.args.bytes.now c.in-None.ensures.place).feed

@@ -9,7 +9,8 @@ abbrev pub invariant-lines : goal.invariant-lines
 invariant-lines g l =
     let port = g.S.Source in
     record {
-      parts : parts_left (behind l.fn.buffer (port.left l.fn.source)) ≡ option_map (λ parts. onto_directory l.directory.items parts) (parts_left (behind l.buffer (port.left l.source)));
+      parts : parts_left (behind l.fn.buffer (port.left l.fn.source)) ≡ option_map
+          (λ parts. onto_directory l.directory.items parts) (parts_left (behind l.buffer (port.left l.source)));
       later : g.S.Counted.faults l.fn.source ≤ g.S.Counted.faults l.source;
     }
 
