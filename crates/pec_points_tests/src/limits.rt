@@ -12,7 +12,9 @@ const NO: bool = false;
 const YES: bool = true;
 
 /// Seconds since the acceptance; charged, warned, noticed, known; what is due.
-const TIMES: [(u32, bool, bool, bool, bool, Due); 34] = [
+type Row = (u32, bool, bool, bool, bool, Due);
+
+const TIMES: [Row; 34] = [
     // No limit has passed.
     (0, NO, NO, NO, NO, Due::Nothing),
     (43_199, NO, NO, NO, NO, Due::Nothing),
@@ -57,10 +59,24 @@ const TIMES: [(u32, bool, bool, bool, bool, Due); 34] = [
 
 #[test]
 fn what_is_due_goes_by_the_time_table(rt: HostRuntime) -> Result<(), Fail> {
-    let accepted = Moment::new(ACCEPTED).expect(&rt, "a moment");
-    for (past, charged, warned, noticed, known, want) in TIMES {
-        let now = Moment::new(ACCEPTED + u64::from(past)).expect(&rt, "a moment");
-        assert_eq!(rt; timed(now, accepted, charged, warned, noticed, known), want);
-    }
+    assert_eq!(rt; first_wrong(&TIMES), None);
     Ok(())
+}
+
+/// The place of the first row at whose time something else is due; none where there is none.
+fn first_wrong(rows: &[Row]) -> Option<usize> {
+    for (place, row) in rows.iter().enumerate() {
+        if due(row) != Some(row.5) {
+            return Some(place);
+        }
+    }
+    None
+}
+
+/// What is due; none where there is no such moment.
+fn due(row: &Row) -> Option<Due> {
+    let (past, charged, warned, noticed, known, _) = *row;
+    let accepted = Moment::new(ACCEPTED)?;
+    let now = Moment::new(ACCEPTED + u64::from(past))?;
+    Some(timed(now, accepted, charged, warned, noticed, known))
 }

@@ -2,7 +2,7 @@
 
 use crate::reception::Change::{Again, Astray, ForOneAt, Nothing, Of, SealedBy, Unknown, WithRoom};
 use pec_points::{Arrived, Reception, receive};
-use pec_types::{Address, AddressFault, Letter, MsgId};
+use pec_types::{Address, Letter, MsgId};
 use std::alloc::Global;
 use std::test::Fail;
 
@@ -33,7 +33,7 @@ struct Seen {
 }
 
 /// The letter of a kind. All of them name the same message, and the charge is that of provider 1.
-fn letter_of(alloc: Global, kind: Kind) -> Result<Option<Letter>, AddressFault> {
+fn letter_of(alloc: Global, kind: Kind) -> Result<Option<Letter>, Fail> {
     let id = MsgId {
         provider: ME,
         number: 7,
@@ -48,7 +48,8 @@ fn letter_of(alloc: Global, kind: Kind) -> Result<Option<Letter>, AddressFault> 
     })
 }
 
-fn reception_of(alloc: Global, seen: Seen) -> Result<Reception, AddressFault> {
+/// What is done with the frame.
+fn reception_of(alloc: Global, seen: Seen) -> Result<Reception, Fail> {
     let letter = letter_of(alloc, seen.kind)?;
     let arrived = Arrived {
         letter,
@@ -123,13 +124,27 @@ fn by_rows(seen: Seen) -> Reception {
     let Some((sealer, own, new)) = row_of(seen.kind) else {
         return otherwise(seen);
     };
-    if wanted(sealer, seen) != Some(seen.sealer) || !is_own(own, seen) {
+    if wanted(sealer, seen) != Some(seen.sealer) {
         return otherwise(seen);
     }
-    if !seen.path || !(seen.row || matches!(seen.kind, Kind::Envelope)) {
+    if !is_own(own, seen) {
+        return otherwise(seen);
+    }
+    if !seen.path {
+        return otherwise(seen);
+    }
+    if !is_there(seen) {
         return otherwise(seen);
     }
     if seen.done { Reception::Repeat } else { new }
+}
+
+/// What the letter speaks of is there; of an envelope nothing need be.
+fn is_there(seen: Seen) -> bool {
+    match seen.kind {
+        Kind::Envelope => true,
+        _ => seen.row,
+    }
 }
 
 /// How many combinations there are: letters, sealers, providers of ids, homes, paths, rows, done or not, rooms.
@@ -161,7 +176,7 @@ fn combination(number: u32) -> Seen {
 fn every_combination_is_received_by_the_rows(rt: HostRuntime) -> Result<(), Fail> {
     for number in 0..COMBINATIONS {
         let seen = combination(number);
-        assert_eq!(rt; reception_of(rt.alloc(), seen)?, by_rows(seen));
+        assert!(rt; reception_of(rt.alloc(), seen)? == by_rows(seen));
     }
     Ok(())
 }
@@ -226,7 +241,9 @@ fn changed(seen: Seen, change: Change) -> Seen {
 }
 
 /// A fitting frame of this kind, two things that are otherwise, and what is done with it.
-const NEAR_MISSES: [(Kind, [Change; 2], Reception); 30] = [
+type Row = (Kind, [Change; 2], Reception);
+
+const NEAR_MISSES: [Row; 30] = [
     // Rows 2 and 3: an envelope, and the same again. Nothing need be there before, and a provider may write to itself.
     (Kind::Envelope, [Nothing, Nothing], Reception::Take),
     (Kind::Envelope, [Again, Nothing], Reception::Repeat),
@@ -270,9 +287,17 @@ const NEAR_MISSES: [(Kind, [Change; 2], Reception); 30] = [
 
 #[test]
 fn each_row_answers_and_its_near_misses_fall_to_the_last_two(rt: HostRuntime) -> Result<(), Fail> {
-    for (kind, [first, second], want) in NEAR_MISSES {
-        let seen = changed(changed(fitting(kind), first), second);
-        assert_eq!(rt; reception_of(rt.alloc(), seen)?, want);
-    }
+    assert_eq!(rt; first_wrong(rt.alloc(), &NEAR_MISSES)?, None);
     Ok(())
+}
+
+/// The place of the first row with whose frame something else is done; none where there is none.
+fn first_wrong(alloc: Global, rows: &[Row]) -> Result<Option<usize>, Fail> {
+    for (place, (kind, [first, second], reception)) in rows.iter().enumerate() {
+        let seen = changed(changed(fitting(*kind), *first), *second);
+        if reception_of(alloc, seen)? != *reception {
+            return Ok(Some(place));
+        }
+    }
+    Ok(None)
 }
