@@ -22,8 +22,8 @@ use pec_types::{Mark, Moment, ProviderFault};
 use std::alloc::Global;
 
 impl<D> Provider<D> {
-    /// Whether the provider is at work at a moment: it is up, and its journal has no later moment.
-    pub(crate) fn at_work(&self, now: Moment) -> Result<(), ProviderFault>
+    /// Whether the provider is at work at a moment: it is up, and its journal has no later moment. It takes no memory.
+    pub fn at_work(&self, now: Moment) -> Result<(), ProviderFault>
         ensures works { (kept : List Kept) (me : ℕ) (trade : Trade) → Runs kept me self.now → IsOf kept trade
             → WorksAt trade me now (desk_of self.now) result }
         ensures up { OnOk result (self.now.chronicle.down ≡ false) }

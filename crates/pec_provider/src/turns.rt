@@ -13,6 +13,7 @@ ghost use Rattle.pec_plays.specs.Frames.{due_frames};
 ghost use Rattle.pec_plays.specs.Steps.{Step};
 ghost use Rattle.pec_trade.specs.TradeOf.{trade_of};
 ghost use Rattle.pec_chronicle.specs.Carrying.{CarriesOn};
+ghost use Rattle.pec_chronicle.specs.Chronicle.{Stands};
 ghost use Rattle.pec_stock.specs.Entering.{OnlyMay};
 ghost use Rattle.pec_provider.specs.Appending.{MayEnter};
 ghost use Rattle.pec_provider.specs.Doing.{AppendsAny, Undertakes};
@@ -56,6 +57,9 @@ impl<D: Disk> Provider<D> {
             → CarriesOn D.sight (MayFollow (trade_of house.now.directory.now (S.seals house.now.sealer.now)) journals
             house.now.me)
             self.old.chronicle self.new.chronicle }
+
+        // What stands on its disk stands there again, whatever the frame is.
+        ensures stands { D.tells → Stands D.sight self.old.chronicle → Stands D.sight self.new.chronicle }
         ensures disk_fault { IsErrOf result faults.DiskFault → HasRisen (D.faults self.old.chronicle.disk)
             (D.faults self.new.chronicle.disk) }
         ensures later { D.faults self.old.chronicle.disk ≤ D.faults self.new.chronicle.disk }

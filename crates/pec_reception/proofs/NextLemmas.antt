@@ -25,10 +25,10 @@ use Rattle.pec_ledger.specs.Steps.{half, step, taken_by}
 use Rattle.pec_ledger.specs.Trade.{Trade}
 use Rattle.pec_plays.specs.Decisions.{decide, is_open, is_recipient_of, pairs_taken, undecided}
 use Rattle.pec_plays.specs.Reception.{each_once}
-use Rattle.pec_shelf.specs.Prepared.{IsStep}
+use Rattle.pec_shelf.specs.Prepared.{AreSteps, IsStep}
 use Rattle.pec_shelf.specs.Undecided.{next_undecided}
 use Rattle.pec_reception.proofs.PairLemmas.{address_there, contains_cases, contains_here, contains_none, contains_there}
-use Rattle.pec_reception.specs.Shows.{AreSteps, Shows}
+use Rattle.pec_reception.specs.Shows.{Shows}
 use Rattle.pec_reception.specs.declared.received.Received.{Received}
 
 -- ---- no id was taken twice

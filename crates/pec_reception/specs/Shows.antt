@@ -4,15 +4,11 @@ use Rattle.std.specs.Prelude.{◌≡◌, ℕ, List, [], ◌∷◌, Option, Some,
 use Rattle.std.specs.Option.{option_to_list}
 use Rattle.pec_records.specs.Entry.{IsWithinLimits}
 use Rattle.pec_records.specs.declared.entries.Entry.{Entry}
-use Rattle.pec_ledger.specs.Along.{AllAlong}
-use Rattle.pec_ledger.specs.Half.{empty}
 use Rattle.pec_ledger.specs.Pairs.{Pair}
-use Rattle.pec_ledger.specs.Steps.{step}
 use Rattle.pec_ledger.specs.Trade.{Framed, Trade}
 use Rattle.pec_plays.specs.Decisions.{decide, undecided}
 use Rattle.pec_plays.specs.Reception.{otherwise}
 use Rattle.pec_plays.specs.Steps.{Step}
-use Rattle.pec_shelf.specs.Prepared.{IsStep}
 use Rattle.pec_reception.specs.declared.received.Received.{Received}
 
 -- What is to be done is what the step does: its entry, what is told, and what is owed. Whether the journal has room is
@@ -20,10 +16,6 @@ use Rattle.pec_reception.specs.declared.received.Received.{Received}
 abbrev pub Shows : Received → Step → Type 0
 Shows received step =
     (received.entry ≡ step.entry) × (received.event ≡ step.event) × (option_to_list received.owed ≡ step.owed)
-
--- Each entry is a step of the half before it.
-abbrev pub AreSteps : Trade → ℕ → List Entry → Type 0
-AreSteps trade me list = AllAlong (step trade me) (IsStep trade me) empty list
 
 -- Nothing is undecided; or this is done with the first undecided pair.
 abbrev pub ShowsNext : Trade → ℕ → ℕ → List Entry → Option Received → Type 0

@@ -7,7 +7,8 @@ ghost use Rattle.pec_ledger.specs.OfDirectory.{IsOf};
 ghost use Rattle.pec_ledger.specs.Own.{decision_at};
 ghost use Rattle.pec_ledger.specs.Steps.{half};
 ghost use Rattle.pec_ledger.specs.Trade.{Trade};
-ghost use Rattle.pec_reception.specs.Shows.{AreSteps, IsLimited, ShowsNext};
+ghost use Rattle.pec_shelf.specs.Prepared.{AreSteps};
+ghost use Rattle.pec_reception.specs.Shows.{IsLimited, ShowsNext};
 
 use crate::mailboxes::decision_on;
 use crate::received::Received;

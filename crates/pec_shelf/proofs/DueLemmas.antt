@@ -1,7 +1,7 @@
 -- What is due at a moment before the acceptance: nothing.
-use Rattle.std.proofs.Common.{◌≡◌, ℕ, ◌+◌, ◌<◌, ◌≤◌, Bool, true, false, cond, not, ◌&&◌, refl, arith, nat_lt, nat_le, Option, Some, None, find, unwrap_or}
+use Rattle.std.proofs.Common.{◌≡◌, ℕ, ◌+◌, ◌<◌, Bool, true, false, cond, not, ◌&&◌, refl, arith, nat_lt, nat_le, Some, None, unwrap_or}
 use Rattle.std.proofs.lemmas.Bool.Decides.{nat_tests}
-use Rattle.pec_types.specs.Limits.{Clocked, TimeRow, OutcomeKnown, NoticeIsLate, NoticeInTime, WarningInTime, NothingPassed, due_by}
+use Rattle.pec_types.specs.Limits.{Clocked, OutcomeKnown, NoticeIsLate, NoticeInTime, WarningInTime, NothingPassed, due_by}
 use Rattle.pec_types.specs.LimitsReading.{due_of}
 use Rattle.pec_types.specs.declared.limits.Due.TheVariants as dues
 use Rattle.pec_types.specs.declared.limits.TheConstants.{WARNING_AFTER, NOTICE_AFTER, LATE_AFTER}

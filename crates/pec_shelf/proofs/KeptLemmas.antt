@@ -1,24 +1,23 @@
 -- Books, marks and envelopes over the rows that are kept are those of the ledger, where the homes that are kept are the
 -- trade's.
-use Rattle.std.proofs.Common.{◌≡◌, ℕ, ◌+◌, ◌==◌, Bool, true, false, cond, not, ◌&&◌, ◌||◌, List, [], ◌∷◌, ◌++◌, length, map, refl, sym, ap, subst, ◌∙◌, Option, Some, None, Ok, is_some, is_none, nat_lt, take, arith}
+use Rattle.std.proofs.Common.{◌≡◌, ℕ, ◌+◌, ◌==◌, Bool, true, false, cond, ◌&&◌, ◌||◌, List, [], ◌∷◌, ◌++◌, length, map, refl, sym, ap, ◌∙◌, Option, Some, None, Ok, is_some, nat_lt, take, arith}
 use Rattle.std.specs.List.{cons_option, filter, filter_map, list_any}
 use Rattle.std.specs.Option.{option_map}
 use Rattle.std.specs.Str.{bytes_eq}
 use Rattle.pec_types.specs.Bytes.{Bytes, Path}
 use Rattle.pec_types.specs.Message.{Id}
-use Rattle.pec_types.specs.declared.letters.Letter.{Letter}
 use Rattle.pec_types.specs.declared.letters.Letter.TheVariants as letters
 use Rattle.pec_types.specs.declared.messages.Facts.{Facts}
 use Rattle.pec_types.specs.declared.messages.Recipient.{Recipient}
 use Rattle.pec_records.specs.declared.entries.Entry.TheVariants as entries
-use Rattle.pec_ledger.specs.Books.{book, certified_recipients, line_of, lines_from, lines_of}
-use Rattle.pec_ledger.specs.Due.{awaits, due_letters, envelope_to, envelopes_from, hears_of, outcomes_to}
+use Rattle.pec_ledger.specs.Books.{book, line_of, lines_from, lines_of}
+use Rattle.pec_ledger.specs.Due.{due_letters, envelope_to, envelopes_from, hears_of, outcomes_to}
 use Rattle.pec_ledger.specs.Half.{Half, Message}
-use Rattle.pec_ledger.specs.Lookups.{Accepted, accepted_of, addresses_of, at_home, charged_of, is_home, known_of}
-use Rattle.pec_ledger.specs.Marks.{mark_for, marks_from, marks_of, pairs_of}
+use Rattle.pec_ledger.specs.Lookups.{Accepted, accepted_of, at_home, is_home, known_of}
+use Rattle.pec_ledger.specs.Marks.{mark_for, marks_from, marks_of}
 use Rattle.pec_ledger.specs.Pairs.{id_of, pair_of}
 use Rattle.pec_ledger.specs.Trade.{Trade}
-use Rattle.pec_shelf.specs.Lines.{awaits_at, book_rows, envelope_at, envelope_rows, is_at, is_heard, line_at, lines_at, mark_at, marks_at, marks_rows}
+use Rattle.pec_shelf.specs.Lines.{awaits_at, book_rows, envelope_rows, is_at, is_heard, line_at, mark_at, marks_rows}
 use Rattle.pec_shelf.specs.Prepared.{Prepared, Takes, nothing, with_marks}
 use Rattle.pec_shelf.specs.Seen.{IsFor, Seen, certified_at, certified_by, certified_in, certified_of}
 use Rattle.pec_shelf.specs.Sides.{Kept, certified_of_rows, messages_of}

@@ -1,9 +1,15 @@
+pub mod BookLemmas
+pub mod DrawerLemmas
 pub mod DueLemmas
 pub mod KeptLemmas
 pub mod ListLemmas
 pub mod LoopLemmas
+pub mod MarkLemmas
 pub mod OwnLemmas
 pub mod PairLemmas
 pub mod SizeLemmas
 pub mod StepLemmas
+pub mod StillLemmas
 pub mod TradeLemmas
+pub mod UndecidedLemmas
+pub mod WaitingLemmas

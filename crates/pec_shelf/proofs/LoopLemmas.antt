@@ -1,16 +1,15 @@
 -- Loops over lists that go on behind what is done.
-use Rattle.std.proofs.Common.{◌≡◌, ℕ, suc, Bool, ◌+◌, ◌<◌, ◌≤◌, List, [], ◌∷◌, ◌++◌, length, map, take, drop, get_or, refl, sym, ap, ◌∙◌, arith, append_assoc, append-nil, add-one, drop-cons, Option, Some, None}
-use Rattle.std.specs.List.{filter_map, find}
+use Rattle.std.proofs.Common.{◌≡◌, ℕ, suc, Bool, ◌+◌, ◌<◌, ◌≤◌, List, [], ◌∷◌, ◌++◌, length, map, take, drop, get_or, refl, sym, ap, ◌∙◌, append_assoc, append-nil, add-one, drop-cons, Option, Some, None}
+use Rattle.std.specs.List.{filter_map, find, flat_map}
 use Rattle.std.specs.Option.{option_or}
 use Rattle.std.proofs.Math.ListN.{drop_of_length-le}
-use Rattle.std.proofs.lemmas.List.{map-append, take_more}
+use Rattle.std.proofs.lemmas.List.{get_or_default, map-append, take_more}
 use Rattle.std.proofs.lemmas.List.Folds.{find-append}
 use Rattle.std.proofs.lemmas.List.Elements.{filter_map-append}
-use Rattle.pec_ledger.specs.Half.{Half, Mark, Taken}
-use Rattle.pec_ledger.specs.Pairs.{Pair, pair_of}
+use Rattle.pec_ledger.specs.Half.{Half, Mark}
+use Rattle.pec_ledger.specs.Pairs.{Pair}
 use Rattle.pec_ledger.specs.Steps.{notice_by}
 use Rattle.pec_shelf.specs.Prepared.{Prepared, with_marks}
-use Rattle.pec_shelf.specs.Undecided.{pairs_taken}
 
 pub drop_at : {X : Type 0} (xs : List X) (n : ℕ) (x : X) → n < length xs → x ≡ get_or xs n x → drop n xs ≡ x ∷ drop (n + 1) xs
 drop_at xs n x l e = rw (add-one n, drop-cons xs n x) (ap (λ y. y ∷ drop (suc n) xs) (sym e))
@@ -39,22 +38,23 @@ marks_joined half ready a b = rw (append_assoc ready.adds.marks a b, map-append 
 
 -- ---- pairs that were taken
 
-pub pairs_step : (test : Pair → Bool) (rows : List Taken) (n : ℕ) (row : Taken) → n < length rows → row ≡ get_or rows n row
-    → find test (pairs_taken (drop n rows)) ≡ option_or (find test (map (pair_of row.id) row.recipients)) (find test (pairs_taken (drop (n + 1) rows)))
-pairs_step test rows n row l e =
-    ap (λ (left : List Taken). find test (pairs_taken left)) (drop_at rows n row l e) ∙ find-append test (map (pair_of row.id) row.recipients) (pairs_taken (drop (n + 1) rows))
+pairs_step : {X : Type 0} (test : Pair → Bool) (of : X → List Pair) (xs : List X) (n : ℕ) (d : X) → n < length xs
+    → find test (flat_map of (drop n xs)) ≡ option_or (find test (of (get_or xs n d))) (find test (flat_map of (drop (n + 1) xs)))
+pairs_step test of xs n d l =
+    ap (λ left. find test (flat_map of left)) (drop_at xs n (get_or xs n d) l (get_or_default xs n d (get_or xs n d) l))
+    ∙ find-append test (of (get_or xs n d)) (flat_map of (drop (n + 1) xs))
 
-pub pair_here : (test : Pair → Bool) (rows : List Taken) (n : ℕ) (row : Taken) (pair : Pair) → n < length rows → row ≡ get_or rows n row
-    → find test (pairs_taken rows) ≡ find test (pairs_taken (drop n rows)) → Some pair ≡ find test (map (pair_of row.id) row.recipients)
-    → Some pair ≡ find test (pairs_taken rows)
-pair_here test rows n row pair l e h found =
-    sym (h ∙ pairs_step test rows n row l e ∙ ap (λ (o : Option Pair). option_or o (find test (pairs_taken (drop (n + 1) rows)))) (sym found))
+pub pair_here : {X : Type 0} (test : Pair → Bool) (of : X → List Pair) (xs : List X) (n : ℕ) (d : X) (pair : Pair) → n < length xs
+    → find test (flat_map of xs) ≡ find test (flat_map of (drop n xs)) → Some pair ≡ find test (of (get_or xs n d))
+    → Some pair ≡ find test (flat_map of xs)
+pair_here test of xs n d pair l h found =
+    sym (h ∙ pairs_step test of xs n d l ∙ ap (λ (o : Option Pair). option_or o (find test (flat_map of (drop (n + 1) xs)))) (sym found))
 
-pub pair_later : (test : Pair → Bool) (rows : List Taken) (n : ℕ) (row : Taken) → n < length rows → row ≡ get_or rows n row
-    → find test (pairs_taken rows) ≡ find test (pairs_taken (drop n rows)) → None ≡ find test (map (pair_of row.id) row.recipients)
-    → find test (pairs_taken rows) ≡ find test (pairs_taken (drop (n + 1) rows))
-pair_later test rows n row l e h none =
-    h ∙ pairs_step test rows n row l e ∙ ap (λ (o : Option Pair). option_or o (find test (pairs_taken (drop (n + 1) rows)))) (sym none)
+pub pair_later : {X : Type 0} (test : Pair → Bool) (of : X → List Pair) (xs : List X) (n : ℕ) (d : X) → n < length xs
+    → find test (flat_map of xs) ≡ find test (flat_map of (drop n xs)) → None ≡ find test (of (get_or xs n d))
+    → find test (flat_map of xs) ≡ find test (flat_map of (drop (n + 1) xs))
+pair_later test of xs n d l h none =
+    h ∙ pairs_step test of xs n d l ∙ ap (λ (o : Option Pair). option_or o (find test (flat_map of (drop (n + 1) xs)))) (sym none)
 
 -- ---- marks
 

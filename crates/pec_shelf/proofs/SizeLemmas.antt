@@ -1,7 +1,6 @@
 -- How many bytes an entry makes its journal longer.
-use Rattle.std.proofs.Common.{◌≡◌, ℕ, ◌+◌, ◌<◌, List, [], ◌∷◌, ◌++◌, length, take, get_or, refl, sym, ap, ◌∙◌, arith, length-append, append-nil}
+use Rattle.std.proofs.Common.{◌≡◌, ℕ, ◌+◌, ◌<◌, List, [], ◌∷◌, ◌++◌, length, take, get_or, refl, ap, arith, length-append, append-nil}
 use Rattle.std.specs.List.{flat_map}
-use Rattle.std.specs.Option.{IfSome}
 use Rattle.pec_types.specs.Bytes.{Bytes, Path}
 use Rattle.pec_types.specs.Message.{Id}
 use Rattle.pec_types.specs.declared.messages.Cause.{Cause}
@@ -9,8 +8,7 @@ use Rattle.pec_types.specs.declared.messages.Cause.TheVariants as causes
 use Rattle.pec_types.specs.declared.messages.Decision.{Decision}
 use Rattle.pec_types.specs.declared.messages.Decision.TheVariants as decisions
 use Rattle.pec_types.specs.declared.messages.Refusal.TheVariants as refusals
-use Rattle.pec_records.specs.Entry.{number_16, number_32, number_64, address_field, bytes_field, addresses_field, id_field, decision_field, cause_field, entry_text}
-use Rattle.pec_records.specs.declared.entries.Entry.{Entry}
+use Rattle.pec_records.specs.Entry.{number_16, number_32, number_64, address_field, bytes_field, addresses_field, id_field, decision_field, cause_field}
 use Rattle.pec_records.specs.declared.entries.Entry.TheVariants as entries
 use Rattle.pec_ledger.specs.Steps.{size_of}
 use Rattle.pec_shelf.proofs.LoopLemmas.{take_one}

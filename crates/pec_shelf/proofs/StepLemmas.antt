@@ -1,5 +1,5 @@
 -- What is answered on an entry by the directory's own trade is so for each trade of the directory.
-use Rattle.std.proofs.Common.{◌≡◌, ℕ, ◌≤◌, true, List, length, refl, sym, ap, subst, ◌∙◌, arith, Result, Ok, Err, Some}
+use Rattle.std.proofs.Common.{◌≡◌, ℕ, ◌≤◌, true, List, length, refl, sym, ap, subst, ◌∙◌, Result, Ok, Err, Some}
 use Rattle.std.specs.Str.{bytes_eq}
 use Rattle.std.specs.Cmp.Lexicographic.{bytes_decides}
 use Rattle.pec_types.specs.Bytes.{Bytes}

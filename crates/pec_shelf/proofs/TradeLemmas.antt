@@ -1,11 +1,10 @@
 -- A trade of a directory is one whose directory and heads are the directory's.
-use Rattle.std.proofs.Common.{◌≡◌, ℕ, Bool, false, List, [], ◌∷◌, length, arith, Option, None, refl, sym, ap, subst, ◌∙◌}
+use Rattle.std.proofs.Common.{◌≡◌, ℕ, Bool, false, List, [], ◌∷◌, length, arith, Option, None, refl, sym, subst}
 use Rattle.std.proofs.Math.Path.{fun_ext}
 use Rattle.pec_types.specs.Bytes.{Bytes, Path}
 use Rattle.pec_types.specs.declared.messages.Facts.{Facts}
-use Rattle.pec_directory.specs.Canonical.{digest_of}
-use Rattle.pec_directory.specs.Directory.{Kept, home_of, is_account_of, providers_of}
-use Rattle.pec_ledger.specs.OfDirectory.{IsOf, facts_in, quota_of, recipients_named}
+use Rattle.pec_directory.specs.Directory.{Kept, providers_of}
+use Rattle.pec_ledger.specs.OfDirectory.{IsOf}
 use Rattle.pec_ledger.specs.Trade.{Trade}
 use Rattle.pec_shelf.specs.Settled.{settled}
 

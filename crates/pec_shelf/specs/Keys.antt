@@ -1,6 +1,6 @@
 -- Numbers by which rows are found: what is one thing has one number, and most things have one of their own. No promise
 -- rests on which numbers these are.
-use Rattle.std.specs.Prelude.{ℕ, ◌+◌, ◌*◌, ◌^◌}
+use Rattle.std.specs.Prelude.{ℕ, ◌+◌, ◌*◌, ◌^◌, Option, Some, None}
 use Rattle.std.specs.Hash.{u64}
 use Rattle.std.specs.Hash.DefaultHasher.{finish, initial, write}
 use Rattle.std.specs.List.{fold}
@@ -21,6 +21,11 @@ number_of_charge id by = id.number * 2 ^ 32 + by
 unfoldable pub number_of_pair : Pair → ℕ
 number_of_pair pair = finish (write (fold write initial (u64 (number_of_id pair.id))) pair.recipient)
 
--- the number of an item of a mailbox: SipHash of its rank and of the account
-unfoldable pub number_of_item : Bytes → ℕ → ℕ
-number_of_item account rank = finish (write (fold write initial (u64 rank)) account)
+-- the number of an account's row of a rank: SipHash of both
+unfoldable pub number_of_rank : Bytes → ℕ → ℕ
+number_of_rank account rank = finish (write (fold write initial (u64 rank)) account)
+
+-- the number of a row with an owner and a rank: nobody's row isn't looked for
+abbrev pub number_of_owned : Option Bytes → ℕ → ℕ
+number_of_owned None rank = 0
+number_of_owned (Some account) rank = number_of_rank account rank

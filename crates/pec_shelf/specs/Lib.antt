@@ -1,3 +1,4 @@
+pub mod Drawers
 pub mod KeyLaws
 pub mod Keys
 pub mod Lines
@@ -8,4 +9,6 @@ pub mod Rows
 pub mod Seen
 pub mod Settled
 pub mod Sides
+pub mod Still
 pub mod Undecided
+pub mod Waiting

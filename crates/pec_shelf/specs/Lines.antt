@@ -37,6 +37,10 @@ abbrev pub lines_at : Half → Bytes → Id → Kept → List BookLine
 lines_at half account id row =
     if bytes_eq row.message.sender account then map (line_at half id row.message.moment) row.certified else []
 
+-- the lines of a message with its number
+abbrev pub lines_by : ℕ → Half → ℕ × Kept → List BookLine
+lines_by me half numbered = map (line_at half (id_of me numbered.0) numbered.1.message.moment) numbered.1.certified
+
 abbrev pub book_rows : ℕ → Half → Bytes → ℕ → List Kept → List BookLine
 book_rows me half account number [] = []
 book_rows me half account number (row ∷ rows) =

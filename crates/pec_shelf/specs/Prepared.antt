@@ -3,9 +3,10 @@
 use Rattle.std.specs.Prelude.{◌≡◌, ℕ, ◌+◌, ◌^◌, ◌<◌, ◌≤◌, List, [], ◌++◌, map, length, Result, Ok, Err}
 use Rattle.pec_types.specs.declared.mailboxes.Mark.{Mark as Told}
 use Rattle.pec_records.specs.declared.entries.Entry.{Entry}
-use Rattle.pec_ledger.specs.Half.{Adds, Half, Mark, joined}
+use Rattle.pec_ledger.specs.Along.{AllAlong}
+use Rattle.pec_ledger.specs.Half.{Adds, Half, Mark, empty, joined}
 use Rattle.pec_ledger.specs.Own.{Own}
-use Rattle.pec_ledger.specs.Steps.{adds, messages_by, moment_of, notice_by}
+use Rattle.pec_ledger.specs.Steps.{adds, messages_by, moment_of, notice_by, step}
 use Rattle.pec_ledger.specs.Trade.{Trade}
 use Rattle.pec_shelf.specs.Seen.{IsFor, Seen, certified_by}
 use Rattle.pec_shelf.specs.declared.certified.Certified.{Certified}
@@ -21,6 +22,10 @@ pub record Prepared : Type 0 where
 pub record IsStep (trade : Trade) (me : ℕ) (half : Half) (entry : Entry) : Type 0 where
   pub own : Own trade me half entry
   pub in_time : half.last ≤ moment_of entry
+
+-- Each entry is a step of the half before it.
+abbrev pub AreSteps : Trade → ℕ → List Entry → Type 0
+AreSteps trade me list = AllAlong (step trade me) (IsStep trade me) empty list
 
 -- What an entry is prepared as.
 abbrev pub prepared : Trade → ℕ → Half → Entry → Prepared

@@ -1,6 +1,7 @@
 -- What contracts see of the parts of a shelf: the rows of the sender's side, of the recipient's side, and of mailboxes,
 -- each with the number of further rows that its lists have memory for.
-use Rattle.std.specs.Prelude.{◌≡◌, ℕ, ◌≤◌, min, List, [], ◌++◌, map, length}
+use Rattle.std.specs.Prelude.{ℕ, ◌==◌, List, map, length, Option, Some, None, if◌then◌else◌}
+use Rattle.pec_types.specs.Bytes.{Bytes}
 use Rattle.pec_ledger.specs.Half.{Charge, Fate, Known, Mark, Message, Posted, Taken}
 use Rattle.pec_ledger.specs.Pairs.{Pair}
 use Rattle.pec_shelf.specs.declared.certified.Certified.{Certified}
@@ -12,6 +13,7 @@ pub record Kept : Type 0 where
 
 -- The sender's side.
 pub record Sent : Type 0 where
+  pub me : ℕ
   pub messages : List Kept
   pub charged : List Charge
   pub marks : List Mark
@@ -29,6 +31,10 @@ pub record Received : Type 0 where
 pub record Boxed : Type 0 where
   pub items : List Posted
   pub room : ℕ
+
+-- whose book has lines of a message: nobody's, where it has no certified recipient
+abbrev pub booked_by : Kept → Option Bytes
+booked_by kept = if length kept.certified == 0 then None else Some kept.message.sender
 
 abbrev pub messages_of : List Kept → List Message
 messages_of rows = map (λ (row : Kept). row.message) rows

@@ -5,9 +5,11 @@ ghost use Rattle.pec_ledger.specs.Books.{outcome_in};
 ghost use Rattle.pec_ledger.specs.Half.{Charge, Mark};
 ghost use Rattle.pec_ledger.specs.Lookups.{charged_of, known_of, notice_of, warning_of};
 ghost use Rattle.pec_ledger.specs.Pairs.{pair_of};
-ghost use Rattle.pec_shelf.specs.Lines.{book_rows, line_at, lines_at};
+ghost use Rattle.pec_shelf.specs.Drawers.{placed_row};
+ghost use Rattle.pec_shelf.specs.Lines.{book_rows, line_at, lines_by};
 
 use crate::certified::Certified;
+use crate::drawers::{Drawers, Ranked};
 use crate::rows::MessageRow;
 use crate::shelf::Shelf;
 use pec_types::{Address, BookLine, Decision, Moment, MsgId, NoMemory};
@@ -17,35 +19,36 @@ pub(crate) fn book_lines(
     shelf: &Shelf,
     me: u32,
     account: &Address,
-    rows: &[MessageRow],
+    messages: &Drawers<MessageRow>,
 ) -> Result<Vec<BookLine>, NoMemory>
-    requires { length rows.now ≤ MESSAGES }
-    ensures { IfOk result (λ lines. lines.items ≡ book_rows me shelf.now.half account.now 0 rows.now) }
+    requires { length messages.now.rows ≤ MESSAGES }
+    ensures { IfOk result (λ lines. lines.items ≡ book_rows me shelf.now.half account.now 0 messages.now.rows) }
 {
     let mut lines = Vec::new(shelf.alloc);
-    for (number, row) in rows.iter().enumerate() {
-        let id = MsgId {
-            provider: me,
-            number: number as u64,
+    for rank in 0..messages.count(account) {
+        let Some(ranked) = messages.find(account, rank) else {
+            return Ok(lines);
         };
-        push_lines(shelf, &mut lines, account, id, row)?;
+        push_message(shelf, &mut lines, me, ranked)?;
     }
     Ok(lines)
 }
 
-/// Adds the lines of one message, where it is the account's.
-fn push_lines(
+/// Adds the lines of a message.
+fn push_message(
     shelf: &Shelf,
     lines: &mut Vec<BookLine>,
-    account: &Address,
-    id: MsgId,
-    row: &MessageRow,
+    me: u32,
+    ranked: &Ranked<MessageRow>,
 ) -> Result<(), NoMemory>
-    ensures { OnOk result (lines.new.items ≡ lines.old.items ++ lines_at shelf.now.half account.now id row.now) }
+    requires { ranked.now.place < MESSAGES }
+    ensures { OnOk result (lines.new.items ≡ lines.old.items ++ lines_by me shelf.now.half (placed_row ranked.now)) }
 {
-    if row.sender().bytes() != account.bytes() {
-        return Ok(());
-    }
+    let row = ranked.row();
+    let id = MsgId {
+        provider: me,
+        number: ranked.place(),
+    };
     push_pairs(shelf, lines, id, row.moment(), row.certified())?;
     Ok(())
 }

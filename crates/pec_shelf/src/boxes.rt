@@ -1,11 +1,11 @@
-ghost use Rattle.std.specs.Prelude.{◌≡◌, ◌≤◌, ◌++◌, [], length, filter, map, option_map, slice_get, IfOk, OnOk};
+ghost use Rattle.std.specs.Prelude.{◌≡◌, ◌≤◌, ◌++◌, [], ◌∷◌, Some, length, filter, map, option_map, slice_get, IfOk, OnOk};
 ghost use Rattle.std.specs.Str.{bytes_eq};
 ghost use Rattle.pec_ledger.specs.Along.{times};
 ghost use Rattle.pec_ledger.specs.Books.{item_line};
 ghost use Rattle.pec_ledger.specs.Half.{Posted};
 ghost use Rattle.pec_ledger.specs.Lookups.{takes_room};
 
-use crate::appending::append_reserved;
+use crate::drawers::{Drawers, Owned};
 use crate::rows::PostedRow;
 use pec_types::{Address, ItemLine, NoMemory};
 use std::alloc::Global;
@@ -14,19 +14,29 @@ use std::marker::Model;
 /// The mailboxes of a provider: all items that were ever placed, in order.
 #[derive(Drop)]
 pub(crate) struct Boxes {
-    items: Vec<PostedRow>,
-    room: usize,
+    items: Drawers<PostedRow>,
 }
 
 impl Model for Boxes {
-    ghost use Rattle.std.specs.Prelude.{◌+◌, ◌≤◌, vec_capacity, vec_len};
     ghost use Rattle.pec_shelf.specs.Sides.{Boxed};
 
     ghost Value = { Boxed };
 
-    ghost view = { λ boxes. record { items = boxes.items.items; room = boxes.room } };
+    ghost view = { λ boxes. record { items = boxes.items.rows; room = boxes.items.room } };
+}
 
-    ghost invariant = { λ boxes. vec_len boxes.items + boxes.room ≤ vec_capacity boxes.items };
+impl Owned for PostedRow {
+    ghost owner_of = { λ (posted : Posted). Some posted.account };
+
+    ghost counts_in = { λ (posted : Posted). takes_room posted.item };
+
+    fn owner(&self) -> Option<&Address> {
+        Some(&self.account)
+    }
+
+    fn counts(&self) -> bool {
+        self.takes_room()
+    }
 }
 
 impl Boxes {
@@ -35,8 +45,7 @@ impl Boxes {
         ensures { result ≡ record { items = []; room = 0 } }
     {
         Boxes {
-            items: Vec::new(alloc),
-            room: 0,
+            items: Drawers::new(alloc),
         }
     }
 
@@ -46,21 +55,16 @@ impl Boxes {
         ensures more { self.old.room ≤ self.new.room }
         ensures same { self.new ≡ record self.old { room = self.new.room } }
     {
-        if rows <= self.room {
-            return Ok(());
-        }
         self.items.reserve(rows)?;
-        self.room = rows;
         Ok(())
     }
 
     /// Adds items for which there is room. It takes no memory.
     pub(crate) fn add(&mut self, rows: Vec<PostedRow>)
         requires { length rows.items ≤ self.old.room }
-        ensures { self.new ≡ record { items = self.old.items ++ rows.items; room = 0 } }
+        ensures { self.new.items ≡ self.old.items ++ rows.items }
     {
-        append_reserved(&mut self.items, rows);
-        self.room = 0;
+        self.items.append(rows);
     }
 
     /// How many items of an account take room: envelopes and anomalies. It takes no memory.
@@ -68,7 +72,7 @@ impl Boxes {
         ensures { result ≡ times (λ (posted : Posted). takes_room posted.item)
             (filter (λ (posted : Posted). bytes_eq account.now posted.account) self.now.items) }
     {
-        counted_in(self.items.as_slice(), account)
+        self.items.counted(account)
     }
 
     /// The item at a place of an account's mailbox. It takes no memory.
@@ -76,7 +80,7 @@ impl Boxes {
         ensures { option_map (λ row. row.now) result
             ≡ slice_get (filter (λ (posted : Posted). bytes_eq account.now posted.account) self.now.items) place }
     {
-        at_in(self.items.as_slice(), account, place)
+        self.items.nth(account, place as u64)
     }
 
     /// The lines of an account's mailbox, in order of placing.
@@ -84,49 +88,21 @@ impl Boxes {
         ensures { IfOk result (λ lines. lines.items ≡ map (λ (posted : Posted). item_line posted.item)
             (filter (λ (posted : Posted). bytes_eq account.now posted.account) self.now.items)) }
     {
-        let lines = lines_in(alloc, self.items.as_slice(), account)?;
+        let mut lines = Vec::new(alloc);
+        for rank in 0..self.items.count(account) {
+            let Some(row) = self.items.nth(account, rank) else {
+                return Ok(lines);
+            };
+            push_line(alloc, &mut lines, row)?;
+        }
         Ok(lines)
     }
 }
 
-fn counted_in(rows: &[PostedRow], account: &Address) -> u64
-    ensures { result ≡ times (λ (posted : Posted). takes_room posted.item)
-        (filter (λ (posted : Posted). bytes_eq account.now posted.account) rows.now) }
+/// Adds the line of an item.
+fn push_line(alloc: Global, lines: &mut Vec<ItemLine>, row: &PostedRow) -> Result<(), NoMemory>
+    ensures { OnOk result (lines.new.items ≡ lines.old.items ++ item_line row.now.item ∷ []) }
 {
-    let mut count: u64 = 0;
-    for row in rows {
-        if row.is_in(account) && row.takes_room() {
-            count += 1;
-        }
-    }
-    count
-}
-
-fn at_in<'a>(rows: &'a [PostedRow], account: &Address, place: u32) -> Option<&'a PostedRow>
-    ensures { option_map (λ row. row.now) result
-        ≡ slice_get (filter (λ (posted : Posted). bytes_eq account.now posted.account) rows.now) place }
-{
-    let mut before = place;
-    for row in rows {
-        if row.is_in(account) {
-            if before == 0 {
-                return Some(row);
-            }
-            before -= 1;
-        }
-    }
-    None
-}
-
-fn lines_in(alloc: Global, rows: &[PostedRow], account: &Address) -> Result<Vec<ItemLine>, NoMemory>
-    ensures { IfOk result (λ lines. lines.items ≡ map (λ (posted : Posted). item_line posted.item)
-        (filter (λ (posted : Posted). bytes_eq account.now posted.account) rows.now)) }
-{
-    let mut lines = Vec::new(alloc);
-    for row in rows {
-        if row.is_in(account) {
-            lines.push(row.line(alloc)?)?;
-        }
-    }
-    Ok(lines)
+    lines.push(row.line(alloc)?)?;
+    Ok(())
 }

@@ -22,6 +22,6 @@ impl Shelf {
     pub fn submitted(&self) -> u64
         ensures { result ≡ length self.now.half.messages }
     {
-        self.messages().len() as u64
+        self.messages().len()
     }
 }

@@ -1,9 +1,15 @@
-ghost use Rattle.std.specs.Prelude.{◌≡◌, ◌≤◌, ◌++◌, [], length, find, option_map, is_some, OnOk};
+ghost use Rattle.std.specs.Prelude.{◌≡◌, ◌<◌, ◌≤◌, ◌^◌, ◌++◌, [], length, find, option_map, is_some, OnOk};
 ghost use Rattle.pec_ledger.specs.Half.{Fate, Taken};
 ghost use Rattle.pec_ledger.specs.Pairs.{pair_of, same_id, same_pair};
+ghost use Rattle.pec_shelf.specs.Still.{IsHeard};
+ghost use Rattle.pec_shelf.specs.Undecided.{is_open, pairs_taken};
+ghost use Rattle.pec_shelf.specs.Waiting.{AllElseDone};
 
 use crate::keys::{OfId, OfPair};
 use crate::rows::{AckedRow, FateRow, TakenRow};
+use crate::still::heard_index;
+use crate::undecided::{decided_index, first_undecided};
+use crate::waiting::Waiting;
 use pec_places::Table;
 use pec_types::{Address, MsgId, NoMemory};
 use std::alloc::Global;
@@ -15,12 +21,17 @@ pub(crate) struct Inbox {
     taken: Table<TakenRow>,
     decided: Table<FateRow>,
     acked: Table<AckedRow>,
+    undecided: Waiting,
+    unheard: Waiting,
     room: usize,
 }
 
 impl Model for Inbox {
     ghost use Rattle.std.specs.Prelude.{◌≤◌};
     ghost use Rattle.pec_shelf.specs.Sides.{Received};
+    ghost use Rattle.pec_shelf.specs.Still.{IsHeard};
+    ghost use Rattle.pec_shelf.specs.Undecided.{IsDecided};
+    ghost use Rattle.pec_shelf.specs.Waiting.{AllElseDone};
 
     ghost Value = { Received };
 
@@ -31,10 +42,15 @@ impl Model for Inbox {
       room = inbox.room;
     } };
 
-    ghost invariant = { λ inbox.
-        (inbox.room ≤ inbox.taken.room)
-        × (inbox.room ≤ inbox.decided.room)
-        × (inbox.room ≤ inbox.acked.room) };
+    ghost invariant = { λ inbox. record {
+      taken : inbox.room ≤ inbox.taken.room;
+      decided : inbox.room ≤ inbox.decided.room;
+      acked : inbox.room ≤ inbox.acked.room;
+      places : inbox.room ≤ inbox.undecided.room;
+      outcomes : inbox.room ≤ inbox.unheard.room;
+      undecided : AllElseDone (IsDecided inbox.decided.rows) 0 inbox.taken.rows inbox.undecided.places;
+      unheard : AllElseDone (IsHeard inbox.acked.rows) 0 inbox.decided.rows inbox.unheard.places;
+    } };
 }
 
 /// Rows for the recipient's side.
@@ -54,6 +70,8 @@ impl Inbox {
             taken: Table::new(alloc),
             decided: Table::new(alloc),
             acked: Table::new(alloc),
+            undecided: Waiting::new(alloc),
+            unheard: Waiting::new(alloc),
             room: 0,
         }
     }
@@ -70,6 +88,8 @@ impl Inbox {
         self.taken.reserve(rows)?;
         self.decided.reserve(rows)?;
         self.acked.reserve(rows)?;
+        self.undecided.reserve(rows)?;
+        self.unheard.reserve(rows)?;
         self.room = rows;
         Ok(())
     }
@@ -86,17 +106,112 @@ impl Inbox {
           room = 0;
         } }
     {
+        let decided = self.decided.rows().len();
+        let acked = self.acked.rows().len();
+        self.append(rows);
+        self.close_decided(decided);
+        self.close_heard(acked);
+    }
+
+    /// Adds rows for which there is room: of each that was taken something may still come. It takes no memory.
+    fn append(&mut self, rows: ReceivedRows)
+        requires taken { length rows.taken.items ≤ self.old.room }
+        requires decided { length rows.decided.items ≤ self.old.room }
+        requires acked { length rows.acked.items ≤ self.old.room }
+        ensures { self.new ≡ record {
+          taken = self.old.taken ++ rows.taken.items;
+          decided = self.old.decided ++ rows.decided.items;
+          acked = self.old.acked ++ rows.acked.items;
+          room = 0;
+        } }
+    {
+        let taken = self.count_taken();
+        let decided = self.count_decided();
+        let ids = rows.taken.as_slice().len();
+        let fates = rows.decided.as_slice().len();
+        self.undecided.add(taken, ids);
+        self.unheard.add(decided, fates);
         self.taken.append(rows.taken);
         self.decided.append(rows.decided);
         self.acked.append(rows.acked);
         self.room = 0;
     }
 
-    /// All that was taken, in order.
-    pub(crate) fn all_taken(&self) -> &[TakenRow]
-        ensures { result.now ≡ self.now.taken }
+    /// Of the decisions from a place on, lets go what was taken and is now decided. It takes no memory.
+    fn close_decided(&mut self, first: usize)
+        ensures { self.new ≡ self.old }
     {
-        self.taken.rows()
+        for place in first..self.decided.rows().len() {
+            self.close(place);
+        }
+    }
+
+    /// Lets go what was taken, where all of it is decided, and this is one of the decisions. It takes no memory.
+    fn close(&mut self, place: usize)
+        ensures { self.new ≡ self.old }
+    {
+        let Some(fate) = self.decided.rows().get(place) else {
+            return;
+        };
+        let id = fate.id();
+        let Some(index) = decided_index(&self.taken, &self.decided, &self.undecided, id) else {
+            return;
+        };
+        self.undecided.remove(index);
+    }
+
+    /// Of the acknowledgements from a place on, lets go what was decided and is now acknowledged. It takes no memory.
+    fn close_heard(&mut self, first: usize)
+        ensures { self.new ≡ self.old }
+    {
+        for place in first..self.acked.rows().len() {
+            self.close_outcome(place);
+        }
+    }
+
+    /// Lets go what was decided, where this is its acknowledgement. It takes no memory.
+    fn close_outcome(&mut self, place: usize)
+        ensures { self.new ≡ self.old }
+    {
+        let Some(row) = self.acked.rows().get(place) else {
+            return;
+        };
+        let Some(index) = heard_index(&self.decided, &self.acked, &self.unheard, row) else {
+            return;
+        };
+        self.unheard.remove(index);
+    }
+
+    /// The places of decisions of which something may still be owed: every other one is acknowledged. It takes no
+    /// memory.
+    pub(crate) fn unheard(&self) -> &[u64]
+        ensures { AllElseDone (IsHeard self.now.acked) 0 self.now.decided result.now }
+    {
+        self.unheard.places()
+    }
+
+    /// How many decisions there are. It takes no memory.
+    pub(crate) fn count_decided(&self) -> u64
+        ensures value { result ≡ length self.now.decided }
+        ensures below { result < 2 ^ 63 }
+    {
+        self.decided.rows().len() as u64
+    }
+
+    /// How many ids were taken. It takes no memory.
+    pub(crate) fn count_taken(&self) -> u64
+        ensures value { result ≡ length self.now.taken }
+        ensures below { result < 2 ^ 63 }
+    {
+        self.taken.rows().len() as u64
+    }
+
+    /// The first taken pair that isn't decided, in order of taking and of recipients. It takes no memory.
+    pub(crate) fn next_undecided(&self) -> Option<(MsgId, &Address)>
+        ensures { option_map (λ pair. pair_of pair.0 pair.1.now) result
+            ≡ find (is_open self.now.decided) (pairs_taken self.now.taken) }
+    {
+        first_undecided(&self.taken, &self.decided, self.undecided.places())
     }
 
     /// All decisions, in order.

@@ -2,7 +2,7 @@ ghost use Rattle.std.specs.Prelude.{◌≡◌, ◌==◌, ◌&&◌};
 ghost use Rattle.pec_ledger.specs.Half.{Charge, Fate, Known, Mark, Taken};
 ghost use Rattle.pec_ledger.specs.Lookups.{is_notice, is_warning};
 ghost use Rattle.pec_ledger.specs.Pairs.{Pair, pair_of, same_id, same_pair};
-ghost use Rattle.pec_shelf.specs.Keys.{number_of_charge, number_of_id, number_of_pair};
+ghost use Rattle.pec_shelf.specs.Keys.{number_of_charge, number_of_id, number_of_pair, number_of_rank};
 ghost use Rattle.pec_shelf.specs.KeyLaws.{of_charge, of_id, of_pair, of_second};
 
 use crate::rows::{AckedRow, ChargeRow, FateRow, KnownRow, MarkRow, TakenRow};
@@ -65,6 +65,16 @@ fn number_of_pair(id: MsgId, recipient: &Address) -> u64
     let mut hasher = DefaultHasher::new();
     hasher.write_u64(number_of_id(id));
     hasher.write(recipient.bytes());
+    hasher.finish()
+}
+
+#[tactic(auto, unfolding(crate::specs::Keys::number_of_rank))]
+pub(crate) fn number_of_rank(account: &Address, rank: u64) -> u64
+    ensures { result ≡ number_of_rank account.now rank }
+{
+    let mut hasher = DefaultHasher::new();
+    hasher.write_u64(rank);
+    hasher.write(account.bytes());
     hasher.finish()
 }
 

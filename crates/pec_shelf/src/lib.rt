@@ -4,10 +4,10 @@
 
 mod accounts;
 mod anomalies;
-mod appending;
 mod booking;
 mod boxes;
 mod certified;
+mod drawers;
 mod faults;
 mod figures;
 mod inbox;
@@ -26,7 +26,10 @@ mod receptions;
 mod rows;
 mod shelf;
 mod sizes;
+mod still;
 mod submissions;
+mod undecided;
+mod waiting;
 
 pub use accounts::{is_among, quota};
 pub use certified::Certified;

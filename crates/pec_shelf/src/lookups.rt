@@ -12,6 +12,7 @@ ghost use Rattle.pec_shelf.specs.Sides.{certified_of_rows, messages_of};
 
 use crate::accounts::has_room;
 use crate::certified::Certified;
+use crate::drawers::Drawers;
 use crate::owing::has_pairs_at;
 use crate::reading::recipients_here;
 use crate::rows::{ChargeRow, FateRow, KnownRow, MarkRow, MessageRow, PostedRow, TakenRow};
@@ -44,10 +45,10 @@ impl Shelf {
     }
 
     /// All messages, in order of number.
-    pub(crate) fn messages(&self) -> &[MessageRow]
-        ensures messages { messages_of result.now ≡ self.now.half.messages }
-        ensures certified { certified_of_rows result.now ≡ self.now.certified }
-        ensures few { length result.now ≤ MESSAGES }
+    pub(crate) fn messages(&self) -> &Drawers<MessageRow>
+        ensures messages { messages_of result.now.rows ≡ self.now.half.messages }
+        ensures certified { certified_of_rows result.now.rows ≡ self.now.certified }
+        ensures few { length result.now.rows ≤ MESSAGES }
     {
         self.outbox.messages()
     }
@@ -90,13 +91,6 @@ impl Shelf {
         ensures { option_map (λ row. row.now) result ≡ decided_of self.now.half (pair_of id recipient.now) }
     {
         self.inbox.fate(id, recipient)
-    }
-
-    /// All decisions, in order.
-    pub(crate) fn decided(&self) -> &[FateRow]
-        ensures { result.now ≡ self.now.half.decided }
-    {
-        self.inbox.all_decided()
     }
 
     /// The item at a place of an account's mailbox, counted from 0.
@@ -176,7 +170,7 @@ impl Shelf {
         ensures { MatchOption result (MESSAGES ≤ length self.now.half.messages)
             (λ id. (length self.now.half.messages < MESSAGES) × (id ≡ id_of self.now.me (length self.now.half.messages))) }
     {
-        let number = self.outbox.messages().len() as u64;
+        let number = self.outbox.messages().len();
         if number >= MESSAGES {
             return None;
         }

@@ -5,6 +5,7 @@ ghost use Rattle.pec_types.specs.declared.messages.TheConstants.{MESSAGES};
 ghost use Rattle.pec_ledger.specs.Lookups.{charged_of, known_of, notice_of, submitter, warning_of};
 ghost use Rattle.pec_ledger.specs.Pairs.{pair_of};
 ghost use Rattle.pec_ledger.specs.Steps.{kind_of_due};
+ghost use Rattle.pec_shelf.specs.Drawers.{rows_in};
 ghost use Rattle.pec_shelf.specs.Lines.{mark_at, marks_rows};
 ghost use Rattle.pec_records.specs.declared.entries.Entry.TheVariants as entries;
 ghost use Rattle.pec_ledger.specs.Trade.{Trade};
@@ -13,6 +14,7 @@ ghost use Rattle.pec_shelf.specs.Seen.{IsFor};
 ghost use Rattle.pec_shelf.specs.Sides.{messages_of};
 
 use crate::certified::Certified;
+use crate::drawers::Ranked;
 use crate::faults::PrepareFault;
 use crate::ready::Ready;
 use crate::rows::{MarkRow, MessageRow, Placed, PostedRow};
@@ -23,19 +25,20 @@ use pec_types::{Address, Due, Kind, Mark, Moment, MsgId, NoMemory, timed};
 pub(crate) fn ticked(shelf: &Shelf, now: Moment) -> Result<Ready, PrepareFault>
     ensures { (trade : Trade) → IsFor trade shelf.now → Takes trade shelf.now.me shelf.now.half (entries.Ticked now) result }
 {
-    let ready = marks(shelf, now, shelf.messages())?;
+    let ready = marks(shelf, now, shelf.messages().rows())?;
     Ok(ready)
 }
 
 /// The marks of a clock call, each with its notice.
-fn marks(shelf: &Shelf, now: Moment, rows: &[MessageRow]) -> Result<Ready, NoMemory>
-    requires all { messages_of rows.now ≡ shelf.now.half.messages }
+fn marks(shelf: &Shelf, now: Moment, rows: &[Ranked<MessageRow>]) -> Result<Ready, NoMemory>
+    requires all { messages_of (rows_in rows.now) ≡ shelf.now.half.messages }
     requires few { length rows.now ≤ MESSAGES }
     ensures { IfOk result (λ ready. ready ≡ with_marks shelf.now.half nothing
-        (marks_rows shelf.now.me shelf.now.half now 0 rows.now)) }
+        (marks_rows shelf.now.me shelf.now.half now 0 (rows_in rows.now))) }
 {
     let mut ready = Ready::nothing(shelf.alloc);
-    for (number, row) in rows.iter().enumerate() {
+    for (number, ranked) in rows.iter().enumerate() {
+        let row = ranked.row();
         let id = MsgId {
             provider: shelf.me,
             number: number as u64,

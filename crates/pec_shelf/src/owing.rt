@@ -1,40 +1,90 @@
-ghost use Rattle.std.specs.Prelude.{◌≡◌, ◌≤◌, ◌&&◌, ◌==◌, not, ◌++◌, length, filter, map, IfOk, OnOk};
-ghost use Rattle.std.specs.List.{list_any};
+ghost use Rattle.std.specs.Prelude.{◌≡◌, ◌≤◌, ◌&&◌, ◌==◌, not, [], ◌∷◌, ◌++◌, length, IfOk, OnOk, if◌then◌else◌};
+ghost use Rattle.std.specs.List.{flat_map, list_any};
 ghost use Rattle.pec_types.specs.declared.messages.TheConstants.{MESSAGES};
 ghost use Rattle.pec_ledger.specs.Due.{is_unheard, outcome_on, outcomes_to};
 ghost use Rattle.pec_shelf.specs.Lines.{awaits_at, envelope_at, envelope_rows, is_at, is_heard};
+ghost use Rattle.pec_shelf.specs.Still.{envelope_in, outcome_in};
 
 use crate::certified::Certified;
-use crate::rows::{FateRow, MessageRow};
+use crate::inbox::Inbox;
+use crate::outbox::Outbox;
+use crate::rows::{FateRow, MessageRow, fate_at};
 use crate::shelf::Shelf;
 use pec_types::{Letter, MsgId, NoMemory};
 
-/// What is owed to a provider beside answers, of these messages: outcomes, and then envelopes.
-pub(crate) fn owed(shelf: &Shelf, to: u32, rows: &[MessageRow]) -> Result<Vec<Letter>, NoMemory>
-    requires { length rows.now ≤ MESSAGES }
+/// What is owed to a provider beside answers, of the two sides of this shelf: outcomes, and then envelopes.
+pub(crate) fn owed(
+    shelf: &Shelf,
+    outbox: &Outbox,
+    inbox: &Inbox,
+    to: u32,
+) -> Result<Vec<Letter>, NoMemory>
+    requires few { length outbox.now.messages ≤ MESSAGES }
+    requires charged { outbox.now.charged ≡ shelf.now.half.charged }
+    requires known { outbox.now.known ≡ shelf.now.half.known }
+    requires decided { inbox.now.decided ≡ shelf.now.half.decided }
+    requires acked { inbox.now.acked ≡ shelf.now.half.acked }
     ensures { IfOk result (λ letters. letters.items
-        ≡ outcomes_to shelf.now.half to ++ envelope_rows shelf.now.me shelf.now.half to 0 rows.now) }
+        ≡ outcomes_to shelf.now.half to ++ envelope_rows outbox.now.me shelf.now.half to 0 outbox.now.messages) }
 {
     let mut letters = Vec::new(shelf.alloc);
-    push_outcomes(shelf, &mut letters, to, shelf.decided())?;
-    push_envelopes(shelf, &mut letters, shelf.me(), to, rows)?;
+    push_outcomes(
+        shelf,
+        &mut letters,
+        to,
+        inbox.all_decided(),
+        inbox.unheard(),
+    )?;
+    push_envelopes(shelf, &mut letters, to, outbox, outbox.unanswered())?;
     Ok(letters)
 }
 
-/// Adds the outcomes of these decisions that are owed to a provider.
+/// Adds the outcomes of the decisions at these places that are owed to a provider.
 fn push_outcomes(
     shelf: &Shelf,
     letters: &mut Vec<Letter>,
     to: u32,
     fates: &[FateRow],
+    places: &[u64],
 ) -> Result<(), NoMemory>
     ensures { OnOk result (letters.new.items
-        ≡ letters.old.items ++ map outcome_on (filter (is_unheard shelf.now.half to) fates.now)) }
+        ≡ letters.old.items ++ flat_map (outcome_in shelf.now.half to fates.now) places.now) }
 {
-    for fate in fates {
-        if is_unheard(shelf, to, fate) {
-            letters.push(outcome_on(shelf, fate)?)?;
-        }
+    for place in places {
+        push_outcome_at(shelf, letters, to, fates, *place)?;
+    }
+    Ok(())
+}
+
+/// Adds the outcome of the decision at a place, if it is owed to a provider.
+fn push_outcome_at(
+    shelf: &Shelf,
+    letters: &mut Vec<Letter>,
+    to: u32,
+    fates: &[FateRow],
+    place: u64,
+) -> Result<(), NoMemory>
+    ensures { OnOk result (letters.new.items
+        ≡ letters.old.items ++ outcome_in shelf.now.half to fates.now place) }
+{
+    let Some(fate) = fate_at(fates, place) else {
+        return Ok(());
+    };
+    push_outcome(shelf, letters, to, fate)?;
+    Ok(())
+}
+
+fn push_outcome(
+    shelf: &Shelf,
+    letters: &mut Vec<Letter>,
+    to: u32,
+    fate: &FateRow,
+) -> Result<(), NoMemory>
+    ensures { OnOk result (letters.new.items
+        ≡ letters.old.items ++ (if is_unheard shelf.now.half to fate.now then outcome_on fate.now ∷ [] else [])) }
+{
+    if is_unheard(shelf, to, fate) {
+        letters.push(outcome_on(shelf, fate)?)?;
     }
     Ok(())
 }
@@ -55,25 +105,44 @@ fn outcome_on(shelf: &Shelf, fate: &FateRow) -> Result<Letter, NoMemory>
     })
 }
 
-/// Adds the envelopes of these messages that are owed to a provider.
+/// Adds the envelopes of the messages of these numbers that are owed to a provider.
 fn push_envelopes(
     shelf: &Shelf,
     letters: &mut Vec<Letter>,
-    me: u32,
     to: u32,
-    rows: &[MessageRow],
+    outbox: &Outbox,
+    numbers: &[u64],
 ) -> Result<(), NoMemory>
-    requires { length rows.now ≤ MESSAGES }
+    requires { length outbox.now.messages ≤ MESSAGES }
     ensures { OnOk result (letters.new.items
-        ≡ letters.old.items ++ envelope_rows me shelf.now.half to 0 rows.now) }
+        ≡ letters.old.items ++ flat_map (envelope_in outbox.now.me shelf.now.half to outbox.now.messages) numbers.now) }
 {
-    for (number, row) in rows.iter().enumerate() {
-        let id = MsgId {
-            provider: me,
-            number: number as u64,
-        };
-        push_envelope(shelf, letters, to, id, row)?;
+    for number in numbers {
+        push_envelope_of(shelf, letters, to, outbox, *number)?;
     }
+    Ok(())
+}
+
+/// Adds the envelope of the message of a number, if it is owed to a provider.
+fn push_envelope_of(
+    shelf: &Shelf,
+    letters: &mut Vec<Letter>,
+    to: u32,
+    outbox: &Outbox,
+    number: u64,
+) -> Result<(), NoMemory>
+    requires { length outbox.now.messages ≤ MESSAGES }
+    ensures { OnOk result (letters.new.items
+        ≡ letters.old.items ++ envelope_in outbox.now.me shelf.now.half to outbox.now.messages number) }
+{
+    let Some(row) = outbox.message(number) else {
+        return Ok(());
+    };
+    let id = MsgId {
+        provider: outbox.me(),
+        number,
+    };
+    push_envelope(shelf, letters, to, id, row)?;
     Ok(())
 }
 

@@ -45,6 +45,7 @@ pub(crate) fn took(
         moment,
         recipients: Items::of(here),
         entry: shelf.entries,
+        place: shelf.inbox.count_taken(),
     };
     let ready = Ready::nothing(shelf.alloc).with_taken(row)?;
     Ok(ready)
@@ -76,6 +77,7 @@ pub(crate) fn decided(
         recipient: recipient.copy(shelf.alloc)?,
         decision,
         moment,
+        place: shelf.inbox.count_decided(),
     };
     let ready = Ready::nothing(shelf.alloc).with_fate(row)?;
     let ready = placed(shelf, ready, id, recipient, decision)?;

@@ -1,4 +1,4 @@
-ghost use Rattle.std.specs.Prelude.{◌≡◌, ◌==◌, ◌&&◌, option_map, IfOk};
+ghost use Rattle.std.specs.Prelude.{◌≡◌, ◌==◌, ◌&&◌, option_map, slice_get, IfOk};
 ghost use Rattle.std.specs.Str.{bytes_eq};
 ghost use Rattle.pec_ledger.specs.Books.{item_line};
 ghost use Rattle.pec_ledger.specs.Lookups.{is_notice, is_warning, takes_room};
@@ -144,6 +144,7 @@ pub struct TakenRow {
     pub(crate) moment: Moment,
     pub(crate) recipients: Items<Address>,
     pub(crate) entry: u64,
+    pub(crate) place: u64,
 }
 
 impl Model for TakenRow {
@@ -161,6 +162,7 @@ pub struct FateRow {
     pub(crate) recipient: Address,
     pub(crate) decision: Decision,
     pub(crate) moment: Moment,
+    pub(crate) place: u64,
 }
 
 impl Model for FateRow {
@@ -239,6 +241,13 @@ pub(crate) fn same_pair(id: MsgId, recipient: &Address, other: MsgId, address: &
 }
 
 impl ChargeRow {
+    /// The id of the message.
+    pub(crate) fn id(&self) -> MsgId
+        ensures { result ≡ self.now.id }
+    {
+        self.id
+    }
+
     pub(crate) fn is_of(&self, id: MsgId, by: u32) -> bool
         ensures { result ≡ (same_id id self.now.id && (by == self.now.by)) }
     {
@@ -277,6 +286,13 @@ impl MarkRow {
 }
 
 impl KnownRow {
+    /// The id of the message.
+    pub(crate) fn id(&self) -> MsgId
+        ensures { result ≡ self.now.pair.id }
+    {
+        self.id
+    }
+
     pub(crate) fn is_of(&self, id: MsgId, recipient: &Address) -> bool
         ensures { result ≡ same_pair (pair_of id recipient.now) self.now.pair }
     {
@@ -310,6 +326,11 @@ impl TakenRow {
         ensures { result ≡ same_id id self.now.id }
     {
         same_id(id, self.id)
+    }
+
+    /// Where it was put among all that was taken, which is looked up again before anything rests on it.
+    pub(crate) fn place(&self) -> u64 {
+        self.place
     }
 
     /// The id of the message.
@@ -348,6 +369,11 @@ impl FateRow {
         same_pair(id, recipient, self.id, &self.recipient)
     }
 
+    /// Where it was put among all decisions, which is looked up again before anything rests on it.
+    pub(crate) fn place(&self) -> u64 {
+        self.place
+    }
+
     /// The id of the message.
     pub fn id(&self) -> MsgId
         ensures { result ≡ self.now.pair.id }
@@ -377,7 +403,28 @@ impl FateRow {
     }
 }
 
+/// The decision at a place. It takes no memory.
+pub(crate) fn fate_at(fates: &[FateRow], place: u64) -> Option<&FateRow>
+    ensures { option_map (λ row. row.now) result ≡ slice_get fates.now place }
+{
+    fates.get(place as usize)
+}
+
 impl AckedRow {
+    /// The id of the message.
+    pub(crate) fn id(&self) -> MsgId
+        ensures { result ≡ self.now.id }
+    {
+        self.id
+    }
+
+    /// The recipient.
+    pub(crate) fn recipient(&self) -> &Address
+        ensures { result.now ≡ self.now.recipient }
+    {
+        &self.recipient
+    }
+
     pub(crate) fn is_of(&self, id: MsgId, recipient: &Address) -> bool
         ensures { result ≡ same_pair (pair_of id recipient.now) self.now }
     {

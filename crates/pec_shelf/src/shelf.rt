@@ -1,16 +1,16 @@
-ghost use Rattle.std.specs.Prelude.{◌≡◌, ◌+◌, ◌^◌, ◌<◌, ◌≤◌, [], map, find, is_none, option_map, slice_get, IfOk, OnOk};
+ghost use Rattle.std.specs.Prelude.{◌≡◌, ◌+◌, ◌^◌, ◌<◌, ◌≤◌, [], map, option_map, slice_get, IfOk, OnOk};
 ghost use Rattle.std.specs.Option.{option_and_then};
 ghost use Rattle.pec_ledger.specs.Books.{book, mailbox_lines};
 ghost use Rattle.pec_ledger.specs.Due.{due_letters};
 ghost use Rattle.pec_ledger.specs.Half.{Message, Posted, Taken};
-ghost use Rattle.pec_ledger.specs.Lookups.{counted, decided_of, mailbox, taken_of};
+ghost use Rattle.pec_ledger.specs.Lookups.{counted, mailbox, taken_of};
 ghost use Rattle.pec_ledger.specs.OfDirectory.{IsOf};
-ghost use Rattle.pec_ledger.specs.Pairs.{Pair, pair_of};
+ghost use Rattle.pec_ledger.specs.Pairs.{pair_of};
 ghost use Rattle.pec_ledger.specs.Steps.{size_of};
 ghost use Rattle.pec_ledger.specs.Trade.{Trade};
 ghost use Rattle.pec_shelf.specs.Prepared.{CameFrom, Goes, HasRoomFor, Prepares, told};
 ghost use Rattle.pec_shelf.specs.Seen.{HoldsAs, IsFor, IsNew};
-ghost use Rattle.pec_shelf.specs.Undecided.{next_undecided, pairs_taken};
+ghost use Rattle.pec_shelf.specs.Undecided.{next_undecided};
 
 use crate::booking::book_lines;
 use crate::boxes::Boxes;
@@ -20,7 +20,6 @@ use crate::outbox::Outbox;
 use crate::owing::owed;
 use crate::preparing::{moment_of, rows_of};
 use crate::ready::Ready;
-use crate::rows::TakenRow;
 use crate::sizes::size_of;
 use pec_directory::Directory;
 use pec_records::Entry;
@@ -42,7 +41,7 @@ pub struct Shelf {
 }
 
 impl Model for Shelf {
-    ghost use Rattle.std.specs.Prelude.{◌≤◌, length, min};
+    ghost use Rattle.std.specs.Prelude.{◌≡◌, ◌≤◌, length, min};
     ghost use Rattle.pec_types.specs.declared.messages.TheConstants.{MESSAGES};
     ghost use Rattle.pec_shelf.specs.Seen.{Seen};
     ghost use Rattle.pec_shelf.specs.Sides.{certified_of_rows, messages_of};
@@ -68,7 +67,7 @@ impl Model for Shelf {
       room = min shelf.outbox.room (min shelf.inbox.room shelf.boxes.room);
     } };
 
-    ghost invariant = { λ shelf. length shelf.outbox.messages ≤ MESSAGES };
+    ghost invariant = { λ shelf. (shelf.outbox.me ≡ shelf.me) × (length shelf.outbox.messages ≤ MESSAGES) };
 }
 
 impl Shelf {
@@ -82,7 +81,7 @@ impl Shelf {
             entries: 0,
             last: 0,
             end: 8,
-            outbox: Outbox::new(alloc),
+            outbox: Outbox::new(alloc, me),
             inbox: Inbox::new(alloc),
             boxes: Boxes::new(alloc),
         }
@@ -169,7 +168,7 @@ impl Shelf {
         ensures { (trade : Trade) → IsFor trade self.now
             → IfOk result (λ letters. letters.items ≡ due_letters trade self.now.me self.now.half to room []) }
     {
-        let mut letters = owed(self, to, self.messages())?;
+        let mut letters = owed(self, &self.outbox, &self.inbox, to)?;
         letters.truncate(room);
         Ok(letters)
     }
@@ -178,7 +177,7 @@ impl Shelf {
     pub fn next_undecided(&self) -> Option<(MsgId, &Address)>
         ensures { option_map (λ pair. pair_of pair.0 pair.1.now) result ≡ next_undecided self.now.half }
     {
-        first_undecided(self, self.inbox.all_taken())
+        self.inbox.next_undecided()
     }
 
     /// The book of an account of this provider: a line for each of its accepted messages and certified recipients, in
@@ -243,40 +242,4 @@ impl Shelf {
         self.boxes.reserve(rows)?;
         Ok(())
     }
-}
-
-/// The first pair of these rows that isn't decided.
-fn first_undecided<'a>(shelf: &Shelf, rows: &'a [TakenRow]) -> Option<(MsgId, &'a Address)>
-    ensures { option_map (λ pair. pair_of pair.0 pair.1.now) result
-        ≡ find (λ (pair : Pair). is_none (decided_of shelf.now.half pair)) (pairs_taken rows.now) }
-{
-    for row in rows {
-        match pair_of_row(shelf, row) {
-            Some(pair) => return Some(pair),
-            None => {}
-        }
-    }
-    None
-}
-
-/// The first pair of a row that isn't decided.
-fn pair_of_row<'a>(shelf: &Shelf, row: &'a TakenRow) -> Option<(MsgId, &'a Address)>
-    ensures { option_map (λ pair. pair_of pair.0 pair.1.now) result
-        ≡ find (λ (pair : Pair). is_none (decided_of shelf.now.half pair)) (map (pair_of row.now.id) row.now.recipients) }
-{
-    let recipient = undecided_of(shelf, row.id(), row.recipients())?;
-    Some((row.id(), recipient))
-}
-
-/// The first of these recipients for whom a message isn't decided.
-fn undecided_of<'a>(shelf: &Shelf, id: MsgId, recipients: &'a [Address]) -> Option<&'a Address>
-    ensures { option_map (λ address. pair_of id address.now) result
-        ≡ find (λ (pair : Pair). is_none (decided_of shelf.now.half pair)) (map (pair_of id) recipients.now) }
-{
-    for recipient in recipients {
-        if shelf.fate(id, recipient).is_none() {
-            return Some(recipient);
-        }
-    }
-    None
 }

@@ -19,11 +19,11 @@ use Rattle.pec_ledger.specs.Trade.{Trade}
 use Rattle.pec_plays.specs.Steps.{longest_journal}
 use Rattle.pec_chronicle.specs.Carrying.{with_entry}
 use Rattle.pec_chronicle.specs.Chronicle.{ChronicleState}
-use Rattle.pec_shelf.specs.Prepared.{Goes, IsStep, Prepared, prepared}
+use Rattle.pec_shelf.specs.Prepared.{AreSteps, Goes, IsStep, Prepared, prepared}
 use Rattle.pec_shelf.specs.Seen.{HoldsAs, IsFor, Seen}
 use Rattle.pec_shelf.specs.declared.certified.Certified.{Certified}
 use Rattle.pec_stock.specs.Entering.{Entered, Failed, NoRoom, Same, Torn}
-use Rattle.pec_stock.specs.Stock.{Agree, AreSteps, Holds, IsOwn}
+use Rattle.pec_stock.specs.Stock.{Agree, Holds, IsOwn}
 
 -- the half behind one entry more
 pub half_push : (trade : Trade) (me : ℕ) (entries : List Entry) (entry : Entry)

@@ -24,12 +24,12 @@ use Rattle.pec_chronicle.specs.Carrying.{with_entry}
 use Rattle.pec_chronicle.specs.declared.faults.OpenFault.{OpenFault}
 use Rattle.pec_chronicle.specs.declared.faults.OpenFault.TheVariants as opening
 use Rattle.pec_chronicle.specs.Chronicle.{IsJournalOf, StopsAtBad}
-use Rattle.pec_shelf.specs.Prepared.{IsStep}
+use Rattle.pec_shelf.specs.Prepared.{AreSteps, IsStep}
 use Rattle.pec_shelf.specs.Seen.{Seen}
 use Rattle.pec_stock.specs.declared.faults.ReopenFault.{ReopenFault}
 use Rattle.pec_stock.specs.declared.faults.ReopenFault.TheVariants as faults
 use Rattle.pec_stock.specs.Opening.{IsBad, IsCutOff, IsElsewhere, IsOutside, IsUnfit, NotOwn, ReadsTo, StopsAt, WhyNot, as_reopened}
-use Rattle.pec_stock.specs.Stock.{AreSteps, Holds, IsOwn}
+use Rattle.pec_stock.specs.Stock.{Holds, IsOwn}
 use Rattle.pec_stock.specs.Stocking.{AllSteps}
 use Rattle.pec_stock.proofs.Agreeing.{steps_push}
 

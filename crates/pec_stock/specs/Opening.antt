@@ -14,10 +14,10 @@ use Rattle.pec_ledger.specs.OfDirectory.{IsOf}
 use Rattle.pec_chronicle.specs.declared.faults.OpenFault.{OpenFault}
 use Rattle.pec_chronicle.specs.declared.faults.OpenFault.TheVariants as opening
 use Rattle.pec_directory.specs.Directory.{Kept}
-use Rattle.pec_shelf.specs.Prepared.{IsStep}
+use Rattle.pec_shelf.specs.Prepared.{AreSteps, IsStep}
 use Rattle.pec_stock.specs.declared.faults.ReopenFault.{ReopenFault}
 use Rattle.pec_stock.specs.declared.faults.ReopenFault.TheVariants as faults
-use Rattle.pec_stock.specs.Stock.{AreSteps, IsOwn}
+use Rattle.pec_stock.specs.Stock.{IsOwn}
 
 -- a fault of the disk or want of memory, which says nothing of the journal
 abbrev pub IsOutside : ReopenFault → Type 0

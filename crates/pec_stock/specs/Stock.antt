@@ -4,14 +4,12 @@ use Rattle.std.specs.Prelude.{◌≡◌, ℕ, ◌<◌, Bool, false, List, ◌++�
 use Rattle.pec_types.specs.declared.moments.TheConstants.{END_OF_TIME}
 use Rattle.pec_directory.specs.Directory.{Kept}
 use Rattle.pec_records.specs.declared.entries.Entry.{Entry}
-use Rattle.pec_ledger.specs.Along.{AllAlong}
-use Rattle.pec_ledger.specs.Half.{empty}
 use Rattle.pec_ledger.specs.Ledger.{Begins}
 use Rattle.pec_ledger.specs.Network.{chosen}
 use Rattle.pec_ledger.specs.OfDirectory.{IsOf}
-use Rattle.pec_ledger.specs.Steps.{half, step}
+use Rattle.pec_ledger.specs.Steps.{half}
 use Rattle.pec_ledger.specs.Trade.{Trade}
-use Rattle.pec_shelf.specs.Prepared.{IsStep}
+use Rattle.pec_shelf.specs.Prepared.{AreSteps}
 use Rattle.pec_shelf.specs.Seen.{IsFor, Seen}
 use Rattle.pec_chronicle.specs.Chronicle.{ChronicleState}
 
@@ -20,10 +18,6 @@ pub record Holds (kept : List Kept) (shelf : Seen) (list : List Entry) : Type 0 
   pub is_half : (trade : Trade) → IsOf kept trade → shelf.half ≡ half trade shelf.me list
   pub homes : (trade : Trade) → IsOf kept trade → IsFor trade shelf
   pub in_range : shelf.half.last < END_OF_TIME
-
--- Each entry is a step of the half before it.
-abbrev pub AreSteps : Trade → ℕ → List Entry → Type 0
-AreSteps trade me list = AllAlong (step trade me) (IsStep trade me) empty list
 
 -- These are entries of a provider's journal: they begin with its Start, and each is a step of the half before it.
 pub record IsOwn (trade : Trade) (me : ℕ) (list : List Entry) : Type 0 where

@@ -4,8 +4,8 @@ use Rattle.pec_directory.specs.Directory.{Kept}
 use Rattle.pec_records.specs.declared.entries.Entry.{Entry}
 use Rattle.pec_ledger.specs.OfDirectory.{IsOf}
 use Rattle.pec_ledger.specs.Trade.{Trade}
+use Rattle.pec_shelf.specs.Prepared.{AreSteps}
 use Rattle.pec_stock.specs.Opening.{StopsAt}
-use Rattle.pec_stock.specs.Stock.{AreSteps}
 
 -- Each entry is a step of the half before it, in every world of the directory.
 abbrev pub AllSteps : List Kept → ℕ → List Entry → Type 0

@@ -1,6 +1,5 @@
-use Rattle.std.proofs.Common.{◌≡◌, ℕ, ◌<◌, ◌++◌, true, map, length, None, Some, Option, MatchOption, ap, subst, ◌∙◌, rules, arith}
+use Rattle.std.proofs.Common.{◌≡◌, ◌<◌, ◌++◌, true, map, length, ap, ◌∙◌, rules, arith}
 use Rattle.pec_shelf.proofs.ListLemmas.{not_empty, not_false}
-use Rattle.pec_shelf.specs.Settled.{settled}
 use Rattle.pec_ledger.specs.Steps.{anomaly_by}
 use Rattle.pec_shelf.specs.Prepared.{Prepared}
 use Rattle.pec_shelf.proofs.anomalies.anomaly.Goals as goal

@@ -1,6 +1,9 @@
-use Rattle.std.proofs.Common.{◌≡◌, ◌++◌, drop}
-use Rattle.pec_shelf.specs.Lines.{book_rows}
+use Rattle.std.proofs.Common.{◌≡◌, take}
+use Rattle.std.specs.List.{flat_map}
+use Rattle.pec_shelf.specs.Drawers.{own_numbered}
+use Rattle.pec_shelf.specs.Lines.{lines_by}
+use Rattle.pec_shelf.specs.Sides.{booked_by}
 use Rattle.pec_shelf.proofs.booking.book_lines.Given as goal
 
-abbrev pub invariant-loop-number : goal.invariant-loop-number
-invariant-loop-number l = book_rows l.me l.shelf.half l.account 0 l.rows ≡ l.lines.items ++ book_rows l.me l.shelf.half l.account l.number (drop l.number l.rows)
+abbrev pub invariant-loop-rank : goal.invariant-loop-rank
+invariant-loop-rank l = l.lines.items ≡ flat_map (lines_by l.me l.shelf.half) (take l.rank (own_numbered booked_by l.account 0 l.messages.rows))

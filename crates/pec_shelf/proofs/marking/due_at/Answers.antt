@@ -1,5 +1,4 @@
 use Rattle.std.proofs.Common.{◌<◌, arith, sym}
-use Rattle.pec_types.specs.Limits.{Clocked}
 use Rattle.pec_shelf.proofs.DueLemmas.{due_before}
 use Rattle.pec_shelf.proofs.marking.due_at.Goals as goal
 

@@ -1,5 +1,5 @@
-use Rattle.std.proofs.Common.{◌≡◌, ℕ, ◌<◌, ◌++◌, true, map, length, None, Some, Option, MatchOption, ap, subst, ◌∙◌, rules, arith}
-use Rattle.pec_shelf.proofs.ListLemmas.{missing, not_empty, not_false}
+use Rattle.std.proofs.Common.{◌≡◌, true, None, rules, arith}
+use Rattle.pec_shelf.proofs.ListLemmas.{missing, not_false}
 use Rattle.pec_shelf.specs.Settled.{settled}
 use Rattle.pec_ledger.specs.Lookups.{decided_of}
 use Rattle.pec_ledger.specs.Pairs.{pair_of}

@@ -1,6 +1,5 @@
-use Rattle.std.proofs.Common.{◌≡◌, ℕ, ◌<◌, ◌++◌, true, map, length, None, Some, Option, MatchOption, ap, subst, ◌∙◌, rules, arith}
+use Rattle.std.proofs.Common.{◌≡◌, ℕ, ◌<◌, true, length, None, ap, subst, ◌∙◌, rules, arith}
 use Rattle.pec_shelf.proofs.ListLemmas.{missing, not_empty, not_false}
-use Rattle.pec_shelf.specs.Settled.{settled}
 use Rattle.std.specs.List.{filter}
 use Rattle.pec_types.specs.Bytes.{Bytes, Path}
 use Rattle.pec_types.specs.Message.{Id}

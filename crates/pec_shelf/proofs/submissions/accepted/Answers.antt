@@ -1,5 +1,4 @@
-use Rattle.std.proofs.Common.{◌≡◌, ℕ, ◌<◌, ◌++◌, true, map, length, None, Some, Option, MatchOption, ap, subst, ◌∙◌, rules, arith}
-use Rattle.pec_shelf.proofs.ListLemmas.{not_false}
+use Rattle.std.proofs.Common.{◌≡◌, Some, Option, MatchOption, subst, rules, arith}
 use Rattle.pec_shelf.specs.Settled.{settled}
 use Rattle.pec_types.specs.declared.messages.Facts.{Facts}
 use Rattle.pec_ledger.specs.OfDirectory.{facts_in}

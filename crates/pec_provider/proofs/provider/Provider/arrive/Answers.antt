@@ -130,3 +130,9 @@ returns-clause-carries g c = λ tells journals fit genuine.
     (c.a_house_is_a_trade.ensures.trade c.requires.fits) journals fit me
     c.args.moment journal works.in_time c.at_work.ensures.in_range c.args.frame.now genuine e (sym shows.0 ∙ is))
     (c.undertake.ensures.carries tells)
+
+pub returns-in_err-event-clause-stands : goal.returns-in_err-event-clause-stands
+returns-in_err-event-clause-stands g c = λ tells stands. (c.undertake.ensures.carries tells).stands stands
+
+pub returns-clause-stands : goal.returns-clause-stands
+returns-clause-stands g c = λ tells stands. (c.undertake.ensures.carries tells).stands stands
