@@ -6,7 +6,7 @@ use Rattle.std.proofs.lemmas.Bool.{cases_eq, le-ltb, lt-ltb}
 use Rattle.std.proofs.lemmas.List.{get_or-set_other, get_or-set_same, length-append, set-get_or}
 use Rattle.pec_types.specs.declared.turns.ProviderFault.TheVariants as refusals
 use Rattle.pec_records.specs.declared.entries.Entry.{Entry}
-use Rattle.pec_ledger.specs.Network.{Site, chosen, site_at}
+use Rattle.pec_ledger.specs.Network.{Site, chosen, is_up, site_at}
 use Rattle.pec_ledger.specs.Trade.{Trade}
 use Rattle.pec_plays.specs.Commands.{Crash, Crashed, IsUp, Luck, Played, Refuses, Restart, Restarted, answers, played, restarted, stopped_site, with_site}
 use Rattle.pec_posts.specs.Arrivals.{Waiting, waiting_for}
@@ -148,6 +148,14 @@ module _ {D : Type 0} (trade : Trade) (providers : List (ProviderState D)) (wait
       by_fault reopen.NoMemory same is_down = same
 
 -- ---- what else is said of the call
+
+pub down_there : {D : Type 0} (providers : List (ProviderState D)) (waiting : List Waiting) (me : ℕ) (old : ProviderState D)
+    → me < length providers → length waiting ≡ length providers → old ≡ get_or providers me old → old.chronicle.down ≡ true
+    → is_up (sites_of providers waiting) me ≡ false
+down_there providers waiting me old within count here down =
+    ap (λ (s : Site). s.up) (site_is providers waiting me old within count)
+    ∙ ap (λ (p : ProviderState _). not p.chronicle.down) (sym here)
+    ∙ ap not down
 
 pub changes_nothing : {D S : Type 0} (network : NetworkState D S) (number : ℕ) → number < length network.providers
     → ChangesOnly number network network

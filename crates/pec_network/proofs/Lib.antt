@@ -1,8 +1,15 @@
+pub mod BeginLemmas
 pub mod ChangeLemmas
 pub mod CrashLemmas
+pub mod DeliveryLemmas
 pub mod HomeLemmas
+pub mod KeepLemmas
 pub mod LinkLemmas
 pub mod LinkingLemmas
+pub mod PassLemmas
 pub mod ProviderLemmas
+pub mod RoundLemmas
 pub mod ShowLemmas
 pub mod SiteLemmas
+pub mod StartLemmas
+pub mod TurnLemmas

@@ -5,6 +5,7 @@ use Rattle.pec_outside.specs.DiskModel.{Sight}
 use Rattle.pec_ledger.specs.Ledger.{Journals}
 use Rattle.pec_ledger.specs.Trade.{Trade}
 use Rattle.pec_chronicle.specs.Carrying.{CarriesOn}
+use Rattle.pec_chronicle.specs.Chronicle.{Stands}
 use Rattle.pec_provider.specs.Following.{MayFollow}
 use Rattle.pec_provider.specs.Provider.{ProviderState}
 
@@ -20,3 +21,9 @@ abbrev pub NoneFalls : {D : Type 0} → (D → ℕ) → List (ProviderState D) �
 NoneFalls {D} faults old new =
     (number : ℕ) (other : ProviderState D) → number < length old
     → faults (slice_index_or old number other).chronicle.disk ≤ faults (slice_index_or new number other).chronicle.disk
+
+-- What is kept of each provider stands on its disk.
+abbrev pub AllStand : {D : Type 0} → (D → Sight) → List (ProviderState D) → Type 0
+AllStand {D} sight providers =
+    (number : ℕ) (other : ProviderState D) → number < length providers
+    → Stands sight (slice_index_or providers number other).chronicle

@@ -1,6 +1,9 @@
+pub mod Beginning
 pub mod Carrying
 pub mod Changing
 pub mod Homes
 pub mod Network
 pub mod Playing
 pub mod Restarting
+pub mod Rounds
+pub mod Starting

@@ -1,7 +1,8 @@
-ghost use Rattle.std.specs.Prelude.{◌≡◌, ℕ, ◌<◌, ◌≤◌, length, vec_capacity, vec_len, IfOk, OnOk, IfErr, IsErrOf};
+ghost use Rattle.std.specs.Prelude.{◌≡◌, ℕ, ◌<◌, ◌≤◌, false, length, vec_capacity, vec_len, IfOk, OnOk, IfErr, IsErrOf};
 ghost use Rattle.std.specs.List.{insert};
 ghost use Rattle.pec_outside.specs.Depots.{Alike, depot_places};
 ghost use Rattle.pec_ledger.specs.Ledger.{Journals};
+ghost use Rattle.pec_ledger.specs.Network.{is_up};
 ghost use Rattle.pec_ledger.specs.Trade.{Trade};
 ghost use Rattle.pec_plays.specs.Commands.{Crash, Crashed, Luck, Restart, played};
 ghost use Rattle.pec_network.specs.Carrying.{AllCarryOn, NoneFalls};
@@ -55,7 +56,8 @@ impl<D: Disk, S> Network<D, S> {
             IsNotRestarted (λ luck. played trade luck (sites self.old) (Restart provider))
             (sites self.old) provider (sites self.new) fault) }
 
-        // Whatever the disk is, the provider is up.
+        // Whatever the disk is, the provider was down and is up.
+        ensures down { OnOk result (is_up (sites self.old) provider ≡ false) }
         ensures up { IfOk result (IsUpAt provider self.new.providers) }
         ensures others { ChangesOnly provider self.old self.new }
         ensures carries { D.tells → (trade : Trade) (journals : Journals) →

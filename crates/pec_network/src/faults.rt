@@ -1,7 +1,10 @@
 ghost use Rattle.std.specs.Prelude.{◌≡◌};
 ghost use Rattle.pec_network.specs.Restarting.{restarted_as};
+ghost use Rattle.pec_network.specs.declared.faults.StartFault.TheVariants as start;
 
 use pec_provider::ReopenFault;
+use pec_types::NoMemory;
+use std::alloc::AllocError;
 
 /// Why the journal on a disk isn't a provider's own.
 #[derive(Clone, Copy, Debug, PartialEq, Eq)]
@@ -40,5 +43,33 @@ impl From<ReopenFault> for RestartFault {
             ReopenFault::BadEntry(number) => RestartFault::NotFit(NotFit::BadEntry(number)),
             ReopenFault::NoMemory => RestartFault::NoMemory,
         }
+    }
+}
+
+/// Why a network doesn't begin, with the number of the provider whose disk came to nothing.
+#[derive(Clone, Copy, Debug, PartialEq, Eq)]
+pub enum StartFault {
+    /// A journal was to be made, and the disk's size isn't 0.
+    NotEmpty(u32),
+    /// The depot didn't hand out the disk, or the disk failed.
+    DiskFault(u32),
+    /// A journal was to be opened, and that on the disk isn't the provider's own.
+    NotFit(u32, NotFit),
+    NoMemory,
+}
+
+impl From<AllocError> for StartFault {
+    ghost from_gives = { λ _ fault. fault ≡ start.NoMemory };
+
+    fn from(_: AllocError) -> Self {
+        StartFault::NoMemory
+    }
+}
+
+impl From<NoMemory> for StartFault {
+    ghost from_gives = { λ _ fault. fault ≡ start.NoMemory };
+
+    fn from(_: NoMemory) -> Self {
+        StartFault::NoMemory
     }
 }

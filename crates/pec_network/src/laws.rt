@@ -8,6 +8,7 @@ ghost use Rattle.pec_ledger.specs.Trade.{Trade};
 ghost use Rattle.pec_chronicle.specs.Carrying.{CarriesOn, IsImage, NothingMay};
 ghost use Rattle.pec_chronicle.specs.Chronicle.{ChronicleState, IsJournalOf};
 ghost use Rattle.pec_provider.specs.Following.{MayFollow};
+ghost use Rattle.pec_network.specs.Rounds.{FramesAreGenuine};
 
 use pec_directory::Directory;
 use pec_outside::Disk;
@@ -46,3 +47,9 @@ pub fn any_images()
 {
     pec_ledger::any_images();
 }
+
+/// In a state that is Sound the frames that wait are genuine, as a round asks of them where it speaks of disks.
+pub fn waiting_frames_are_genuine()
+    ensures { (trade : Trade) (state : List Site) → Sound trade state
+        → FramesAreGenuine trade (journals_of state) state }
+{}

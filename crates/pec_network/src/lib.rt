@@ -5,10 +5,16 @@ mod closing;
 mod commands;
 mod crashing;
 mod faults;
+mod keeping;
 pub mod laws;
 mod linking;
 mod network;
+mod opening;
+mod rounds;
 mod showing;
+mod starting;
 
-pub use faults::{NotFit, RestartFault};
+pub use faults::{NotFit, RestartFault, StartFault};
+pub use keeping::a_network_keeps_its_promises;
 pub use network::Network;
+pub use opening::Form;

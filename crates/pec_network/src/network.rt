@@ -1,4 +1,5 @@
 ghost use Rattle.std.specs.Prelude.{◌≡◌, ◌<◌, length, slice_index_or};
+ghost use Rattle.pec_network.specs.Network.{IsOfDirectory};
 
 use pec_directory::Directory;
 use pec_posts::Arrivals;
@@ -35,7 +36,9 @@ impl<D, S> Model for Network<D, S> {
 impl<D, S> Network<D, S> {
     /// The directory of its providers. It takes no memory.
     pub fn directory(&self) -> &Directory
-        ensures { result.now ≡ self.now.kept }
+        ensures value { result.now ≡ self.now.kept }
+        // Its providers are those of the directory, each with links from all.
+        ensures whole { IsOfDirectory self.now.kept self.now.providers self.now.waiting }
     {
         &self.directory
     }

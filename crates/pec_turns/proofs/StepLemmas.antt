@@ -1,5 +1,6 @@
 -- How a turn goes from step to step, and how it ends.
-use Rattle.std.proofs.Common.{◌≡◌, ℕ, zero, suc, ◌+◌, ◌<◌, ◌≤◌, Bool, true, false, List, [], ◌∷◌, ◌++◌, length, map, take, fold, refl, ap, sym, subst, ◌∙◌, append_assoc, arith, Option, Some, None, Ok, Err}
+use Rattle.std.proofs.Common.{◌≡◌, ℕ, suc, ◌+◌, ◌<◌, ◌≤◌, Bool, true, false, List, [], ◌∷◌, ◌++◌, length, take, refl}
+use Rattle.std.proofs.Common.{ap, sym, subst, ◌∙◌, append_assoc, arith, Option, Some, None, Ok, Err}
 use Rattle.std.specs.Prelude.{Contains, IsSome, if◌then◌else◌, nat_lt, slice_get}
 use Rattle.std.specs.Option.{option_and_then, option_to_list}
 use Rattle.std.proofs.lemmas.Bool.{false≢true, le-ltb, lt-ltb}
@@ -26,34 +27,39 @@ use Rattle.pec_plays.specs.Decisions.{decide, undecided}
 use Rattle.pec_plays.specs.Possible.{HaveRoom, MayCut}
 use Rattle.pec_plays.specs.Reception.{arrive}
 use Rattle.pec_plays.specs.Steps.{Step, journal_after}
-use Rattle.pec_plays.specs.Turns.{Whole, Turned, cut_turn, decisions, entries_of, entry_at, events_of, frames_in, last_of, not_begun, owed_of, plan, puts_from, turned, without_first}
+use Rattle.pec_plays.specs.Turns.{Whole, Turned, cut_turn, decisions, entries_of, entry_at, events_of, frames_in}
+use Rattle.pec_plays.specs.Turns.{last_of, not_begun, owed_of, plan, puts_from, turned, without_first}
 use Rattle.pec_chronicle.specs.Carrying.{CarriesOn, NothingMay}
 use Rattle.pec_chronicle.specs.CarryingLaws.{carries_and_then, carries_nothing}
 use Rattle.pec_chronicle.specs.Chronicle.{ChronicleState}
 use Rattle.pec_provider.specs.Following.{MayFollow}
 use Rattle.pec_provider.specs.Provider.{Desk, site_of}
 use Rattle.pec_provider.specs.Working.{Arrives, Decides, DecidesFirst, Does, IsAtWork, Works, behind}
-use Rattle.pec_turns.specs.Turning.{CarriesFrames, Ends, EndsSo, Far, Leads, StopsShort, Took, Waiting, cut_told}
+use Rattle.pec_turns.specs.Turning.{CarriesFrames, Ends, EndsSo, Far, IsFront, Leads, Took, Waiting, cut_told}
 use Rattle.pec_turns.proofs.FrameLemmas.{none_left, none_taken}
 
 -- ---- lists of steps
 
-entries_push : (steps : List Step) (step : Step) → entries_of (steps ++ step ∷ []) ≡ entries_of steps ++ option_to_list step.entry
+entries_push : (steps : List Step) (step : Step) → entries_of (steps ++ step ∷ [])
+    ≡ entries_of steps ++ option_to_list step.entry
 entries_push steps step =
     flat_map-append (λ (s : Step). option_to_list s.entry) steps (step ∷ [])
     ∙ ap (λ (l : List Entry). entries_of steps ++ l) (append-nil (option_to_list step.entry))
 
 owed_push : (steps : List Step) (step : Step) → owed_of (steps ++ step ∷ []) ≡ owed_of steps ++ step.owed
 owed_push steps step =
-    flat_map-append (λ (s : Step). s.owed) steps (step ∷ []) ∙ ap (λ (l : List Letter). owed_of steps ++ l) (append-nil step.owed)
+    flat_map-append (λ (s : Step). s.owed) steps (step ∷ [])
+    ∙ ap (λ (l : List Letter). owed_of steps ++ l) (append-nil step.owed)
 
 take_seam : (steps : List Step) (step : Step) (rest : List Step) (number : ℕ) → number ≡ length steps
     → take (number + 1) (steps ++ step ∷ rest) ≡ steps ++ step ∷ []
 take_seam steps step rest number count =
     ap (λ (l : List Step). take (number + 1) l) (sym (append_assoc steps (step ∷ []) rest))
-    ∙ take_at (steps ++ step ∷ []) rest (number + 1) (length-append steps (step ∷ []) ∙ (let one : length steps + 1 ≡ number + 1 = omega arith in one))
+    ∙ take_at (steps ++ step ∷ []) rest (number + 1)
+    (length-append steps (step ∷ []) ∙ (let one : length steps + 1 ≡ number + 1 = omega arith in one))
 
-get_seam : (steps : List Step) (step : Step) (rest : List Step) → slice_get (steps ++ step ∷ rest) (length steps) ≡ Some step
+get_seam : (steps : List Step) (step : Step) (rest : List Step) → slice_get (steps ++ step ∷ rest) (length steps)
+    ≡ Some step
 get_seam [] step rest = refl
 get_seam (first ∷ steps) step rest = get_seam steps step rest
 
@@ -62,12 +68,14 @@ get_seam (first ∷ steps) step rest = get_seam steps step rest
 abbrev desk_with : List Entry → List Letter → Bool → Option Entry → Desk
 desk_with journal owed up interrupted = record { journal = journal; owed = owed; up = up; interrupted = interrupted }
 
-desk_same : (journal other : List Entry) (owed more : List Letter) (up : Bool) (interrupted : Option Entry) → journal ≡ other → owed ≡ more
+desk_same : (journal other : List Entry) (owed more : List Letter) (up : Bool) (interrupted : Option Entry) → journal
+    ≡ other → owed ≡ more
     → desk_with journal owed up interrupted ≡ desk_with other more up interrupted
 desk_same journal other owed more up interrupted a b = rw (a, b) refl
 
 abbrev site_with : List Entry → Bool → Option Entry → Waiting → Site
-site_with journal up interrupted waiting = record { journal = journal; up = up; interrupted = interrupted; waiting = waiting }
+site_with journal up interrupted waiting = record
+    { journal = journal; up = up; interrupted = interrupted; waiting = waiting }
 
 site_same : (journal other : List Entry) (up is_up : Bool) (interrupted entry : Option Entry) (waiting left : Waiting)
     → journal ≡ other → up ≡ is_up → interrupted ≡ entry → waiting ≡ left
@@ -102,9 +110,11 @@ last_push trade me now half entry l m = omega arith
 
 last_after : (trade : Trade) (me now : ℕ) (journal : List Entry) (o : Option Entry) → last_of trade me journal ≤ now
     → ((entry : Entry) → o ≡ Some entry → moment_of entry ≡ now) → last_of trade me (journal ++ option_to_list o) ≤ now
-last_after trade me now journal None l m = subst (λ (j : List Entry). last_of trade me j ≤ now) (sym (append-nil journal)) l
+last_after trade me now journal None l m = subst (λ (j : List Entry). last_of trade me j ≤ now)
+    (sym (append-nil journal)) l
 last_after trade me now journal (Some entry) l m =
-    subst (λ (h : Half). h.last ≤ now) (sym (half_push trade me journal entry)) (last_push trade me now (half trade me journal) entry l (m entry refl))
+    subst (λ (h : Half). h.last ≤ now) (sym (half_push trade me journal entry))
+    (last_push trade me now (half trade me journal) entry l (m entry refl))
 
 module _ (trade : Trade) (me now : ℕ) where
   -- a step leaves the provider at work
@@ -121,19 +131,24 @@ module _ (trade : Trade) (me now : ℕ) where
     steps = [];
     whole = refl;
     room = λ k d l. absurd (omega arith);
-    here = sym (desk_same (desk.journal ++ []) desk.journal (desk.owed ++ []) desk.owed desk.up desk.interrupted (append-nil desk.journal) (append-nil desk.owed));
+    here = sym (desk_same (desk.journal ++ []) desk.journal (desk.owed ++ []) desk.owed desk.up desk.interrupted
+        (append-nil desk.journal) (append-nil desk.owed));
     gone = sym (none_taken waiting);
     told = refl;
   }
 
   -- frames are gone one after another
   abbrev pub Joins : Type 0
-  Joins = (number further : ℕ) (links : Waiting) → without_first further (without_first number links) ≡ without_first (number + further) links
+  Joins = (number further : ℕ) (links : Waiting) → without_first further (without_first number links)
+      ≡ without_first (number + further) links
 
-  pub far_step : Joins → (begun desk new : Desk) (waiting left after : Waiting) (events : List Event) (step : Step) (event : Event)
+  pub far_step : Joins → (begun desk new : Desk) (waiting left after : Waiting) (events : List Event) (step : Step)
+      (event : Event)
       → Far trade me now begun waiting desk left events
-      → plan trade me now desk.journal (frames_in left) ≡ step ∷ plan trade me now (journal_after desk.journal step) (frames_in after)
-      → after ≡ without_first 1 left → Does step desk new (Ok event) → Far trade me now begun waiting new after (events ++ event ∷ [])
+      → plan trade me now desk.journal (frames_in left)
+      ≡ step ∷ plan trade me now (journal_after desk.journal step) (frames_in after)
+      → after ≡ without_first 1 left → Does step desk new (Ok event)
+      → Far trade me now begun waiting new after (events ++ event ∷ [])
   far_step joins begun desk new waiting left after events step event far next gone does =
       let steps = far.steps in
       let rest = plan trade me now (journal_after desk.journal step) (frames_in after) in
@@ -146,11 +161,14 @@ module _ (trade : Trade) (me now : ℕ) where
         room = All-push (λ (s : Step). s.full ≡ false) steps step far.room does.1;
         here = does.2
             ∙ ap (λ (d : Desk). behind d step) far.here
-            ∙ desk_same ((begun.journal ++ entries_of steps) ++ option_to_list step.entry) (begun.journal ++ entries_of (steps ++ step ∷ []))
-            ((begun.owed ++ owed_of steps) ++ step.owed) (begun.owed ++ owed_of (steps ++ step ∷ [])) begun.up begun.interrupted
+            ∙ desk_same ((begun.journal ++ entries_of steps) ++ option_to_list step.entry)
+            (begun.journal ++ entries_of (steps ++ step ∷ []))
+            ((begun.owed ++ owed_of steps) ++ step.owed)
+            (begun.owed ++ owed_of (steps ++ step ∷ [])) begun.up begun.interrupted
             (append_assoc begun.journal (entries_of steps) (option_to_list step.entry)
             ∙ ap (λ (l : List Entry). begun.journal ++ l) (sym (entries_push steps step)))
-            (append_assoc begun.owed (owed_of steps) step.owed ∙ ap (λ (l : List Letter). begun.owed ++ l) (sym (owed_push steps step)));
+            (append_assoc begun.owed (owed_of steps) step.owed
+            ∙ ap (λ (l : List Letter). begun.owed ++ l) (sym (owed_push steps step)));
         gone = gone ∙ ap (λ (w : Waiting). without_first 1 w) far.gone ∙ joins (length steps) 1 waiting
             ∙ ap (λ (k : ℕ). without_first k waiting) (sym count);
         told = ap (λ (l : List Event). l ++ event ∷ []) far.told
@@ -161,8 +179,9 @@ module _ (trade : Trade) (me now : ℕ) where
   -- ---- ends
 
   -- a place of a turn, as a front of it
-  pub short_of : (begun desk : Desk) (waiting left : Waiting) (events : List Event) → Far trade me now begun waiting desk left events
-      → StopsShort trade me now (site_of begun waiting) (site_of desk left)
+  pub short_of : (begun desk : Desk) (waiting left : Waiting) (events : List Event)
+      → Far trade me now begun waiting desk left events
+      → IsFront trade me now (site_of begun waiting) (site_of desk left)
   short_of begun desk waiting left events far =
       let front : take (length far.steps) (plan trade me now begun.journal (frames_in waiting)) ≡ far.steps =
       ap (λ (l : List Step). take (length far.steps) l) far.whole
@@ -170,14 +189,16 @@ module _ (trade : Trade) (me now : ℕ) where
       record {
         steps = length far.steps;
         frames = length far.steps;
-        is = site_same desk.journal (begun.journal ++ entries_of (take (length far.steps) (plan trade me now begun.journal (frames_in waiting))))
+        is = site_same desk.journal (begun.journal ++ entries_of
+            (take (length far.steps) (plan trade me now begun.journal (frames_in waiting))))
             desk.up begun.up desk.interrupted begun.interrupted left (without_first (length far.steps) waiting)
             (ap (λ (d : Desk). d.journal) far.here ∙ ap (λ (l : List Step). begun.journal ++ entries_of l) (sym front))
             (ap (λ (d : Desk). d.up) far.here)
             (ap (λ (d : Desk). d.interrupted) far.here) far.gone;
       }
 
-  module _ (joins : Joins) (begun desk new : Desk) (waiting left after : Waiting) (events : List Event) (step : Step) (rest : List Step)
+  module _ (joins : Joins) (begun desk new : Desk) (waiting left after : Waiting) (events : List Event) (step : Step)
+      (rest : List Step)
       (far : Far trade me now begun waiting desk left events)
       (next : plan trade me now desk.journal (frames_in left) ≡ step ∷ rest) (gone : after ≡ without_first 1 left) where
     abbrev all : List Step
@@ -190,14 +211,17 @@ module _ (trade : Trade) (me now : ℕ) where
     count = ap length far.told ∙ length-map far.steps (λ (s : Step). s.event)
 
     front : take (length events) all ≡ far.steps
-    front = ap (λ (l : List Step). take (length events) l) planned ∙ take_at far.steps (step ∷ rest) (length events) (sym count)
+    front = ap (λ (l : List Step). take (length events) l) planned
+        ∙ take_at far.steps (step ∷ rest) (length events) (sym count)
 
     here : slice_get all (length events) ≡ Some step
-    here = ap (λ (l : List Step). slice_get l (length events)) planned ∙ ap (λ (k : ℕ). slice_get (far.steps ++ step ∷ rest) k) count
+    here = ap (λ (l : List Step). slice_get l (length events)) planned
+        ∙ ap (λ (k : ℕ). slice_get (far.steps ++ step ∷ rest) k) count
         ∙ get_seam far.steps step rest
 
     journal_so : desk.journal ≡ begun.journal ++ entries_of (take (length events) all)
-    journal_so = ap (λ (d : Desk). d.journal) far.here ∙ ap (λ (l : List Step). begun.journal ++ entries_of l) (sym front)
+    journal_so = ap (λ (d : Desk). d.journal) far.here
+        ∙ ap (λ (l : List Step). begun.journal ++ entries_of l) (sym front)
 
     events_so : events_of (take (length events) all) ≡ events
     events_so = ap events_of front ∙ sym far.told
@@ -214,19 +238,23 @@ module _ (trade : Trade) (me now : ℕ) where
 
     more_room : step.full ≡ false → HaveRoom (take (length events + 1) all)
     more_room full = subst (λ (l : List Step). HaveRoom l)
-        (sym (ap (λ (l : List Step). take (length events + 1) l) planned ∙ take_seam far.steps step rest (length events) count))
+        (sym (ap (λ (l : List Step). take (length events + 1) l) planned
+        ∙ take_seam far.steps step rest (length events) count))
         (All-push (λ (s : Step). s.full ≡ false) far.steps step far.room full)
 
     abbrev cut : List Step
     cut = take (length events) all
 
     -- the step wasn't done
-    pub ends_step : (fault : ProviderFault) → Does step desk new (Err fault) → EndsSo trade me now (site_of begun waiting) new after events fault
+    pub ends_step : (fault : ProviderFault) → Does step desk new (Err fault)
+        → EndsSo trade me now (site_of begun waiting) new after events fault
     ends_step faults.DiskFault does = record {
       is = λ rooms. turn_same
-          (site_with (begun.journal ++ entries_of cut) false (entry_at all (length events)) (without_first (length events + 1) waiting))
+          (site_with (begun.journal ++ entries_of cut) false (entry_at all (length events))
+          (without_first (length events + 1) waiting))
           (site_of new after) (events_of cut) events [] [] (Some faults.DiskFault)
-          (site_same (begun.journal ++ entries_of cut) new.journal false new.up (entry_at all (length events)) new.interrupted
+          (site_same (begun.journal ++ entries_of cut) new.journal false new.up
+          (entry_at all (length events)) new.interrupted
           (without_first (length events + 1) waiting) after
           (sym (ap (λ (d : Desk). d.journal) does.3 ∙ journal_so))
           (sym (ap (λ (d : Desk). d.up) does.3))
@@ -237,7 +265,8 @@ module _ (trade : Trade) (me now : ℕ) where
     }
     ends_step faults.JournalFull does = record {
       is = λ rooms. turn_same
-          (site_with (begun.journal ++ entries_of cut) begun.up begun.interrupted (without_first (length events + 1) waiting))
+          (site_with (begun.journal ++ entries_of cut) begun.up begun.interrupted
+          (without_first (length events + 1) waiting))
           (site_of new after) (events_of cut) events [] [] (Some faults.JournalFull)
           (site_same (begun.journal ++ entries_of cut) new.journal begun.up new.up begun.interrupted new.interrupted
           (without_first (length events + 1) waiting) after
@@ -251,7 +280,8 @@ module _ (trade : Trade) (me now : ℕ) where
     ends_step faults.NoMemory does = record {
       steps = length events;
       frames = length events + 1;
-      is = site_same new.journal (begun.journal ++ entries_of cut) new.up begun.up new.interrupted begun.interrupted after
+      is = site_same new.journal (begun.journal ++ entries_of cut) new.up begun.up new.interrupted begun.interrupted
+          after
           (without_first (length events + 1) waiting)
           (ap (λ (d : Desk). d.journal) does ∙ journal_so)
           (ap (λ (d : Desk). d.up) does ∙ ap (λ (d : Desk). d.up) far.here)
@@ -267,7 +297,8 @@ module _ (trade : Trade) (me now : ℕ) where
   -- ---- whole turns
 
   -- Nothing is left to do.
-  pub whole_of : (begun desk : Desk) (waiting left : Waiting) (events : List Event) → Far trade me now begun waiting desk left events
+  pub whole_of : (begun desk : Desk) (waiting left : Waiting) (events : List Event)
+      → Far trade me now begun waiting desk left events
       → frames_in left ≡ [] → undecided trade me desk.journal ≡ [] → begun.owed ≡ [] → (rooms : ℕ → ℕ)
       → (cut_turn trade me rooms (site_of begun waiting) (plan trade me now begun.journal (frames_in waiting)) Whole
       ≡ turn_with (site_of desk left) events (puts_from trade me desk.journal rooms desk.owed 0 trade.providers) None)
@@ -275,19 +306,23 @@ module _ (trade : Trade) (me now : ℕ) where
   whole_of begun desk waiting left events far none decided owed rooms =
       let all = plan trade me now begun.journal (frames_in waiting) in
       let rest : plan trade me now desk.journal (frames_in left) ≡ [] =
-      ap (λ (l : List Bytes). plan trade me now desk.journal l) none ∙ ap (λ (l : List Pair). decisions trade me now desk.journal l) decided in
+      ap (λ (l : List Bytes). plan trade me now desk.journal l) none
+      ∙ ap (λ (l : List Pair). decisions trade me now desk.journal l) decided in
       let same : all ≡ far.steps =
       far.whole ∙ ap (λ (l : List Step). far.steps ++ l) rest ∙ append-nil far.steps in
       let journal : begun.journal ++ entries_of all ≡ desk.journal =
       ap (λ (l : List Step). begun.journal ++ entries_of l) same ∙ sym (ap (λ (d : Desk). d.journal) far.here) in
       let due : owed_of all ≡ desk.owed =
-      ap owed_of same ∙ sym (ap (λ (d : Desk). d.owed) far.here ∙ ap (λ (l : List Letter). l ++ owed_of far.steps) owed) in (
+      ap owed_of same ∙ sym (ap (λ (d : Desk). d.owed) far.here
+      ∙ ap (λ (l : List Letter). l ++ owed_of far.steps) owed) in (
         turn_same
-            (site_with (begun.journal ++ entries_of all) begun.up begun.interrupted (without_first (length all) waiting))
+            (site_with (begun.journal ++ entries_of all) begun.up begun.interrupted
+            (without_first (length all) waiting))
             (site_of desk left) (events_of all) events
             (puts_from trade me (begun.journal ++ entries_of all) rooms (owed_of all) 0 trade.providers)
             (puts_from trade me desk.journal rooms desk.owed 0 trade.providers) None
-            (site_same (begun.journal ++ entries_of all) desk.journal begun.up desk.up begun.interrupted desk.interrupted
+            (site_same (begun.journal ++ entries_of all) desk.journal begun.up desk.up begun.interrupted
+            desk.interrupted
             (without_first (length all) waiting) left
             journal
             (sym (ap (λ (d : Desk). d.up) far.here))
@@ -302,23 +337,29 @@ module _ (trade : Trade) (me now : ℕ) where
   -- ---- what a turn was
 
   pub took_at_work : (rooms : ℕ → ℕ) (old : Site) (turn : Turned) → old.up ≡ true → last_of trade me old.journal ≤ now
-      → cut_turn trade me rooms old (plan trade me now old.journal (frames_in old.waiting)) (cut_told turn.ended turn.events) ≡ turn
+      → cut_turn trade me rooms old (plan trade me now old.journal (frames_in old.waiting))
+      (cut_told turn.ended turn.events) ≡ turn
       → MayCut (plan trade me now old.journal (frames_in old.waiting)) (cut_told turn.ended turn.events)
       → Took trade me now rooms old turn
   unfolding turned
   took_at_work rooms old turn up time is may = record {
     is = if_so old.up
-        (if nat_lt now (last_of trade me old.journal) then not_begun old (faults.ClockBack (last_of trade me old.journal))
-        else cut_turn trade me rooms old (plan trade me now old.journal (frames_in old.waiting)) (cut_told turn.ended turn.events))
+        (if nat_lt now (last_of trade me old.journal) then not_begun old
+        (faults.ClockBack (last_of trade me old.journal))
+        else cut_turn trade me rooms old (plan trade me now old.journal (frames_in old.waiting))
+        (cut_told turn.ended turn.events))
         (not_begun old faults.Down) up
-        ∙ if_not (nat_lt now (last_of trade me old.journal)) (not_begun old (faults.ClockBack (last_of trade me old.journal)))
-        (cut_turn trade me rooms old (plan trade me now old.journal (frames_in old.waiting)) (cut_told turn.ended turn.events))
+        ∙ if_not (nat_lt now (last_of trade me old.journal))
+        (not_begun old (faults.ClockBack (last_of trade me old.journal)))
+        (cut_turn trade me rooms old (plan trade me now old.journal (frames_in old.waiting))
+        (cut_told turn.ended turn.events))
         (le-ltb now (last_of trade me old.journal) time)
         ∙ is;
     may = λ works late. may;
   }
 
-  pub took_down : (rooms : ℕ → ℕ) (old : Site) → old.up ≡ false → Took trade me now rooms old (not_begun old faults.Down)
+  pub took_down : (rooms : ℕ → ℕ) (old : Site) → old.up ≡ false
+      → Took trade me now rooms old (not_begun old faults.Down)
   unfolding turned
   took_down rooms old down = record {
     is = rw down refl;
@@ -337,7 +378,8 @@ module _ (trade : Trade) (me now : ℕ) where
 
   -- what is appended on a frame is of this moment
   abbrev pub ArrivalsAreOwn : Type 0
-  ArrivalsAreOwn = (trade : Trade) → IsTrade trade → (provider now : ℕ) (journal : List Entry) (frame : Bytes) (entry : Entry)
+  ArrivalsAreOwn = (trade : Trade) → IsTrade trade
+      → (provider now : ℕ) (journal : List Entry) (frame : Bytes) (entry : Entry)
       → (arrive trade provider now journal frame).entry ≡ Some entry
       → Own trade provider (half trade provider journal) entry × (moment_of entry ≡ now)
 
@@ -355,17 +397,21 @@ module _ (trade : Trade) (me now : ℕ) where
 
   next_frame : (journal : List Entry) (left after : Waiting) (frame : Bytes) → frames_in left ≡ frame ∷ frames_in after
       → plan trade me now journal (frames_in left)
-      ≡ arrive trade me now journal frame ∷ plan trade me now (journal_after journal (arrive trade me now journal frame)) (frames_in after)
+      ≡ arrive trade me now journal frame ∷ plan trade me now
+      (journal_after journal (arrive trade me now journal frame)) (frames_in after)
   next_frame journal left after frame e = ap (λ (l : List Bytes). plan trade me now journal l) e
 
-  pub frame_leads : Joins → (desk new : Desk) (left after : Waiting) (events : List Event) (frame : Bytes) (event : Event)
-      → frames_in left ≡ frame ∷ frames_in after → after ≡ without_first 1 left → Arrives trade me now frame desk new (Ok event)
+  pub frame_leads : Joins → (desk new : Desk) (left after : Waiting) (events : List Event) (frame : Bytes)
+      (event : Event)
+      → frames_in left ≡ frame ∷ frames_in after → after ≡ without_first 1 left
+      → Arrives trade me now frame desk new (Ok event)
       → Leads trade me now desk left events new after (events ++ event ∷ [])
   frame_leads joins desk new left after events frame event next gone arrives = λ begun waiting far.
       far_step joins begun desk new waiting left after events (arrive trade me now desk.journal frame) event far
       (next_frame desk.journal left after frame next) gone arrives.1
 
-  pub frame_ends : Joins → (desk new : Desk) (left after : Waiting) (events : List Event) (frame : Bytes) (fault : ProviderFault)
+  pub frame_ends : Joins → (desk new : Desk) (left after : Waiting) (events : List Event) (frame : Bytes)
+      (fault : ProviderFault)
       → IsAtWork trade me now desk → frames_in left ≡ frame ∷ frames_in after → after ≡ without_first 1 left
       → Arrives trade me now frame desk new (Err fault) → Ends trade me now desk left events fault new after events
   frame_ends joins desk new left after events frame fault works next gone arrives = λ begun waiting far.
@@ -374,7 +420,8 @@ module _ (trade : Trade) (me now : ℕ) where
       (next_frame desk.journal left after frame next) gone fault
       (at_work_frame desk new (arrive trade me now desk.journal frame) fault works arrives)
 
-  pub frame_works : IsTrade trade → ArrivalsAreOwn → (desk new : Desk) (frame : Bytes) (event : Event) → Arrives trade me now frame desk new (Ok event)
+  pub frame_works : IsTrade trade → ArrivalsAreOwn → (desk new : Desk) (frame : Bytes) (event : Event)
+      → Arrives trade me now frame desk new (Ok event)
       → IsAtWork trade me now new
   frame_works world own desk new frame event arrives =
       works_on desk new (arrive trade me now desk.journal frame) arrives.0 arrives.1.2
@@ -390,29 +437,37 @@ module _ (trade : Trade) (me now : ℕ) where
       ≡ decide trade provider now journal pair
       ∷ plan trade provider now (journal_after journal (decide trade provider now journal pair)) []
 
-  next_pair : PairsAreNext → (journal : List Entry) (left : Waiting) (pair : Pair) (pairs : List Pair) → frames_in left ≡ []
+  next_pair : PairsAreNext → (journal : List Entry) (left : Waiting) (pair : Pair) (pairs : List Pair) → frames_in left
+      ≡ []
       → undecided trade me journal ≡ pair ∷ pairs
       → plan trade me now journal (frames_in left)
-      ≡ decide trade me now journal pair ∷ plan trade me now (journal_after journal (decide trade me now journal pair)) (frames_in left)
+      ≡ decide trade me now journal pair ∷ plan trade me now (journal_after journal (decide trade me now journal pair))
+      (frames_in left)
   next_pair law journal left pair pairs none e =
       ap (λ (l : List Bytes). plan trade me now journal l) none ∙ law trade me now journal pair pairs e
-      ∙ ap (λ (l : List Bytes). decide trade me now journal pair ∷ plan trade me now (journal_after journal (decide trade me now journal pair)) l) (sym none)
+      ∙ ap (λ (l : List Bytes). decide trade me now journal pair ∷ plan trade me now
+      (journal_after journal (decide trade me now journal pair)) l) (sym none)
 
-  first_leads : Joins → PairsAreNext → (desk new : Desk) (left : Waiting) (events : List Event) (event : Event) (pairs : List Pair)
-      → undecided trade me desk.journal ≡ pairs → frames_in left ≡ [] → DecidesFirst trade me now pairs desk new (Ok (Some event))
+  first_leads : Joins → PairsAreNext → (desk new : Desk) (left : Waiting) (events : List Event) (event : Event)
+      (pairs : List Pair)
+      → undecided trade me desk.journal ≡ pairs → frames_in left ≡ []
+      → DecidesFirst trade me now pairs desk new (Ok (Some event))
       → Leads trade me now desk left events new left (events ++ event ∷ [])
   first_leads joins law desk new left events event [] is none decides = absurd decides
   first_leads joins law desk new left events event (pair ∷ pairs) is none decides = λ begun waiting far.
       far_step joins begun desk new waiting left left events (decide trade me now desk.journal pair) event far
       (next_pair law desk.journal left pair pairs none is) (sym (none_left left 1 none)) decides
 
-  pub pair_leads : Joins → PairsAreNext → (desk new : Desk) (left : Waiting) (events : List Event) (event : Event) → frames_in left ≡ []
-      → Decides trade me now desk new (Ok (Some event)) → Leads trade me now desk left events new left (events ++ event ∷ [])
+  pub pair_leads : Joins → PairsAreNext → (desk new : Desk) (left : Waiting) (events : List Event) (event : Event)
+      → frames_in left ≡ []
+      → Decides trade me now desk new (Ok (Some event))
+      → Leads trade me now desk left events new left (events ++ event ∷ [])
   pair_leads joins law desk new left events event none decides =
       first_leads joins law desk new left events event (undecided trade me desk.journal) refl none decides.1
 
   at_work_pair : (pairs : List Pair) (desk new : Desk) (fault : ProviderFault) → IsAtWork trade me now desk
-      → Works trade me now (DecidesFirst trade me now pairs desk new) desk new (Err fault) → DecidesFirst trade me now pairs desk new (Err fault)
+      → Works trade me now (DecidesFirst trade me now pairs desk new) desk new (Err fault)
+      → DecidesFirst trade me now pairs desk new (Err fault)
   at_work_pair pairs desk new faults.DiskFault works answer = answer.1
   at_work_pair pairs desk new faults.Down works answer = absurd (false≢true (sym answer.0 ∙ works.up))
   at_work_pair pairs desk new (faults.ClockBack moment) works answer =
@@ -424,10 +479,12 @@ module _ (trade : Trade) (me now : ℕ) where
   at_work_pair pairs desk new faults.NoMemory works answer = answer.1
 
   -- memory ran out where nothing is left to decide
-  nothing_ends : (desk new : Desk) (left : Waiting) (events : List Event) (fault : ProviderFault) → DecidesFirst trade me now [] desk new (Err fault)
+  nothing_ends : (desk new : Desk) (left : Waiting) (events : List Event) (fault : ProviderFault)
+      → DecidesFirst trade me now [] desk new (Err fault)
       → Ends trade me now desk left events fault new left events
   nothing_ends desk new left events faults.NoMemory same = λ begun waiting far.
-      subst (λ (d : Desk). StopsShort trade me now (site_of begun waiting) (site_of d left)) (sym same) (short_of begun desk waiting left events far)
+      subst (λ (d : Desk). IsFront trade me now (site_of begun waiting) (site_of d left)) (sym same)
+      (short_of begun desk waiting left events far)
   nothing_ends desk new left events faults.DiskFault none = absurd none
   nothing_ends desk new left events faults.Down none = absurd none
   nothing_ends desk new left events (faults.ClockBack moment) none = absurd none
@@ -436,8 +493,10 @@ module _ (trade : Trade) (me now : ℕ) where
   nothing_ends desk new left events faults.NoItem none = absurd none
   nothing_ends desk new left events faults.JournalFull none = absurd none
 
-  first_ends : Joins → PairsAreNext → (desk new : Desk) (left : Waiting) (events : List Event) (fault : ProviderFault) (pairs : List Pair)
-      → undecided trade me desk.journal ≡ pairs → frames_in left ≡ [] → DecidesFirst trade me now pairs desk new (Err fault)
+  first_ends : Joins → PairsAreNext → (desk new : Desk) (left : Waiting) (events : List Event) (fault : ProviderFault)
+      (pairs : List Pair)
+      → undecided trade me desk.journal ≡ pairs → frames_in left ≡ []
+      → DecidesFirst trade me now pairs desk new (Err fault)
       → Ends trade me now desk left events fault new left events
   first_ends joins law desk new left events fault [] is none decides = nothing_ends desk new left events fault decides
   first_ends joins law desk new left events fault (pair ∷ pairs) is none decides = λ begun waiting far.
@@ -445,7 +504,8 @@ module _ (trade : Trade) (me now : ℕ) where
       (plan trade me now (journal_after desk.journal (decide trade me now desk.journal pair)) (frames_in left)) far
       (next_pair law desk.journal left pair pairs none is) (sym (none_left left 1 none)) fault decides
 
-  pub pair_ends : Joins → PairsAreNext → (desk new : Desk) (left : Waiting) (events : List Event) (fault : ProviderFault)
+  pub pair_ends : Joins → PairsAreNext → (desk new : Desk) (left : Waiting) (events : List Event)
+      (fault : ProviderFault)
       → IsAtWork trade me now desk → frames_in left ≡ [] → Decides trade me now desk new (Err fault)
       → Ends trade me now desk left events fault new left events
   pair_ends joins law desk new left events fault works none decides =
@@ -454,32 +514,39 @@ module _ (trade : Trade) (me now : ℕ) where
 
   -- what is appended on a pair is of this moment
   abbrev pub DecisionsAreOwn : Type 0
-  DecisionsAreOwn = (trade : Trade) (provider now : ℕ) (journal : List Entry) (pair : Pair) → Contains (undecided trade provider journal) pair
+  DecisionsAreOwn = (trade : Trade) (provider now : ℕ) (journal : List Entry) (pair : Pair)
+      → Contains (undecided trade provider journal) pair
       → (entry : Entry) → (decide trade provider now journal pair).entry ≡ Some entry
       → Own trade provider (half trade provider journal) entry × (moment_of entry ≡ now)
 
-  first_works : DecisionsAreOwn → (desk new : Desk) (event : Event) (pairs : List Pair) → undecided trade me desk.journal ≡ pairs
-      → IsAtWork trade me now desk → DecidesFirst trade me now pairs desk new (Ok (Some event)) → IsAtWork trade me now new
+  first_works : DecisionsAreOwn → (desk new : Desk) (event : Event) (pairs : List Pair)
+      → undecided trade me desk.journal ≡ pairs
+      → IsAtWork trade me now desk → DecidesFirst trade me now pairs desk new (Ok (Some event))
+      → IsAtWork trade me now new
   first_works own desk new event [] is works decides = absurd decides
   first_works own desk new event (pair ∷ pairs) is works decides =
       works_on desk new (decide trade me now desk.journal pair) works decides.2
       (λ entry found. (own trade me now desk.journal pair
       (subst (λ (l : List Pair). Contains l pair) (sym is) (0, omega arith, refl)) entry found).1)
 
-  pub pair_works : DecisionsAreOwn → (desk new : Desk) (event : Event) → Decides trade me now desk new (Ok (Some event)) → IsAtWork trade me now new
+  pub pair_works : DecisionsAreOwn → (desk new : Desk) (event : Event) → Decides trade me now desk new (Ok (Some event))
+      → IsAtWork trade me now new
   pair_works own desk new event decides =
       first_works own desk new event (undecided trade me desk.journal) refl decides.0 decides.1
 
 -- ---- disks
 
 -- the first of genuine frames, and the others
-pub genuine_parts : (trade : Trade) (journals : Journals) (left after : Waiting) (frame : Bytes) → frames_in left ≡ frame ∷ frames_in after
-    → AreGenuine trade journals (frames_in left) → IsGenuine trade journals frame × AreGenuine trade journals (frames_in after)
+pub genuine_parts : (trade : Trade) (journals : Journals) (left after : Waiting) (frame : Bytes) → frames_in left
+    ≡ frame ∷ frames_in after
+    → AreGenuine trade journals (frames_in left) → IsGenuine trade journals frame
+    × AreGenuine trade journals (frames_in after)
 genuine_parts trade journals left after frame e genuine =
     let all = subst (λ (l : List Bytes). AreGenuine trade journals l) e genuine in
     (all 0 frame (omega arith), λ k d l. all (suc k) d (omega arith))
 
-pub frames_and_then : {D : Type 0} (sight : D → Sight) (trade : Trade) (me now : ℕ) (old mid new : ChronicleState D) (waiting left after : Waiting)
+pub frames_and_then : {D : Type 0} (sight : D → Sight) (trade : Trade) (me now : ℕ) (old mid new : ChronicleState D)
+    (waiting left after : Waiting)
     → CarriesFrames trade me now sight old waiting mid left → CarriesFrames trade me now sight mid left new after
     → CarriesFrames trade me now sight old waiting new after
 frames_and_then sight trade me now old mid new waiting left after first second = λ journals fit genuine.
@@ -488,13 +555,18 @@ frames_and_then sight trade me now old mid new waiting left after first second =
     (carries_and_then sight (MayFollow trade journals me) old mid new so_far.0 more.0, more.1)
 
 -- frames are taken, and nothing is appended
-pub frames_rest : {D : Type 0} (sight : D → Sight) (trade : Trade) (me now : ℕ) (old : ChronicleState D) (left after : Waiting) (frame : Bytes)
-    → frames_in left ≡ frame ∷ frames_in after → CarriesOn sight NothingMay old old → CarriesFrames trade me now sight old left old after
-frames_rest sight trade me now old left after frame e rests = λ journals fit genuine.
-    (carries_nothing sight (MayFollow trade journals me) old old rests, (genuine_parts trade journals left after frame e genuine).1)
+pub frames_rest : {D : Type 0} (sight : D → Sight) (trade : Trade) (me now : ℕ) (old : ChronicleState D)
+    (left after : Waiting) (frame : Bytes)
+    → frames_in left ≡ frame ∷ frames_in after → CarriesOn sight NothingMay old old
+    → CarriesFrames trade me now sight old left old after
+frames_rest sight trade me now old left after frame e rests = λ journals fit genuine. (
+  carries_nothing sight (MayFollow trade journals me) old old rests,
+  (genuine_parts trade journals left after frame e genuine).1,
+)
 
 -- frames are handled, and then pairs are decided
-pub frames_then_pairs : {D : Type 0} (sight : D → Sight) (trade : Trade) (me now : ℕ) (old mid new : ChronicleState D) (waiting left : Waiting)
+pub frames_then_pairs : {D : Type 0} (sight : D → Sight) (trade : Trade) (me now : ℕ) (old mid new : ChronicleState D)
+    (waiting left : Waiting)
     → CarriesFrames trade me now sight old waiting mid left
     → ((journals : Journals) → CarriesOn sight (MayFollow trade journals me) mid new)
     → CarriesFrames trade me now sight old waiting new left

@@ -1,6 +1,7 @@
 -- A provider's turn, as its calls make it: how far it has come (`Far`), how it ends (`Ends`), and what it was (`Took`).
 -- This project's profile.
-use Rattle.std.specs.Prelude.{◌≡◌, ℕ, ◌<◌, ◌≤◌, nat_lt, true, false, List, [], ◌++◌, length, take, slice_index_or, Option, Some, None}
+use Rattle.std.specs.Prelude.{◌≡◌, ℕ, ◌≤◌, nat_lt, true, false, List, [], ◌++◌, length, take, slice_index_or, Option}
+use Rattle.std.specs.Prelude.{Some}
 use Rattle.pec_types.specs.Bytes.{Bytes}
 use Rattle.pec_types.specs.declared.turns.Event.{Event}
 use Rattle.pec_types.specs.declared.turns.ProviderFault.{ProviderFault}
@@ -13,7 +14,8 @@ use Rattle.pec_ledger.specs.Trade.{Trade}
 use Rattle.pec_plays.specs.Possible.{HaveRoom, MayCut, cut_by}
 use Rattle.pec_plays.specs.Rounds.{sent_from}
 use Rattle.pec_plays.specs.Steps.{Step}
-use Rattle.pec_plays.specs.Turns.{Cut, Turned, behind, cut_turn, entries_of, events_of, frames_in, last_of, owed_of, plan, turned, without_first}
+use Rattle.pec_plays.specs.Turns.{Cut, Turned, behind, cut_turn, entries_of, events_of, frames_in, last_of, owed_of}
+use Rattle.pec_plays.specs.Turns.{plan, turned, without_first}
 use Rattle.pec_chronicle.specs.Carrying.{CarriesOn}
 use Rattle.pec_chronicle.specs.Chronicle.{ChronicleState}
 use Rattle.pec_provider.specs.Following.{MayFollow}
@@ -48,11 +50,17 @@ pub record Took (trade : Trade) (me now : ℕ) (rooms : ℕ → ℕ) (old : Site
   pub may : old.up ≡ true → nat_lt now (last_of trade me old.journal) ≡ false
       → MayCut (plan trade me now old.journal (frames_in old.waiting)) (cut_told turn.ended turn.events)
 
--- In a turn memory ran out: some of its steps were done, and some frames are gone.
-pub record StopsShort (trade : Trade) (me now : ℕ) (old new : Site) : Type 0 where
+-- Some steps of a turn were done, and some frames are gone.
+pub record IsFront (trade : Trade) (me now : ℕ) (old new : Site) : Type 0 where
   pub steps : ℕ
   pub frames : ℕ
   pub is : new ≡ behind old (take steps (plan trade me now old.journal (frames_in old.waiting))) frames
+
+-- In a turn that had begun memory ran out: what was done is a front of it.
+pub record StopsShort (trade : Trade) (me now : ℕ) (old new : Site) : Type 0 where
+  pub up : old.up ≡ true
+  pub in_time : last_of trade me old.journal ≤ now
+  pub front : IsFront trade me now old new
 
 -- a turn, of what is told of it and what was put
 abbrev pub turn_of : Site → Turn → List (List Bytes) → Turned
@@ -90,7 +98,7 @@ module _ (trade : Trade) (me now : ℕ) where
   -- A turn ended for a cause. It had begun while the provider was at work, so want of memory, a full journal and a
   -- fault of the disk are the causes.
   abbrev pub EndsSo : Site → Desk → Waiting → List Event → ProviderFault → Type 0
-  EndsSo begun desk left events faults.NoMemory = StopsShort trade me now begun (site_of desk left)
+  EndsSo begun desk left events faults.NoMemory = IsFront trade me now begun (site_of desk left)
   EndsSo begun desk left events faults.DiskFault =
       Cuts begun (record { site = site_of desk left; events = events; out = []; ended = Some faults.DiskFault })
   EndsSo begun desk left events faults.JournalFull =

@@ -8,7 +8,7 @@ ghost use Rattle.pec_plays.specs.Decisions.{undecided};
 ghost use Rattle.pec_plays.specs.Turns.{frames_in};
 ghost use Rattle.pec_trade.specs.TradeOf.{trade_of};
 ghost use Rattle.pec_chronicle.specs.Carrying.{CarriesOn, NothingMay};
-ghost use Rattle.pec_chronicle.specs.Chronicle.{ChronicleState};
+ghost use Rattle.pec_chronicle.specs.Chronicle.{ChronicleState, Stands};
 ghost use Rattle.pec_provider.specs.Following.{MayFollow};
 ghost use Rattle.pec_provider.specs.Provider.{Runs, desk_of};
 ghost use Rattle.pec_provider.specs.Working.{IsAtWork};
@@ -46,12 +46,14 @@ pub(crate) fn take_frames<D: Disk, S: Sealer>(
         moment (desk_of provider.new)) }
     ensures ends { IfErr result (λ fault. Ends (trade_of house.now.directory.now (S.seals house.now.sealer.now))
         house.now.me moment
-        (desk_of provider.old) arrivals.old events.old.items fault (desk_of provider.new) arrivals.new events.new.items) }
+        (desk_of provider.old) arrivals.old events.old.items fault
+        (desk_of provider.new) arrivals.new events.new.items) }
     ensures runs { Runs house.now.directory.now house.now.me provider.new }
     ensures links { length arrivals.new ≡ length arrivals.old }
     ensures carries { D.tells → CarriesFrames (trade_of house.now.directory.now (S.seals house.now.sealer.now))
         house.now.me moment D.sight
         provider.old.chronicle arrivals.old provider.new.chronicle arrivals.new }
+    ensures stands { D.tells → Stands D.sight provider.old.chronicle → Stands D.sight provider.new.chronicle }
     ensures disk_fault { IsErrOf result faults.DiskFault → HasRisen (D.faults provider.old.chronicle.disk) (D.faults
         provider.new.chronicle.disk) }
     ensures later { D.faults provider.old.chronicle.disk ≤ D.faults provider.new.chronicle.disk }
@@ -84,12 +86,14 @@ fn take_frame<D: Disk, S: Sealer>(
         moment (desk_of provider.new)) }
     ensures ends { IfErr result (λ fault. Ends (trade_of house.now.directory.now (S.seals house.now.sealer.now))
         house.now.me moment
-        (desk_of provider.old) arrivals.old events.old.items fault (desk_of provider.new) arrivals.new events.new.items) }
+        (desk_of provider.old) arrivals.old events.old.items fault
+        (desk_of provider.new) arrivals.new events.new.items) }
     ensures runs { Runs house.now.directory.now house.now.me provider.new }
     ensures links { length arrivals.new ≡ length arrivals.old }
     ensures carries { D.tells → CarriesFrames (trade_of house.now.directory.now (S.seals house.now.sealer.now))
         house.now.me moment D.sight
         provider.old.chronicle arrivals.old provider.new.chronicle arrivals.new }
+    ensures stands { D.tells → Stands D.sight provider.old.chronicle → Stands D.sight provider.new.chronicle }
     ensures disk_fault { IsErrOf result faults.DiskFault → HasRisen (D.faults provider.old.chronicle.disk) (D.faults
         provider.new.chronicle.disk) }
     ensures later { D.faults provider.old.chronicle.disk ≤ D.faults provider.new.chronicle.disk }

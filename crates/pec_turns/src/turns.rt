@@ -1,4 +1,5 @@
-ghost use Rattle.std.specs.Prelude.{◌≡◌, ◌≢◌, ℕ, ◌≤◌, [], length, slice_index_or, Some, None, IfOk, IfErr, IsErrOf, OnOk, OnErr};
+ghost use Rattle.std.specs.Prelude.{◌≡◌, ◌≢◌, ℕ, ◌≤◌, [], length, slice_index_or, Some, None};
+ghost use Rattle.std.specs.Prelude.{IfOk, IfErr, IsErrOf, OnOk, OnErr};
 ghost use Rattle.pec_types.specs.declared.turns.ProviderFault.TheVariants as faults;
 ghost use Rattle.pec_outside.specs.Flow.{HasRisen};
 ghost use Rattle.pec_directory.specs.Directory.{providers_of};
@@ -7,7 +8,7 @@ ghost use Rattle.pec_plays.specs.Decisions.{undecided};
 ghost use Rattle.pec_plays.specs.Rounds.{link_size, sent_from};
 ghost use Rattle.pec_plays.specs.Turns.{frames_in, puts_from};
 ghost use Rattle.pec_trade.specs.TradeOf.{trade_of};
-ghost use Rattle.pec_provider.specs.Appending.{WorksAt};
+ghost use Rattle.pec_chronicle.specs.Chronicle.{Stands};
 ghost use Rattle.pec_provider.specs.Provider.{Runs, desk_of, site_of};
 ghost use Rattle.pec_provider.specs.Working.{IsAtWork};
 ghost use Rattle.pec_turns.specs.Turning.{CarriesFrames, Ends, Leads, StopsShort, Took, room_in, told_of, turn_of};
@@ -54,6 +55,9 @@ pub fn take_turn<D: Disk, S: Sealer>(
     ensures told { IfOk result (λ taken. taken.turn ≡ told_of house.now.me (turn_of (site_of (desk_of provider.new)
         arrivals.new) taken.turn taken.out)) }
 
+    // Want of memory is no turn.
+    ensures memory { IfOk result (λ taken. taken.turn.ended ≢ Some faults.NoMemory) }
+
     // It puts no more than there is room for.
     ensures fit { IfOk result (λ taken. (to : ℕ) → length (slice_index_or taken.out to []) ≤ room_in rooms.now to) }
 
@@ -70,6 +74,9 @@ pub fn take_turn<D: Disk, S: Sealer>(
     ensures carries { D.tells → CarriesFrames (trade_of house.now.directory.now (S.seals house.now.sealer.now))
         house.now.me moment D.sight
         provider.old.chronicle arrivals.old provider.new.chronicle arrivals.new }
+
+    // What stands on its disk stands there again, whatever the frames are.
+    ensures stands { D.tells → Stands D.sight provider.old.chronicle → Stands D.sight provider.new.chronicle }
     ensures disk_fault { IfOk result (λ taken. taken.turn.ended ≡ Some faults.DiskFault →
         HasRisen (D.faults provider.old.chronicle.disk) (D.faults provider.new.chronicle.disk)) }
     ensures later { D.faults provider.old.chronicle.disk ≤ D.faults provider.new.chronicle.disk }
@@ -99,6 +106,7 @@ fn turn<D: Disk, S: Sealer>(
         arrivals.new) taken.turn taken.out)) }
     ensures told { IfOk result (λ taken. taken.turn ≡ told_of house.now.me (turn_of (site_of (desk_of provider.new)
         arrivals.new) taken.turn taken.out)) }
+    ensures memory { IfOk result (λ taken. taken.turn.ended ≢ Some faults.NoMemory) }
     ensures fit { IfOk result (λ taken. (to : ℕ) → length (slice_index_or taken.out to []) ≤ room_in rooms.now to) }
     ensures short { OnErr result (StopsShort (trade_of house.now.directory.now (S.seals house.now.sealer.now))
         house.now.me moment
@@ -108,13 +116,14 @@ fn turn<D: Disk, S: Sealer>(
     ensures carries { D.tells → CarriesFrames (trade_of house.now.directory.now (S.seals house.now.sealer.now))
         house.now.me moment D.sight
         provider.old.chronicle arrivals.old provider.new.chronicle arrivals.new }
+    ensures stands { D.tells → Stands D.sight provider.old.chronicle → Stands D.sight provider.new.chronicle }
     ensures disk_fault { IfOk result (λ taken. taken.turn.ended ≡ Some faults.DiskFault →
         HasRisen (D.faults provider.old.chronicle.disk) (D.faults provider.new.chronicle.disk)) }
     ensures later { D.faults provider.old.chronicle.disk ≤ D.faults provider.new.chronicle.disk }
 {
     a_house_is_a_trade(house);
     what_rests_carries_on::<D>();
-    if let Err(fault) = at_work(house, provider, moment) {
+    if let Err(fault) = provider.at_work(moment) {
         return Ok(ended(alloc, house.me, Vec::new(alloc), fault));
     }
     let mut events = Vec::new(alloc);
@@ -122,27 +131,6 @@ fn turn<D: Disk, S: Sealer>(
         Ok(()) => whole(alloc, house, provider, rooms, events),
         Err(fault) => cut_off(alloc, house.me, events, fault),
     }
-}
-
-/// Whether the provider is at work at a moment: it is up, and its journal has no later moment.
-fn at_work<D, S: Sealer>(
-    house: &House<'_, S>,
-    provider: &Provider<D>,
-    moment: Moment,
-) -> Result<(), ProviderFault>
-    requires { Runs house.now.directory.now house.now.me provider.now }
-    ensures { WorksAt (trade_of house.now.directory.now (S.seals house.now.sealer.now)) house.now.me moment (desk_of
-        provider.now) result }
-{
-    a_house_is_a_trade(house);
-    if provider.is_down() {
-        return Err(ProviderFault::Down);
-    }
-    let last = provider.last();
-    if moment.seconds() < last.seconds() {
-        return Err(ProviderFault::ClockBack(last));
-    }
-    Ok(())
 }
 
 /// Handles all frames that wait, and decides on all that was taken.
@@ -167,12 +155,14 @@ fn take_steps<D: Disk, S: Sealer>(
         provider.new.chronicle.entries ≡ []) }
     ensures ends { IfErr result (λ fault. Ends (trade_of house.now.directory.now (S.seals house.now.sealer.now))
         house.now.me moment
-        (desk_of provider.old) arrivals.old events.old.items fault (desk_of provider.new) arrivals.new events.new.items) }
+        (desk_of provider.old) arrivals.old events.old.items fault
+        (desk_of provider.new) arrivals.new events.new.items) }
     ensures runs { Runs house.now.directory.now house.now.me provider.new }
     ensures links { length arrivals.new ≡ length arrivals.old }
     ensures carries { D.tells → CarriesFrames (trade_of house.now.directory.now (S.seals house.now.sealer.now))
         house.now.me moment D.sight
         provider.old.chronicle arrivals.old provider.new.chronicle arrivals.new }
+    ensures stands { D.tells → Stands D.sight provider.old.chronicle → Stands D.sight provider.new.chronicle }
     ensures disk_fault { IsErrOf result faults.DiskFault → HasRisen (D.faults provider.old.chronicle.disk) (D.faults
         provider.new.chronicle.disk) }
     ensures later { D.faults provider.old.chronicle.disk ≤ D.faults provider.new.chronicle.disk }

@@ -25,4 +25,5 @@ pub returns-clause-works : goal.returns-clause-works
 returns-clause-works g c =
     pair_works (trade_of c.args.house.now.directory.now (g.S.Sealer.seals c.args.house.now.sealer.now))
     c.args.house.now.me c.args.moment c.what_a_provider_does_is_its_own.ensures.decisions
-    (desk_of c.args.provider.now) (desk_of c.decide_next.new.self) c.in-Some.event (rw c.in-Some.is at c.in_ok-event.ensures.decides)
+    (desk_of c.args.provider.now) (desk_of c.decide_next.new.self) c.in-Some.event
+    (rw c.in-Some.is at c.in_ok-event.ensures.decides)

@@ -6,7 +6,9 @@ use Rattle.pec_turns.proofs.steps.decide_pairs.Goals as goal
 
 pub returns-in_err-decide_pair-clause-carries : goal.returns-in_err-decide_pair-clause-carries
 returns-in_err-decide_pair-clause-carries g c = λ tells journals.
-    carries_and_then g.D.Disk.sight (MayFollow (trade_of c.args.house.now.directory.now (g.S.Sealer.seals c.args.house.now.sealer.now)) journals c.args.house.now.me)
+    carries_and_then g.D.Disk.sight (MayFollow
+    (trade_of c.args.house.now.directory.now (g.S.Sealer.seals c.args.house.now.sealer.now)) journals
+    c.args.house.now.me)
     c.args.provider.now.chronicle c.loop.provider.chronicle c.decide_pair.new.provider.chronicle
     (c.loop.invariant.carries tells journals) (c.in_err-decide_pair.ensures.carries tells journals)
 
@@ -17,7 +19,9 @@ loop-preserved g c = record {
   works = c.in_ok-decide_pair.ensures.works;
   runs = c.in_ok-decide_pair.ensures.runs;
   carries = λ tells journals.
-      carries_and_then g.D.Disk.sight (MayFollow (trade_of c.args.house.now.directory.now (g.S.Sealer.seals c.args.house.now.sealer.now)) journals c.args.house.now.me)
+      carries_and_then g.D.Disk.sight (MayFollow
+      (trade_of c.args.house.now.directory.now (g.S.Sealer.seals c.args.house.now.sealer.now)) journals
+      c.args.house.now.me)
       c.args.provider.now.chronicle c.loop.provider.chronicle c.decide_pair.new.provider.chronicle
       (c.loop.invariant.carries tells journals) (c.in_ok-decide_pair.ensures.carries tells journals);
   later = omega (arith, c.loop.invariant.later, c.in_ok-decide_pair.ensures.later);
@@ -25,6 +29,8 @@ loop-preserved g c = record {
 
 pub returns-clause-carries : goal.returns-clause-carries
 returns-clause-carries g c = λ tells journals.
-    carries_and_then g.D.Disk.sight (MayFollow (trade_of c.args.house.now.directory.now (g.S.Sealer.seals c.args.house.now.sealer.now)) journals c.args.house.now.me)
+    carries_and_then g.D.Disk.sight (MayFollow
+    (trade_of c.args.house.now.directory.now (g.S.Sealer.seals c.args.house.now.sealer.now)) journals
+    c.args.house.now.me)
     c.args.provider.now.chronicle c.loop.provider.chronicle c.decide_pair.new.provider.chronicle
     (c.loop.invariant.carries tells journals) (c.in_ok-decide_pair.ensures.carries tells journals)

@@ -15,7 +15,8 @@ invariant-loop g l =
     let trade = trade_of l.house.directory.now (g.S.Sealer.seals l.house.sealer.now) in
     record {
       leads : (left : Waiting) → frames_in left ≡ []
-          → Leads trade l.house.me l.moment (desk_of l.fn.provider) left l.fn.events.items (desk_of l.provider) left l.events.items;
+          → Leads trade l.house.me l.moment (desk_of l.fn.provider) left l.fn.events.items
+          (desk_of l.provider) left l.events.items;
       works : IsAtWork trade l.house.me l.moment (desk_of l.provider);
       runs : Runs l.house.directory.now l.house.me l.provider;
       carries : g.D.Disk.tells → (journals : Journals)
@@ -25,4 +26,5 @@ invariant-loop g l =
 
 abbrev pub decreases-loop : goal.decreases-loop
 decreases-loop g l =
-    length (undecided (trade_of l.house.directory.now (g.S.Sealer.seals l.house.sealer.now)) l.house.me l.provider.chronicle.entries)
+    length (undecided (trade_of l.house.directory.now (g.S.Sealer.seals l.house.sealer.now)) l.house.me
+    l.provider.chronicle.entries)

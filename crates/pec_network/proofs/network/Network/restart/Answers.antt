@@ -11,7 +11,7 @@ use Rattle.pec_network.specs.Network.{IsOfDirectory, NetworkState, sites, sites_
 use Rattle.pec_network.specs.Restarting.{IsNotRestarted, IsRestarted, IsUpAt}
 use Rattle.pec_network.specs.declared.faults.RestartFault.TheVariants as faults
 use Rattle.pec_network.proofs.ChangeLemmas.{at_old, carries_from, falls_from, number_within, owed_from, risen_from, runs_from, stands_from, whole_from}
-use Rattle.pec_network.proofs.CrashLemmas.{changes_nothing, changes_only, disk_fault_so, fit_outside, not_restarted_so, put_instead, restarted_so, up_at, up_so}
+use Rattle.pec_network.proofs.CrashLemmas.{changes_nothing, changes_only, disk_fault_so, down_there, fit_outside, not_restarted_so, put_instead, restarted_so, up_at, up_so}
 use Rattle.pec_network.proofs.network.Network.restart.Goals as goal
 
 pub index-requires : goal.index-requires
@@ -166,6 +166,13 @@ returns-in-Ok-clause-up g c =
     let within = number_within _ c.args.self.now c.self.view_is c.self.invariant c.args.provider c.requires in
     subst (λ (l : List (ProviderState g.row.D.Denot)). IsUpAt c.args.provider l c.entries-entries.result) (sym (c.put_back.ensures ∙ ap (λ (l : List (ProviderState g.row.D.Denot)). insert l c.args.provider c.in-Ok.opened) c.remove.ensures.items ∙ put_instead c.self.inside.providers.items c.args.provider c.in-Ok.opened within))
     (up_at c.self.inside.providers.items c.args.provider c.remove.result c.in-Ok.opened within c.remove.ensures.value c.entries-entries.result c.entries-entries.ensures c.in-Ok.ensures.up)
+
+pub returns-in-Ok-clause-down : goal.returns-in-Ok-clause-down
+returns-in-Ok-clause-down g c =
+    let within = number_within _ c.args.self.now c.self.view_is c.self.invariant c.args.provider c.requires in
+    rw (← c.self.view_is)
+    (down_there c.self.inside.providers.items c.self.inside.arrivals.items c.args.provider c.remove.result within
+    (c.self.invariant.links ∙ sym c.self.invariant.count) c.remove.ensures.value ((ap (λ (p : ProviderState g.row.D.Denot). p.chronicle.down) (c.remove.ensures.value ∙ at_old c.self.inside.providers.items c.args.provider c.index.result.now c.index.result.now within c.index.ensures c.remove.result)) ∙ sym c.is_down.ensures ∙ c.if-not-is_down.false))
 
 pub returns-in-Ok-clause-disk_fault : goal.returns-in-Ok-clause-disk_fault
 returns-in-Ok-clause-disk_fault g c = λ failed. absurd (cc)

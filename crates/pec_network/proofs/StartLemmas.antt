@@ -1,0 +1,174 @@
+-- One provider that begins, or doesn't: over a disk at hand, and over what a depot hands out.
+use Rattle.std.proofs.Common.{◌≡◌, ℕ, false, List, [], ◌∷◌, length, refl, ap, sym, subst, ◌∙◌, arith, Option, Some, None}
+use Rattle.std.specs.Prelude.{◌≢◌, ◌++◌}
+use Rattle.std.proofs.lemmas.List.{append-nil}
+use Rattle.pec_types.specs.Bytes.{Bytes}
+use Rattle.pec_outside.specs.DiskModel.{Rests, Sight, Stays}
+use Rattle.pec_outside.specs.Flow.{HasRisen}
+use Rattle.pec_directory.specs.Canonical.{digest_of}
+use Rattle.pec_directory.specs.Directory.{Kept, providers_of}
+use Rattle.pec_records.specs.declared.entries.Entry.{Entry}
+use Rattle.pec_records.specs.declared.entries.Entry.TheVariants as entries
+use Rattle.pec_ledger.specs.Network.{chosen}
+use Rattle.pec_ledger.specs.OfDirectory.{IsOf}
+use Rattle.pec_ledger.specs.Trade.{Trade}
+use Rattle.pec_chronicle.specs.Chronicle.{IsJournalOf, Stands}
+use Rattle.pec_chronicle.specs.declared.faults.CreateFault.{CreateFault}
+use Rattle.pec_chronicle.specs.declared.faults.CreateFault.TheVariants as create
+use Rattle.pec_stock.specs.Opening.{IsOutside, IsUnfit}
+use Rattle.pec_stock.specs.Stock.{IsOwn}
+use Rattle.pec_stock.specs.declared.faults.ReopenFault.{ReopenFault}
+use Rattle.pec_stock.specs.declared.faults.ReopenFault.TheVariants as reopen
+use Rattle.pec_provider.specs.Provider.{Desk, ProviderState, Runs, desk_of, fresh}
+use Rattle.pec_network.specs.Beginning.{IsAbout, IsAsItWas, IsBack, IsBegun, IsLeft, Says}
+use Rattle.pec_network.specs.Starting.{unmade_as, unopened_as}
+use Rattle.pec_network.specs.declared.faults.StartFault.{StartFault}
+use Rattle.pec_network.specs.declared.faults.StartFault.TheVariants as faults
+use Rattle.pec_network.specs.declared.opening.Form.{Form}
+use Rattle.pec_network.specs.declared.opening.Form.TheVariants as forms
+
+-- ---- lists
+
+no_bytes : (bytes : Bytes) → length bytes ≡ 0 → bytes ≡ []
+no_bytes [] e = refl
+no_bytes (byte ∷ bytes) e = absurd (omega arith)
+
+-- ---- a disk that is as it was
+
+as_before : (old new : Sight) → Stays old new → IsAsItWas old new
+as_before old new stays = record { seen = stays.seen; crash = stays.crash }
+
+at_rest : (old new : Sight) → Rests old new → IsAsItWas old new
+at_rest old new rests = record { seen = rests.seen; crash = rests.crash }
+
+pub left_so : (form : Form) (fault : StartFault) (old new : Sight) → IsAsItWas old new → IsLeft form fault old new
+left_so forms.Make (faults.NotEmpty number) old new same = same
+left_so forms.Make (faults.DiskFault number) old new same = tt
+left_so forms.Make (faults.NotFit number why) old new same = same
+left_so forms.Make faults.NoMemory old new same = tt
+left_so forms.Open fault old new same = same
+
+-- ---- refusals
+
+module _ (me : ℕ) where
+  pub unmade_about : (fault : CreateFault) → IsAbout forms.Make me (unmade_as me fault)
+  unmade_about create.NotEmpty = refl
+  unmade_about create.DiskFault = refl
+  unmade_about create.NoMemory = tt
+
+  pub unmade_risen : (fault : CreateFault) (before after : ℕ) → (fault ≡ create.DiskFault → HasRisen before after)
+      → unmade_as me fault ≡ faults.DiskFault me → HasRisen before after
+  unmade_risen create.NotEmpty before after risen e = absurd (cc)
+  unmade_risen create.DiskFault before after risen e = risen refl
+  unmade_risen create.NoMemory before after risen e = absurd (cc)
+
+  pub unopened_about : (fault : ReopenFault) → IsAbout forms.Open me (unopened_as me fault)
+  unopened_about reopen.DiskFault = refl
+  unopened_about (reopen.NotAJournal place) = refl
+  unopened_about (reopen.OtherDirectory digest given) = refl
+  unopened_about (reopen.BadEntry number) = refl
+  unopened_about reopen.NoMemory = tt
+
+  pub unopened_risen : (fault : ReopenFault) (before after : ℕ) → (fault ≡ reopen.DiskFault → HasRisen before after)
+      → unopened_as me fault ≡ faults.DiskFault me → HasRisen before after
+  unopened_risen reopen.DiskFault before after risen e = risen refl
+  unopened_risen (reopen.NotAJournal place) before after risen e = absurd (cc)
+  unopened_risen (reopen.OtherDirectory digest given) before after risen e = absurd (cc)
+  unopened_risen (reopen.BadEntry number) before after risen e = absurd (cc)
+  unopened_risen reopen.NoMemory before after risen e = absurd (cc)
+
+-- ---- a provider over a disk at hand
+
+module _ {D : Type 0} (tells reads : Type 0) (sight : D → Sight) (kept : List Kept) (me : ℕ) where
+  -- a journal was made
+  pub made_so : (disk : D) (provider : ProviderState D)
+      → desk_of provider ≡ fresh (entries.Start me (digest_of (providers_of kept)) ∷ [])
+      → (reads → length (sight disk).seen ≡ 0) → (reads → Stands sight provider.chronicle)
+      → IsBegun tells reads sight kept forms.Make me (Some disk) provider
+  made_so disk provider desk empty stands =
+      let journal : provider.chronicle.entries ≡ entries.Start me (digest_of (providers_of kept)) ∷ [] = ap (λ (d : Desk). d.journal) desk in record {
+        desk = desk ∙ ap (λ (list : List Entry). fresh list) (sym journal);
+        journal = journal;
+        held = λ told r was is.
+            let same : disk ≡ was = cc in
+            subst (λ (d : D). (sight d).seen ≡ []) same (no_bytes (sight disk).seen (empty r));
+        stands = stands;
+      }
+
+  -- one was opened
+  pub opened_so : (disk : D) (provider : ProviderState D) → Runs kept me provider
+      → desk_of provider ≡ fresh provider.chronicle.entries
+      → (reads → IsJournalOf provider.chronicle.entries (sight disk).seen × Stands sight provider.chronicle)
+      → IsBegun tells reads sight kept forms.Open me (Some disk) provider
+  opened_so disk provider runs desk opened =
+      let whole : provider.chronicle.interrupted ≡ None = ap (λ (d : Desk). d.interrupted) desk in
+      let list : provider.chronicle.entries ++ chosen false provider.chronicle.interrupted ≡ provider.chronicle.entries =
+      ap (λ (o : Option Entry). provider.chronicle.entries ++ chosen false o) whole ∙ append-nil provider.chronicle.entries in record {
+        desk = desk;
+        journal = λ trade of.
+            subst (λ (l : List Entry). IsOwn trade me l) list
+            (subst (λ (n : ℕ). IsOwn trade n (provider.chronicle.entries ++ chosen false provider.chronicle.interrupted)) runs.is
+            (runs.agree.own trade of false));
+        held = λ told r was is.
+            let same : disk ≡ was = cc in
+            subst (λ (d : D). IsJournalOf provider.chronicle.entries (sight d).seen) same (opened r).0;
+        stands = λ r. (opened r).1;
+      }
+
+  -- ---- disks that come back
+
+  pub unmade_back : (fault : CreateFault) (was now : D)
+      → (reads → fault ≡ create.NotEmpty → (length (sight was).seen ≢ 0) × Rests (sight was) (sight now))
+      → IsBack tells reads sight kept forms.Make me (unmade_as me fault) was (Some now)
+  unmade_back create.NotEmpty was now not_empty = record {
+    now = now;
+    is = refl;
+    left = λ r. at_rest (sight was) (sight now) (not_empty r refl).1;
+    says = λ r. let some = (not_empty r refl).0 in omega arith;
+  }
+  unmade_back create.DiskFault was now not_empty = record { now = now; is = refl; left = λ r. tt; says = λ r. tt }
+  unmade_back create.NoMemory was now not_empty = record { now = now; is = refl; left = λ r. tt; says = λ r. tt }
+
+  unopened_says : (fault : ReopenFault) (bytes : Bytes)
+      → ((trade : Trade) (list : List Entry) → IsOf kept trade → IsOwn trade me list → IsJournalOf list bytes → IsOutside fault)
+      → ((trade : Trade) → IsOf kept trade → IsUnfit trade me bytes fault) → Says kept me bytes (unopened_as me fault)
+  unopened_says reopen.DiskFault bytes own unfit = tt
+  unopened_says (reopen.NotAJournal place) bytes own unfit = record { unfit = unfit; none = own }
+  unopened_says (reopen.OtherDirectory digest given) bytes own unfit = record { unfit = unfit; none = own }
+  unopened_says (reopen.BadEntry number) bytes own unfit = record { unfit = unfit; none = own }
+  unopened_says reopen.NoMemory bytes own unfit = tt
+
+  pub unopened_back : (fault : ReopenFault) (was now : D) → (reads → Stays (sight was) (sight now))
+      → (reads → (trade : Trade) (list : List Entry) → IsOf kept trade → IsOwn trade me list → IsJournalOf list (sight was).seen
+      → IsOutside fault)
+      → (reads → (trade : Trade) → IsOf kept trade → IsUnfit trade me (sight was).seen fault)
+      → IsBack tells reads sight kept forms.Open me (unopened_as me fault) was (Some now)
+  unopened_back fault was now stays own unfit = record {
+    now = now;
+    is = refl;
+    left = λ r. left_so forms.Open (unopened_as me fault) (sight was) (sight now) (as_before (sight was) (sight now) (stays r));
+    says = λ r. unopened_says fault (sight was).seen (own r) (unfit r);
+  }
+
+-- ---- a provider over what a depot hands out
+
+module _ {D : Type 0} (tells reads : Type 0) (sight : D → Sight) (kept : List Kept) (form : Form) (me : ℕ) where
+  -- over the disk that was at home all the while
+  pub begun_moved : (home mid : Option D) (provider : ProviderState D) → (tells → mid ≡ home)
+      → IsBegun tells reads sight kept form me mid provider → IsBegun tells reads sight kept form me home provider
+  begun_moved home mid provider same begun = record {
+    desk = begun.desk;
+    journal = begun.journal;
+    held = λ told r was is. begun.held told r was (same told ∙ is);
+    stands = begun.stands;
+  }
+
+  -- a disk that wasn't asked for, or wasn't handed out
+  pub back_again : (fault : StartFault) (was : D) (home : Option D) → home ≡ Some was → Says kept me (sight was).seen fault
+      → IsBack tells reads sight kept form me fault was home
+  back_again fault was home is says = record {
+    now = was;
+    is = is;
+    left = λ r. left_so form fault (sight was) (sight was) (record { seen = refl; crash = λ image may. may });
+    says = λ r. says;
+  }

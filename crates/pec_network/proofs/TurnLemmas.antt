@@ -1,0 +1,164 @@
+-- What one turn of a round leaves, however it is cut.
+use Rattle.std.proofs.Common.{◌≡◌, ℕ, zero, suc, ◌+◌, ◌-◌, ◌<◌, ◌≤◌, Bool, true, false, List, [], ◌∷◌, ◌++◌, length}
+use Rattle.std.proofs.Common.{get_or, refl, ap, sym, subst, ◌∙◌, arith, Option, None}
+use Rattle.std.specs.Prelude.{nat_lt, if◌then◌else◌}
+use Rattle.std.proofs.lemmas.Bool.{le-ltb}
+use Rattle.std.proofs.lemmas.List.{append-nil, length-drop}
+use Rattle.pec_types.specs.Bytes.{Bytes}
+use Rattle.pec_types.specs.declared.letters.Letter.{Letter}
+use Rattle.pec_types.specs.declared.turns.Event.{Event}
+use Rattle.pec_types.specs.declared.turns.ProviderFault.{ProviderFault}
+use Rattle.pec_types.specs.declared.turns.ProviderFault.TheVariants as faults
+use Rattle.pec_records.specs.declared.entries.Entry.{Entry}
+use Rattle.pec_ledger.specs.Network.{Site}
+use Rattle.pec_ledger.specs.Trade.{Trade}
+use Rattle.pec_plays.specs.Frames.{due_frames}
+use Rattle.pec_plays.specs.Steps.{Step}
+use Rattle.pec_plays.specs.Turns.{Cut, Fails, Full, Stops, Turned, Whole, behind, cut_turn, entries_of, events_of}
+use Rattle.pec_plays.specs.Turns.{frames_in, last_of, not_begun, owed_of, plan, puts_from, turned, without_first}
+use Rattle.pec_posts.specs.Arrivals.{Waiting}
+use Rattle.pec_turns.specs.Turning.{StopsShort}
+
+abbrev turn_with : Site → List Event → List (List Bytes) → Option ProviderFault → Turned
+turn_with site events out ended = record { site = site; events = events; out = out; ended = ended }
+
+if_so : (test : Bool) (one other : Turned) → test ≡ true → (if test then one else other) ≡ one
+if_so test one other e = rw e refl
+
+if_not : (test : Bool) (one other : Turned) → test ≡ false → (if test then one else other) ≡ other
+if_not test one other e = rw e refl
+
+without_shorter : (number : ℕ) (links : Waiting) (from : ℕ)
+    → length (get_or (without_first number links) from []) ≤ length (get_or links from [])
+without_shorter number [] from = omega arith
+without_shorter number (link ∷ links) zero = omega (arith, length-drop number link)
+without_shorter number (link ∷ links) (suc from) = without_shorter (number - length link) links from
+
+module _ (trade : Trade) (me now : ℕ) where
+  -- what holds of a turn that doesn't begin, and of one that was cut, holds of either
+  pick : (P : Turned → Type 0) (up late : Bool) (waits begins stays : Turned) → P waits → P begins → P stays
+      → P (if up then (if late then waits else begins) else stays)
+  pick P true true waits begins stays a b c = a
+  pick P true false waits begins stays a b c = b
+  pick P false late waits begins stays a b c = c
+
+  each_turn : (P : Turned → Type 0) (rooms : ℕ → ℕ) (cut : Cut) (site : Site)
+      → ((fault : ProviderFault) → P (not_begun site fault))
+      → P (cut_turn trade me rooms site (plan trade me now site.journal (frames_in site.waiting)) cut)
+      → P (turned trade me now rooms cut site)
+  unfolding turned
+  each_turn P rooms cut site stays begins =
+      pick P site.up (nat_lt now (last_of trade me site.journal))
+      (not_begun site (faults.ClockBack (last_of trade me site.journal)))
+      (cut_turn trade me rooms site (plan trade me now site.journal (frames_in site.waiting)) cut)
+      (not_begun site faults.Down) (stays (faults.ClockBack (last_of trade me site.journal))) begins (stays faults.Down)
+
+  -- ---- rooms
+
+  puts_count : (journal : List Entry) (rooms : ℕ → ℕ) (owed : List Letter) (to count : ℕ)
+      → length (puts_from trade me journal rooms owed to count) ≡ count
+  puts_count journal rooms owed to zero = refl
+  puts_count journal rooms owed to (suc count) = ap suc (puts_count journal rooms owed (to + 1) count)
+
+  puts_alike : (journal : List Entry) (rooms others : ℕ → ℕ) (owed : List Letter) (to count : ℕ)
+      → ((k : ℕ) → k < count → rooms (to + k) ≡ others (to + k))
+      → puts_from trade me journal rooms owed to count ≡ puts_from trade me journal others owed to count
+  puts_alike journal rooms others owed to zero same = refl
+  puts_alike journal rooms others owed to (suc count) same =
+      let none : to + 0 ≡ to = omega arith in
+      let here : rooms to ≡ others to = subst (λ (n : ℕ). rooms n ≡ others n) none (same 0 (omega arith)) in
+      let more : puts_from trade me journal rooms owed (to + 1) count
+      ≡ puts_from trade me journal others owed (to + 1) count =
+      puts_alike journal rooms others owed (to + 1) count (λ k l.
+      let next : to + suc k ≡ (to + 1) + k = omega arith in
+      subst (λ (n : ℕ). rooms n ≡ others n) next (same (suc k) (omega arith))) in
+      ap (λ (room : ℕ). due_frames trade me journal to room owed ∷ puts_from trade me journal rooms owed (to + 1) count)
+      here
+      ∙ ap (λ (out : List (List Bytes)). due_frames trade me journal to (others to) owed ∷ out) more
+
+  cut_alike : (rooms others : ℕ → ℕ) (site : Site) (steps : List Step) (cut : Cut)
+      → ((k : ℕ) → k < trade.providers → rooms k ≡ others k)
+      → cut_turn trade me rooms site steps cut ≡ cut_turn trade me others site steps cut
+  cut_alike rooms others site steps Whole same =
+      ap (λ (out : List (List Bytes)). turn_with (behind site steps (length steps)) (events_of steps) out None)
+      (puts_alike (site.journal ++ entries_of steps) rooms others (owed_of steps) 0 trade.providers (λ k l.
+      let here : k ≡ 0 + k = omega arith in
+      subst (λ (n : ℕ). rooms n ≡ others n) here (same k l)))
+  cut_alike rooms others site steps (Fails number) same = refl
+  cut_alike rooms others site steps (Full number) same = refl
+  cut_alike rooms others site steps (Stops number) same = refl
+
+  -- a turn looks at the rooms of the trade's providers alone
+  pub turned_alike : (rooms others : ℕ → ℕ) (cut : Cut) (site : Site)
+      → ((k : ℕ) → k < trade.providers → rooms k ≡ others k)
+      → turned trade me now rooms cut site ≡ turned trade me now others cut site
+  unfolding turned
+  turned_alike rooms others cut site same =
+      ap (λ (t : Turned). if site.up
+      then (if nat_lt now (last_of trade me site.journal) then not_begun site
+      (faults.ClockBack (last_of trade me site.journal)) else t)
+      else not_begun site faults.Down)
+      (cut_alike rooms others site (plan trade me now site.journal (frames_in site.waiting)) cut same)
+
+  -- ---- what waits, and what is put
+
+  cut_shorter : (rooms : ℕ → ℕ) (site : Site) (steps : List Step) (cut : Cut) (from : ℕ)
+      → length (get_or (cut_turn trade me rooms site steps cut).site.waiting from []) ≤ length
+      (get_or site.waiting from [])
+  cut_shorter rooms site steps Whole from = without_shorter (length steps) site.waiting from
+  cut_shorter rooms site steps (Fails number) from = without_shorter (number + 1) site.waiting from
+  cut_shorter rooms site steps (Full number) from = without_shorter (number + 1) site.waiting from
+  cut_shorter rooms site steps (Stops number) from = without_shorter (number + 1) site.waiting from
+
+  -- a turn only takes frames
+  pub waits_shorter : (rooms : ℕ → ℕ) (cut : Cut) (site : Site) (from : ℕ)
+      → length (get_or (turned trade me now rooms cut site).site.waiting from []) ≤ length (get_or site.waiting from [])
+  waits_shorter rooms cut site from =
+      each_turn (λ (t : Turned). length (get_or t.site.waiting from []) ≤ length (get_or site.waiting from [])) rooms
+      cut site
+      (λ fault. omega arith)
+      (cut_shorter rooms site (plan trade me now site.journal (frames_in site.waiting)) cut from)
+
+  cut_few : (rooms : ℕ → ℕ) (site : Site) (steps : List Step) (cut : Cut)
+      → length (cut_turn trade me rooms site steps cut).out ≤ trade.providers
+  cut_few rooms site steps Whole =
+      let count = puts_count (site.journal ++ entries_of steps) rooms (owed_of steps) 0 trade.providers in
+      omega (arith, count)
+  cut_few rooms site steps (Fails number) = omega arith
+  cut_few rooms site steps (Full number) = omega arith
+  cut_few rooms site steps (Stops number) = omega arith
+
+  -- it puts frames for no other provider
+  pub puts_few : (rooms : ℕ → ℕ) (cut : Cut) (site : Site)
+      → length (turned trade me now rooms cut site).out ≤ trade.providers
+  puts_few rooms cut site =
+      each_turn (λ (t : Turned). length t.out ≤ trade.providers) rooms cut site (λ fault. omega arith)
+      (cut_few rooms site (plan trade me now site.journal (frames_in site.waiting)) cut)
+
+  -- ---- want of memory
+
+  -- before the first step nothing is appended
+  pub stops_first : (rooms : ℕ → ℕ) (site : Site)
+      → (site.journal ≡ (turned trade me now rooms (Stops 0) site).site.journal)
+      × (site.interrupted ≡ (turned trade me now rooms (Stops 0) site).site.interrupted)
+  stops_first rooms site =
+      each_turn (λ (t : Turned). (site.journal ≡ t.site.journal) × (site.interrupted ≡ t.site.interrupted)) rooms
+      (Stops 0) site
+      (λ fault. (refl, refl)) (sym (append-nil site.journal), refl)
+
+  -- a turn that had begun is cut where memory ran out
+  pub stops_short : (rooms : ℕ → ℕ) (old new : Site) (short : StopsShort trade me now old new)
+      → (new.journal ≡ (turned trade me now rooms (Stops short.front.steps) old).site.journal)
+      × (new.interrupted ≡ (turned trade me now rooms (Stops short.front.steps) old).site.interrupted)
+  unfolding turned
+  stops_short rooms old new short =
+      let late = not_begun old (faults.ClockBack (last_of trade me old.journal)) in
+      let begun = cut_turn trade me rooms old (plan trade me now old.journal (frames_in old.waiting))
+      (Stops short.front.steps) in
+      let is = if_so old.up (if nat_lt now (last_of trade me old.journal) then late else begun)
+      (not_begun old faults.Down) short.up
+      ∙ if_not (nat_lt now (last_of trade me old.journal)) late begun
+      (le-ltb now (last_of trade me old.journal) short.in_time) in (
+        ap (λ (s : Site). s.journal) short.front.is ∙ sym (ap (λ (t : Turned). t.site.journal) is),
+        ap (λ (s : Site). s.interrupted) short.front.is ∙ sym (ap (λ (t : Turned). t.site.interrupted) is),
+      )

@@ -1,0 +1,20 @@
+use Rattle.std.proofs.Common.{◌∙◌, sym}
+use Rattle.pec_network.proofs.BeginLemmas.{nothing_begun, of_directory, sites_rested}
+use Rattle.pec_network.proofs.network.Network.begin.Goals as goal
+
+pub returns-in_default-clause-refused : goal.returns-in_default-clause-refused
+returns-in_default-clause-refused g c =
+    nothing_begun g.P.Depot.tells g.D.Disk.tells g.D.Disk.sight c.args.directory c.args.form (g.P.Depot.home c.args.depot.now)
+    c.count.ensures.lawful
+
+pub invariant_of-result : goal.invariant_of-result
+invariant_of-result g c =
+    of_directory c.args.directory c.in-Ok-begin_all.providers.items c.in-Ok.arrivals.items c.count.result c.count.ensures.count
+    c.in-Ok-begin_all.ensures.all c.in-Ok.ensures c.in-Ok-begin_all.ensures.runs
+    (λ number other l. (c.in-Ok-begin_all.ensures.begun number other l).desk)
+
+pub returns-in-Ok-begin_all-clause-rests : goal.returns-in-Ok-begin_all-clause-rests
+returns-in-Ok-begin_all-clause-rests g c =
+    sites_rested c.in-Ok-begin_all.providers.items c.in-Ok.arrivals.items c.count.result
+    (c.in-Ok-begin_all.ensures.all ∙ sym c.count.ensures.count) c.in-Ok.ensures
+    (λ number other l. (c.in-Ok-begin_all.ensures.begun number other l).desk)

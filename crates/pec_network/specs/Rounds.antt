@@ -1,0 +1,66 @@
+-- What a round of a network is: it was played, cut as its turns tell (`IsRound`), or memory ran out within it
+-- (`StopsWithin`). This project's profile.
+use Rattle.std.specs.Prelude.{◌≡◌, ◌≢◌, ℕ, ◌<◌, ◌≤◌, false, List, [], length, map, slice_get, slice_index_or}
+use Rattle.std.specs.Prelude.{All, Option, Some, None}
+use Rattle.pec_types.specs.declared.turns.ProviderFault.TheVariants as faults
+use Rattle.pec_types.specs.declared.turns.Turn.{Turn}
+use Rattle.pec_ledger.specs.Ledger.{Journals}
+use Rattle.pec_ledger.specs.Network.{AreGenuine, Site, interrupted_at, journal_at, site_at}
+use Rattle.pec_ledger.specs.Trade.{Trade}
+use Rattle.pec_plays.specs.Commands.{Luck, Round, Turns, played}
+use Rattle.pec_plays.specs.Possible.{MayMeet}
+use Rattle.pec_plays.specs.Rounds.{link_size}
+use Rattle.pec_plays.specs.Turns.{Cut, Whole, frames_in}
+use Rattle.pec_posts.specs.Arrivals.{Waiting, room_on, waiting_from}
+use Rattle.pec_provider.specs.Provider.{ProviderState}
+use Rattle.pec_turns.specs.Turning.{cut_told}
+use Rattle.pec_network.specs.Changing.{HasRisenAt}
+
+-- ---- the luck that turns tell
+
+-- the cut that a turn tells, where there is one
+abbrev pub cut_of : Option Turn → Cut
+cut_of None = Whole
+cut_of (Some turn) = cut_told turn.ended turn.events
+
+-- Each provider's turn was cut as the turn of its number tells.
+abbrev pub luck_of_turns : List Turn → Luck
+luck_of_turns turns = record { cuts = λ number. cut_of (slice_get turns number); fails = false; found = false }
+
+-- ---- rounds
+
+-- A round was played, and told so: it is cut as it tells, as it may be cut, and no turn ended for want of memory.
+pub record IsRound (trade : Trade) (moment : ℕ) (old : List Site) (turns : List Turn) (new : List Site) : Type 0 where
+  pub is : played trade (luck_of_turns turns) old (Round moment) ≡ record { answer = Turns turns; after = new }
+  pub may : MayMeet trade (luck_of_turns turns) old (Round moment)
+  pub memory : All (λ (turn : Turn). turn.ended ≢ Some faults.NoMemory) turns
+
+-- Memory ran out within a round: each provider has the entries of a front of its turn, as with this luck.
+pub record StopsWithin (trade : Trade) (moment : ℕ) (old new : List Site) : Type 0 where
+  pub luck : Luck
+  pub journals : (provider : ℕ)
+      → journal_at new provider ≡ journal_at (played trade luck old (Round moment)).after provider
+  pub interrupted : (provider : ℕ)
+      → interrupted_at new provider ≡ interrupted_at (played trade luck old (Round moment)).after provider
+
+-- ---- what is asked and told of disks
+
+-- The frames that wait are genuine in these journals.
+abbrev pub FramesAreGenuine : Trade → Journals → List Site → Type 0
+FramesAreGenuine trade journals sites = (to : ℕ) → AreGenuine trade journals (frames_in (site_at sites to).waiting)
+
+-- A turn that ended by a fault of its disk is told only where the count of that provider's disk rose.
+abbrev pub BlamesDisks : {D : Type 0} → (D → ℕ) → List Turn → List (ProviderState D) → List (ProviderState D) → Type 0
+BlamesDisks {D} count turns old new =
+    (provider : ℕ) (turn : Turn) → slice_get turns provider ≡ Some turn → turn.ended ≡ Some faults.DiskFault
+    → HasRisenAt count provider old new
+
+-- ---- within a round
+
+-- How many more frames the links from each sender hold, by the provider for which they wait; no link holds more than it
+-- may.
+pub record AreRooms (senders : ℕ) (arrivals : List Waiting) (rooms : List (List ℕ)) : Type 0 where
+  pub count : length rooms ≡ senders
+  pub is : (from : ℕ) → from < senders → slice_index_or rooms from [] ≡ map (room_on from) arrivals
+  pub short : (from : ℕ) → from < senders
+      → All (λ (links : Waiting). length (waiting_from links from) ≤ link_size) arrivals
