@@ -107,7 +107,7 @@ module _ (words : List Bytes) (status : Status) (unread before after : Option By
   has_begun = subst (λ (s : Stage). IsAt tells old_disks new_disks old new ran.happened status words s) begun ran.is_at
 
   pub is_world : IsTrade (world ran.happened)
-  is_world = (ran.setting all.providers all.directory).world
+  is_world = (ran.setting form script begun all.providers all.directory).world
 
   pub commands_can : ReadsSo → AllByRecursion CanBeSaid script.commands
   commands_can reads =

@@ -94,7 +94,7 @@ module _ (there : QuietThere) (tells : Type 0) (old_disks new_disks : Disks) (co
   quiet_ran left = record {
     happened = happened;
     input = refl;
-    setting = is_setting;
+    setting = λ form written begun. is_setting;
     told = inl (subst
         (λ (o : Outcome). TellsAs (status_of written.end) before
         (followed_by before (outcome_text (providers_in setting) outcome))

@@ -134,7 +134,9 @@ pub record Ran (words : List Bytes) (status : Status) (unread before after : Opt
     (old_disks new_disks : Disks) (old new : Counts) : Type 0 where
   pub happened : Happened
   pub input : IsInput unread happened.parts
-  pub setting : (providers : List Provider) → directory_in happened.parts.directory ≡ Ok providers
+  -- of a run that begins
+  pub setting : (form : Form) (script : Script) → stage_of words happened.early happened.parts ≡ Begun form script
+      → (providers : List Provider) → directory_in happened.parts.directory ≡ Ok providers
       → IsSetting providers happened.setting
   pub told : Tells (providers_in happened.setting) status before after (outcome_of words happened)
   pub blame : Blames status old new

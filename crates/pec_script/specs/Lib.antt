@@ -1,5 +1,4 @@
 pub mod Forms
-pub mod Known
 pub mod Lines
 pub mod LinesReading
 pub mod Pages

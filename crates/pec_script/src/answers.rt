@@ -1,6 +1,5 @@
-ghost use Rattle.std.specs.Prelude.{◌≡◌, length, IfOk};
+ghost use Rattle.std.specs.Prelude.{◌≡◌, IfOk};
 ghost use Rattle.pec_directory.specs.Directory.{providers_of};
-ghost use Rattle.pec_script.specs.Known.{SubmittedKnown};
 ghost use Rattle.pec_script.specs.Pages.{line_after, rest_after};
 ghost use Rattle.pec_script.specs.Texts.{answer_text, answer_word, answer_words, submitted_text, submitted_words, unfit_words};
 
@@ -44,7 +43,6 @@ pub fn submitted_text(
     directory: &Directory,
     submitted: &Submitted,
 ) -> Result<Vec<u8>, NoMemory>
-    requires { SubmittedKnown (length directory.now) submitted.now }
     ensures { IfOk result (λ text. text.items ≡ submitted_text (providers_of directory.now) submitted.now) }
 {
     let page = add_submitted(alloc, directory, Page::new(alloc), submitted)?;

@@ -1,6 +1,5 @@
-ghost use Rattle.std.specs.Prelude.{◌≡◌, length, IfOk};
+ghost use Rattle.std.specs.Prelude.{◌≡◌, IfOk};
 ghost use Rattle.pec_directory.specs.Directory.{providers_of};
-ghost use Rattle.pec_script.specs.Known.{BookKnown};
 ghost use Rattle.pec_script.specs.Pages.{line_after, rest_after, text_after};
 ghost use Rattle.pec_script.specs.Texts.{book_row, book_text, outcome_words};
 
@@ -17,7 +16,6 @@ pub fn book_text(
     directory: &Directory,
     lines: &[BookLine],
 ) -> Result<Vec<u8>, NoMemory>
-    requires { BookKnown (length directory.now) lines.now }
     ensures { IfOk result (λ text. text.items ≡ book_text (providers_of directory.now) lines.now) }
 {
     let mut page = Page::new(alloc);

@@ -1,6 +1,5 @@
-ghost use Rattle.std.specs.Prelude.{◌≡◌, length, IfOk};
+ghost use Rattle.std.specs.Prelude.{◌≡◌, IfOk};
 ghost use Rattle.pec_directory.specs.Directory.{providers_of};
-ghost use Rattle.pec_script.specs.Known.{ItemsKnown};
 ghost use Rattle.pec_script.specs.Pages.{line_after};
 ghost use Rattle.pec_script.specs.Texts.{item_row, item_text, items_text, kind_word, receipt_word};
 
@@ -17,7 +16,6 @@ pub fn items_text(
     directory: &Directory,
     lines: &[ItemLine],
 ) -> Result<Vec<u8>, NoMemory>
-    requires { ItemsKnown (length directory.now) lines.now }
     ensures { IfOk result (λ text. text.items ≡ items_text (providers_of directory.now) lines.now) }
 {
     let mut page = Page::new(alloc);

@@ -1,6 +1,5 @@
-ghost use Rattle.std.specs.Prelude.{◌≡◌, length, option_map, IfOk};
+ghost use Rattle.std.specs.Prelude.{◌≡◌, option_map, IfOk};
 ghost use Rattle.pec_directory.specs.Directory.{providers_of};
-ghost use Rattle.pec_script.specs.Known.{MarksKnown};
 ghost use Rattle.pec_script.specs.Pages.{text_after};
 ghost use Rattle.pec_script.specs.Texts.{mark_rows, mark_word, marks_text};
 
@@ -13,7 +12,6 @@ use std::alloc::Global;
 /// `ticked`. This project's profile.
 #[tactic(auto, unfolding(crate::specs::Texts::marks_text))]
 pub fn marks_text(alloc: Global, directory: &Directory, marks: &[Mark]) -> Result<Vec<u8>, NoMemory>
-    requires { MarksKnown (length directory.now) marks.now }
     ensures { IfOk result (λ text. text.items ≡ marks_text (providers_of directory.now) marks.now) }
 {
     let mut page = Page::new(alloc);

@@ -1,6 +1,5 @@
-ghost use Rattle.std.specs.Prelude.{◌≡◌, length, IfOk};
+ghost use Rattle.std.specs.Prelude.{◌≡◌, IfOk};
 ghost use Rattle.pec_directory.specs.Directory.{providers_of};
-ghost use Rattle.pec_script.specs.Known.{TurnsKnown};
 ghost use Rattle.pec_script.specs.Pages.{only, rest_after, text_after, text_for};
 ghost use Rattle.pec_script.specs.Texts.{ended_rows, event_row, event_words, letter_words, sent_rows, turn_rows, turns_text};
 
@@ -15,7 +14,6 @@ use std::alloc::Global;
 /// name, and why the turn ended early; and `round`. This project's profile.
 #[tactic(auto, unfolding(crate::specs::Texts::turns_text))]
 pub fn turns_text(alloc: Global, directory: &Directory, turns: &[Turn]) -> Result<Vec<u8>, NoMemory>
-    requires { TurnsKnown (length directory.now) turns.now }
     ensures { IfOk result (λ text. text.items ≡ turns_text (providers_of directory.now) turns.now) }
 {
     let mut page = Page::new(alloc);

@@ -1,0 +1,48 @@
+use Rattle.std.proofs.Common.{◌∙◌, false, Global, List, Vec, ap}
+use Rattle.pec_types.specs.declared.mailboxes.ItemLine.{ItemLine}
+use Rattle.pec_directory.specs.Directory.{Kept, providers_of}
+use Rattle.pec_plays.specs.Commands.{Mailbox, Items}
+use Rattle.pec_provider.specs.Playing.{luck_of}
+use Rattle.pec_script.specs.Texts.{items_text}
+use Rattle.pec_trade.specs.TradeOf.{trade_of}
+use Rattle.pec_playing.proofs.AskLemmas.{ask_refuses, ask_says, ask_stops, mailbox_asked, items_told}
+use Rattle.pec_playing.proofs.accounts.mailbox.Goals as goal
+
+pub returns-in-Ok : goal.returns-in-Ok
+returns-in-Ok g c =
+    let network = c.args.network.now in
+    let trade = trade_of network.kept (g.S.Sealer.seals network.sealer) in
+    ask_says g.D.Disk.sight g.D.Counted.faults g.D.Disk.tells trade (Mailbox c.args.account.now) network
+    (mailbox_asked trade c.args.account.now)
+    (λ (told : Vec ItemLine Global). Items told.items) c.in-Ok.lines
+    (λ providers. items_text providers c.in-Ok.lines.items) (items_told c.in-Ok.lines.items)
+    (c.in-Ok.ensures (luck_of false)) c.in_ok-text-in-Ok.text
+    (c.in_ok-text-in-Ok.ensures
+    ∙ ap (λ (k : List Kept). items_text (providers_of k) c.as_slice.result.now) c.directory.ensures.value
+    ∙ ap (λ (l : List ItemLine). items_text (providers_of network.kept) l) c.as_slice.ensures.value)
+
+pub returns-in-Err : goal.returns-in-Err
+returns-in-Err g c =
+    let network = c.args.network.now in
+    let trade = trade_of network.kept (g.S.Sealer.seals network.sealer) in
+    ask_refuses g.D.Disk.sight g.D.Counted.faults g.D.Disk.tells trade (Mailbox c.args.account.now) network
+    (mailbox_asked trade c.args.account.now)
+    (λ (told : Vec ItemLine Global). Items told.items) c.in-Err.fault (c.in-Err.ensures (luck_of false))
+    c.in_ok-text-in-Err.text c.in_ok-text-in-Err.ensures
+
+pub returns-in_err-text-in-Ok : goal.returns-in_err-text-in-Ok
+returns-in_err-text-in-Ok g c =
+    let network = c.args.network.now in
+    let trade = trade_of network.kept (g.S.Sealer.seals network.sealer) in
+    ask_stops g.D.Disk.sight g.D.Counted.faults g.D.Disk.tells trade (Mailbox c.args.account.now) network
+    (mailbox_asked trade c.args.account.now)
+    (λ (told : Vec ItemLine Global). Items told.items) c.from_residual.result c.from_residual.ensures.0
+
+pub returns-in_err-text-in-Err : goal.returns-in_err-text-in-Err
+returns-in_err-text-in-Err g c =
+    let network = c.args.network.now in
+    let trade = trade_of network.kept (g.S.Sealer.seals network.sealer) in
+    ask_stops g.D.Disk.sight g.D.Counted.faults g.D.Disk.tells trade (Mailbox c.args.account.now) network
+    (mailbox_asked trade c.args.account.now)
+    (λ (told : Vec ItemLine Global). Items told.items) c.from_residual-in_err-text-in-Err.result
+    c.from_residual-in_err-text-in-Err.ensures.0

@@ -1,0 +1,25 @@
+use Rattle.pec_plays.specs.Commands.{Inject, Injected}
+use Rattle.pec_script.specs.declared.answers.Answer.TheVariants as lines
+use Rattle.pec_trade.specs.TradeOf.{trade_of}
+use Rattle.pec_playing.proofs.LinkLemmas.{link_says, link_stops, inject_free, injected_line}
+use Rattle.pec_playing.proofs.links.inject.Goals as goal
+
+pub returns : goal.returns
+returns g c =
+    let network = c.args.network.now in
+    let trade = trade_of network.kept (g.S.Sealer.seals network.sealer) in
+    rw (← c.of.ensures) (link_says g.D.Disk.sight g.D.Counted.faults g.D.Disk.tells trade
+    (Inject c.args.from c.args.to c.of.result) network
+    c.inject-outcome.new.self c.inject-outcome.ensures.others (inject_free trade c.args.from c.args.to c.of.result)
+    Injected lines.Injected injected_line
+    c.inject-outcome.result c.inject-outcome.ensures.plays c.in_ok-text.text c.in_ok-text.ensures)
+
+pub returns-in_err-text : goal.returns-in_err-text
+returns-in_err-text g c =
+    let network = c.args.network.now in
+    let trade = trade_of network.kept (g.S.Sealer.seals network.sealer) in
+    rw (← c.of.ensures) (link_stops g.D.Disk.sight g.D.Counted.faults g.D.Disk.tells trade
+    (Inject c.args.from c.args.to c.of.result) network
+    c.inject-outcome.new.self c.inject-outcome.ensures.others (inject_free trade c.args.from c.args.to c.of.result)
+    Injected lines.Injected injected_line
+    c.inject-outcome.result c.inject-outcome.ensures.plays c.from_residual.result c.from_residual.ensures.0)

@@ -1,0 +1,72 @@
+use Rattle.std.proofs.Common.{◌∙◌, ◌<◌, Global, List, Vec, length, Err, ap, arith}
+use Rattle.pec_types.specs.declared.mailboxes.Mark.{Mark}
+use Rattle.pec_directory.specs.Directory.{Kept, providers_of}
+use Rattle.pec_plays.specs.Commands.{Tick, Marks}
+use Rattle.pec_script.specs.Texts.{marks_text}
+use Rattle.pec_trade.specs.TradeOf.{trade_of}
+use Rattle.pec_playing.proofs.AskLemmas.{call_refuses, call_says, call_stops, marks_told, tick_of}
+use Rattle.pec_playing.proofs.KeptLemmas.{as_many, keeps_others}
+use Rattle.pec_playing.proofs.providers.tick.Goals as goal
+
+pub returns-in-Ok : goal.returns-in-Ok
+returns-in-Ok g c =
+    let network = c.args.network.now in
+    let trade = trade_of network.kept (g.S.Sealer.seals network.sealer) in
+    let new = c.tick.new.self in
+    let within : c.args.provider < length network.providers = omega (arith, c.as_many_providers.ensures, c.requires) in
+    let keeps = keeps_others network new c.args.provider c.tick.ensures.others within g.D.Disk.sight g.D.Counted.faults
+    g.D.Disk.tells trade c.tick.ensures.carries c.tick.ensures.later in
+    let many = as_many network new c.args.provider c.tick.ensures.others within in
+    call_says g.D.Disk.sight g.D.Counted.faults g.D.Disk.tells trade (Tick c.args.provider c.args.moment) network new
+    keeps many c.args.provider within
+    (tick_of trade c.args.provider c.args.moment) (λ (told : Vec Mark Global). Marks told.items) c.in-Ok.marks
+    (λ providers. marks_text providers c.in-Ok.marks.items) (marks_told c.in-Ok.marks.items)
+    c.in-Ok.ensures.plays c.in_ok-text-in-Ok.text
+    (c.in_ok-text-in-Ok.ensures
+    ∙ ap (λ (k : List Kept). marks_text (providers_of k) c.as_slice.result.now)
+    (c.directory.ensures.value ∙ keeps.directory)
+    ∙ ap (λ (l : List Mark). marks_text (providers_of network.kept) l) c.as_slice.ensures.value)
+
+pub returns-in-Err : goal.returns-in-Err
+returns-in-Err g c =
+    let network = c.args.network.now in
+    let trade = trade_of network.kept (g.S.Sealer.seals network.sealer) in
+    let new = c.tick.new.self in
+    let within : c.args.provider < length network.providers = omega (arith, c.as_many_providers.ensures, c.requires) in
+    let keeps = keeps_others network new c.args.provider c.tick.ensures.others within g.D.Disk.sight g.D.Counted.faults
+    g.D.Disk.tells trade c.tick.ensures.carries c.tick.ensures.later in
+    let many = as_many network new c.args.provider c.tick.ensures.others within in
+    call_refuses g.D.Disk.sight g.D.Counted.faults g.D.Disk.tells trade (Tick c.args.provider c.args.moment) network new
+    keeps many c.args.provider within
+    (tick_of trade c.args.provider c.args.moment) (λ (told : Vec Mark Global). Marks told.items) c.in-Err.fault
+    (λ e. c.in-Err.ensures.disk_fault (ap Err e)) c.in-Err.ensures.plays
+    c.in_ok-text-in-Err.text c.in_ok-text-in-Err.ensures
+
+pub returns-in_err-text-in-Ok : goal.returns-in_err-text-in-Ok
+returns-in_err-text-in-Ok g c =
+    let network = c.args.network.now in
+    let trade = trade_of network.kept (g.S.Sealer.seals network.sealer) in
+    let new = c.tick.new.self in
+    let within : c.args.provider < length network.providers = omega (arith, c.as_many_providers.ensures, c.requires) in
+    let keeps = keeps_others network new c.args.provider c.tick.ensures.others within g.D.Disk.sight g.D.Counted.faults
+    g.D.Disk.tells trade c.tick.ensures.carries c.tick.ensures.later in
+    let many = as_many network new c.args.provider c.tick.ensures.others within in
+    call_stops g.D.Disk.sight g.D.Counted.faults g.D.Disk.tells trade (Tick c.args.provider c.args.moment) network new
+    keeps many c.args.provider within
+    (tick_of trade c.args.provider c.args.moment) (λ (told : Vec Mark Global). Marks told.items) c.tick.result
+    c.tick.ensures.plays c.from_residual.result c.from_residual.ensures.0
+
+pub returns-in_err-text-in-Err : goal.returns-in_err-text-in-Err
+returns-in_err-text-in-Err g c =
+    let network = c.args.network.now in
+    let trade = trade_of network.kept (g.S.Sealer.seals network.sealer) in
+    let new = c.tick.new.self in
+    let within : c.args.provider < length network.providers = omega (arith, c.as_many_providers.ensures, c.requires) in
+    let keeps = keeps_others network new c.args.provider c.tick.ensures.others within g.D.Disk.sight g.D.Counted.faults
+    g.D.Disk.tells trade c.tick.ensures.carries c.tick.ensures.later in
+    let many = as_many network new c.args.provider c.tick.ensures.others within in
+    call_stops g.D.Disk.sight g.D.Counted.faults g.D.Disk.tells trade (Tick c.args.provider c.args.moment) network new
+    keeps many c.args.provider within
+    (tick_of trade c.args.provider c.args.moment) (λ (told : Vec Mark Global). Marks told.items) c.tick.result
+    c.tick.ensures.plays c.from_residual-in_err-text-in-Err.result
+    c.from_residual-in_err-text-in-Err.ensures.0

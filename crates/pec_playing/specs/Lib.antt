@@ -1,0 +1,3 @@
+pub mod Doing
+pub mod Playing
+pub mod Saying

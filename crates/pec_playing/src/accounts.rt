@@ -1,0 +1,80 @@
+ghost use Rattle.pec_directory.specs.Directory.{providers_of};
+ghost use Rattle.pec_letters.specs.Fitting.{Fits};
+ghost use Rattle.pec_plays.specs.Commands.{Book, Mailbox, Show};
+ghost use Rattle.pec_trade.specs.TradeOf.{trade_of};
+ghost use Rattle.pec_playing.specs.Doing.{Does};
+
+use crate::refusals::refusal_text;
+use pec_network::Network;
+use pec_outside::Disk;
+use pec_script::{book_text, item_text, items_text};
+use pec_seal::Sealer;
+use pec_types::{Address, NoMemory};
+use std::alloc::Global;
+
+// What accounts ask for. Where an account is refused that is told in one line.
+
+/// The lines of an account's book, and `book COUNT`.
+pub(crate) fn book<D: Disk, S: Sealer>(
+    alloc: Global,
+    network: &Network<D, S>,
+    account: &Address,
+) -> Result<Vec<u8>, NoMemory>
+    ensures { Does D.sight D.faults D.tells (trade_of network.now.kept (S.seals network.now.sealer))
+        (Book account.now) network.now network.now result }
+{
+    match network.book(alloc, account) {
+        Ok(lines) => {
+            let text = book_text(alloc, network.directory(), lines.as_slice())?;
+            return Ok(text);
+        }
+        Err(fault) => {
+            let text = refusal_text(alloc, network.directory(), fault)?;
+            return Ok(text);
+        }
+    }
+}
+
+/// The lines of an account's mailbox, and `mailbox COUNT`.
+pub(crate) fn mailbox<D: Disk, S: Sealer>(
+    alloc: Global,
+    network: &Network<D, S>,
+    account: &Address,
+) -> Result<Vec<u8>, NoMemory>
+    ensures { Does D.sight D.faults D.tells (trade_of network.now.kept (S.seals network.now.sealer))
+        (Mailbox account.now) network.now network.now result }
+{
+    match network.mailbox(alloc, account) {
+        Ok(lines) => {
+            let text = items_text(alloc, network.directory(), lines.as_slice())?;
+            return Ok(text);
+        }
+        Err(fault) => {
+            let text = refusal_text(alloc, network.directory(), fault)?;
+            return Ok(text);
+        }
+    }
+}
+
+/// The bytes of the item at a place of a mailbox, in base64 on one line.
+pub(crate) fn show<D: Disk, S: Sealer>(
+    alloc: Global,
+    network: &Network<D, S>,
+    account: &Address,
+    place: u32,
+) -> Result<Vec<u8>, NoMemory>
+    requires { Fits (S.seals network.now.sealer) (providers_of network.now.kept) }
+    ensures { Does D.sight D.faults D.tells (trade_of network.now.kept (S.seals network.now.sealer))
+        (Show account.now place) network.now network.now result }
+{
+    match network.show(alloc, account, place) {
+        Ok(bytes) => {
+            let text = item_text(alloc, bytes.as_slice())?;
+            return Ok(text);
+        }
+        Err(fault) => {
+            let text = refusal_text(alloc, network.directory(), fault)?;
+            return Ok(text);
+        }
+    }
+}

@@ -1,0 +1,14 @@
+//! One command of a script over a network of providers, and the lines that are written of its answer.
+#![tactic(auto)]
+
+mod accounts;
+mod crashes;
+mod laws;
+mod links;
+mod playing;
+mod providers;
+mod refusals;
+mod rounds;
+
+pub use laws::what_a_line_says_can_be_played;
+pub use playing::play;

@@ -1,0 +1,112 @@
+ghost use Rattle.std.specs.Prelude.{◌<◌, length, IfOk};
+ghost use Rattle.pec_plays.specs.Commands.{Inject, Lose, Repeat, Swap};
+ghost use Rattle.pec_trade.specs.TradeOf.{trade_of};
+ghost use Rattle.pec_playing.specs.Doing.{Does};
+ghost use Rattle.pec_playing.specs.Saying.{IsLinkText};
+
+use pec_link::LinkFault;
+use pec_network::Network;
+use pec_outside::Disk;
+use pec_script::{Answer, answer_text};
+use pec_seal::Sealer;
+use pec_types::{Frame, NoMemory, Text8};
+use std::alloc::Global;
+
+// Commands on the link from one provider to another, at a place counted from 0.
+
+/// Loses a frame: `lost`, or `no-frame`.
+pub(crate) fn lose<D: Disk, S: Sealer>(
+    alloc: Global,
+    network: &mut Network<D, S>,
+    from: u32,
+    to: u32,
+    place: u32,
+) -> Result<Vec<u8>, NoMemory>
+    requires from { from < length network.old.kept }
+    requires to { to < length network.old.kept }
+    ensures { Does D.sight D.faults D.tells (trade_of network.old.kept (S.seals network.old.sealer))
+        (Lose from to place) network.old network.new result }
+{
+    let outcome = network.lose(from, to, place as usize);
+    let text = link_text(alloc, Answer::Lost, outcome)?;
+    Ok(text)
+}
+
+/// Puts a copy of a frame behind the others: `repeated`, `no-frame` or `link-full`.
+pub(crate) fn repeat<D: Disk, S: Sealer>(
+    alloc: Global,
+    network: &mut Network<D, S>,
+    from: u32,
+    to: u32,
+    place: u32,
+) -> Result<Vec<u8>, NoMemory>
+    requires from { from < length network.old.kept }
+    requires to { to < length network.old.kept }
+    ensures { Does D.sight D.faults D.tells (trade_of network.old.kept (S.seals network.old.sealer))
+        (Repeat from to place) network.old network.new result }
+{
+    let outcome = network.repeat(alloc, from, to, place as usize);
+    let text = link_text(alloc, Answer::Repeated, outcome)?;
+    Ok(text)
+}
+
+/// Exchanges a frame with the next one: `swapped`, or `no-frame`.
+pub(crate) fn swap<D: Disk, S: Sealer>(
+    alloc: Global,
+    network: &mut Network<D, S>,
+    from: u32,
+    to: u32,
+    place: u32,
+) -> Result<Vec<u8>, NoMemory>
+    requires from { from < length network.old.kept }
+    requires to { to < length network.old.kept }
+    ensures { Does D.sight D.faults D.tells (trade_of network.old.kept (S.seals network.old.sealer))
+        (Swap from to place) network.old network.new result }
+{
+    let outcome = network.swap(from, to, place as usize);
+    let text = link_text(alloc, Answer::Swapped, outcome)?;
+    Ok(text)
+}
+
+/// Puts a frame from outside behind the others: `injected`, or `link-full`.
+pub(crate) fn inject<D: Disk, S: Sealer>(
+    alloc: Global,
+    network: &mut Network<D, S>,
+    from: u32,
+    to: u32,
+    frame: Text8,
+) -> Result<Vec<u8>, NoMemory>
+    requires from { from < length network.old.kept }
+    requires to { to < length network.old.kept }
+    ensures { Does D.sight D.faults D.tells (trade_of network.old.kept (S.seals network.old.sealer))
+        (Inject from to frame) network.old network.new result }
+{
+    let outcome = network.inject(from, to, Frame::of(frame));
+    let text = link_text(alloc, Answer::Injected, outcome)?;
+    Ok(text)
+}
+
+/// The line of what became of a link, with the answer where the call was done; want of memory is handed on.
+fn link_text(
+    alloc: Global,
+    done: Answer,
+    outcome: Result<(), LinkFault>,
+) -> Result<Vec<u8>, NoMemory>
+    ensures { IfOk result (λ text. IsLinkText done outcome text.items) }
+{
+    match outcome {
+        Ok(()) => {
+            let text = answer_text(alloc, &done)?;
+            return Ok(text);
+        }
+        Err(LinkFault::NoFrame) => {
+            let text = answer_text(alloc, &Answer::NoFrame)?;
+            return Ok(text);
+        }
+        Err(LinkFault::Full) => {
+            let text = answer_text(alloc, &Answer::LinkFull)?;
+            return Ok(text);
+        }
+        Err(LinkFault::NoMemory) => return Err(NoMemory),
+    }
+}

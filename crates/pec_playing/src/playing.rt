@@ -1,0 +1,98 @@
+ghost use Rattle.std.specs.Prelude.{◌≡◌, ℕ, ◌≤◌, length, IfOk, OnErr};
+ghost use Rattle.pec_outside.specs.Depots.{Alike};
+ghost use Rattle.pec_directory.specs.Directory.{providers_of};
+ghost use Rattle.pec_letters.specs.Fitting.{Fits};
+ghost use Rattle.pec_trade.specs.TradeOf.{trade_of};
+ghost use Rattle.pec_network.specs.Carrying.{AllStand, NoneFalls};
+ghost use Rattle.pec_network.specs.Network.{sites};
+ghost use Rattle.pec_runs.specs.ScriptLines.{command_in};
+ghost use Rattle.pec_playing.specs.Doing.{Does};
+ghost use Rattle.pec_playing.specs.Playing.{CanPlay, HasPlayed, HasStopped, counts_in};
+
+use crate::accounts::{book, mailbox, show};
+use crate::crashes::{crash, restart};
+use crate::links::{inject, lose, repeat, swap};
+use crate::providers::{submit, tick};
+use crate::rounds::round;
+use pec_network::Network;
+use pec_outside::{Depot, Disk};
+use pec_script::Command;
+use pec_seal::Sealer;
+use pec_types::NoMemory;
+use std::alloc::Global;
+
+/// Plays a command of a script, and gives the lines that are written of its answer. Want of memory ends the run: the
+/// command may have been played then, in whole or in part.
+pub fn play<D: Disk, S: Sealer, P: Depot<D = D>>(
+    alloc: Global,
+    network: &mut Network<D, S>,
+    depot: &mut P,
+    command: Command,
+) -> Result<Vec<u8>, NoMemory>
+    requires fits { Fits (S.seals network.old.sealer) (providers_of network.old.kept) }
+    requires can { CanPlay (length network.old.kept) command }
+
+    // All that is asked: where disks tell what they hold, each provider stands on its own.
+    ensures plays { (P.tells × D.tells → AllStand D.sight network.old.providers) → (elsewhere : ℕ → ℕ)
+        → IfOk result (λ text. HasPlayed (P.tells × D.tells)
+        (trade_of network.old.kept (S.seals network.old.sealer)) (providers_of network.old.kept) (sites network.old)
+        (counts_in D.faults network.old.providers elsewhere) (counts_in D.faults network.new.providers elsewhere)
+        (command_in command) text.items (sites network.new)) }
+    ensures stops { (P.tells × D.tells → AllStand D.sight network.old.providers)
+        → OnErr result (HasStopped (P.tells × D.tells)
+        (trade_of network.old.kept (S.seals network.old.sealer)) (sites network.old) (command_in command)
+        (sites network.new)) }
+    ensures same { (network.new.kept ≡ network.old.kept) × (network.new.sealer ≡ network.old.sealer) }
+    ensures stands { D.tells → AllStand D.sight network.old.providers → AllStand D.sight network.new.providers }
+    ensures later { NoneFalls D.faults network.old.providers network.new.providers }
+    ensures home { P.tells → Alike (P.home depot.old) (P.home depot.new) }
+    ensures last { Alike (P.last depot.old) (P.last depot.new) }
+    ensures depot_later { P.faults depot.old ≤ P.faults depot.new }
+{
+    play_command(alloc, network, depot, command)
+}
+
+/// The same, whatever is known of disks.
+fn play_command<D: Disk, S: Sealer, P: Depot<D = D>>(
+    alloc: Global,
+    network: &mut Network<D, S>,
+    depot: &mut P,
+    command: Command,
+) -> Result<Vec<u8>, NoMemory>
+    requires fits { Fits (S.seals network.old.sealer) (providers_of network.old.kept) }
+    requires can { CanPlay (length network.old.kept) command }
+    ensures does { Does D.sight D.faults D.tells (trade_of network.old.kept (S.seals network.old.sealer))
+        (command_in command) network.old network.new result }
+    ensures home { P.tells → Alike (P.home depot.old) (P.home depot.new) }
+    ensures last { Alike (P.last depot.old) (P.last depot.new) }
+    ensures later { P.faults depot.old ≤ P.faults depot.new }
+{
+    match command {
+        Command::Submit {
+            provider,
+            moment,
+            sender,
+            path,
+            message,
+        } => submit(
+            alloc,
+            network,
+            provider,
+            moment,
+            &sender,
+            path.as_slice(),
+            message.bytes(),
+        ),
+        Command::Tick { provider, moment } => tick(alloc, network, provider, moment),
+        Command::Round { moment } => round(alloc, network, moment),
+        Command::Lose { from, to, place } => lose(alloc, network, from, to, place),
+        Command::Repeat { from, to, place } => repeat(alloc, network, from, to, place),
+        Command::Swap { from, to, place } => swap(alloc, network, from, to, place),
+        Command::Inject { from, to, frame } => inject(alloc, network, from, to, frame),
+        Command::Crash { provider } => crash(alloc, network, depot, provider),
+        Command::Restart { provider } => restart(alloc, network, provider),
+        Command::Book { address } => book(alloc, network, &address),
+        Command::Mailbox { address } => mailbox(alloc, network, &address),
+        Command::Show { address, place } => show(alloc, network, &address, place),
+    }
+}

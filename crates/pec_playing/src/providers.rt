@@ -1,0 +1,79 @@
+ghost use Rattle.std.specs.Prelude.{◌≡◌, ◌<◌, ◌≤◌, length};
+ghost use Rattle.pec_directory.specs.Directory.{providers_of};
+ghost use Rattle.pec_letters.specs.Fitting.{Fits};
+ghost use Rattle.pec_records.specs.Entry.{longest_message, most_addresses};
+ghost use Rattle.pec_plays.specs.Commands.{Submit, Tick};
+ghost use Rattle.pec_trade.specs.TradeOf.{trade_of};
+ghost use Rattle.pec_playing.specs.Doing.{Does};
+
+use crate::refusals::refusal_text;
+use pec_network::Network;
+use pec_outside::Disk;
+use pec_script::{marks_text, submitted_text};
+use pec_seal::Sealer;
+use pec_types::{Address, Moment, NoMemory};
+use std::alloc::Global;
+
+// Commands of one provider, by its number. What it refuses is told in one line.
+
+/// A network has the providers of its directory.
+pub(crate) fn as_many_providers<D, S>(network: &Network<D, S>)
+    ensures { length network.now.providers ≡ length network.now.kept }
+{
+    network.directory();
+}
+
+/// Hands in a message: `accepted ID`, or `not-accepted ID CAUSE`.
+pub(crate) fn submit<D: Disk, S: Sealer>(
+    alloc: Global,
+    network: &mut Network<D, S>,
+    provider: u32,
+    moment: Moment,
+    sender: &Address,
+    path: &[Address],
+    message: &[u8],
+) -> Result<Vec<u8>, NoMemory>
+    requires provider { provider < length network.old.kept }
+    requires fits { Fits (S.seals network.old.sealer) (providers_of network.old.kept) }
+    requires some { 0 < length path.now }
+    requires few { length path.now ≤ most_addresses }
+    requires short { length message.now ≤ longest_message }
+    ensures { Does D.sight D.faults D.tells (trade_of network.old.kept (S.seals network.old.sealer))
+        (Submit provider moment sender.now path.now message.now) network.old network.new result }
+{
+    as_many_providers(network);
+    match network.submit(alloc, provider, moment, sender, path, message) {
+        Ok(submitted) => {
+            let text = submitted_text(alloc, network.directory(), &submitted)?;
+            return Ok(text);
+        }
+        Err(fault) => {
+            let text = refusal_text(alloc, network.directory(), fault)?;
+            return Ok(text);
+        }
+    }
+}
+
+/// Has a provider look at the clock: a line for each mark that it set, and `ticked`.
+pub(crate) fn tick<D: Disk, S: Sealer>(
+    alloc: Global,
+    network: &mut Network<D, S>,
+    provider: u32,
+    moment: Moment,
+) -> Result<Vec<u8>, NoMemory>
+    requires { provider < length network.old.kept }
+    ensures { Does D.sight D.faults D.tells (trade_of network.old.kept (S.seals network.old.sealer))
+        (Tick provider moment) network.old network.new result }
+{
+    as_many_providers(network);
+    match network.tick(alloc, provider, moment) {
+        Ok(marks) => {
+            let text = marks_text(alloc, network.directory(), marks.as_slice())?;
+            return Ok(text);
+        }
+        Err(fault) => {
+            let text = refusal_text(alloc, network.directory(), fault)?;
+            return Ok(text);
+        }
+    }
+}
