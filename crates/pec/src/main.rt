@@ -5,6 +5,7 @@ mod adapters;
 mod words;
 
 use adapters::{Input, Output};
+use pec_files::FileDepot;
 use pec_top::{Status, run_pec};
 use std::io;
 use std::process::ExitCode;
@@ -14,8 +15,13 @@ fn main(rt: HostRuntime) -> ExitCode {
     let Ok(words) = words(&rt, rt.alloc()) else {
         return ExitCode::from(Status::NoMemory.code());
     };
+    // Journals are files of the folder in which the program runs.
+    let Ok(folder) = String::from_str(rt.alloc(), ".") else {
+        return ExitCode::from(Status::NoMemory.code());
+    };
+    let mut depot = FileDepot::new(&rt, folder);
     let mut input = Input::new(rt.reader());
     let mut output = Output::new(io::writer(&rt));
-    let status = run_pec(rt.alloc(), &words, &mut input, &mut output);
+    let status = run_pec(rt.alloc(), &words, &mut input, &mut output, &mut depot);
     ExitCode::from(status.code())
 }

@@ -40,7 +40,7 @@ fn word<R: Env>(rt: &R, alloc: Global, place: usize) -> Result<Option<String>, A
 #[cfg(test)]
 mod tests {
     use super::*;
-    use pec_outside::{MemSink, MemSource};
+    use pec_outside::{MemDepot, MemSink, MemSource};
     use pec_top::{Status, run_pec};
     use std::test::Fail;
 
@@ -90,8 +90,9 @@ mod tests {
                 Vec::new(rt.alloc()),
             );
             let mut output = MemSink::new(rt.alloc(), Vec::new(rt.alloc()));
+            let mut depot = MemDepot::new(rt.alloc(), Vec::new(rt.alloc()), Vec::new(rt.alloc()));
             assert_eq!(rt;
-                run_pec(rt.alloc(), &words, &mut input, &mut output),
+                run_pec(rt.alloc(), &words, &mut input, &mut output, &mut depot),
                 status,
                 "at {word:?}"
             );

@@ -1,9 +1,11 @@
 -- Lemmas on bytes that are written one after another, and before a fault.
-use Rattle.std.proofs.Common.{◌≡◌, ℕ, List, [], ◌++◌, Option, None, Some, Result, Ok, Err, OnErr, refl, sym, ap, ◌∙◌, append_assoc}
+use Rattle.std.proofs.Common.{◌≡◌, ℕ, List, [], ◌++◌, Option, None, Some, Result, Ok, Err, OnErr, refl, sym, ap, ◌∙◌}
+use Rattle.std.proofs.Common.{append_assoc}
 use Rattle.std.proofs.lemmas.List.{append-nil}
 use Rattle.pec_outside.specs.Flow.{followed_by, Wrote, WrotePart}
 
-pub followed_by-append : (o : Option (List ℕ)) (a b : List ℕ) → followed_by (followed_by o a) b ≡ followed_by o (a ++ b)
+pub followed_by-append : (o : Option (List ℕ)) (a b : List ℕ) → followed_by (followed_by o a) b ≡ followed_by o (a ++
+    b)
 followed_by-append None a b = refl
 followed_by-append (Some bytes) a b = ap Some (append_assoc bytes a b)
 
@@ -38,7 +40,14 @@ wrote_last u v w all now piece wrote written cut =
 
 -- nothing was written yet
 pub wrote_nothing : (u : Option (List ℕ)) (text : List ℕ) → WrotePart u u text
-wrote_nothing u text = record { rest = text; wrote = record { done = []; held = sym (followed_by-nil u); text = refl } }
+wrote_nothing u text = record {
+  rest = text;
+  wrote = record {
+    done = [];
+    held = sym (followed_by-nil u);
+    text = refl;
+  };
+}
 
 pub on_err : {T E P : Type 0} (r : Result T E) → P → OnErr r P
 on_err (Ok x) p = tt

@@ -1,12 +1,13 @@
-mod FlowLemmas
-mod LedgerLaws
-mod LineGrammarLaws
-mod NumberLaws
-mod OpeningLaws
-mod PathGrammarLaws
-mod PathLaws
-mod PlayLaws
-mod RunLaws
-mod ScriptLaws
-mod WholeLaws
-mod WordLaws
+pub mod ComingLemmas
+pub mod CountLemmas
+pub mod FlowLemmas
+pub mod HadLemmas
+pub mod InputLemmas
+pub mod LineReadLemmas
+pub mod LoopPlaces
+pub mod RefusedLemmas
+pub mod RunningLemmas
+pub mod SaidLemmas
+pub mod StepLemmas
+pub mod TopLemmas
+pub mod WholeLemmas

@@ -1,4 +1,4 @@
-ghost use Rattle.pec_top.specs.Ending.{stop_of};
+ghost use Rattle.pec_top.specs.Shown.{stop_of};
 ghost use Rattle.pec_top.specs.declared.ending.Stop.TheVariants as stops;
 ghost use Rattle.std.specs.Prelude.{◌≡◌};
 
@@ -6,12 +6,14 @@ use pec_input::InputFault;
 use pec_outside::Failed;
 use pec_types::NoMemory;
 
-/// How a run ends, where no device fails and memory is there.
+/// How a run ends, where no device stops it and memory is there.
 #[derive(Clone, Copy, Debug, PartialEq, Eq)]
 pub(crate) enum End {
     Done,
     Usage,
     Refused,
+    NotEmpty,
+    NotFit,
     TooLong,
 }
 
@@ -21,6 +23,8 @@ pub(crate) enum Stop {
     NoMemory,
     ReadFault,
     WriteFault,
+    /// A disk failed, or the depot did, while journals were made or opened.
+    StartFault,
 }
 
 impl From<NoMemory> for Stop {

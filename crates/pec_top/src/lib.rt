@@ -1,27 +1,17 @@
-//! The top call: a run from the bytes that come in to the bytes that go out.
+//! The top call: a run of the network, from the words and the bytes that come in to the bytes that go out and the
+//! journals that are left.
 #![tactic(auto)]
 
-mod booking;
-mod commands;
+mod beginning;
 mod ending;
-mod entries;
-mod ledger;
-mod ledgers;
-mod numbers;
-mod paths;
-mod play;
-mod printing;
-mod reading;
+mod forms;
+mod laws;
 mod run;
 mod script;
 mod status;
+mod taking;
+mod texts;
 mod top;
-mod turns;
 
-pub use commands::a_line_says_one_command;
-pub use ledgers::an_entry_is_its_providers_own;
-pub use numbers::numbers_are_read_as_they_are_printed;
-pub use play::a_command_plays_in_one_way;
-pub use script::a_script_plays_in_one_way;
 pub use status::Status;
 pub use top::run_pec;

@@ -1,58 +1,92 @@
-ghost use Rattle.std.specs.Prelude.{◌≡◌, ◌≢◌, ◌≤◌, ℕ, List, Some, false, map, string_bytes, IfOk, IfErr, OnErr, IsErrOf, MatchResult};
+ghost use Rattle.std.specs.Prelude.{◌≡◌, ◌≢◌, ℕ, ◌<◌, ◌≤◌, List, Ok, Some, None, length, map, string_bytes, IfOk};
+ghost use Rattle.std.specs.Prelude.{IfErr, OnErr, IsErrOf, Option};
+ghost use Rattle.pec_types.specs.Bytes.{Bytes};
 ghost use Rattle.pec_outside.specs.Flow.{behind, followed_by, HasRisen, WrotePart};
+ghost use Rattle.pec_directory.specs.Directory.{providers_of};
+ghost use Rattle.pec_ledger.specs.Network.{Site};
+ghost use Rattle.pec_letters.specs.Fitting.{Fits};
+ghost use Rattle.pec_trade.specs.TradeOf.{trade_of};
 ghost use Rattle.pec_input.specs.Directory.{directory_in};
 ghost use Rattle.pec_input.specs.Finding.{IsAtEnd};
-ghost use Rattle.pec_input.specs.Lines.{raw_lines};
-ghost use Rattle.pec_input.specs.Parts.{parts_of};
-ghost use Rattle.pec_top.specs.Run.{BlamesDevices};
-ghost use Rattle.pec_top.specs.Status.{EndsAs};
-ghost use Rattle.pec_top.specs.Transcript.{is_run, opened_outcome, parts_outcome, transcript};
-ghost use Rattle.pec_top.specs.declared.ending.End.TheVariants.{Done, Usage};
+ghost use Rattle.pec_input.specs.Opening.{parts_left};
+ghost use Rattle.pec_input.specs.declared.opening.TheConstants.{LONGEST_DIRECTORY};
+ghost use Rattle.pec_network.specs.Carrying.{AllStand};
+ghost use Rattle.pec_network.specs.Beginning.{NoneFell};
+ghost use Rattle.pec_runs.specs.Openings.{disks_at, form_in};
+ghost use Rattle.pec_top.specs.Blaming.{BlamesDevices, BlamesDisks};
+ghost use Rattle.pec_top.specs.Running.{AreHomeAgain, RanSo, parts_behind};
+ghost use Rattle.pec_top.specs.Scripts.{AreKept, ScriptRan, place_at};
+ghost use Rattle.pec_top.specs.Shown.{form_shown, result_shown};
 
+use crate::beginning::{begin, end_at_start};
 use crate::ending::{End, Stop};
+use crate::forms::Form;
+use crate::laws::{
+    a_directory_is_lawful, a_disk_reads_as_an_image, a_loop_climbs, a_network_is_whole,
+};
 use crate::script::play_script;
+use pec_directory::Directory;
+use pec_house::sealer_of;
 use pec_input::{Buffer, Opened, Opening, open_directory, read_directory, refused_directory_text};
-use pec_outside::{Sink, Source, write_all};
+use pec_network::Network;
+use pec_outside::{Depot, Disk, Sink, Source, write_all};
+use pec_seal::{HmacSealer, Sealer};
+use pec_trade::{a_trade_says_what_its_parts_say, the_texts_are_a_trade};
 use std::alloc::Global;
 
-/// Runs the program on its words and its input.
-#[tactic(auto, unfolding(crate::specs::Transcript::transcript))]
-pub(crate) fn run_words<S: Source, W: Sink>(
+/// Runs the program on its words, its input and the disks of a depot.
+pub(crate) fn run_words<S: Source, W: Sink, P: Depot>(
     alloc: Global,
     words: &[String],
     input: &mut S,
     out: &mut W,
+    depot: &mut P,
 ) -> Result<End, Stop>
-    ensures ok { IfOk result (λ end. (text : List ℕ) → S.left input.old ≡ Some text → EndsAs (transcript (map string_bytes words.now) text) (W.held out.old) (W.held out.new) end) }
-    ensures err { OnErr result ((text : List ℕ) → S.left input.old ≡ Some text → WrotePart (W.held out.old) (W.held out.new) (transcript (map string_bytes words.now) text).text) }
-    ensures usage { IfOk result (λ end. end ≡ Usage → is_run (map string_bytes words.now) ≡ false) }
-    ensures words { is_run (map string_bytes words.now) ≡ false → MatchResult result (λ end. end ≡ Usage) (λ stop. stop ≡ Stop.WriteFault) }
-    ensures unread { is_run (map string_bytes words.now) ≡ false → input.new ≡ input.old }
-    ensures all_read { IfOk result (λ end. end ≡ Done → IsAtEnd (S.left input.new)) }
-    ensures blame { BlamesDevices result (S.faults input.old) (S.faults input.new) (W.faults out.old) (W.faults out.new) }
+    ensures ran { RanSo (map string_bytes words.now) (result_shown result) (S.left input.old)
+        (W.held out.old) (W.held out.new) (P.tells × P.D.tells)
+        (disks_at (P.tells × P.D.tells) P.D.sight (P.home depot.old))
+        (disks_at (P.tells × P.D.tells) P.D.sight (P.home depot.new)) (P.last depot.old) (P.last depot.new) }
+    ensures unread { form_in (map string_bytes words.now) ≡ None → input.new ≡ input.old }
+    ensures all_read { IfOk result (λ end. end ≡ End.Done → IsAtEnd (S.left input.new)) }
+    ensures blame { BlamesDevices result (S.faults input.old) (S.faults input.new)
+        (W.faults out.old) (W.faults out.new) }
+    ensures start { BlamesDisks result (P.faults depot.old) (P.faults depot.new)
+        (P.last depot.old) (P.last depot.new) }
+    ensures depot_later { P.faults depot.old ≤ P.faults depot.new }
+    ensures last_later { (provider : ℕ) → P.last depot.old provider ≤ P.last depot.new provider }
+    ensures home { P.tells → AreHomeAgain (P.home depot.old) (P.home depot.new) }
 {
-    if !is_run(words) {
+    let Some(form) = Form::of(words) else {
         let end = write_last(out, b"usage\n", End::Usage)?;
         return Ok(end);
-    }
+    };
     let mut buffer = Buffer::new(alloc);
-    let end = run_input(alloc, input, &mut buffer, out)?;
+    let end = run_input(alloc, form, input, &mut buffer, out, depot)?;
     Ok(end)
 }
 
 /// Reads the directory, and plays the script behind it.
-#[tactic(auto, using(pec_outside::proofs::FlowLemmas::wrote_nothing))]
-fn run_input<S: Source, W: Sink>(
+fn run_input<S: Source, W: Sink, P: Depot>(
     alloc: Global,
+    form: Form,
     source: &mut S,
     buffer: &mut Buffer,
     out: &mut W,
+    depot: &mut P,
 ) -> Result<End, Stop>
-    ensures ok { IfOk result (λ end. (text : List ℕ) → behind buffer.old (S.left source.old) ≡ Some text → EndsAs (parts_outcome (parts_of (raw_lines text))) (W.held out.old) (W.held out.new) end) }
-    ensures err { OnErr result ((text : List ℕ) → behind buffer.old (S.left source.old) ≡ Some text → WrotePart (W.held out.old) (W.held out.new) (parts_outcome (parts_of (raw_lines text))).text) }
-    ensures not_usage { IfOk result (λ end. end ≢ Usage) }
-    ensures all_read { IfOk result (λ end. end ≡ Done → IsAtEnd (behind buffer.new (S.left source.new))) }
-    ensures blame { BlamesDevices result (S.faults source.old) (S.faults source.new) (W.faults out.old) (W.faults out.new) }
+    ensures ran { (words : List Bytes) → form_in words ≡ Some (form_shown form)
+        → RanSo words (result_shown result) (behind buffer.old (S.left source.old))
+        (W.held out.old) (W.held out.new) (P.tells × P.D.tells)
+        (disks_at (P.tells × P.D.tells) P.D.sight (P.home depot.old))
+        (disks_at (P.tells × P.D.tells) P.D.sight (P.home depot.new)) (P.last depot.old) (P.last depot.new) }
+    ensures all_read { IfOk result (λ end. end ≡ End.Done → IsAtEnd (behind buffer.new (S.left source.new))) }
+    ensures blame { BlamesDevices result (S.faults source.old) (S.faults source.new)
+        (W.faults out.old) (W.faults out.new) }
+    ensures start { BlamesDisks result (P.faults depot.old) (P.faults depot.new)
+        (P.last depot.old) (P.last depot.new) }
+    ensures depot_later { P.faults depot.old ≤ P.faults depot.new }
+    ensures last_later { (provider : ℕ) → P.last depot.old provider ≤ P.last depot.new provider }
+    ensures home { P.tells → AreHomeAgain (P.home depot.old) (P.home depot.new) }
 {
     match read_directory(alloc, source, buffer)? {
         Opening::TooLong => {
@@ -63,43 +97,133 @@ fn run_input<S: Source, W: Sink>(
             let end = write_last(out, b"refused no-script\n", End::Refused)?;
             Ok(end)
         }
-        Opening::Script(directory) => {
-            let end = run_opened(alloc, &directory, source, buffer, out)?;
+        Opening::Script(bytes) => {
+            let end = run_directory(alloc, form, &bytes, source, buffer, out, depot)?;
             Ok(end)
         }
     }
 }
 
-/// Opens the directory, and plays the script that is left.
-#[tactic(auto, using(pec_outside::proofs::FlowLemmas::wrote_nothing))]
-fn run_opened<S: Source, W: Sink>(
+/// Takes the directory, and plays the script that is left.
+fn run_directory<S: Source, W: Sink, P: Depot>(
     alloc: Global,
-    directory: &[u8],
+    form: Form,
+    bytes: &[u8],
     source: &mut S,
     buffer: &mut Buffer,
     out: &mut W,
+    depot: &mut P,
 ) -> Result<End, Stop>
-    ensures ok { IfOk result (λ end. (text : List ℕ) → behind buffer.old (S.left source.old) ≡ Some text → EndsAs (opened_outcome (raw_lines text) (directory_in directory.now)) (W.held out.old) (W.held out.new) end) }
-    ensures err { OnErr result ((text : List ℕ) → behind buffer.old (S.left source.old) ≡ Some text → WrotePart (W.held out.old) (W.held out.new) (opened_outcome (raw_lines text) (directory_in directory.now)).text) }
-    ensures not_usage { IfOk result (λ end. end ≢ Usage) }
-    ensures all_read { IfOk result (λ end. end ≡ Done → IsAtEnd (behind buffer.new (S.left source.new))) }
-    ensures blame { BlamesDevices result (S.faults source.old) (S.faults source.new) (W.faults out.old) (W.faults out.new) }
+    requires size { length bytes.now ≤ LONGEST_DIRECTORY }
+    ensures ran { (words : List Bytes) (unread : Option Bytes) → form_in words ≡ Some (form_shown form)
+        → parts_left unread ≡ parts_behind bytes.now (behind buffer.old (S.left source.old))
+        → RanSo words (result_shown result) unread
+        (W.held out.old) (W.held out.new) (P.tells × P.D.tells)
+        (disks_at (P.tells × P.D.tells) P.D.sight (P.home depot.old))
+        (disks_at (P.tells × P.D.tells) P.D.sight (P.home depot.new)) (P.last depot.old) (P.last depot.new) }
+    ensures all_read { IfOk result (λ end. end ≡ End.Done → IsAtEnd (behind buffer.new (S.left source.new))) }
+    ensures blame { BlamesDevices result (S.faults source.old) (S.faults source.new)
+        (W.faults out.old) (W.faults out.new) }
+    ensures start { BlamesDisks result (P.faults depot.old) (P.faults depot.new)
+        (P.last depot.old) (P.last depot.new) }
+    ensures depot_later { P.faults depot.old ≤ P.faults depot.new }
+    ensures last_later { (provider : ℕ) → P.last depot.old provider ≤ P.last depot.new provider }
+    ensures home { P.tells → AreHomeAgain (P.home depot.old) (P.home depot.new) }
 {
-    match open_directory(alloc, directory)? {
+    match open_directory(alloc, bytes)? {
         Opened::Refused(fault) => {
             let text = refused_directory_text(alloc, fault)?;
             let end = write_last(out, &text, End::Refused)?;
             Ok(end)
         }
         Opened::Opens(directory) => {
-            let end = play_script(alloc, &directory, source, buffer, out)?;
+            let end = run_opened(alloc, form, directory, source, buffer, out, depot)?;
             Ok(end)
         }
     }
 }
 
+/// Begins the network of a directory, and plays the script that is left.
+fn run_opened<S: Source, W: Sink, P: Depot>(
+    alloc: Global,
+    form: Form,
+    directory: Directory,
+    source: &mut S,
+    buffer: &mut Buffer,
+    out: &mut W,
+    depot: &mut P,
+) -> Result<End, Stop>
+    ensures ran { (words : List Bytes) (bytes : Bytes) (unread : Option Bytes)
+        → form_in words ≡ Some (form_shown form)
+        → length bytes ≤ LONGEST_DIRECTORY → directory_in bytes ≡ Ok (providers_of directory)
+        → parts_left unread ≡ parts_behind bytes (behind buffer.old (S.left source.old))
+        → RanSo words (result_shown result) unread
+        (W.held out.old) (W.held out.new) (P.tells × P.D.tells)
+        (disks_at (P.tells × P.D.tells) P.D.sight (P.home depot.old))
+        (disks_at (P.tells × P.D.tells) P.D.sight (P.home depot.new)) (P.last depot.old) (P.last depot.new) }
+    ensures all_read { IfOk result (λ end. end ≡ End.Done → IsAtEnd (behind buffer.new (S.left source.new))) }
+    ensures blame { BlamesDevices result (S.faults source.old) (S.faults source.new)
+        (W.faults out.old) (W.faults out.new) }
+    ensures start { BlamesDisks result (P.faults depot.old) (P.faults depot.new)
+        (P.last depot.old) (P.last depot.new) }
+    ensures depot_later { P.faults depot.old ≤ P.faults depot.new }
+    ensures last_later { (provider : ℕ) → P.last depot.old provider ≤ P.last depot.new provider }
+    ensures home { P.tells → AreHomeAgain (P.home depot.old) (P.home depot.new) }
+{
+    a_trade_says_what_its_parts_say();
+    the_texts_are_a_trade::<HmacSealer>();
+    a_disk_reads_as_an_image::<P::D>();
+    a_directory_is_lawful(&directory);
+    a_loop_climbs::<P>();
+    let sealer = sealer_of(alloc, &directory)?;
+    match begin(alloc, form, directory, sealer, depot) {
+        Ok(network) => {
+            a_network_is_whole(&network);
+            let end = play_all(alloc, network, depot, source, buffer, out)?;
+            Ok(end)
+        }
+        Err(refused) => {
+            let end = end_at_start(alloc, &refused.1, refused.0, out)?;
+            Ok(end)
+        }
+    }
+}
+
+/// Plays the script that is left over a network, and then keeps its disks in the depot again.
+fn play_all<D: Disk, H: Sealer + Drop, P: Depot<D = D>, S: Source, W: Sink>(
+    alloc: Global,
+    mut network: Network<D, H>,
+    depot: &mut P,
+    source: &mut S,
+    buffer: &mut Buffer,
+    out: &mut W,
+) -> Result<End, Stop>
+    requires fits { Fits (H.seals network.sealer) (providers_of network.kept) }
+    ensures ran { (P.tells × D.tells → AllStand D.sight network.providers) → (state : List Site)
+        × (ScriptRan (P.tells × D.tells) (trade_of network.kept (H.seals network.sealer))
+        (providers_of network.kept)
+        (place_at D.faults network (P.last depot.old) 1 (behind buffer.old (S.left source.old)))
+        (P.last depot.new) (result_shown result) (W.held out.old) (W.held out.new) state
+        × AreKept (P.tells × D.tells) D.sight (length network.kept) state (P.home depot.old) (P.home depot.new)) }
+    ensures home { P.tells → (provider : ℕ) → provider < length network.kept → P.home depot.new provider ≢ None }
+    ensures elsewhere { P.tells → (provider : ℕ) → length network.kept ≤ provider
+        → P.home depot.new provider ≡ P.home depot.old provider }
+    ensures last_later { NoneFell D.faults (P.last depot.old) network.providers
+        → (provider : ℕ) → P.last depot.old provider ≤ P.last depot.new provider }
+    ensures depot_later { P.faults depot.old ≤ P.faults depot.new }
+    ensures blame { BlamesDevices result (S.faults source.old) (S.faults source.new)
+        (W.faults out.old) (W.faults out.new) }
+    ensures begun { IsErrOf result Stop.StartFault → ⊥ }
+    ensures all_read { IfOk result (λ end. end ≡ End.Done → IsAtEnd (behind buffer.new (S.left source.new))) }
+{
+    let result = play_script(alloc, &mut network, depot, source, buffer, out);
+    a_network_is_whole(&network);
+    network.close(depot);
+    result
+}
+
 /// Writes the last line of a run that ends so.
-fn write_last<W: Sink>(out: &mut W, line: &[u8], end: End) -> Result<End, Stop>
+pub(crate) fn write_last<W: Sink>(out: &mut W, line: &[u8], end: End) -> Result<End, Stop>
     ensures ok { IfOk result (λ last. (last ≡ end) × (W.held out.new ≡ followed_by (W.held out.old) line.now)) }
     ensures err { OnErr result (WrotePart (W.held out.old) (W.held out.new) line.now) }
     ensures stop { IfErr result (λ stop. stop ≡ Stop.WriteFault) }
@@ -108,14 +232,4 @@ fn write_last<W: Sink>(out: &mut W, line: &[u8], end: End) -> Result<End, Stop>
 {
     write_all(out, line)?;
     Ok(end)
-}
-
-/// Whether the words are `run` alone.
-fn is_run(words: &[String]) -> bool
-    ensures { result ≡ is_run (map string_bytes words.now) }
-{
-    match words {
-        [word] => word.as_str() == "run",
-        _ => false,
-    }
 }

@@ -1,5 +1,6 @@
 ghost use Rattle.std.specs.Prelude.{◌≡◌};
-ghost use Rattle.pec_top.specs.Status.{code_of, status_of, stop_status as status_of_stop};
+ghost use Rattle.pec_runs.specs.Statuses.{code_of};
+ghost use Rattle.pec_top.specs.Shown.{end_shown, status_shown, stop_shown};
 
 use crate::ending::{End, Stop};
 
@@ -17,6 +18,12 @@ pub enum Status {
     /// The output couldn't be written.
     WriteFault,
     NoMemory,
+    /// A disk failed, or the depot did, while journals were made or opened.
+    StartFault,
+    /// A journal was to be made on a disk that isn't empty.
+    NotEmpty,
+    /// The journal on a disk isn't its provider's own.
+    NotFit,
     /// The directory, a line or the number of lines is past its limit.
     InputTooLong,
 }
@@ -24,7 +31,7 @@ pub enum Status {
 impl Status {
     /// The exit status of the program.
     pub fn code(&self) -> u8
-        ensures { result ≡ code_of self.now }
+        ensures { result ≡ code_of (status_shown self.now) }
     {
         match self {
             Status::Done => 0,
@@ -33,6 +40,9 @@ impl Status {
             Status::ReadFault => 4,
             Status::WriteFault => 5,
             Status::NoMemory => 6,
+            Status::StartFault => 7,
+            Status::NotEmpty => 8,
+            Status::NotFit => 9,
             Status::InputTooLong => 12,
         }
     }
@@ -40,23 +50,26 @@ impl Status {
 
 /// The status of a run that ended so.
 pub(crate) fn end_status(end: End) -> Status
-    ensures { result ≡ status_of end }
+    ensures { status_shown result ≡ end_shown end }
 {
     match end {
         End::Done => Status::Done,
         End::Usage => Status::Usage,
         End::Refused => Status::Refused,
+        End::NotEmpty => Status::NotEmpty,
+        End::NotFit => Status::NotFit,
         End::TooLong => Status::InputTooLong,
     }
 }
 
 /// The status of a run that was stopped so.
 pub(crate) fn stop_status(stop: Stop) -> Status
-    ensures { result ≡ status_of_stop stop }
+    ensures { status_shown result ≡ stop_shown stop }
 {
     match stop {
         Stop::NoMemory => Status::NoMemory,
         Stop::ReadFault => Status::ReadFault,
         Stop::WriteFault => Status::WriteFault,
+        Stop::StartFault => Status::StartFault,
     }
 }

@@ -1,22 +1,41 @@
-use Rattle.std.proofs.Common.{◌+◌, ◌-◌, ◌≤◌}
-use Rattle.pec_directory.specs.Directory.{providers_of}
+-- The loop came so far; the network is that of the same directory, and no count fell.
+use Rattle.std.proofs.Common.{◌≡◌, ℕ, ◌+◌, ◌-◌, ◌≤◌}
+use Rattle.pec_outside.specs.Depots.{Alike}
 use Rattle.pec_outside.specs.Flow.{behind}
-use Rattle.pec_top.specs.Ledger.{no_entries}
-use Rattle.pec_top.specs.Run.{Goes, script_left}
-use Rattle.pec_top.specs.Transcript.{script_lines}
+use Rattle.pec_directory.specs.Directory.{providers_of}
+use Rattle.pec_trade.specs.TradeOf.{trade_of}
+use Rattle.pec_network.specs.Carrying.{AllStand}
+use Rattle.pec_playing.specs.Playing.{counts_in}
+use Rattle.pec_runs.specs.ScriptLines.{most_lines}
+use Rattle.pec_top.specs.Scripts.{place_at}
+use Rattle.pec_top.proofs.LoopPlaces.{IsHere}
 use Rattle.pec_top.proofs.script.play_script.Given as goal
 
 abbrev pub invariant-lines : goal.invariant-lines
 invariant-lines g l =
+    let disk = g.D.Disk in
+    let depot = g.P.Depot in
     let port = g.S.Source in
     let sink = g.W.Sink in
+    let faults = g.D.Counted.faults in
     record {
-      goes : Goes (script_left (providers_of l.directory) (no_entries (providers_of l.directory)) 1 (behind l.fn.buffer (port.left l.fn.source))) (script_left (providers_of l.directory) l.ledgers l.number (behind l.buffer (port.left l.source)))
+      came : (depot.tells × disk.tells → AllStand disk.sight l.fn.network.providers) → (elsewhere : ℕ → ℕ)
+          → IsHere (depot.tells × disk.tells) (trade_of l.fn.network.kept (g.H.Sealer.seals l.fn.network.sealer))
+          (providers_of l.fn.network.kept)
+          (place_at faults l.fn.network elsewhere 1 (behind l.fn.buffer (port.left l.fn.source))) (place_at faults
+          l.network elsewhere l.number (behind l.buffer (port.left l.source)))
           (sink.held l.fn.out) (sink.held l.out);
-      number : l.number ≤ script_lines + 1;
+      number : l.number ≤ most_lines + 1;
+      same : (l.network.kept ≡ l.fn.network.kept) × (l.network.sealer ≡ l.fn.network.sealer);
+      stands : disk.tells → AllStand disk.sight l.fn.network.providers → AllStand disk.sight l.network.providers;
+      later : (elsewhere : ℕ → ℕ) (provider : ℕ) → counts_in faults l.fn.network.providers elsewhere provider ≤
+          counts_in faults l.network.providers elsewhere provider;
+      home : depot.tells → Alike (depot.home l.fn.depot) (depot.home l.depot);
+      last : Alike (depot.last l.fn.depot) (depot.last l.depot);
+      depot_later : g.P.Counted.faults l.fn.depot ≤ g.P.Counted.faults l.depot;
       source_later : g.S.Counted.faults l.fn.source ≤ g.S.Counted.faults l.source;
       sink_later : g.W.Counted.faults l.fn.out ≤ g.W.Counted.faults l.out;
     }
 
 abbrev pub decreases-lines : goal.decreases-lines
-decreases-lines g l = script_lines + 1 - l.number
+decreases-lines g l = most_lines + 1 - l.number

@@ -1,0 +1,258 @@
+-- Runs that are over, that were halted, and that began: as `RanSo`.
+use Rattle.std.proofs.Common.{◌≡◌, ℕ, ◌<◌, ◌≤◌, Bool, true, false, List, [], inl, refl, ap, sym, subst, ◌∙◌, length}
+use Rattle.std.proofs.Common.{Option, Some, None, Result, Ok}
+use Rattle.std.specs.Prelude.{IfSome, if◌then◌else◌}
+use Rattle.std.proofs.lemmas.Bool.{le-ltb, lt-ltb}
+use Rattle.std.proofs.lemmas.Option.{same_Some}
+use Rattle.pec_types.specs.Bytes.{Bytes}
+use Rattle.pec_outside.specs.DiskModel.{Sight}
+use Rattle.pec_outside.specs.Flow.{followed_by}
+use Rattle.pec_top.proofs.FlowLemmas.{followed_by-nil}
+use Rattle.pec_directory.specs.Directory.{Provider}
+use Rattle.pec_directory.specs.declared.faults.DirectoryFault.{DirectoryFault}
+use Rattle.pec_input.specs.Directory.{directory_in}
+use Rattle.pec_input.specs.Opening.{parts_left}
+use Rattle.pec_input.specs.Parts.{Parts}
+use Rattle.pec_input.specs.declared.opening.TheConstants.{LONGEST_DIRECTORY}
+use Rattle.pec_ledger.specs.Network.{Site}
+use Rattle.pec_seal.specs.Hmac.{hmac_seals}
+use Rattle.pec_runs.specs.Climbing.{AreLinesLeft}
+use Rattle.pec_runs.specs.Endings.{End, end_text}
+use Rattle.pec_runs.specs.Endings as ends
+use Rattle.pec_runs.specs.Happened.{Begun, Halted, Happened, IsSetting, Over, Setting, Stage, by_directory, by_form}
+use Rattle.pec_runs.specs.Happened.{by_next, by_script, outcome_at, outcome_of, providers_in, stage_of, trade_in}
+use Rattle.pec_runs.specs.Openings.{AreLeft, AreUntouched, Disks, Form, IsOpening, Next, NoMore, Holds, Unfits, Fails}
+use Rattle.pec_runs.specs.Openings.{Stops, Opening, disks_at, form_in}
+use Rattle.pec_plays.specs.Commands.{Luck}
+use Rattle.pec_runs.specs.Plays.{Outcome, Rest, Stopped}
+use Rattle.pec_runs.specs.Plays as plays
+use Rattle.pec_runs.specs.Ran.{Blames, Counts, IsAt, IsInput, LeavesOff, NoneFell, PlaysOn, Ran, Tells, TellsAs}
+use Rattle.pec_runs.specs.Ran.{command_in_hand}
+use Rattle.pec_runs.specs.ScriptLines.{Script, script_of}
+use Rattle.pec_runs.specs.Statuses.{Status}
+use Rattle.pec_top.specs.Running.{RanSo, disk_counts, parts_behind}
+
+-- ---- disks that nobody asked for
+
+pub untouched : {D : Type 0} (tells : Type 0) (sight : D → Sight) (home : ℕ → Option D)
+    → AreUntouched (disks_at tells sight home) (disks_at tells sight home)
+untouched tells sight home = λ k was bytes old now.
+    sym now.1.2 ∙ (ap (λ d. (sight d).seen) (same_Some now.1.0 old.1.0 (sym now.1.1 ∙ old.1.1)) ∙ old.1.2)
+
+-- ---- inputs
+
+-- what is left to read has its parts, whether it tells them or not
+pub parts_there : (unread : Option Bytes) → (parts : Parts) × IsInput unread parts
+parts_there None = (record { directory = []; script = None }, tt)
+parts_there (Some text) = (_, refl)
+
+-- ---- a run without its disks
+
+abbrev nobody : Setting
+nobody = record { kept = []; seals = hmac_seals [] [] }
+
+abbrev nothing : Parts → Bool → Happened
+nothing parts early = record {
+  parts = parts;
+  early = early;
+  setting = nobody;
+  opening = record { journals = []; next = Stops };
+  lucks = [];
+  rest = Stopped;
+}
+
+over_not_begun : (end : End) (form : Form) (script : Script) → Over end ≡ Begun form script → ⊥
+over_not_begun end form script e = cc
+
+halted_not_begun : (form : Form) (script : Script) → Halted ≡ Begun form script → ⊥
+halted_not_begun form script e = cc
+
+module _ (words : List Bytes) (unread before after : Option Bytes) (tells : Type 0) (old new : Disks)
+    (from upto : ℕ → ℕ) (untouched_ : AreUntouched old new) where
+  -- It is over.
+  pub ran_over : (parts : Parts) (early : Bool) (end : End) (status : Status)
+      → stage_of words early parts ≡ Over end → IsInput unread parts
+      → TellsAs status before after (end_text [] end) (plays.Ends end)
+      → RanSo words status unread before after tells old new from upto
+  unfolding outcome_of
+  ran_over parts early end status stage input told = record {
+    happened = nothing parts early;
+    input = input;
+    setting = λ form script begun. absurd (over_not_begun end form script (sym stage ∙ begun));
+    told = inl (subst
+        (λ (s : Stage). TellsAs status before after (plays.outcome_text [] (outcome_at (nothing parts early) s))
+        (outcome_at (nothing parts early) s).finish) (sym stage) told);
+    is_at = subst (λ (s : Stage). IsAt tells old new (disk_counts from) (disk_counts upto) (nothing parts early)
+        status
+        words s) (sym stage) untouched_;
+  }
+
+  -- It was halted before a disk was asked for, and nothing was written.
+  pub ran_halted : (form : Form) (status : Status) → form_in words ≡ Some form
+      → ((text : Bytes) → after ≡ followed_by before text → TellsAs status before after text plays.Stops)
+      → after ≡ before
+      → RanSo words status unread before after tells old new from upto
+  unfolding outcome_of stage_of
+  ran_halted form status is tells_so same =
+      let parts = parts_there unread
+      in let stage : stage_of words true parts.0 ≡ Halted = ap (by_form true parts.0) is
+      in record {
+        happened = nothing parts.0 true;
+        input = parts.1;
+        setting = λ f script begun. absurd (halted_not_begun f script (sym stage ∙ begun));
+        told = inl (subst
+            (λ (s : Stage). TellsAs status before after (plays.outcome_text [] (outcome_at (nothing parts.0 true) s))
+            (outcome_at (nothing parts.0 true) s).finish) (sym stage)
+            (tells_so [] (same ∙ sym (followed_by-nil before))));
+        is_at = subst (λ (s : Stage). IsAt tells old new (disk_counts from) (disk_counts upto)
+            (nothing parts.0 true) status words s) (sym stage) untouched_;
+      }
+
+-- ---- stages
+
+pub stage_usage : (words : List Bytes) (early : Bool) (parts : Parts) → form_in words ≡ None
+    → stage_of words early parts ≡ Over ends.Usage
+unfolding stage_of
+stage_usage words false parts is = ap (by_form false parts) is
+stage_usage words true parts is = ap (by_form true parts) is
+
+module _ (words : List Bytes) (form : Form) (parts : Parts) (is : form_in words ≡ Some form) where
+  pub stage_long : LONGEST_DIRECTORY < length parts.directory → stage_of words false parts ≡ Over ends.LongDirectory
+  unfolding stage_of
+  stage_long long =
+      ap (by_form false parts) is
+      ∙ ap (λ (t : Bool). if t then Over ends.LongDirectory else by_script form parts.directory parts.script)
+      (lt-ltb LONGEST_DIRECTORY (length parts.directory) long)
+
+  stage_short : length parts.directory ≤ LONGEST_DIRECTORY
+      → stage_of words false parts ≡ by_script form parts.directory parts.script
+  unfolding stage_of
+  stage_short short =
+      ap (by_form false parts) is
+      ∙ ap (λ (t : Bool). if t then Over ends.LongDirectory else by_script form parts.directory parts.script)
+      (le-ltb LONGEST_DIRECTORY (length parts.directory) short)
+
+  pub stage_unmarked : length parts.directory ≤ LONGEST_DIRECTORY → parts.script ≡ None
+      → stage_of words false parts ≡ Over ends.NoScript
+  stage_unmarked short none = stage_short short ∙ ap (by_script form parts.directory) none
+
+  pub stage_read : length parts.directory ≤ LONGEST_DIRECTORY → (lines : List Bytes) → parts.script ≡ Some lines
+      → (told : Result (List Provider) DirectoryFault) → directory_in parts.directory ≡ told
+      → stage_of words false parts ≡ by_directory form lines told
+  stage_read short lines some told reads =
+      stage_short short ∙ (ap (by_script form parts.directory) some ∙ ap (by_directory form lines) reads)
+
+-- the parts of an input whose directory was read
+pub parts_are : (unread behind : Option Bytes) (bytes : Bytes) (lines : List Bytes)
+    → parts_left unread ≡ parts_behind bytes behind → AreLinesLeft behind lines
+    → IsInput unread (record { directory = bytes; script = Some lines })
+parts_are unread None bytes lines e left =
+    subst (λ (p : Option Parts). IfSome p (λ told. read_parts bytes lines ≡ told)) (sym e) tt
+  where
+    read_parts : Bytes → List Bytes → Parts
+    read_parts bytes lines = record { directory = bytes; script = Some lines }
+parts_are unread (Some text) bytes lines e left =
+    subst (λ (p : Option Parts). IfSome p (λ told. read_parts bytes lines ≡ told)) (sym e)
+    (ap (λ (l : List Bytes). read_parts bytes l) left)
+  where
+    read_parts : Bytes → List Bytes → Parts
+    read_parts bytes lines = record { directory = bytes; script = Some lines }
+
+same_ok : (told : Result (List Provider) DirectoryFault) (a b : List Provider) → told ≡ Ok a → told ≡ Ok b → a ≡ b
+same_ok told a b e f = cc
+
+-- ---- a run that begins
+
+module _ (words : List Bytes) (form : Form) (is : form_in words ≡ Some form) (bytes : Bytes)
+    (short : length bytes ≤ LONGEST_DIRECTORY) (setting : Setting)
+    (reads : directory_in bytes ≡ Ok (providers_in setting)) (is_setting : IsSetting (providers_in setting) setting)
+    (lines : List Bytes) (opening : Opening) (lucks : List Luck) (rest : Rest) where
+  abbrev parts_had : Parts
+  parts_had = record { directory = bytes; script = Some lines }
+
+  abbrev happened_so : Happened
+  happened_so =
+      record { parts = parts_had; early = false; setting = setting; opening = opening; lucks = lucks; rest = rest }
+
+  abbrev script_had : Script
+  script_had = script_of (providers_in setting) 1 lines
+
+  abbrev outcome_had : Outcome
+  outcome_had = by_next (trade_in setting) opening lucks rest script_had opening.next
+
+  begun_so : stage_of words false parts_had ≡ Begun form script_had
+  begun_so = stage_read words form parts_had is short lines refl (Ok (providers_in setting)) reads
+
+  outcome_so : outcome_of words happened_so ≡ outcome_had
+  unfolding outcome_of
+  outcome_so = ap (outcome_at happened_so) begun_so
+
+  pub ran_begun : (status : Status) (unread behind before after : Option Bytes) (tells : Type 0) (old new : Disks)
+      (from upto : ℕ → ℕ)
+      (left : List Site) → parts_left unread ≡ parts_behind bytes behind → AreLinesLeft behind lines
+      → IsOpening (trade_in setting) old form opening
+      → PlaysOn tells old new (disk_counts from) (disk_counts upto) happened_so script_had opening.next
+      → LeavesOff (trade_in setting) outcome_had.after (command_in_hand status opening.next rest lucks script_had)
+      left
+      → AreLeft old new form opening left → Tells (providers_in setting) status before after outcome_had
+      → RanSo words status unread before after tells old new from upto
+  ran_begun status unread behind before after tells old new from upto left input lines_left opens plays leaves disks
+      told = record {
+        happened = happened_so;
+        input = parts_are unread behind bytes lines input lines_left;
+        setting = λ f script begun providers read.
+            let same = same_ok (directory_in bytes) (providers_in setting) providers reads read
+            in subst (λ (p : List Provider). IsSetting p setting) same is_setting;
+        told = subst (Tells (providers_in setting) status before after) (sym outcome_so) told;
+        is_at = subst (λ (s : Stage). IsAt tells old new (disk_counts from) (disk_counts upto) happened_so status
+            words
+            s) (sym begun_so) (record {
+              opening = opens;
+              plays = plays;
+              left = left;
+              leaves_off = subst
+                  (λ (o : Outcome). LeavesOff (trade_in setting) o.after
+                  (command_in_hand status opening.next rest lucks script_had) left) (sym outcome_so) leaves;
+              disks = disks;
+            });
+      }
+
+-- ---- the whole run
+
+pub ran_whole : (words : List Bytes) (status : Status) (unread before after : Option Bytes) (tells : Type 0)
+    (old_disks new_disks : Disks) (old new : Counts) → Blames status old new → NoneFell old new
+    → RanSo words status unread before after tells old_disks new_disks old.disks new.disks
+    → Ran words status unread before after tells old_disks new_disks old new
+ran_whole words status unread before after tells old_disks new_disks old new blames fell so = record {
+  happened = so.happened;
+  input = so.input;
+  setting = so.setting;
+  told = so.told;
+  blame = blames;
+  counts = fell;
+  is_at = at_stage (stage_of words so.happened.early so.happened.parts) so.is_at;
+}
+  where
+    at_stage : (stage : Stage)
+        → IsAt tells old_disks new_disks (disk_counts old.disks) (disk_counts new.disks) so.happened status words
+        stage
+        → IsAt tells old_disks new_disks old new so.happened status words stage
+    at_stage (Over end) is = is
+    at_stage Halted is = is
+    at_stage (Begun form script) is = record {
+      opening = is.opening;
+      plays = plays_on so.happened.opening.next is.plays;
+      left = is.left;
+      leaves_off = is.leaves_off;
+      disks = is.disks;
+    }
+      where
+        plays_on : (next : Next)
+            → PlaysOn tells old_disks new_disks (disk_counts old.disks) (disk_counts new.disks) so.happened script
+            next
+            → PlaysOn tells old_disks new_disks old new so.happened script next
+        plays_on NoMore is = is
+        plays_on Holds is = is
+        plays_on (Unfits unfit) is = is
+        plays_on Fails is = is
+        plays_on Stops is = is

@@ -1,0 +1,40 @@
+-- The run, with the counts of its devices.
+use Rattle.std.specs.Prelude.{map, string_bytes}
+use Rattle.pec_runs.specs.Openings.{disks_at}
+use Rattle.pec_runs.specs.Ran.{Counts}
+use Rattle.pec_top.specs.Shown.{stop_shown}
+use Rattle.pec_top.proofs.RunningLemmas.{ran_whole}
+use Rattle.pec_top.proofs.TopLemmas.{blames_stop}
+use Rattle.pec_top.proofs.top.run_pec.Goals as goal
+
+pub returns-in-Err-clause-ran : goal.returns-in-Err-clause-ran
+returns-in-Err-clause-ran g c =
+    let tells = g.P.Depot.tells × g.P.D.Disk.tells in
+    let old : Counts = record {
+      source = g.S.Counted.faults c.args.input.now;
+      sink = g.W.Counted.faults
+          c.args.out.now;
+      depot = g.P.Counted.faults c.args.depot.now;
+      disks = g.P.Depot.last c.args.depot.now;
+    } in
+    let new : Counts = record {
+      source = g.S.Counted.faults c.run_words.new.input;
+      sink = g.W.Counted.faults
+          c.run_words.new.out;
+      depot = g.P.Counted.faults c.run_words.new.depot;
+      disks = g.P.Depot.last
+          c.run_words.new.depot;
+    } in
+    let devices = c.in-Err.ensures.blame in
+    rw c.stop_status.ensures (ran_whole (map string_bytes c.args.words.now) (stop_shown c.in-Err.stop)
+    (g.S.Source.left c.args.input.now) (g.W.Sink.held c.args.out.now)
+    (g.W.Sink.held c.run_words.new.out) tells (disks_at tells g.P.D.Disk.sight (g.P.Depot.home c.args.depot.now))
+    (disks_at tells g.P.D.Disk.sight (g.P.Depot.home c.run_words.new.depot))
+    old new (blames_stop c.in-Err.stop old new devices c.in-Err.ensures.start)
+    (record {
+      source = devices.1.1.0;
+      sink = devices.1.1.1;
+      depot = c.in-Err.ensures.depot_later;
+      disks =
+          c.in-Err.ensures.last_later;
+    }) c.in-Err.ensures.ran)

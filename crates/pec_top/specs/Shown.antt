@@ -1,0 +1,81 @@
+-- What the program's own values stand for in the words of a run.
+use Rattle.std.specs.Prelude.{Option, Some, None, Result, Ok, Err, codes, if◌then◌else◌}
+use Rattle.std.specs.Str.{bytes_eq}
+use Rattle.pec_types.specs.Bytes.{Bytes}
+use Rattle.pec_input.specs.declared.buffers.InputFault.{InputFault}
+use Rattle.pec_input.specs.declared.buffers.InputFault.TheVariants as faults
+use Rattle.pec_network.specs.declared.faults.NotFit.{NotFit}
+use Rattle.pec_network.specs.declared.faults.NotFit.TheVariants as reasons
+use Rattle.pec_network.specs.declared.opening.Form.{Form as Way}
+use Rattle.pec_network.specs.declared.opening.Form.TheVariants as ways
+use Rattle.pec_script.specs.declared.answers.Unfit.{Unfit}
+use Rattle.pec_script.specs.declared.answers.Unfit.TheVariants as unfits
+use Rattle.pec_runs.specs.Openings as runs
+use Rattle.pec_runs.specs.Statuses as statuses
+use Rattle.pec_top.specs.declared.ending.End.{End}
+use Rattle.pec_top.specs.declared.ending.End.TheVariants as ends
+use Rattle.pec_top.specs.declared.ending.Stop.{Stop}
+use Rattle.pec_top.specs.declared.ending.Stop.TheVariants as stops
+use Rattle.pec_top.specs.declared.forms.Form.{Form}
+use Rattle.pec_top.specs.declared.forms.Form.TheVariants as forms
+use Rattle.pec_top.specs.declared.status.Status.{Status}
+use Rattle.pec_top.specs.declared.status.Status.TheVariants as told
+
+abbrev pub status_shown : Status → statuses.Status
+status_shown told.Done = statuses.Done
+status_shown told.Usage = statuses.Usage
+status_shown told.Refused = statuses.Refused
+status_shown told.ReadFault = statuses.ReadFault
+status_shown told.WriteFault = statuses.WriteFault
+status_shown told.NoMemory = statuses.NoMemory
+status_shown told.StartFault = statuses.StartFault
+status_shown told.NotEmpty = statuses.NotEmpty
+status_shown told.NotFit = statuses.NotFit
+status_shown told.InputTooLong = statuses.InputTooLong
+
+abbrev pub end_shown : End → statuses.Status
+end_shown ends.Done = statuses.Done
+end_shown ends.Usage = statuses.Usage
+end_shown ends.Refused = statuses.Refused
+end_shown ends.NotEmpty = statuses.NotEmpty
+end_shown ends.NotFit = statuses.NotFit
+end_shown ends.TooLong = statuses.InputTooLong
+
+abbrev pub stop_shown : Stop → statuses.Status
+stop_shown stops.NoMemory = statuses.NoMemory
+stop_shown stops.ReadFault = statuses.ReadFault
+stop_shown stops.WriteFault = statuses.WriteFault
+stop_shown stops.StartFault = statuses.StartFault
+
+-- the status of a run that ended, or was stopped
+abbrev pub result_shown : Result End Stop → statuses.Status
+result_shown (Ok end) = end_shown end
+result_shown (Err stop) = stop_shown stop
+
+-- what stops a run where its input isn't read on
+abbrev pub stop_of : InputFault → Stop
+stop_of faults.NoMemory = stops.NoMemory
+stop_of faults.ReadFault = stops.ReadFault
+
+-- ---- forms
+
+abbrev pub form_shown : Form → runs.Form
+form_shown forms.Run = runs.Run
+form_shown forms.Resume = runs.Resume
+
+-- the form of a word
+abbrev pub form_named : Bytes → Option runs.Form
+form_named word =
+    if bytes_eq word (codes "run") then Some runs.Run
+    else (if bytes_eq word (codes "resume") then Some runs.Resume else None)
+
+-- how a network begins in this form
+abbrev pub way_of : Form → Way
+way_of forms.Run = ways.Make
+way_of forms.Resume = ways.Open
+
+-- why a journal isn't a provider's own, as it is written
+abbrev pub unfit_of : NotFit → Unfit
+unfit_of (reasons.Journal place) = unfits.Journal place
+unfit_of (reasons.OtherDirectory kept given) = unfits.Directory kept given
+unfit_of (reasons.BadEntry number) = unfits.Entry number

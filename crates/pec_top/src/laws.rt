@@ -1,0 +1,40 @@
+ghost use Rattle.std.specs.Prelude.{List};
+ghost use Rattle.pec_directory.specs.Directory.{Provider, providers_of};
+ghost use Rattle.pec_directory.specs.Lawful.{IsLawful};
+ghost use Rattle.pec_ledger.specs.Trade.{Trade};
+ghost use Rattle.pec_network.specs.Network.{IsOfDirectory};
+ghost use Rattle.pec_top.specs.LoopLaws.{LoopLaws};
+
+use pec_directory::Directory;
+use pec_input::lines_are_the_text;
+use pec_network::Network;
+use pec_outside::{Depot, Disk};
+use pec_runs::{a_run_is_climbed, a_script_is_played_line_by_line};
+
+/// The providers of a network are those of its directory, each with links from all of them. It takes no memory.
+pub(crate) fn a_network_is_whole<D, H>(network: &Network<D, H>)
+    ensures { IsOfDirectory network.now.kept network.now.providers network.now.waiting }
+{
+    network.directory();
+}
+
+/// A directory that was opened is lawful. It takes no memory.
+pub(crate) fn a_directory_is_lawful(directory: &Directory)
+    ensures { IsLawful (providers_of directory.now) }
+{
+    directory.count();
+}
+
+/// A disk as it reads is one of its images.
+pub(crate) fn a_disk_reads_as_an_image<D: Disk>()
+    ensures { D.tells → (disk : D) → (D.sight disk).may_leave (D.sight disk).seen }
+{}
+
+/// What is said of a loop over the lines of a script, in every world.
+pub(crate) fn a_loop_climbs<P: Depot>()
+    ensures { (trade : Trade) (providers : List Provider) → LoopLaws (P.tells × P.D.tells) trade providers }
+{
+    lines_are_the_text();
+    a_run_is_climbed::<P>();
+    a_script_is_played_line_by_line::<P>();
+}
