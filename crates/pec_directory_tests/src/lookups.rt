@@ -1,205 +1,424 @@
 //! What is looked up in a directory. Expected values are read off the directory's text by hand.
-use crate::texts::{address_of, directory_of};
+use crate::texts::{address_of, directory, first_alone};
 use pec_cert::Zone;
-use pec_directory::{Account, Provider};
+use pec_directory::{Account, Directory, Provider};
+use pec_types::Text;
 use std::alloc::{AllocError, Global};
-use std::test::Fail;
 
-/// An account by its getters.
-fn add_account(alloc: Global, page: &mut Vec<u8>, account: &Account) -> Result<(), AllocError> {
-    page.extend_from_slice(account.address().bytes())?;
-    page.push(b' ')?;
-    page.extend_from_slice(account.quota().to_string(alloc)?.as_bytes())?;
-    page.push(b' ')?;
-    page.extend_from_slice(account.key().bytes())?;
-    page.push(b' ')?;
-    Ok(())
+/// An account: its address, its quota and its key.
+type Entry = (&'static [u8], u64, &'static [u8]);
+
+fn is_entry(account: &Account, wanted: &Entry) -> bool {
+    account.address().bytes() == wanted.0
+        && account.quota() == wanted.1
+        && account.key().bytes() == wanted.2
 }
 
-/// What is found of an account: its address, quota and key, or nothing.
-fn shown_account(alloc: Global, account: Option<&Account>) -> Result<Vec<u8>, AllocError> {
-    let mut page = Vec::new(alloc);
-    if let Some(account) = account {
-        add_account(alloc, &mut page, account)?;
+fn is_found(account: Option<&Account>, wanted: Option<Entry>) -> bool {
+    match account {
+        Some(account) => match wanted {
+            Some(entry) => is_entry(account, &entry),
+            None => false,
+        },
+        None => wanted.is_none(),
     }
-    Ok(page)
 }
 
-/// A provider by its getters, but for key and zone.
-fn shown_provider(alloc: Global, provider: &Provider) -> Result<Vec<u8>, AllocError> {
-    let mut page = Vec::from_slice(alloc, provider.name().bytes())?;
-    page.push(b' ')?;
-    page.extend_from_slice(provider.receipts().bytes())?;
-    page.push(b' ')?;
-    for domain in provider.domains() {
-        page.extend_from_slice(domain.bytes())?;
-        page.push(b' ')?;
+fn are_entries(accounts: &[Account], wanted: &[Entry]) -> bool {
+    for (account, entry) in accounts.iter().zip(wanted) {
+        if !is_entry(account, entry) {
+            return false;
+        }
     }
-    page.extend_from_slice(provider.rule().bytes())?;
-    page.push(b' ')?;
-    for account in provider.accounts() {
-        add_account(alloc, &mut page, account)?;
-    }
-    Ok(page)
+    accounts.len() == wanted.len()
 }
 
-/// Each row has the number of providers, an address, its home, and its account.
+/// An address, its home, and its account.
+#[derive(Clone, Copy)]
+struct Place {
+    address: &'static [u8],
+    home: Option<u32>,
+    account: Option<Entry>,
+}
+
+const PLACES: [Place; 5] = [
+    // in capitals
+    Place {
+        address: b"Alice@alfa.example",
+        home: Some(0),
+        account: Some((b"alice@alfa.example", 100, b"chiave-alice")),
+    },
+    Place {
+        address: b"Carl@Beta.example",
+        home: Some(1),
+        account: Some((b"carl@beta.example", 1, b"chiave-carl")),
+    },
+    // no account
+    Place {
+        address: b"nobody@beta.example",
+        home: Some(1),
+        account: None,
+    },
+    // in the second domain
+    Place {
+        address: b"alice@due.example",
+        home: Some(0),
+        account: None,
+    },
+    // in nobody's domain
+    Place {
+        address: b"x@posta.example",
+        home: None,
+        account: None,
+    },
+];
+
+// In the directory of the first provider alone.
+const PLACES_OF_FIRST: [Place; 2] = [
+    Place {
+        address: b"anna@alfa.example",
+        home: Some(0),
+        account: Some((b"anna@alfa.example", 100, b"chiave-anna")),
+    },
+    Place {
+        address: b"bob@beta.example",
+        home: None,
+        account: None,
+    },
+];
+
 #[test]
-fn an_address_has_a_home_and_may_be_an_account(rt: HostRuntime) -> Result<(), Fail> {
-    let rows: [(usize, &[u8], Option<u32>, &[u8]); 7] = [
-        // in capitals
-        (
-            2,
-            b"Alice@alfa.example",
-            Some(0),
-            b"alice@alfa.example 100 chiave-alice ",
-        ),
-        (
-            2,
-            b"Carl@Beta.example",
-            Some(1),
-            b"carl@beta.example 1 chiave-carl ",
-        ),
-        // no account
-        (2, b"nobody@beta.example", Some(1), b""),
-        // in the second domain
-        (2, b"alice@due.example", Some(0), b""),
-        // in nobody's domain
-        (2, b"x@posta.example", None, b""),
-        // the first provider alone
-        (
-            1,
-            b"anna@alfa.example",
-            Some(0),
-            b"anna@alfa.example 100 chiave-anna ",
-        ),
-        (1, b"bob@beta.example", None, b""),
-    ];
-    for (providers, text, home, account) in rows {
-        let directory = directory_of(rt.alloc(), providers)?;
-        let address = address_of(rt.alloc(), text)?;
-        assert_eq!(rt; directory.home_of(&address), home, "{text:?}");
-        let page = shown_account(rt.alloc(), directory.account(&address))?;
-        assert_eq!(rt; page.as_slice(), account, "{text:?}");
-    }
-    Ok(())
+fn an_address_has_a_home_and_may_be_an_account(rt: HostRuntime) {
+    assert_eq!(rt;
+        first_misplaced(rt.alloc(), directory(rt.alloc()), &PLACES),
+        None
+    );
+    assert_eq!(rt;
+        first_misplaced(rt.alloc(), first_alone(rt.alloc()), &PLACES_OF_FIRST),
+        None
+    );
 }
 
-/// Each row has an address, whether it is certified, the provider whose account it is, and whether it is the second
-/// one's.
-#[test]
-fn certified_addresses_and_accounts_are_told_apart(rt: HostRuntime) -> Result<(), Fail> {
-    let rows: [(&[u8], bool, Option<u32>, bool); 5] = [
-        (b"alice@alfa.example", true, Some(0), false),
-        (b"bob@beta.example", true, Some(1), true),
-        // certified, and no account
-        (b"nobody@beta.example", true, None, false),
-        (b"alice@due.example", true, None, false),
-        // external
-        (b"x@posta.example", false, None, false),
-    ];
-    let directory = directory_of(rt.alloc(), 2)?;
-    for (text, certified, home, at_beta) in rows {
-        let address = address_of(rt.alloc(), text)?;
-        assert_eq!(rt; directory.is_certified(&address), certified, "{text:?}");
-        assert_eq!(rt; directory.account_home(&address), home, "{text:?}");
-        assert_eq!(rt; directory.is_account_of(1, &address), at_beta, "{text:?}");
+/// The first address that has another home or account; none where each has its own.
+fn first_misplaced(
+    alloc: Global,
+    directory: Option<Directory>,
+    rows: &[Place],
+) -> Option<&'static [u8]> {
+    let Some(directory) = directory else {
+        return Some(b"no directory");
+    };
+    for row in rows {
+        if !is_placed(alloc, &directory, row) {
+            return Some(row.address);
+        }
     }
-    Ok(())
+    None
 }
 
-/// Each row has the number of providers, a name, and the number of its provider.
-#[test]
-fn a_name_is_one_providers(rt: HostRuntime) -> Result<(), Fail> {
-    let rows: [(usize, &[u8], Option<u32>); 4] = [
-        (2, b"alfa", Some(0)),
-        (2, b"beta", Some(1)),
-        // a capital is another byte
-        (2, b"Beta", None),
-        (1, b"beta", None),
-    ];
-    for (providers, name, number) in rows {
-        let directory = directory_of(rt.alloc(), providers)?;
-        assert_eq!(rt; directory.count() as usize, providers);
-        assert_eq!(rt; directory.named(name), number, "{name:?}");
-        assert!(rt; directory.provider(providers as u32).is_none());
+fn is_placed(alloc: Global, directory: &Directory, row: &Place) -> bool {
+    match address_of(alloc, row.address) {
+        Some(address) => {
+            directory.home_of(&address) == row.home
+                && is_found(directory.account(&address), row.account)
+        }
+        None => false,
     }
-    Ok(())
 }
 
-/// Each row has a text, and the provider and the number of the message that it names.
+/// An address, whether it is certified, the provider whose account it is, and whether it is the second one's.
+#[derive(Clone, Copy)]
+struct Standing {
+    address: &'static [u8],
+    certified: bool,
+    home: Option<u32>,
+    at_beta: bool,
+}
+
+const STANDINGS: [Standing; 5] = [
+    Standing {
+        address: b"alice@alfa.example",
+        certified: true,
+        home: Some(0),
+        at_beta: false,
+    },
+    Standing {
+        address: b"bob@beta.example",
+        certified: true,
+        home: Some(1),
+        at_beta: true,
+    },
+    // certified, and no account
+    Standing {
+        address: b"nobody@beta.example",
+        certified: true,
+        home: None,
+        at_beta: false,
+    },
+    Standing {
+        address: b"alice@due.example",
+        certified: true,
+        home: None,
+        at_beta: false,
+    },
+    // external
+    Standing {
+        address: b"x@posta.example",
+        certified: false,
+        home: None,
+        at_beta: false,
+    },
+];
+
 #[test]
-fn a_text_names_a_message_where_it_is_printed_so(rt: HostRuntime) -> Result<(), Fail> {
-    let rows: [(&[u8], Option<(u32, u64)>); 11] = [
-        (b"pec.0000000@alfa.example", Some((0, 0))),
-        (b"pec.0000042@beta.example", Some((1, 42))),
-        // the last number, and the first that no message has
-        (b"pec.0999999@beta.example", Some((1, 999_999))),
-        (b"pec.1000000@beta.example", None),
-        // a provider's second domain, and nobody's domain
-        (b"pec.0000000@due.example", None),
-        (b"pec.0000000@posta.example", None),
-        // six digits, eight, and a byte that is no digit but worth ten
-        (b"pec.000000@alfa.example", None),
-        (b"pec.00000000@alfa.example", None),
-        (b"pec.000000:@alfa.example", None),
-        // a capital, and too short for a number
-        (b"Pec.0000000@alfa.example", None),
-        (b"pec.000", None),
-    ];
-    let directory = directory_of(rt.alloc(), 2)?;
+fn certified_addresses_and_accounts_are_told_apart(rt: HostRuntime) {
+    assert_eq!(rt; first_mistaken(rt.alloc(), &STANDINGS), None);
+}
+
+/// The first address that is told otherwise; none where each is told as its row has it.
+fn first_mistaken(alloc: Global, rows: &[Standing]) -> Option<&'static [u8]> {
+    let Some(directory) = directory(alloc) else {
+        return Some(b"no directory");
+    };
+    for row in rows {
+        if !is_standing(alloc, &directory, row) {
+            return Some(row.address);
+        }
+    }
+    None
+}
+
+fn is_standing(alloc: Global, directory: &Directory, row: &Standing) -> bool {
+    match address_of(alloc, row.address) {
+        Some(address) => {
+            directory.is_certified(&address) == row.certified
+                && directory.account_home(&address) == row.home
+                && directory.is_account_of(1, &address) == row.at_beta
+        }
+        None => false,
+    }
+}
+
+// Names, and the numbers of their providers, of which there are two. A capital is another byte.
+const NAMES: [(&[u8], Option<u32>); 3] = [(b"alfa", Some(0)), (b"beta", Some(1)), (b"Beta", None)];
+
+// Of the first provider alone.
+const NAMES_OF_FIRST: [(&[u8], Option<u32>); 1] = [(b"beta", None)];
+
+#[test]
+fn a_name_is_one_providers(rt: HostRuntime) {
+    assert_eq!(rt; first_misnamed(directory(rt.alloc()), 2, &NAMES), None);
+    assert_eq!(rt;
+        first_misnamed(first_alone(rt.alloc()), 1, &NAMES_OF_FIRST),
+        None
+    );
+}
+
+/// The first name that is another provider's than its row has it, of a directory of so many; none where each is its.
+fn first_misnamed(
+    directory: Option<Directory>,
+    count: u32,
+    rows: &[(&'static [u8], Option<u32>)],
+) -> Option<&'static [u8]> {
+    let Some(directory) = directory else {
+        return Some(b"no directory");
+    };
+    if directory.count() != count || directory.provider(count).is_some() {
+        return Some(b"another count");
+    }
+    for (name, number) in rows {
+        if directory.named(name) != *number {
+            return Some(*name);
+        }
+    }
+    None
+}
+
+// Texts, and the providers and the numbers of the messages that they name.
+const TEXTS: [(&[u8], Option<(u32, u64)>); 11] = [
+    (b"pec.0000000@alfa.example", Some((0, 0))),
+    (b"pec.0000042@beta.example", Some((1, 42))),
+    // the last number, and the first that no message has
+    (b"pec.0999999@beta.example", Some((1, 999_999))),
+    (b"pec.1000000@beta.example", None),
+    // a provider's second domain, and nobody's domain
+    (b"pec.0000000@due.example", None),
+    (b"pec.0000000@posta.example", None),
+    // six digits, eight, and a byte that is no digit but worth ten
+    (b"pec.000000@alfa.example", None),
+    (b"pec.00000000@alfa.example", None),
+    (b"pec.000000:@alfa.example", None),
+    // a capital, and too short for a number
+    (b"Pec.0000000@alfa.example", None),
+    (b"pec.000", None),
+];
+
+#[test]
+fn a_text_names_a_message_where_it_is_printed_so(rt: HostRuntime) {
+    assert_eq!(rt; first_unread(rt.alloc(), &TEXTS), None);
+}
+
+/// The first text that names another message; none where each names its own.
+fn first_unread(
+    alloc: Global,
+    rows: &[(&'static [u8], Option<(u32, u64)>)],
+) -> Option<&'static [u8]> {
+    let Some(directory) = directory(alloc) else {
+        return Some(b"no directory");
+    };
     for (text, named) in rows {
-        let id = directory.id_of(rt.alloc(), text).ok().ok_or("memory")?;
-        assert_eq!(rt; id.map(|id| (id.provider, id.number)), named, "{text:?}");
+        if !names(alloc, &directory, text, *named) {
+            return Some(*text);
+        }
     }
-    Ok(())
+    None
+}
+
+fn names(alloc: Global, directory: &Directory, text: &[u8], named: Option<(u32, u64)>) -> bool {
+    match directory.id_of(alloc, text) {
+        Ok(Some(id)) => named == Some((id.provider, id.number)),
+        Ok(None) => named.is_none(),
+        Err(_) => false,
+    }
+}
+
+/// What the text says of a provider, but for its key and zone.
+#[derive(Clone, Copy)]
+struct Shown {
+    number: u32,
+    name: &'static [u8],
+    receipts: &'static [u8],
+    /// The first domain, and all of them.
+    first: &'static [u8],
+    domains: &'static [&'static [u8]],
+    accounts: &'static [Entry],
+}
+
+const PROVIDERS: [Shown; 2] = [
+    Shown {
+        number: 0,
+        name: b"alfa",
+        receipts: b"ricevute@alfa.example",
+        first: b"alfa.example",
+        domains: &[b"alfa.example", b"due.example"],
+        accounts: &[
+            (b"alice@alfa.example", 100, b"chiave-alice"),
+            (b"anna@alfa.example", 100, b"chiave-anna"),
+        ],
+    },
+    Shown {
+        number: 1,
+        name: b"beta",
+        receipts: b"ricevute@beta.example",
+        first: b"beta.example",
+        domains: &[b"beta.example"],
+        accounts: &[
+            (b"bob@beta.example", 100, b"chiave-bob"),
+            (b"carl@beta.example", 1, b"chiave-carl"),
+        ],
+    },
+];
+
+#[test]
+fn a_provider_is_shown_as_its_text_says(rt: HostRuntime) {
+    assert_eq!(rt; first_misshown(rt.alloc(), &PROVIDERS), None);
+}
+
+/// The first provider that is shown otherwise; none where each is shown as its row has it.
+fn first_misshown(alloc: Global, rows: &[Shown]) -> Option<&'static [u8]> {
+    let Some(directory) = directory(alloc) else {
+        return Some(b"no directory");
+    };
+    if !directory.first_domain(2).is_empty() {
+        return Some(b"a third domain");
+    }
+    for row in rows {
+        if !is_shown(&directory, row) {
+            return Some(row.name);
+        }
+    }
+    None
+}
+
+fn is_shown(directory: &Directory, row: &Shown) -> bool {
+    if directory.first_domain(row.number) != row.first {
+        return false;
+    }
+    match directory.provider(row.number) {
+        Some(provider) => {
+            has_texts(provider, row)
+                && are_domains(provider.domains(), row.domains)
+                && are_entries(provider.accounts(), row.accounts)
+        }
+        None => false,
+    }
+}
+
+fn has_texts(provider: &Provider, row: &Shown) -> bool {
+    provider.name().bytes() == row.name
+        && provider.receipts().bytes() == row.receipts
+        && provider.rule().bytes() == b"CET-1CEST,M3.5.0,M10.5.0/3".as_slice()
+        && provider.limit() == 31_457_280
+}
+
+fn are_domains(domains: &[Text], wanted: &[&[u8]]) -> bool {
+    for (domain, bytes) in domains.iter().zip(wanted) {
+        if domain.bytes() != *bytes {
+            return false;
+        }
+    }
+    domains.len() == wanted.len()
 }
 
 #[test]
-fn a_provider_is_shown_as_its_text_says(rt: HostRuntime) -> Result<(), Fail> {
-    let rows: [(u32, &[u8], &[u8]); 2] = [
-        (
-            0,
-            b"alfa.example",
-            b"alfa ricevute@alfa.example alfa.example due.example CET-1CEST,M3.5.0,M10.5.0/3 alice@alfa.example 100 chiave-alice anna@alfa.example 100 chiave-anna ",
-        ),
-        (
-            1,
-            b"beta.example",
-            b"beta ricevute@beta.example beta.example CET-1CEST,M3.5.0,M10.5.0/3 bob@beta.example 100 chiave-bob carl@beta.example 1 chiave-carl ",
-        ),
-    ];
-    let directory = directory_of(rt.alloc(), 2)?;
-    for (number, domain, page) in rows {
-        let provider = directory.provider(number).ok_or("a provider")?;
-        let shown = shown_provider(rt.alloc(), provider)?;
-        assert_eq!(rt; shown.as_slice(), page);
-        assert_eq!(rt; directory.first_domain(number), domain);
-        assert_eq!(rt; provider.limit(), 31_457_280);
-    }
-    assert!(rt; directory.first_domain(2).is_empty());
-    Ok(())
+fn keys_and_zones_are_kept(rt: HostRuntime) {
+    assert!(rt; keeps_key_and_zone(rt.alloc()));
 }
 
-#[test]
-fn keys_and_zones_are_kept(rt: HostRuntime) -> Result<(), Fail> {
-    let directory = directory_of(rt.alloc(), 2)?;
-    let beta = directory.provider(1).ok_or("a provider")?;
-    let key = hex::encode(rt.alloc(), beta.key())?;
-    assert_eq!(rt; key.as_str(), "101112131415161718191a1b1c1d1e1f");
-    assert!(rt; Zone::read(beta.rule()) == Ok(*beta.zone()));
-    Ok(())
+fn keeps_key_and_zone(alloc: Global) -> bool {
+    match directory(alloc) {
+        Some(directory) => match directory.provider(1) {
+            Some(beta) => has_key_and_zone(beta),
+            None => false,
+        },
+        None => false,
+    }
+}
+
+const KEY: [u8; 16] = [
+    0x10, 0x11, 0x12, 0x13, 0x14, 0x15, 0x16, 0x17, 0x18, 0x19, 0x1a, 0x1b, 0x1c, 0x1d, 0x1e, 0x1f,
+];
+
+fn has_key_and_zone(beta: &Provider) -> bool {
+    beta.key() == KEY.as_slice() && Zone::read(beta.rule()) == Ok(*beta.zone())
 }
 
 // As `sha256sum` (GNU coreutils) gives it for the canonical text, written out by hand.
 #[test]
-fn a_digest_is_that_of_the_canonical_text(rt: HostRuntime) -> Result<(), Fail> {
-    let directory = directory_of(rt.alloc(), 2)?;
-    let digest = directory.digest(rt.alloc()).ok().ok_or("memory")?;
-    let digest = hex::encode(rt.alloc(), digest)?;
-    assert_eq!(rt;
-        digest.as_str(),
-        "650ac76bf12687978cc1a9683ba637c59fc4f5e104ec183beebd4ed60987180b"
+fn a_digest_is_that_of_the_canonical_text(rt: HostRuntime) {
+    assert!(rt;
+        has_digest(
+            rt.alloc(),
+            "650ac76bf12687978cc1a9683ba637c59fc4f5e104ec183beebd4ed60987180b"
+        )
     );
-    Ok(())
+}
+
+fn has_digest(alloc: Global, wanted: &str) -> bool {
+    match directory(alloc) {
+        Some(directory) => is_digest(alloc, &directory, wanted),
+        None => false,
+    }
+}
+
+fn is_digest(alloc: Global, directory: &Directory, wanted: &str) -> bool {
+    match digest_of(alloc, directory) {
+        Some(digest) => digest.as_str() == wanted,
+        None => false,
+    }
+}
+
+fn digest_of(alloc: Global, directory: &Directory) -> Option<String> {
+    let digest = directory.digest(alloc).ok()?;
+    hex::encode(alloc, digest).ok()
 }

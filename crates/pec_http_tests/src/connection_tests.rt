@@ -1,14 +1,13 @@
 //! Heads at their bounds, what is read of a connection, and connections that fail.
 use crate::desk::Mood;
-use crate::serving::{Exchange, NEVER, serve};
+use crate::serving::{Exchange, NEVER, answers, serve};
 use pec_http::Served;
-use std::alloc::Global;
-use std::test::Fail;
+use std::alloc::{AllocError, Global};
 
 const REQUEST: &[u8] = b"GET /mail/anna@alfa.example/book HTTP/1.1\r\nx-key: chiave\r\n\r\n";
 
 /// A request for a book whose head has so many bytes.
-fn head_of(alloc: Global, bytes: usize) -> Result<Vec<u8>, Fail> {
+fn head_of(alloc: Global, bytes: usize) -> Result<Vec<u8>, AllocError> {
     let mut request = Vec::from_slice(
         alloc,
         b"GET /mail/anna@alfa.example/book HTTP/1.1\r\nx-key: chiave\r\nx: ",
@@ -22,7 +21,7 @@ fn head_of(alloc: Global, bytes: usize) -> Result<Vec<u8>, Fail> {
 }
 
 /// A request for a book with so many lines behind its first.
-fn head_with(alloc: Global, lines: u32) -> Result<Vec<u8>, Fail> {
+fn head_with(alloc: Global, lines: u32) -> Result<Vec<u8>, AllocError> {
     let mut request = Vec::from_slice(
         alloc,
         b"GET /mail/anna@alfa.example/book HTTP/1.1\r\nx-key: chiave\r\n",
@@ -34,60 +33,128 @@ fn head_with(alloc: Global, lines: u32) -> Result<Vec<u8>, Fail> {
     Ok(request)
 }
 
+// How many bytes a head has, and the status of the answer.
+const SIZES: [(usize, u16); 4] = [(65_535, 200), (65_536, 200), (65_537, 431), (70_000, 431)];
+
 #[test]
-fn a_head_has_at_most_65536_bytes_and_64_lines(rt: HostRuntime) -> Result<(), Fail> {
-    for (bytes, status) in [(65_535, 200), (65_536, 200), (65_537, 431), (70_000, 431)] {
-        let request = head_of(rt.alloc(), bytes)?;
-        assert_eq!(rt; request.len(), bytes);
-        let exchange = serve(rt.alloc(), Mood::Accepts, &request, 1000, NEVER)?;
-        assert_eq!(rt; exchange.served, Served::Answered(status));
+fn a_head_has_at_most_65536_bytes(rt: HostRuntime) {
+    assert_eq!(rt; first_wrong_size(rt.alloc(), &SIZES), None);
+}
+
+/// The first number of bytes that a head is answered otherwise with; none where each is answered so.
+fn first_wrong_size(alloc: Global, rows: &[(usize, u16)]) -> Option<usize> {
+    for (bytes, status) in rows {
+        if !has_size_answered(alloc, *bytes, *status) {
+            return Some(*bytes);
+        }
     }
-    for (lines, status) in [(63, 200), (64, 200), (65, 431), (1000, 431)] {
-        let request = head_with(rt.alloc(), lines)?;
-        let exchange = serve(rt.alloc(), Mood::Accepts, &request, 4096, NEVER)?;
-        assert_eq!(rt; exchange.served, Served::Answered(status));
+    None
+}
+
+fn has_size_answered(alloc: Global, bytes: usize, status: u16) -> bool {
+    match head_of(alloc, bytes) {
+        Ok(request) => request.len() == bytes && answers(alloc, &request, 1000, status, 0),
+        Err(_) => false,
     }
-    Ok(())
+}
+
+// How many lines a head has, and the status of the answer.
+const LINES: [(u32, u16); 4] = [(63, 200), (64, 200), (65, 431), (1000, 431)];
+
+#[test]
+fn a_head_has_at_most_64_lines(rt: HostRuntime) {
+    assert_eq!(rt; first_wrong_count(rt.alloc(), &LINES), None);
+}
+
+/// The first number of lines that a head is answered otherwise with; none where each is answered so.
+fn first_wrong_count(alloc: Global, rows: &[(u32, u16)]) -> Option<u32> {
+    for (lines, status) in rows {
+        if !has_count_answered(alloc, *lines, *status) {
+            return Some(*lines);
+        }
+    }
+    None
+}
+
+fn has_count_answered(alloc: Global, lines: u32, status: u16) -> bool {
+    match head_with(alloc, lines) {
+        Ok(request) => answers(alloc, &request, 4096, status, 0),
+        Err(_) => false,
+    }
 }
 
 // 65,536 bytes without an end are too many, and one byte fewer is a head that is cut: whatever they say.
 #[test]
-fn bytes_without_an_end_are_too_many(rt: HostRuntime) -> Result<(), Fail> {
-    let mut bytes = Vec::new(rt.alloc());
-    bytes.resize(65_535, b'x')?;
-    let short = serve(rt.alloc(), Mood::Accepts, &bytes, 4096, NEVER)?;
-    assert_eq!(rt; short.served, Served::Answered(400));
-    bytes.push(b'x')?;
-    let large = serve(rt.alloc(), Mood::Accepts, &bytes, 4096, NEVER)?;
-    assert_eq!(rt; large.served, Served::Answered(431));
-    Ok(())
+fn bytes_without_an_end_are_too_many(rt: HostRuntime) {
+    assert!(rt; has_endless_answered(rt.alloc(), 65_535, 400));
+    assert!(rt; has_endless_answered(rt.alloc(), 65_536, 431));
+}
+
+fn has_endless_answered(alloc: Global, count: usize, status: u16) -> bool {
+    let mut bytes = Vec::new(alloc);
+    match bytes.resize(count, b'x') {
+        Ok(()) => answers(alloc, &bytes, 4096, status, 0),
+        Err(_) => false,
+    }
 }
 
 // Where bytes come one by one, those of a second request stay unread.
 #[test]
-fn a_second_request_is_not_read(rt: HostRuntime) -> Result<(), Fail> {
-    let mut both = Vec::from_slice(rt.alloc(), REQUEST)?;
-    both.extend_from_slice(REQUEST)?;
-    let exchange = serve(rt.alloc(), Mood::Accepts, &both, 1, NEVER)?;
-    assert_eq!(rt; exchange.served, Served::Answered(200));
-    assert_eq!(rt; exchange.wire.at, REQUEST.len());
-    Ok(())
+fn a_second_request_is_not_read(rt: HostRuntime) {
+    assert!(rt; reads_one(rt.alloc()));
+}
+
+fn reads_one(alloc: Global) -> bool {
+    match twice(alloc, REQUEST) {
+        Ok(both) => has_read(alloc, &both, REQUEST.len()),
+        Err(_) => false,
+    }
+}
+
+fn twice(alloc: Global, text: &[u8]) -> Result<Vec<u8>, AllocError> {
+    let mut both = Vec::from_slice(alloc, text)?;
+    both.extend_from_slice(text)?;
+    Ok(both)
+}
+
+/// Whether the request is answered when so many bytes of the input were read.
+fn has_read(alloc: Global, input: &[u8], bytes: usize) -> bool {
+    match serve(alloc, Mood::Accepts, input, 1, NEVER) {
+        Ok(exchange) => exchange.served == Served::Answered(200) && exchange.wire.at == bytes,
+        Err(_) => false,
+    }
 }
 
 const SUBMISSION: &[u8] =
-    b"POST /mail/anna@alfa.example/submit HTTP/1.1\r\nx-key: chiave\r\nx-path: bob@beta.example\r\ncontent-length: 5\r\n\r\nSalve";
+    b"POST /mail/anna@alfa.example/submit HTTP/1.1\r\nx-key: chiave\r\nx-path: bob@beta.example\r\n\
+     content-length: 5\r\n\r\nSalve";
 
 // Each call of the connection fails in turn: a read is told as such and nothing is asked of the desk, and after a write
 // a front of the answer stands.
 #[test]
-fn each_call_of_a_connection_can_fail(rt: HostRuntime) -> Result<(), Fail> {
-    let calm = serve(rt.alloc(), Mood::Accepts, SUBMISSION, 16, NEVER)?;
-    assert_eq!(rt; calm.served, Served::Answered(201));
+fn each_call_of_a_connection_can_fail(rt: HostRuntime) {
+    assert!(rt; answers(rt.alloc(), SUBMISSION, 16, 201, 1));
+    assert_eq!(rt; first_untold_fault(rt.alloc()), None);
+}
+
+/// The first call whose failure isn't told truly; none where each one's is.
+fn first_untold_fault(alloc: Global) -> Option<u64> {
+    let Ok(calm) = serve(alloc, Mood::Accepts, SUBMISSION, 16, NEVER) else {
+        return Some(NEVER);
+    };
     for number in 0..calm.wire.calls {
-        let failed = serve(rt.alloc(), Mood::Accepts, SUBMISSION, 16, number)?;
-        assert!(rt; is_front_of(&calm, &failed));
+        if !has_fault_told(alloc, &calm, number) {
+            return Some(number);
+        }
     }
-    Ok(())
+    None
+}
+
+fn has_fault_told(alloc: Global, calm: &Exchange, number: u64) -> bool {
+    match serve(alloc, Mood::Accepts, SUBMISSION, 16, number) {
+        Ok(failed) => is_front_of(calm, &failed),
+        Err(_) => false,
+    }
 }
 
 /// Whether one call failed, and what was written and asked is told truly.
@@ -108,19 +175,30 @@ const LETTERS: &[u8; 32] = b"GETPOSTmail/anna@alf.exbook \r\n:1";
 
 // Random bytes are answered, and nothing is asked of the desk.
 #[test]
-fn a_thousand_random_requests_are_answered(rt: HostRuntime) -> Result<(), Fail> {
+fn a_thousand_random_requests_are_answered(rt: HostRuntime) {
+    assert_eq!(rt; first_random_wrong(rt.alloc(), 1000), None);
+}
+
+/// The number of the first of so many random requests that isn't refused; none where each is.
+fn first_random_wrong(alloc: Global, count: u32) -> Option<u32> {
     let mut state = 1_704_186_000;
-    for _ in 0..1000 {
-        let request = random(rt.alloc(), &mut state)?;
-        let exchange = serve(rt.alloc(), Mood::Accepts, &request, 64, NEVER)?;
-        assert_eq!(rt; exchange.served, Served::Answered(400));
-        assert_eq!(rt; exchange.desk.submissions, 0);
+    for number in 0..count {
+        if !is_random_refused(alloc, &mut state) {
+            return Some(number);
+        }
     }
-    Ok(())
+    None
+}
+
+fn is_random_refused(alloc: Global, state: &mut u64) -> bool {
+    match random(alloc, state) {
+        Ok(request) => answers(alloc, &request, 64, 400, 0),
+        Err(_) => false,
+    }
 }
 
 /// The next of the random requests, of 255 bytes at most (xorshift of 64 bits).
-fn random(alloc: Global, state: &mut u64) -> Result<Vec<u8>, Fail> {
+fn random(alloc: Global, state: &mut u64) -> Result<Vec<u8>, AllocError> {
     let mut bytes = Vec::new(alloc);
     let count = *state % 256;
     for _ in 0..count {

@@ -1,8 +1,7 @@
-use crate::said::{first_wrong, said};
+use crate::said::{first_wrong, says};
 use crate::values::directory;
 use pec_directory::Directory;
-use std::alloc::Global;
-use std::test::Fail;
+use std::alloc::{AllocError, Global};
 
 // A line of each command, and what it says. Names are numbers, addresses are in lower case, bytes are decoded.
 const COMMANDS: [(&str, &str); 12] = [
@@ -25,36 +24,61 @@ const COMMANDS: [(&str, &str); 12] = [
 
 // One word too few, one too many, and a last word that is empty: whatever stands in the others.
 #[test]
-fn words_are_counted_first(rt: HostRuntime) -> Result<(), Fail> {
-    let directory = directory(rt.alloc())?;
-    for (line, _) in COMMANDS {
-        assert!(rt; has_other_counts(rt.alloc(), &directory, line)?);
+fn words_are_counted_first(rt: HostRuntime) {
+    assert_eq!(rt; first_uncounted(rt.alloc(), &COMMANDS), None);
+}
+
+/// The first line whose words aren't counted before they are read; none where each line's are.
+fn first_uncounted(alloc: Global, rows: &[(&'static str, &'static str)]) -> Option<&'static str> {
+    let Some(directory) = directory(alloc) else {
+        return Some("no directory");
+    };
+    for (line, _) in rows {
+        if !has_other_counts(alloc, &directory, line) {
+            return Some(*line);
+        }
     }
-    Ok(())
+    None
 }
 
 /// Whether the line has another number of words than its command where its last word is cut off, and where another
 /// or an empty one stands behind it.
-fn has_other_counts(alloc: Global, directory: &Directory, line: &str) -> Result<bool, Fail> {
-    let (few, _) = line.rsplit_once(' ').ok_or("two words")?;
-    let mut many = Vec::from_slice(alloc, line.as_bytes())?;
-    many.push(b' ')?;
-    let empty_behind = is_arity(alloc, directory, &many)?;
-    many.extend_from_slice(b"x")?;
-    Ok(
-        is_arity(alloc, directory, few.as_bytes())?
-            && empty_behind
-            && is_arity(alloc, directory, &many)?,
-    )
+fn has_other_counts(alloc: Global, directory: &Directory, line: &str) -> bool {
+    let Some((few, _)) = line.rsplit_once(' ') else {
+        return false;
+    };
+    is_arity(alloc, directory, few, "")
+        && is_arity(alloc, directory, line, " ")
+        && is_arity(alloc, directory, line, " x")
 }
 
-fn is_arity(alloc: Global, directory: &Directory, line: &[u8]) -> Result<bool, Fail> {
-    let said = said(alloc, directory, line)?;
-    Ok(said.as_slice() == b"refused line 7 arity\n".as_slice())
+/// Whether the line of this front and this end is refused for the number of its words.
+fn is_arity(alloc: Global, directory: &Directory, front: &str, end: &str) -> bool {
+    match repeated(alloc, front, end, 1, "") {
+        Ok(line) => says(alloc, directory, &line, b"refused line 7 arity\n"),
+        Err(_) => false,
+    }
 }
 
-// The first words of lines, and lines whose words are too few before any is wrong.
-const WORDS: [(&str, &str); 16] = [
+/// A front, so many times what stands behind it, and an end.
+fn repeated(
+    alloc: Global,
+    front: &str,
+    behind: &str,
+    count: u32,
+    end: &str,
+) -> Result<Vec<u8>, AllocError> {
+    let mut text = Vec::from_slice(alloc, front.as_bytes())?;
+    for _ in 0..count {
+        text.extend_from_slice(behind.as_bytes())?;
+    }
+    text.extend_from_slice(end.as_bytes())?;
+    Ok(text)
+}
+
+// Lines that are no commands.
+const REFUSED: [(&str, &str); 43] = [
+    // The first words of lines, and lines whose words are too few before any is wrong.
     ("", "refused line 7 unknown-word\n"),
     (" ", "refused line 7 unknown-word\n"),
     (" book a@b", "refused line 7 unknown-word\n"),
@@ -74,10 +98,7 @@ const WORDS: [(&str, &str); 16] = [
         "submit alfa 1 a@b a@b, a@b U2FsdmU=",
         "refused line 7 arity\n",
     ),
-];
-
-// Each argument of each command is wrong once, and all behind it are wrong too.
-const ARGUMENTS: [(&str, &str); 27] = [
+    // Each argument of each command is wrong once, and all behind it are wrong too.
     (
         "submit gamma x x x x",
         "refused line 7 unknown-provider 1\n",
@@ -110,8 +131,9 @@ const ARGUMENTS: [(&str, &str); 27] = [
     ("show a@b,a@b 1", "refused line 7 bad-address 1\n"),
 ];
 
-// Moments and places: zeros in front, signs, and the numbers at and past each bound.
-const NUMBERS: [(&str, &str); 22] = [
+// Arguments as they are written, and others that are near.
+const SPELLINGS: [(&str, &str); 43] = [
+    // Moments and places: zeros in front, signs, and the numbers at and past each bound.
     ("round 0", "round 0"),
     ("round 9", "round 9"),
     ("round 4102444799", "round 4102444799"),
@@ -143,10 +165,7 @@ const NUMBERS: [(&str, &str); 22] = [
     ("show a@b 4294967296", "refused line 7 bad-number 2\n"),
     ("show a@b 00", "refused line 7 bad-number 2\n"),
     ("show a@b -1", "refused line 7 bad-number 2\n"),
-];
-
-// Bytes in base64 with too little padding or too much, bits behind the last byte, and other alphabets.
-const BYTES: [(&str, &str); 14] = [
+    // Bytes in base64 with too little padding or too much, bits behind the last byte, and other alphabets.
     ("inject alfa beta ", "inject 0 1 "),
     ("inject alfa beta U2FsdmU=", "inject 0 1 Salve"),
     ("inject alfa beta U2Fsdg==", "inject 0 1 Salv"),
@@ -164,10 +183,7 @@ const BYTES: [(&str, &str); 14] = [
     ("inject alfa beta U2Fs\n", "refused line 7 bad-base64 3\n"),
     ("inject alfa beta U2-_", "refused line 7 bad-base64 3\n"),
     ("inject alfa beta U", "refused line 7 bad-base64 3\n"),
-];
-
-// Paths that are none: the comma stands between addresses alone.
-const PATHS: [(&str, &str); 7] = [
+    // Paths that are none: the comma stands between addresses alone.
     ("submit alfa 1 a@b a@b ", "submit 0 1 a@b a@b "),
     ("submit alfa 1 a@b  ", "refused line 7 bad-address 4\n"),
     ("submit alfa 1 a@b , ", "refused line 7 bad-address 4\n"),
@@ -184,34 +200,42 @@ const PATHS: [(&str, &str); 7] = [
 ];
 
 #[test]
-fn each_line_says_what_its_row_has(rt: HostRuntime) -> Result<(), Fail> {
-    let directory = directory(rt.alloc())?;
-    let tables: [&[(&str, &str)]; 6] = [&COMMANDS, &WORDS, &ARGUMENTS, &NUMBERS, &BYTES, &PATHS];
-    for rows in tables {
-        assert_eq!(rt; first_wrong(rt.alloc(), &directory, rows)?, None);
-    }
-    Ok(())
+fn a_command_is_read_by_its_form(rt: HostRuntime) {
+    assert_eq!(rt; first_wrong(rt.alloc(), &COMMANDS), None);
 }
 
 #[test]
-fn a_path_has_1_to_1000_addresses(rt: HostRuntime) -> Result<(), Fail> {
-    let directory = directory(rt.alloc())?;
-    assert!(rt; takes_path_of(rt.alloc(), &directory, 1)?);
-    assert!(rt; takes_path_of(rt.alloc(), &directory, 1000)?);
-    assert!(rt; !takes_path_of(rt.alloc(), &directory, 1001)?);
-    Ok(())
+fn a_line_is_refused_for_its_first_fault(rt: HostRuntime) {
+    assert_eq!(rt; first_wrong(rt.alloc(), &REFUSED), None);
 }
 
-/// Whether a submission is read that has so many addresses in its path, of which there is one.
-fn takes_path_of(alloc: Global, directory: &Directory, count: u32) -> Result<bool, Fail> {
-    let mut line = Vec::from_slice(alloc, b"submit alfa 1 a@b a@b")?;
-    let mut wanted = Vec::from_slice(alloc, b"submit 0 1 a@b a@b")?;
-    for _ in 1..count {
-        line.extend_from_slice(b",a@b")?;
-        wanted.extend_from_slice(b" a@b")?;
+#[test]
+fn an_argument_has_one_spelling(rt: HostRuntime) {
+    assert_eq!(rt; first_wrong(rt.alloc(), &SPELLINGS), None);
+}
+
+#[test]
+fn a_path_has_1_to_1000_addresses(rt: HostRuntime) {
+    assert!(rt; takes_path(rt.alloc(), 0));
+    assert!(rt; takes_path(rt.alloc(), 999));
+    assert!(rt; path_says(rt.alloc(), 1000, b"refused line 7 bad-address 4\n"));
+}
+
+/// Whether a submission is read that has so many addresses in its path behind the first.
+fn takes_path(alloc: Global, more: u32) -> bool {
+    match repeated(alloc, "submit 0 1 a@b a@b", " a@b", more, " ") {
+        Ok(wanted) => path_says(alloc, more, &wanted),
+        Err(_) => false,
     }
-    line.push(b' ')?;
-    wanted.push(b' ')?;
-    let said = said(alloc, directory, &line)?;
-    Ok(said.as_slice() == wanted.as_slice())
+}
+
+/// Whether a submission with so many addresses in its path behind the first says this.
+fn path_says(alloc: Global, more: u32, wanted: &[u8]) -> bool {
+    let Some(directory) = directory(alloc) else {
+        return false;
+    };
+    match repeated(alloc, "submit alfa 1 a@b a@b", ",a@b", more, " ") {
+        Ok(line) => says(alloc, &directory, &line, wanted),
+        Err(_) => false,
+    }
 }

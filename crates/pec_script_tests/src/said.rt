@@ -1,37 +1,43 @@
 //! What a line says, in words of the tests' own.
+use crate::values::directory;
 use pec_directory::Directory;
 use pec_script::{Command, refused_text};
-use pec_types::{Address, Moment};
-use std::alloc::Global;
-use std::test::Fail;
+use pec_types::{Address, Moment, NoMemory};
+use std::alloc::{AllocError, Global};
 
-/// The place of the first row whose line says something else than the row has; none where each says that.
-pub fn first_wrong(
-    alloc: Global,
-    directory: &Directory,
-    rows: &[(&str, &str)],
-) -> Result<Option<usize>, Fail> {
-    for (place, (line, wanted)) in rows.iter().enumerate() {
-        let said = said(alloc, directory, line.as_bytes())?;
-        if said.as_slice() != wanted.as_bytes() {
-            return Ok(Some(place));
+/// The first line that says something else than its row has; none where each says that.
+pub fn first_wrong(alloc: Global, rows: &[(&'static str, &'static str)]) -> Option<&'static str> {
+    let Some(directory) = directory(alloc) else {
+        return Some("no directory");
+    };
+    for (line, wanted) in rows {
+        if !says(alloc, &directory, line.as_bytes(), wanted.as_bytes()) {
+            return Some(*line);
         }
     }
-    Ok(None)
+    None
+}
+
+/// Whether the line says this.
+pub fn says(alloc: Global, directory: &Directory, line: &[u8], wanted: &[u8]) -> bool {
+    match said(alloc, directory, line) {
+        Ok(said) => said.as_slice() == wanted,
+        Err(_) => false,
+    }
 }
 
 /// What a line says: its command in lower words, or the line of its fault, as that of line 7.
-pub fn said(alloc: Global, directory: &Directory, line: &[u8]) -> Result<Vec<u8>, Fail> {
+fn said(alloc: Global, directory: &Directory, line: &[u8]) -> Result<Vec<u8>, NoMemory> {
     match Command::read(alloc, line, directory) {
-        Ok(command) => shown(alloc, &command),
-        Err(fault) => {
-            let text = refused_text(alloc, 7, fault)?;
+        Ok(command) => {
+            let text = shown(alloc, &command)?;
             Ok(text)
         }
+        Err(fault) => refused_text(alloc, 7, fault),
     }
 }
 
-fn shown(alloc: Global, command: &Command) -> Result<Vec<u8>, Fail> {
+fn shown(alloc: Global, command: &Command) -> Result<Vec<u8>, AllocError> {
     match command {
         Command::Submit {
             provider,
@@ -44,36 +50,47 @@ fn shown(alloc: Global, command: &Command) -> Result<Vec<u8>, Fail> {
             submission(text, sender, path.as_slice(), message.bytes())
         }
         Command::Tick { provider, moment } => timed(alloc, b"tick", *provider, *moment),
-        Command::Round { moment } => numbers(alloc, b"round", &[moment.seconds()]),
+        Command::Round { moment } => numbered(alloc, b"round", moment.seconds()),
         Command::Lose { from, to, place } => placed(alloc, b"lose", *from, *to, *place),
         Command::Repeat { from, to, place } => placed(alloc, b"repeat", *from, *to, *place),
         Command::Swap { from, to, place } => placed(alloc, b"swap", *from, *to, *place),
-        Command::Inject { from, to, frame } => {
-            let text = numbers(alloc, b"inject", &[u64::from(*from), u64::from(*to)])?;
-            with_word(text, frame.bytes())
-        }
-        Command::Crash { provider } => numbers(alloc, b"crash", &[u64::from(*provider)]),
-        Command::Restart { provider } => numbers(alloc, b"restart", &[u64::from(*provider)]),
+        Command::Inject { from, to, frame } => injected(alloc, *from, *to, frame.bytes()),
+        Command::Crash { provider } => numbered(alloc, b"crash", u64::from(*provider)),
+        Command::Restart { provider } => numbered(alloc, b"restart", u64::from(*provider)),
         Command::Book { address } => named(alloc, b"book", address),
         Command::Mailbox { address } => named(alloc, b"mailbox", address),
         Command::Show { address, place } => {
-            let text = numbers(alloc, b"show", &[u64::from(*place)])?;
+            let text = numbered(alloc, b"show", u64::from(*place))?;
             with_word(text, address.bytes())
         }
     }
 }
 
-fn timed(alloc: Global, word: &[u8], provider: u32, moment: Moment) -> Result<Vec<u8>, Fail> {
-    numbers(alloc, word, &[u64::from(provider), moment.seconds()])
+fn timed(alloc: Global, word: &[u8], provider: u32, moment: Moment) -> Result<Vec<u8>, AllocError> {
+    let text = numbered(alloc, word, u64::from(provider))?;
+    with_number(alloc, text, moment.seconds())
 }
 
-fn placed(alloc: Global, word: &[u8], from: u32, to: u32, place: u32) -> Result<Vec<u8>, Fail> {
-    let all = [u64::from(from), u64::from(to), u64::from(place)];
-    numbers(alloc, word, &all)
+fn placed(
+    alloc: Global,
+    word: &[u8],
+    from: u32,
+    to: u32,
+    place: u32,
+) -> Result<Vec<u8>, AllocError> {
+    let text = numbered(alloc, word, u64::from(from))?;
+    let text = with_number(alloc, text, u64::from(to))?;
+    with_number(alloc, text, u64::from(place))
 }
 
-fn named(alloc: Global, word: &[u8], address: &Address) -> Result<Vec<u8>, Fail> {
-    let text = numbers(alloc, word, &[])?;
+fn injected(alloc: Global, from: u32, to: u32, frame: &[u8]) -> Result<Vec<u8>, AllocError> {
+    let text = numbered(alloc, b"inject", u64::from(from))?;
+    let text = with_number(alloc, text, u64::from(to))?;
+    with_word(text, frame)
+}
+
+fn named(alloc: Global, word: &[u8], address: &Address) -> Result<Vec<u8>, AllocError> {
+    let text = Vec::from_slice(alloc, word)?;
     with_word(text, address.bytes())
 }
 
@@ -82,7 +99,7 @@ fn submission(
     sender: &Address,
     path: &[Address],
     message: &[u8],
-) -> Result<Vec<u8>, Fail> {
+) -> Result<Vec<u8>, AllocError> {
     let mut text = with_word(text, sender.bytes())?;
     for address in path {
         text = with_word(text, address.bytes())?;
@@ -90,16 +107,17 @@ fn submission(
     with_word(text, message)
 }
 
-fn numbers(alloc: Global, word: &[u8], numbers: &[u64]) -> Result<Vec<u8>, Fail> {
-    let mut text = Vec::from_slice(alloc, word)?;
-    for number in numbers {
-        let digits = number.to_string(alloc)?;
-        text = with_word(text, digits.as_bytes())?;
-    }
-    Ok(text)
+fn numbered(alloc: Global, word: &[u8], number: u64) -> Result<Vec<u8>, AllocError> {
+    let text = Vec::from_slice(alloc, word)?;
+    with_number(alloc, text, number)
 }
 
-fn with_word(text: Vec<u8>, word: &[u8]) -> Result<Vec<u8>, Fail> {
+fn with_number(alloc: Global, text: Vec<u8>, number: u64) -> Result<Vec<u8>, AllocError> {
+    let digits = number.to_string(alloc)?;
+    with_word(text, digits.as_bytes())
+}
+
+fn with_word(text: Vec<u8>, word: &[u8]) -> Result<Vec<u8>, AllocError> {
     let mut text = text;
     text.push(b' ')?;
     text.extend_from_slice(word)?;

@@ -1,17 +1,15 @@
 //! Another reader of the lines of output: what a line says is made a value again, and printed once more.
-ghost use Rattle.std.specs.Prelude.{◌<◌, ◌≤◌, length, IfOk};
-ghost use Rattle.pec_script.specs.Known.{EventKnown, IsOfOneOrNone};
 
-use crate::values::{KINDS, turn_with};
+use crate::values::{nameless_item, turn_with};
 use pec_directory::Directory;
 use pec_script::{book_text, items_text, marks_text, submitted_text, turns_text};
 use pec_types::{
-    Address, BookLine, Cause, Class, Decision, Due, Event, ItemKind, ItemLine, Letter, Mark,
+    Address, BookLine, Cause, Class, Decision, Due, Event, ItemKind, ItemLine, Kind, Letter, Mark,
     Moment, MsgId, Refusal, Submitted,
 };
 use pec_words::{cut, number_below};
 use std::alloc::Global;
-use std::test::Fail;
+use std::slice::from_ref;
 
 /// Which command's lines a text has.
 #[derive(Clone, Copy)]
@@ -24,56 +22,72 @@ pub enum Form {
 }
 
 /// Whether each line of the text is printed again by the value that is read from it.
-pub fn is_read_again(
-    alloc: Global,
-    directory: &Directory,
-    form: Form,
-    text: &[u8],
-) -> Result<bool, Fail>
-    requires { 2 ≤ length directory.now }
-{
+pub fn is_read_again(alloc: Global, directory: &Directory, form: Form, text: &[u8]) -> bool {
     for line in text.split(|b| *b == b'\n') {
-        if !is_line_again(alloc, directory, form, line)? {
-            return Ok(false);
+        if !is_line_again(alloc, directory, form, line) {
+            return false;
         }
     }
-    Ok(true)
+    true
 }
 
-fn is_line_again(
-    alloc: Global,
-    directory: &Directory,
-    form: Form,
-    line: &[u8],
-) -> Result<bool, Fail>
-    requires { 2 ≤ length directory.now }
-{
+fn is_line_again(alloc: Global, directory: &Directory, form: Form, line: &[u8]) -> bool {
     if line.is_empty() || is_last(line) {
-        return Ok(true);
+        return true;
     }
+    match printed_again(alloc, directory, form, line) {
+        Some(text) => is_printed(
+            numberless(form, &text),
+            numberless(form, line),
+            last_of(form),
+        ),
+        None => false,
+    }
+}
+
+/// The text of the value that is read from the line.
+fn printed_again(alloc: Global, directory: &Directory, form: Form, line: &[u8]) -> Option<Vec<u8>> {
     match form {
         Form::Book => {
             let read = book_line(alloc, directory, line)?;
-            let text = book_text(alloc, directory, &[read])?;
-            Ok(is_printed(&text, line, b"book 1\n"))
+            book_text(alloc, directory, from_ref(&read)).ok()
         }
         Form::Mailbox => {
             let read = item_line(alloc, directory, line)?;
-            let text = items_text(alloc, directory, &[read])?;
-            Ok(is_printed(behind_word(&text), behind_word(line), b"mailbox 1\n"))
+            items_text(alloc, directory, from_ref(&read)).ok()
         }
         Form::Ticks => {
             let read = mark(alloc, directory, line)?;
-            let text = marks_text(alloc, directory, &[read])?;
-            Ok(is_printed(&text, line, b"ticked\n"))
+            marks_text(alloc, directory, from_ref(&read)).ok()
         }
         Form::Round => {
             let event = event(alloc, directory, line)?;
-            let turn = turn_with(alloc, directory.count(), event)?;
-            let text = turns_text(alloc, directory, &[turn])?;
-            Ok(is_printed(&text, line, b"round\n"))
+            let turn = turn_with(alloc, event)?;
+            turns_text(alloc, directory, from_ref(&turn)).ok()
         }
-        Form::Submission => is_submission_again(alloc, directory, line),
+        Form::Submission => {
+            let submitted = submitted(alloc, directory, line)?;
+            submitted_text(alloc, directory, &submitted).ok()
+        }
+    }
+}
+
+/// What counts of a line: of a mailbox's not the number in front.
+fn numberless(form: Form, line: &[u8]) -> &[u8] {
+    match form {
+        Form::Mailbox => behind_word(line),
+        _ => line,
+    }
+}
+
+/// The last line of a text of one value.
+fn last_of(form: Form) -> &'static [u8] {
+    match form {
+        Form::Book => b"book 1\n",
+        Form::Mailbox => b"mailbox 1\n",
+        Form::Ticks => b"ticked\n",
+        Form::Round => b"round\n",
+        Form::Submission => b"",
     }
 }
 
@@ -120,29 +134,12 @@ fn behind_word(line: &[u8]) -> &[u8] {
     }
 }
 
-fn id(alloc: Global, directory: &Directory, word: &[u8]) -> Result<MsgId, Fail>
-    ensures { IfOk result (λ id. id.provider < length directory.now) }
-{
-    let id = directory.id_of(alloc, word)?.ok_or("a message")?;
-    if id.provider >= directory.count() {
-        return Err("a provider".into());
-    }
-    Ok(id)
+fn id(alloc: Global, directory: &Directory, word: &[u8]) -> Option<MsgId> {
+    directory.id_of(alloc, word).ok()?
 }
 
-fn provider(directory: &Directory, word: &[u8]) -> Result<u32, Fail>
-    ensures { IfOk result (λ number. number < length directory.now) }
-{
-    let number = directory.named(word).ok_or("a provider")?;
-    if number >= directory.count() {
-        return Err("a provider".into());
-    }
-    Ok(number)
-}
-
-fn address(alloc: Global, word: &[u8]) -> Result<Address, Fail> {
-    let address = Address::read(alloc, word)?;
-    Ok(address)
+fn address(alloc: Global, word: &[u8]) -> Option<Address> {
+    Address::read(alloc, word).ok()
 }
 
 /// The moment of a word, none where it is a hyphen.
@@ -159,35 +156,40 @@ const DECISIONS: [Decision; 4] = [
 ];
 
 fn decision(word: &[u8]) -> Option<Decision> {
-    for decision in DECISIONS {
+    for decision in &DECISIONS {
         if decision.word() == word {
-            return Some(decision);
+            return Some(*decision);
         }
     }
     None
 }
 
-fn book_line(alloc: Global, directory: &Directory, line: &[u8]) -> Result<BookLine, Fail>
-    ensures { IfOk result (λ read. read.id.provider < length directory.now) }
-{
+fn book_line(alloc: Global, directory: &Directory, line: &[u8]) -> Option<BookLine> {
     let id = id(alloc, directory, word(line, 0))?;
+    let accepted = moment(word(line, 3))?;
     let recipient = address(alloc, word(line, 1))?;
-    let class = if word(line, 2) == b"copy".as_slice() {
+    let charged = moment(word(line, 4));
+    let warned = moment(word(line, 5));
+    let noticed = moment(word(line, 6));
+    let outcome = outcome(word(line, 7), word(line, 8));
+    Some(BookLine {
+        id,
+        recipient,
+        class: class(word(line, 2)),
+        accepted,
+        charged,
+        warned,
+        noticed,
+        outcome,
+    })
+}
+
+fn class(word: &[u8]) -> Class {
+    if word == b"copy".as_slice() {
         Class::Copy
     } else {
         Class::Primary
-    };
-    let accepted = moment(word(line, 3)).ok_or("a moment")?;
-    Ok(BookLine {
-        id,
-        recipient,
-        class,
-        accepted,
-        charged: moment(word(line, 4)),
-        warned: moment(word(line, 5)),
-        noticed: moment(word(line, 6)),
-        outcome: outcome(word(line, 7), word(line, 8)),
-    })
+    }
 }
 
 fn outcome(decided: &[u8], at: &[u8]) -> Option<(Decision, Moment)> {
@@ -196,124 +198,132 @@ fn outcome(decided: &[u8], at: &[u8]) -> Option<(Decision, Moment)> {
     Some((decision, moment))
 }
 
-fn item_line(alloc: Global, directory: &Directory, line: &[u8]) -> Result<ItemLine, Fail>
-    ensures { IfOk result (λ read. IsOfOneOrNone (length directory.now) read.id) }
-{
-    let kind = kind(word(line, 1)).ok_or("a kind")?;
+fn item_line(alloc: Global, directory: &Directory, line: &[u8]) -> Option<ItemLine> {
+    let kind = kind(word(line, 1))?;
     if word(line, 2) == b"-".as_slice() {
-        return Ok(ItemLine {
-            kind,
-            id: None,
-            recipient: None,
-        });
+        return Some(nameless_item(kind));
     }
     let id = id(alloc, directory, word(line, 2))?;
     let recipient = address(alloc, word(line, 3))?;
-    Ok(ItemLine {
+    Some(ItemLine {
         kind,
         id: Some(id),
         recipient: Some(recipient),
     })
 }
 
+/// The words of the kinds of items. Causes of non-acceptance and of delivery errors aren't printed.
+const KINDS: [(ItemKind, &str); 11] = [
+    (ItemKind::Envelope, "envelope"),
+    (ItemKind::Anomaly, "anomaly"),
+    (ItemKind::Receipt(Kind::Acceptance), "acceptance"),
+    (
+        ItemKind::Receipt(Kind::NonAcceptance(Cause::Size)),
+        "non-acceptance",
+    ),
+    (ItemKind::Receipt(Kind::Charge), "charge"),
+    (ItemKind::Receipt(Kind::Delivery), "delivery"),
+    (
+        ItemKind::Receipt(Kind::DeliveryError(Refusal::Virus)),
+        "delivery-error",
+    ),
+    (ItemKind::Receipt(Kind::Warning), "warning"),
+    (ItemKind::Receipt(Kind::Notice), "notice"),
+    (ItemKind::Receipt(Kind::LateNotice), "late-notice"),
+    (ItemKind::Receipt(Kind::Ack), "ack"),
+];
+
 fn kind(word: &[u8]) -> Option<ItemKind> {
-    for (kind, name) in KINDS {
+    for (kind, name) in &KINDS {
         if name.as_bytes() == word {
-            return Some(kind);
+            return Some(*kind);
         }
     }
     None
 }
 
-fn mark(alloc: Global, directory: &Directory, line: &[u8]) -> Result<Mark, Fail>
-    ensures { IfOk result (λ read. read.id.provider < length directory.now) }
-{
-    let first = word(line, 0);
-    let due = if first == b"warned".as_slice() {
-        Due::Warning
-    } else if first == b"noticed".as_slice() {
-        Due::Notice
-    } else {
-        Due::LateNotice
-    };
+fn mark(alloc: Global, directory: &Directory, line: &[u8]) -> Option<Mark> {
+    let due = due(word(line, 0));
     let id = id(alloc, directory, word(line, 1))?;
     let recipient = address(alloc, word(line, 2))?;
-    Ok(Mark { id, recipient, due })
+    Some(Mark { id, recipient, due })
+}
+
+fn due(word: &[u8]) -> Due {
+    if word == b"warned".as_slice() {
+        return Due::Warning;
+    }
+    if word == b"noticed".as_slice() {
+        return Due::Notice;
+    }
+    Due::LateNotice
 }
 
 /// The event that stands behind the provider's name.
-fn event(alloc: Global, directory: &Directory, line: &[u8]) -> Result<Event, Fail>
-    ensures { IfOk result (EventKnown (length directory.now)) }
-{
+fn event(alloc: Global, directory: &Directory, line: &[u8]) -> Option<Event> {
     let first = word(line, 1);
     if first == b"took".as_slice() {
-        return Ok(Event::Took(id(alloc, directory, word(line, 2))?));
+        let id = id(alloc, directory, word(line, 2))?;
+        return Some(Event::Took(id));
     }
     if first == b"charged".as_slice() {
-        let by = provider(directory, word(line, 3))?;
-        return Ok(Event::Charged(id(alloc, directory, word(line, 2))?, by));
+        let id = id(alloc, directory, word(line, 2))?;
+        let by = directory.named(word(line, 3))?;
+        return Some(Event::Charged(id, by));
     }
     if first == b"repeat".as_slice() {
-        let letter = letter_event(alloc, directory, line)?;
-        return Ok(letter);
+        return letter_event(alloc, directory, line);
     }
     if first == b"dropped".as_slice() {
-        return Ok(Event::Dropped);
+        return Some(Event::Dropped);
     }
     if first == b"anomaly".as_slice() {
-        let accounts = number_below(word(line, 2), 4_294_967_296).ok_or("a number")?;
-        return Ok(Event::Anomaly(accounts as u32));
+        let accounts = number_below(word(line, 2), 4_294_967_296)?;
+        return Some(Event::Anomaly(accounts as u32));
     }
-    let outcome = outcome_event(alloc, directory, line)?;
-    Ok(outcome)
+    outcome_event(alloc, directory, line)
 }
 
 /// `acked ID RECIPIENT`, `learned ID RECIPIENT DECISION` or `decided ID RECIPIENT DECISION`.
-fn outcome_event(alloc: Global, directory: &Directory, line: &[u8]) -> Result<Event, Fail>
-    ensures { IfOk result (EventKnown (length directory.now)) }
-{
+fn outcome_event(alloc: Global, directory: &Directory, line: &[u8]) -> Option<Event> {
     let id = id(alloc, directory, word(line, 2))?;
     let recipient = address(alloc, word(line, 3))?;
     let first = word(line, 1);
     if first == b"acked".as_slice() {
-        return Ok(Event::Acked(id, recipient));
+        return Some(Event::Acked(id, recipient));
     }
-    let decision = decision(word(line, 4)).ok_or("a decision")?;
+    let decision = decision(word(line, 4))?;
     if first == b"learned".as_slice() {
-        return Ok(Event::Learned(id, recipient, decision));
+        return Some(Event::Learned(id, recipient, decision));
     }
-    Ok(Event::Decided(id, recipient, decision))
+    Some(Event::Decided(id, recipient, decision))
 }
 
 /// A letter that had arrived before. To or by which provider it is isn't printed.
-fn letter_event(alloc: Global, directory: &Directory, line: &[u8]) -> Result<Event, Fail>
-    ensures { IfOk result (EventKnown (length directory.now)) }
-{
+fn letter_event(alloc: Global, directory: &Directory, line: &[u8]) -> Option<Event> {
     let id = id(alloc, directory, word(line, 3))?;
     let provider = id.provider;
     let kind = word(line, 2);
     if kind == b"envelope".as_slice() {
-        return Ok(Event::Repeat(Letter::Envelope { id, to: provider }));
+        return Some(Event::Repeat(Letter::Envelope { id, to: provider }));
     }
     if kind == b"charge".as_slice() {
-        return Ok(Event::Repeat(Letter::Charge { id, by: provider }));
+        return Some(Event::Repeat(Letter::Charge { id, by: provider }));
     }
     let recipient = address(alloc, word(line, 4))?;
     if kind == b"outcome".as_slice() {
-        return Ok(Event::Repeat(Letter::Outcome { id, recipient }));
+        return Some(Event::Repeat(Letter::Outcome { id, recipient }));
     }
-    Ok(Event::Repeat(Letter::Ack { id, recipient }))
+    Some(Event::Repeat(Letter::Ack { id, recipient }))
 }
 
-fn is_submission_again(alloc: Global, directory: &Directory, line: &[u8]) -> Result<bool, Fail> {
+fn submitted(alloc: Global, directory: &Directory, line: &[u8]) -> Option<Submitted> {
     let id = id(alloc, directory, word(line, 1))?;
-    let text = if word(line, 0) == b"accepted".as_slice() {
-        submitted_text(alloc, directory, &Submitted::Accepted(id))?
-    } else {
-        let cause = cause(word(line, 2)).ok_or("a cause")?;
-        submitted_text(alloc, directory, &Submitted::NotAccepted(id, cause))?
-    };
-    Ok(is_printed(&text, line, b""))
+    if word(line, 0) == b"accepted".as_slice() {
+        return Some(Submitted::Accepted(id));
+    }
+    let cause = cause(word(line, 2))?;
+    Some(Submitted::NotAccepted(id, cause))
 }
 
 const CAUSES: [Cause; 8] = [
@@ -328,9 +338,9 @@ const CAUSES: [Cause; 8] = [
 ];
 
 fn cause(word: &[u8]) -> Option<Cause> {
-    for cause in CAUSES {
+    for cause in &CAUSES {
         if cause.word() == word {
-            return Some(cause);
+            return Some(*cause);
         }
     }
     None

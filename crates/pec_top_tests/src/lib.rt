@@ -2,6 +2,16 @@
 #![tactic(auto)]
 
 #[cfg(test)]
-mod network_tests;
+mod delivery;
 #[cfg(test)]
-mod tests;
+mod directories;
+#[cfg(test)]
+mod disks;
+#[cfg(test)]
+mod forgery;
+#[cfg(test)]
+mod input;
+#[cfg(test)]
+mod refusals;
+#[cfg(test)]
+mod running;

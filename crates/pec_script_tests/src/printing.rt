@@ -1,0 +1,148 @@
+//! Rows of what is printed, and its text.
+
+use crate::second_reader::{Form, is_read_again};
+use crate::values::{
+    decided_line, directory, event, mark, named_item, nameless_item, open_line, turn_sending,
+    turn_with,
+};
+use pec_directory::Directory;
+use pec_script::{
+    Answer, LineFault, answer_text, book_text, fault_text, item_text, items_text, marks_text,
+    refused_text, submitted_text, turns_text,
+};
+use pec_types::{Class, Decision, Due, ItemKind, Moment, ProviderFault, Refusal, Submitted};
+use std::alloc::Global;
+use std::slice::from_ref;
+
+/// What is printed.
+#[derive(Clone, Copy)]
+pub enum Printed {
+    /// A book of a pair that was delivered, one that was refused, and one that is open.
+    Book,
+    /// A mailbox with an item of this kind that names nothing, and one that names a message and a recipient.
+    Mailbox(ItemKind),
+    /// What a clock call does of each kind, and a mark of nothing.
+    Marks,
+    /// What a clock call does that finds nothing due.
+    NoMark,
+    /// A round in which the first provider did the thing of this number.
+    Event(u32),
+    /// A round in which the second provider put so many frames to the first and ended so.
+    Turn(u32, Option<ProviderFault>),
+    Refusal(ProviderFault),
+    /// That a clock is behind this moment, in seconds.
+    ClockBack(u64),
+    Answer(Answer),
+    /// The fault of the line of this number.
+    Fault(u64, LineFault),
+    /// The item of the bytes `Salve`.
+    Item,
+    Submitted(Submitted),
+}
+
+/// What is printed, its text, and how the text is read again, where it can be.
+#[derive(Clone, Copy)]
+pub struct Row {
+    pub printed: Printed,
+    pub form: Option<Form>,
+    pub text: &'static str,
+}
+
+/// The text of the first row that is printed otherwise, or isn't read again; none where each is.
+pub fn first_wrong(alloc: Global, rows: &[Row]) -> Option<&'static str> {
+    let Some(directory) = directory(alloc) else {
+        return Some("no directory");
+    };
+    for row in rows {
+        if !is_right(alloc, &directory, row) {
+            return Some(row.text);
+        }
+    }
+    None
+}
+
+fn is_right(alloc: Global, directory: &Directory, row: &Row) -> bool {
+    let wanted = row.text.as_bytes();
+    if !is_printed(alloc, directory, row.printed, wanted) {
+        return false;
+    }
+    match row.form {
+        Some(form) => is_read_again(alloc, directory, form, wanted),
+        None => true,
+    }
+}
+
+fn is_printed(alloc: Global, directory: &Directory, printed: Printed, wanted: &[u8]) -> bool {
+    match text_of(alloc, directory, printed) {
+        Some(text) => text.as_slice() == wanted,
+        None => false,
+    }
+}
+
+fn text_of(alloc: Global, directory: &Directory, printed: Printed) -> Option<Vec<u8>> {
+    match printed {
+        Printed::Book => book(alloc, directory),
+        Printed::Mailbox(kind) => mailbox(alloc, directory, kind),
+        Printed::Marks => marks(alloc, directory),
+        Printed::NoMark => marks_text(alloc, directory, &[]).ok(),
+        Printed::Event(number) => round_of(alloc, directory, number),
+        Printed::Turn(frames, ended) => round_ending(alloc, directory, frames, ended),
+        Printed::Refusal(fault) => fault_text(alloc, directory, &fault).ok(),
+        Printed::ClockBack(seconds) => clock_back(alloc, directory, seconds),
+        Printed::Answer(answer) => answer_text(alloc, &answer).ok(),
+        Printed::Fault(line, fault) => refused_text(alloc, line, fault).ok(),
+        Printed::Item => item_text(alloc, b"Salve").ok(),
+        Printed::Submitted(submitted) => submitted_text(alloc, directory, &submitted).ok(),
+    }
+}
+
+fn book(alloc: Global, directory: &Directory) -> Option<Vec<u8>> {
+    let mut lines = Vec::new(alloc);
+    lines
+        .push(decided_line(alloc, 0, Class::Primary, Decision::Placed)?)
+        .ok()?;
+    let virus = Decision::Refused(Refusal::Virus);
+    lines
+        .push(decided_line(alloc, 1, Class::Copy, virus)?)
+        .ok()?;
+    lines.push(open_line(alloc, 0, Class::Primary)?).ok()?;
+    book_text(alloc, directory, &lines).ok()
+}
+
+fn mailbox(alloc: Global, directory: &Directory, kind: ItemKind) -> Option<Vec<u8>> {
+    let mut items = Vec::new(alloc);
+    items.push(nameless_item(kind)).ok()?;
+    items.push(named_item(alloc, kind)?).ok()?;
+    items_text(alloc, directory, &items).ok()
+}
+
+const DUES: [Due; 4] = [Due::Warning, Due::Nothing, Due::Notice, Due::LateNotice];
+
+fn marks(alloc: Global, directory: &Directory) -> Option<Vec<u8>> {
+    let mut marks = Vec::new(alloc);
+    for due in &DUES {
+        marks.push(mark(alloc, *due)?).ok()?;
+    }
+    marks_text(alloc, directory, &marks).ok()
+}
+
+fn round_of(alloc: Global, directory: &Directory, number: u32) -> Option<Vec<u8>> {
+    let event = event(alloc, number)?;
+    let turn = turn_with(alloc, event)?;
+    turns_text(alloc, directory, from_ref(&turn)).ok()
+}
+
+fn round_ending(
+    alloc: Global,
+    directory: &Directory,
+    frames: u32,
+    ended: Option<ProviderFault>,
+) -> Option<Vec<u8>> {
+    let turn = turn_sending(alloc, frames, ended)?;
+    turns_text(alloc, directory, from_ref(&turn)).ok()
+}
+
+fn clock_back(alloc: Global, directory: &Directory, seconds: u64) -> Option<Vec<u8>> {
+    let last = Moment::new(seconds)?;
+    fault_text(alloc, directory, &ProviderFault::ClockBack(last)).ok()
+}

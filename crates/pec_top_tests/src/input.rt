@@ -1,0 +1,319 @@
+//! Words, directories, pieces, limits and devices of a run, over memory.
+
+ghost use Rattle.std.specs.Prelude.{◌<◌};
+
+use crate::directories::{ALFA, TWO};
+use crate::running::{Ran, depot_failing, input_of, played, run_over};
+use pec_top::Status;
+use std::alloc::{AllocError, Global};
+use std::test::Fail;
+
+const FIRST: &str =
+    "submit alfa 1704186000 alice@alfa.example anna@alfa.example {M1}\nbook alice@alfa.example\n";
+
+const FIRST_OUTPUT: &[u8] = b"accepted pec.0000000@alfa.example\n\
+pec.0000000@alfa.example anna@alfa.example primary 1704186000 - - - open\nbook 1\n";
+
+/// What a run over empty disks writes.
+fn ran(
+    alloc: Global,
+    words: &[&str],
+    input: &[u8],
+    piece: usize,
+    reads: &[u64],
+    writes: &[u64],
+) -> Result<Ran, AllocError>
+    requires { 0 < piece }
+{
+    let mut depot = depot_failing(alloc, &[])?;
+    run_over(alloc, &mut depot, words, input, piece, reads, writes)
+}
+
+/// Words, an input, and what is written for them.
+#[derive(Clone, Copy)]
+struct Begun {
+    words: &'static [&'static str],
+    input: &'static [u8],
+    output: &'static [u8],
+    status: Status,
+}
+
+const BEGUN: [Begun; 7] = [
+    Begun {
+        words: &["run", "x"],
+        input: b"",
+        output: b"usage\n",
+        status: Status::Usage,
+    },
+    Begun {
+        words: &[],
+        input: b"",
+        output: b"usage\n",
+        status: Status::Usage,
+    },
+    Begun {
+        words: &["Resume"],
+        input: b"",
+        output: b"usage\n",
+        status: Status::Usage,
+    },
+    Begun {
+        words: &["resume"],
+        input: b"",
+        output: b"refused no-script\n",
+        status: Status::Refused,
+    },
+    Begun {
+        words: &["run"],
+        input: b"= no\n%%\n",
+        output: b"refused directory not-toml\n",
+        status: Status::Refused,
+    },
+    Begun {
+        words: &["run"],
+        input: b"# \xff\n%%",
+        output: b"refused directory not-toml\n",
+        status: Status::Refused,
+    },
+    Begun {
+        words: &["run"],
+        input: b"provider = 1\n%%\r\n",
+        output: b"refused directory no-provider\n",
+        status: Status::Refused,
+    },
+];
+
+#[test]
+fn words_and_directories_come_first(rt: HostRuntime) -> Result<(), Fail> {
+    for begun in BEGUN {
+        let ran = ran(rt.alloc(), begun.words, begun.input, 7, &[], &[])?;
+        assert_eq!(rt; ran.text.as_slice(), begun.output);
+        assert_eq!(rt; ran.status, begun.status);
+    }
+    let unmarked = ran(rt.alloc(), &["run"], ALFA.as_bytes(), 7, &[], &[])?;
+    assert_eq!(rt; unmarked.text.as_slice(), b"refused no-script\n".as_slice());
+    assert_eq!(rt; unmarked.status, Status::Refused);
+    Ok(())
+}
+
+/// Each row has a text of the directory, what stands there instead, and the fault of that.
+const FAULTS: [(&str, &str, &[u8]); 12] = [
+    (
+        "[[provider]]",
+        "[[provider",
+        b"refused directory not-toml\n",
+    ),
+    (
+        "\nname = \"beta\"",
+        "\nname = \"Beta\"",
+        b"refused directory bad-field 1 name\n",
+    ),
+    (
+        "mailReceipt",
+        "mailreceipt",
+        b"refused directory bad-field 0 mailReceipt\n",
+    ),
+    (
+        "[\"beta.example\"]",
+        "[]",
+        b"refused directory bad-field 1 managedDomains\n",
+    ),
+    (
+        "quota = 1\n",
+        "quota = 1000001\n",
+        b"refused directory bad-field 1 quota\n",
+    ),
+    (
+        "name = \"beta\"",
+        "name = \"alfa\"",
+        b"refused directory name-twice 1\n",
+    ),
+    (
+        "[\"beta.example\"]",
+        "[\"beta.example\", \"Alfa.example\"]",
+        b"refused directory domain-twice 1\n",
+    ),
+    (
+        "carl@beta.example",
+        "carl@-beta.example",
+        b"refused directory bad-address 1 2\n",
+    ),
+    (
+        "anna@alfa.example",
+        "anna@beta.example",
+        b"refused directory account-outside 0 2\n",
+    ),
+    (
+        "carl@beta.example",
+        "Bob@beta.example",
+        b"refused directory account-twice 1 2\n",
+    ),
+    (
+        "101112131415161718191a1b1c1d1e1f",
+        "101112131415161718191A1B1C1D1E1F",
+        b"refused directory bad-key 1\n",
+    ),
+    (
+        "1d1e1f\"\nzone = \"CET-1CEST,M3.5.0,M10.5.0/3\"",
+        "1d1e1f\"\nzone = \"nonsense!\"",
+        b"refused directory bad-zone 1\n",
+    ),
+];
+
+#[test]
+fn a_directory_is_refused_for_its_first_fault(rt: HostRuntime) -> Result<(), Fail> {
+    for (there, instead, output) in FAULTS {
+        let directory = TWO.replacen(rt.alloc(), there, instead, 1)?;
+        let mut depot = depot_failing(rt.alloc(), &[])?;
+        let ran = played(rt.alloc(), &mut depot, directory.as_str(), "run", "")?;
+        assert_eq!(rt; ran.text.as_slice(), output);
+        assert_eq!(rt; ran.status, Status::Refused);
+    }
+    Ok(())
+}
+
+/// An input may come in pieces of one byte, its lines may end with a carriage return, and wherever it is cut it writes
+/// a front, or what the cut line says.
+#[test]
+fn pieces_ends_and_cuts_are_taken_as_they_come(rt: HostRuntime) -> Result<(), Fail> {
+    let input = input_of(rt.alloc(), ALFA, FIRST)?;
+    let small = ran(rt.alloc(), &["run"], &input, 1, &[], &[])?;
+    assert_eq!(rt; small.text.as_slice(), FIRST_OUTPUT);
+    let ended = with_returns(rt.alloc(), &input)?;
+    let other = ran(rt.alloc(), &["run"], &ended, 1000, &[], &[])?;
+    assert_eq!(rt; other.text.as_slice(), FIRST_OUTPUT);
+    for cut in 0..input.len() {
+        // Every seventh cut is enough to meet each kind of place.
+        if cut % 7 == 0 {
+            assert!(rt; is_front_of_first(rt.alloc(), &input[..cut])?);
+        }
+    }
+    Ok(())
+}
+
+/// The bytes with a carriage return before each line feed.
+fn with_returns(alloc: Global, input: &[u8]) -> Result<Vec<u8>, AllocError> {
+    let mut ended = Vec::new(alloc);
+    for b in input {
+        if *b == b'\n' {
+            ended.push(b'\r')?;
+        }
+        ended.push(*b)?;
+    }
+    Ok(ended)
+}
+
+/// A cut inside the last word of a line leaves less of a message, or the address of nobody.
+fn is_front_of_first(alloc: Global, input: &[u8]) -> Result<bool, AllocError> {
+    let ran = ran(alloc, &["run"], input, 64, &[], &[])?;
+    if ran.status == Status::Refused {
+        return Ok(true);
+    }
+    if ran.text.as_slice() == b"not-accepted pec.0000000@alfa.example head\n".as_slice() {
+        return Ok(true);
+    }
+    Ok(FIRST_OUTPUT.starts_with(&ran.text) || ran.text.ends_with(b"no-account\n"))
+}
+
+#[test]
+fn each_read_and_write_can_fail(rt: HostRuntime) -> Result<(), Fail> {
+    let input = input_of(rt.alloc(), ALFA, FIRST)?;
+    for call in 0..6u64 {
+        let ran = ran(rt.alloc(), &["run"], &input, 60, &[call], &[])?;
+        assert_eq!(rt; ran.status, Status::ReadFault);
+        assert!(rt; FIRST_OUTPUT.starts_with(&ran.text));
+    }
+    for call in 0..2u64 {
+        let ran = ran(rt.alloc(), &["run"], &input, 60, &[], &[call])?;
+        assert_eq!(rt; ran.status, Status::WriteFault);
+        assert!(rt; FIRST_OUTPUT.starts_with(&ran.text));
+    }
+    Ok(())
+}
+
+/// So many times a byte between two texts, and what is written for that.
+#[derive(Clone, Copy)]
+struct Long {
+    front: &'static str,
+    byte: u8,
+    count: usize,
+    back: &'static [u8],
+    output: &'static [u8],
+    status: Status,
+}
+
+const LONG: [Long; 6] = [
+    Long {
+        front: "#",
+        byte: b'x',
+        count: 1_048_574,
+        back: b"\n%%\n",
+        output: b"refused directory no-provider\n",
+        status: Status::Refused,
+    },
+    Long {
+        front: "#",
+        byte: b'x',
+        count: 1_048_576,
+        back: b"",
+        output: b"too-long directory\n",
+        status: Status::InputTooLong,
+    },
+    Long {
+        front: "%%",
+        byte: b'#',
+        count: 67_108_864,
+        back: b"\r\nbook anna@alfa.example\n",
+        output: b"book 0\n",
+        status: Status::Done,
+    },
+    Long {
+        front: "%%",
+        byte: b'#',
+        count: 67_108_865,
+        back: b"\nbook anna@alfa.example\n",
+        output: b"too-long line 1\n",
+        status: Status::InputTooLong,
+    },
+    Long {
+        front: "%%",
+        byte: b'\n',
+        count: 999_999,
+        back: b"book anna@alfa.example\n",
+        output: b"book 0\n",
+        status: Status::Done,
+    },
+    Long {
+        front: "%%",
+        byte: b'\n',
+        count: 999_999,
+        back: b"book anna@alfa.example\n\n",
+        output: b"book 0\ntoo-long script\n",
+        status: Status::InputTooLong,
+    },
+];
+
+/// The bytes of a long input: behind `%%` stands the directory of alfa and the mark.
+fn long_input(alloc: Global, long: &Long) -> Result<Vec<u8>, AllocError> {
+    let middle = vec![in alloc; long.byte; long.count]?;
+    let mut input = Vec::new(alloc);
+    if long.front == "%%" {
+        input = input_of(alloc, ALFA, "")?;
+    } else {
+        input.extend_from_slice(long.front.as_bytes())?;
+    }
+    input.extend_from_slice(&middle)?;
+    input.extend_from_slice(long.back)?;
+    Ok(input)
+}
+
+#[test]
+fn the_limits_of_an_input_are_kept(rt: HostRuntime) -> Result<(), Fail> {
+    for long in LONG {
+        let input = long_input(rt.alloc(), &long)?;
+        let ran = ran(rt.alloc(), &["run"], &input, 1_000_000, &[], &[])?;
+        assert_eq!(rt; ran.text.as_slice(), long.output);
+        assert_eq!(rt; ran.status, long.status);
+    }
+    Ok(())
+}

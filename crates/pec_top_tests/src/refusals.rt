@@ -1,0 +1,175 @@
+//! Commands and lines that are refused, and journals that aren't taken. All outputs were worked out by hand.
+
+use crate::directories::{ALFA, TWO};
+use crate::running::{Case, Run, first_wrong};
+use pec_top::Status;
+use std::test::Fail;
+
+const ROW: &str = "submit alfa 1704186000 alice@alfa.example anna@alfa.example {M1}\n";
+
+const CASES: [Case; 10] = [
+    Case {
+        why: "a message that breaks a row of the table of admission isn't accepted",
+        directory: TWO,
+        failing: &[],
+        runs: &[Run {
+            form: "run",
+            script: "submit alfa 1704186000 alice@alfa.example bob@beta.example {M4}\n\
+                     submit alfa 1704186000 anna@alfa.example bob@beta.example {M4}\n\
+                     submit beta 1704186000 bob@beta.example a@b VG86IGFAYgoK\n\
+                     book anna@alfa.example\nmailbox anna@alfa.example\n",
+            output: "not-accepted I0 reverse-path\nnot-accepted I1 bcc\nnot-accepted J0 from\nbook 0\n\
+                     0 non-acceptance I1 -\nmailbox 1\n",
+            status: Status::Done,
+        }],
+    },
+    Case {
+        why: "of an account that is none, a provider that is down and a clock that is behind, the first is told",
+        directory: TWO,
+        failing: &[],
+        runs: &[Run {
+            form: "run",
+            script: "submit alfa 1704186000 alice@alfa.example anna@alfa.example {M1}\n\
+                     tick alfa 1704185999\nsubmit alfa 1704185999 zoe@alfa.example anna@alfa.example {M1}\n\
+                     submit alfa 1704185999 alice@alfa.example anna@alfa.example {M1}\ncrash alfa\n\
+                     submit alfa 1 zoe@alfa.example anna@alfa.example {M1}\n\
+                     submit alfa 1 alice@alfa.example anna@alfa.example {M1}\ntick alfa 1\n\
+                     book zoe@alfa.example\nbook alice@alfa.example\nmailbox alice@alfa.example\n\
+                     show alice@alfa.example 9\nmailbox bob@beta.example\nround 1704185000\n",
+            output: "accepted I0\nclock-back 1704186000\nno-account\nclock-back 1704186000\ncrashed\n\
+                     no-account\ndown\ndown\nno-account\ndown\ndown\ndown\nmailbox 0\nalfa down\nround\n",
+            status: Status::Done,
+        }],
+    },
+    Case {
+        why: "a provider whose clock is ahead takes and sends nothing in a round, and the others do",
+        directory: TWO,
+        failing: &[],
+        runs: &[Run {
+            form: "run",
+            script: "submit alfa 1704186000 alice@alfa.example bob@beta.example {M2}\ntick beta 1704186005\n\
+                     round 1704186001\nround 1704186005\n",
+            output: "accepted I0\nticked\nalfa sent beta 1\nbeta clock-back 1704186005\nround\n\
+                     alfa sent beta 1\nbeta took I0\nbeta decided I0 bob@beta.example delivered\n\
+                     beta sent alfa 2\nround\n",
+            status: Status::Done,
+        }],
+    },
+    Case {
+        why: "where no frame waits none is lost, repeated or swapped; and who is up isn't restarted",
+        directory: TWO,
+        failing: &[],
+        runs: &[Run {
+            form: "run",
+            script: "lose alfa beta 0\nrepeat alfa beta 0\nswap alfa beta 0\nrestart alfa\nshow alice@alfa.example 0\n\
+                     show zoe@alfa.example 0\n",
+            output: "no-frame\nno-frame\nno-frame\nup\nno-item\nno-account\n",
+            status: Status::Done,
+        }],
+    },
+    Case {
+        why: "a journal isn't made on a disk that holds one, and is opened again",
+        directory: ALFA,
+        failing: &[],
+        runs: &[
+            Run {
+                form: "run",
+                script: ROW,
+                output: "accepted I0\n",
+                status: Status::Done,
+            },
+            Run {
+                form: "run",
+                script: ROW,
+                output: "not-empty alfa\n",
+                status: Status::NotEmpty,
+            },
+            Run {
+                form: "resume",
+                script: "book alice@alfa.example\n",
+                output: "I0 anna@alfa.example primary 1704186000 - - - open\nbook 1\n",
+                status: Status::Done,
+            },
+        ],
+    },
+    Case {
+        why: "an empty disk isn't resumed",
+        directory: TWO,
+        failing: &[],
+        runs: &[Run {
+            form: "resume",
+            script: "book alice@alfa.example\n",
+            output: "not-fit alfa journal 0\n",
+            status: Status::NotFit,
+        }],
+    },
+    Case {
+        why: "a line is refused for its first fault, behind the lines before it",
+        directory: TWO,
+        failing: &[],
+        runs: &[Run {
+            form: "run",
+            script: "# a remark\n\nbook alice@alfa.example\ninject alfa beta ???\nbook bob@beta.example\n",
+            output: "book 0\nrefused line 4 bad-base64 3\n",
+            status: Status::Refused,
+        }],
+    },
+    Case {
+        why: "a number has one spelling",
+        directory: TWO,
+        failing: &[],
+        runs: &[Run {
+            form: "run",
+            script: "round 01\n",
+            output: "refused line 1 bad-number 1\n",
+            status: Status::Refused,
+        }],
+    },
+    Case {
+        why: "an address has an at sign",
+        directory: TWO,
+        failing: &[],
+        runs: &[Run {
+            form: "run",
+            script: "book bob\n",
+            output: "refused line 1 bad-address 1\n",
+            status: Status::Refused,
+        }],
+    },
+    Case {
+        why: "a provider is one of the directory",
+        directory: TWO,
+        failing: &[],
+        runs: &[Run {
+            form: "run",
+            script: "crash gamma\n",
+            output: "refused line 1 unknown-provider 1\n",
+            status: Status::Refused,
+        }],
+    },
+];
+
+#[test]
+fn what_is_refused_is_told_by_its_first_cause(rt: HostRuntime) -> Result<(), Fail> {
+    let wrong = first_wrong(rt.alloc(), &CASES)?;
+    assert_eq!(rt; wrong, None);
+    Ok(())
+}
+
+/// A link holds 64 frames, and the next is refused.
+#[test]
+fn a_full_link_takes_no_frame(rt: HostRuntime) -> Result<(), Fail> {
+    let mut script = String::new(rt.alloc());
+    let mut output = String::new(rt.alloc());
+    for _ in 0..64 {
+        script.push_str("inject alfa beta {F1}\n")?;
+        output.push_str("injected\n")?;
+    }
+    script.push_str("inject alfa beta {F1}\nrepeat alfa beta 0\nrepeat alfa beta 64\n")?;
+    output.push_str("link-full\nlink-full\nno-frame\n")?;
+    let mut depot = crate::running::depot_failing(rt.alloc(), &[])?;
+    let ran = crate::running::played(rt.alloc(), &mut depot, TWO, "run", script.as_str())?;
+    assert_eq!(rt; ran.text.as_slice(), output.as_bytes());
+    assert_eq!(rt; ran.status, Status::Done);
+    Ok(())
+}

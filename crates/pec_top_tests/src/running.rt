@@ -1,0 +1,153 @@
+//! Cases: runs of the program, one after another over the disks of one depot, and what each has to write.
+
+ghost use Rattle.std.specs.Prelude.{◌<◌};
+
+use crate::directories::message;
+use base64::engine::general_purpose::STANDARD;
+use pec_outside::{MemDepot, MemSink, MemSource};
+use pec_top::{Status, run_pec};
+use std::alloc::{AllocError, Global};
+
+/// One run: its form, its script, what it has to write, and its status. In a script `{..}` holds a message or its name,
+/// and its base64 is written; in an output `I0` and `I1` are the first two messages of alfa, `J0` is beta's first.
+#[derive(Clone, Copy)]
+pub(crate) struct Run {
+    pub(crate) form: &'static str,
+    pub(crate) script: &'static str,
+    pub(crate) output: &'static str,
+    pub(crate) status: Status,
+}
+
+/// Runs in a folder of their own, where the named calls of alfa's disk fail.
+#[derive(Clone, Copy)]
+pub(crate) struct Case {
+    pub(crate) why: &'static str,
+    pub(crate) directory: &'static str,
+    pub(crate) failing: &'static [u64],
+    pub(crate) runs: &'static [Run],
+}
+
+/// What the first case is about that doesn't come as it says.
+pub(crate) fn first_wrong(
+    alloc: Global,
+    cases: &[Case],
+) -> Result<Option<&'static str>, AllocError> {
+    for case in cases {
+        if !comes(alloc, case)? {
+            return Ok(Some(case.why));
+        }
+    }
+    Ok(None)
+}
+
+fn comes(alloc: Global, case: &Case) -> Result<bool, AllocError> {
+    let mut depot = depot_failing(alloc, case.failing)?;
+    for run in case.runs {
+        let wanted = written_out(alloc, run.output)?;
+        let ran = played(alloc, &mut depot, case.directory, run.form, run.script)?;
+        if ran.text.as_slice() != wanted.as_bytes() || ran.status != run.status {
+            return Ok(false);
+        }
+    }
+    Ok(true)
+}
+
+/// A depot of empty disks, where these calls of alfa's disk fail.
+pub(crate) fn depot_failing(alloc: Global, failing: &[u64]) -> Result<MemDepot, AllocError> {
+    let mut calls = Vec::new(alloc);
+    calls.push(Vec::from_slice(alloc, failing)?)?;
+    Ok(MemDepot::new(alloc, calls, Vec::new(alloc)))
+}
+
+/// What a run wrote, and its status.
+#[derive(Drop)]
+pub(crate) struct Ran {
+    pub(crate) text: Vec<u8>,
+    pub(crate) status: Status,
+}
+
+/// Runs the program in this form, over a depot, on a script behind a directory.
+pub(crate) fn played(
+    alloc: Global,
+    depot: &mut MemDepot,
+    directory: &str,
+    form: &str,
+    script: &str,
+) -> Result<Ran, AllocError> {
+    let input = input_of(alloc, directory, script)?;
+    run_over(alloc, depot, &[form], &input, 1000, &[], &[])
+}
+
+/// The input of a script behind a directory.
+pub(crate) fn input_of(
+    alloc: Global,
+    directory: &str,
+    script: &str,
+) -> Result<Vec<u8>, AllocError> {
+    let lines = script_of(alloc, script)?;
+    let mut input = Vec::from_slice(alloc, directory.as_bytes())?;
+    input.extend_from_slice(b"%%\n")?;
+    input.extend_from_slice(&lines)?;
+    Ok(input)
+}
+
+/// Runs the program over a depot on these words and this input, given in pieces, where the named reads and writes fail.
+pub(crate) fn run_over(
+    alloc: Global,
+    depot: &mut MemDepot,
+    words: &[&str],
+    input: &[u8],
+    piece: usize,
+    reads: &[u64],
+    writes: &[u64],
+) -> Result<Ran, AllocError>
+    requires { 0 < piece }
+{
+    let mut given = Vec::new(alloc);
+    for word in words {
+        given.push(String::from_str(alloc, word)?)?;
+    }
+    let bytes = Vec::from_slice(alloc, input)?;
+    let mut source = MemSource::new(alloc, bytes, piece, Vec::from_slice(alloc, reads)?);
+    let mut sink = MemSink::new(alloc, Vec::from_slice(alloc, writes)?);
+    let status = run_pec(alloc, &given, &mut source, &mut sink, depot);
+    let text = Vec::from_slice(alloc, sink.bytes())?;
+    Ok(Ran { text, status })
+}
+
+/// A script where `{..}` holds a message or its name: its base64 is written, with CRLF for each `|`.
+fn script_of(alloc: Global, text: &str) -> Result<Vec<u8>, AllocError> {
+    let mut script = Vec::new(alloc);
+    for part in text.split('{') {
+        let Some((inside, after)) = part.split_once('}') else {
+            script.extend_from_slice(part.as_bytes())?;
+            continue;
+        };
+        let bytes = lines_of(alloc, message(inside))?;
+        let encoded = STANDARD.encode(alloc, &bytes)?;
+        script.extend_from_slice(encoded.as_bytes())?;
+        script.extend_from_slice(after.as_bytes())?;
+    }
+    Ok(script)
+}
+
+/// The bytes of a message, whose lines end at `|`.
+fn lines_of(alloc: Global, text: &str) -> Result<Vec<u8>, AllocError> {
+    let mut bytes = Vec::new(alloc);
+    for b in text.as_bytes() {
+        if *b == b'|' {
+            bytes.extend_from_slice(b"\r\n")?;
+        } else {
+            bytes.push(*b)?;
+        }
+    }
+    Ok(bytes)
+}
+
+/// An output with the names of messages written out.
+fn written_out(alloc: Global, output: &str) -> Result<String, AllocError> {
+    let text = output.replace(alloc, "I0", "pec.0000000@alfa.example")?;
+    let text = text.replace(alloc, "I1", "pec.0000001@alfa.example")?;
+    let text = text.replace(alloc, "J0", "pec.0000000@beta.example")?;
+    Ok(text)
+}
