@@ -1,6 +1,6 @@
 //! The trusted edge: standard input and output as a source and a sink. They tell no content.
 
-use pec_outside::{Counted, Failed, Sink, Source};
+use pec_outside::{Counted, Failed, Sink, Source, Stream};
 use std::io::{Read, Write};
 
 /// A reader as a source, with the count of its faults.
@@ -28,11 +28,9 @@ impl<R: Read> Counted for Input<R> {
     ghost counted = { λ input. u64_of input.faults };
 }
 
+impl<R: Read> Stream for Input<R> {}
+
 impl<R: Read> Source for Input<R> {
-    ghost use Rattle.std.specs.Prelude.{None};
-
-    ghost left = { λ _. None };
-
     fn read(&mut self, room: &mut [u8]) -> Result<usize, Failed> {
         match self.reader.read(room) {
             Ok(count) => Ok(count),
@@ -69,11 +67,9 @@ impl<W: Write> Counted for Output<W> {
     ghost counted = { λ output. u64_of output.faults };
 }
 
+impl<W: Write> Stream for Output<W> {}
+
 impl<W: Write> Sink for Output<W> {
-    ghost use Rattle.std.specs.Prelude.{None};
-
-    ghost held = { λ _. None };
-
     fn write(&mut self, piece: &[u8]) -> Result<usize, Failed> {
         match self.writer.write(piece) {
             Ok(count) if count > 0 || piece.is_empty() => Ok(count),

@@ -1,8 +1,8 @@
 //! A connection over bytes in memory, which gives and takes them in pieces, and fails at one of its calls.
-ghost use Rattle.std.specs.Prelude.{◌<◌, ◌≤◌, None, vec_len};
+ghost use Rattle.std.specs.Prelude.{◌<◌, ◌≤◌, vec_len};
 ghost use Rattle.pec_outside.specs.Flow.{as_u64, u64_of};
 
-use pec_outside::{Counted, Failed, Sink, Source};
+use pec_outside::{Counted, Failed, Sink, Source, Stream};
 
 /// It tells its content to tests and not to contracts.
 #[derive(Drop)]
@@ -28,9 +28,9 @@ impl Counted for Wire {
     ghost counted = { λ wire. u64_of wire.faults };
 }
 
-impl Source for Wire {
-    ghost left = { λ wire. None };
+impl Stream for Wire {}
 
+impl Source for Wire {
     fn read(&mut self, room: &mut [u8]) -> Result<usize, Failed> {
         let number = self.calls;
         self.calls = number.saturating_add(1);
@@ -47,8 +47,6 @@ impl Source for Wire {
 }
 
 impl Sink for Wire {
-    ghost held = { λ wire. None };
-
     fn write(&mut self, piece: &[u8]) -> Result<usize, Failed> {
         let number = self.calls;
         self.calls = number.saturating_add(1);

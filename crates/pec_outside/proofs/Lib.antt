@@ -1,4 +1,6 @@
+pub mod ClockLemmas
 pub mod FlowLemmas
 pub mod LogLemmas
 pub mod StepLemmas
 pub mod DepotLemmas
+pub mod ReplyLemmas

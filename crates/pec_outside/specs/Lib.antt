@@ -1,7 +1,10 @@
+pub mod Clocks
 pub mod DepotSlots
 pub mod Depots
 pub mod DiskLog
 pub mod DiskModel
+pub mod DoorReplies
+pub mod Doors
 pub mod Flow
 pub mod Memory
 pub mod Moments

@@ -4,7 +4,7 @@ ghost use Rattle.pec_outside.specs.Memory.{SinkState, NextFails, no_calls, answe
 
 use crate::calls::Calls;
 use crate::counts::Counted;
-use crate::streams::{Failed, Sink};
+use crate::streams::{Failed, Sink, Stream};
 use std::alloc::Global;
 use std::marker::Model;
 
@@ -47,9 +47,11 @@ impl Counted for MemSink {
     ghost counted = { λ sink. u64_of sink.calls.faults };
 }
 
-impl Sink for MemSink {
+impl Stream for MemSink {
     ghost held = { λ sink. Some sink.bytes };
+}
 
+impl Sink for MemSink {
     /// As in the trait. It takes the whole piece. It fails where `failing` names the write; want of memory is a fault
     /// too.
     fn write(&mut self, piece: &[u8]) -> Result<usize, Failed>

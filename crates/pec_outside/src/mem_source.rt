@@ -1,18 +1,18 @@
-ghost use Rattle.std.specs.Prelude.{◌≡◌, ◌<◌, ◌≤◌, min, [], ◌++◌, length, take, drop, Some, IsErr, IfOk, OnErr, ◌↔◌, vec_len};
+ghost use Rattle.std.specs.Prelude.{◌≡◌, ◌<◌, ◌≤◌, min, [], ◌++◌, length, take, drop, Some, IsErr, IfOk, OnErr, ◌↔◌};
 ghost use Rattle.pec_outside.specs.Flow.{HasRisen, as_u64, u64_of};
 ghost use Rattle.pec_outside.specs.Memory.{SourceState, NextFails, no_calls, answered, faulted};
 
 use crate::calls::Calls;
 use crate::counts::Counted;
-use crate::streams::{Failed, Source};
+use crate::streams::{Failed, Source, Stream};
+use crate::unread::Unread;
 use std::alloc::Global;
 use std::marker::Model;
 
 /// A source over bytes in memory, which gives them in pieces and fails where it is told. This project's profile.
 #[derive(Drop)]
 pub struct MemSource {
-    bytes: Vec<u8>,
-    at: usize,
+    rest: Unread,
     piece: usize,
     calls: Calls,
 }
@@ -20,9 +20,9 @@ pub struct MemSource {
 impl Model for MemSource {
     ghost Value = { SourceState };
 
-    ghost view = { λ source. record { rest = drop source.at source.bytes.items; piece = source.piece; calls = source.calls } };
+    ghost view = { λ source. record { rest = source.rest; piece = source.piece; calls = source.calls } };
 
-    ghost invariant = { λ source. (source.at ≤ vec_len source.bytes) × (0 < source.piece) };
+    ghost invariant = { λ source. 0 < source.piece };
 }
 
 impl MemSource {
@@ -33,8 +33,7 @@ impl MemSource {
         ensures { result ≡ record { rest = bytes.items; piece = piece; calls = no_calls failing.items } }
     {
         MemSource {
-            bytes,
-            at: 0,
+            rest: Unread::new(bytes),
             piece,
             calls: Calls::new(failing),
         }
@@ -47,9 +46,11 @@ impl Counted for MemSource {
     ghost counted = { λ source. u64_of source.calls.faults };
 }
 
-impl Source for MemSource {
+impl Stream for MemSource {
     ghost left = { λ source. Some source.rest };
+}
 
+impl Source for MemSource {
     /// As in the trait. It fails exactly where `failing` names the read, and gives as many bytes as the piece, the room
     /// and the rest allow.
     fn read(&mut self, room: &mut [u8]) -> Result<usize, Failed>
@@ -70,10 +71,6 @@ impl Source for MemSource {
         ensures unchanged { OnErr result (room.new ≡ room.old) }
     {
         self.calls.begin()?;
-        let rest = &self.bytes[self.at..];
-        let count = self.piece.min(room.len()).min(rest.len());
-        room[..count].copy_from_slice(&rest[..count]);
-        self.at += count;
-        Ok(count)
+        Ok(self.rest.read(room, self.piece))
     }
 }

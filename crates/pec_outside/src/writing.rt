@@ -8,6 +8,7 @@ use crate::streams::{Failed, Sink};
 pub fn write_all<W: Sink>(out: &mut W, bytes: &[u8]) -> Result<(), Failed>
     ensures ok { OnOk result (W.held out.new ≡ followed_by (W.held out.old) bytes.now) }
     ensures err { OnErr result (WrotePart (W.held out.old) (W.held out.new) bytes.now) }
+    ensures kept { W.left out.new ≡ W.left out.old }
     ensures later { W.faults out.old ≤ W.faults out.new }
     ensures cause { OnErr result (HasRisen (W.faults out.old) (W.faults out.new)) }
 {

@@ -1,6 +1,6 @@
 use Rattle.std.proofs.Common.{◌≡◌, ℕ, ◌+◌, List, ◌++◌, length, take, drop, arith, length-take}
 use Rattle.std.proofs.lemmas.List.{take_at, take_rest, take-append-drop, drop-drop}
-use Rattle.pec_outside.proofs.mem_source.MemSourceSource.read.Goals as goal
+use Rattle.pec_outside.proofs.unread.Unread.read.Goals as goal
 
 -- what a read gave stands at the front of the room, and the rest comes behind it
 given_before_rest : (bytes given room : List ℕ) (at n : ℕ) → given ≡ take n (drop at bytes) → length given ≡ n

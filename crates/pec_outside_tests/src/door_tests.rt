@@ -1,0 +1,195 @@
+//! Doors in memory: connections that come in, those that fail, and the replies that stay.
+use pec_outside::{Door, Failed, MemDoor, Sink, Source, write_all};
+use std::alloc::{AllocError, Global};
+use std::test::Fail;
+
+/// The number of a call that isn't made.
+const NEVER: u64 = u64::MAX;
+
+/// At a door with three requests, which are read four bytes at once and answered by two writes.
+struct Row {
+    /// The call of `accept` that fails.
+    accept: u64,
+    /// The connection that is broken, and its call that fails. The list of such calls ends with this connection.
+    broken: (usize, u64),
+    /// What four connections say: what was read, and `.` where it was answered, `!` where it failed, and `-` where none
+    /// came in.
+    said: &'static str,
+    /// The replies, with `!` where closing the connection raised the door's count.
+    replies: &'static str,
+}
+
+const ROWS: [Row; 10] = [
+    Row {
+        accept: NEVER,
+        broken: (0, NEVER),
+        said: "uno.secondo.tre.-",
+        replies: "ok,ok,ok,",
+    },
+    // a call of `accept` that fails loses no request
+    Row {
+        accept: 0,
+        broken: (0, NEVER),
+        said: "-uno.secondo.tre.",
+        replies: "ok,ok,ok,",
+    },
+    Row {
+        accept: 2,
+        broken: (0, NEVER),
+        said: "uno.secondo.-tre.",
+        replies: "ok,ok,ok,",
+    },
+    // each call of a connection in turn: reads, then writes
+    Row {
+        accept: NEVER,
+        broken: (1, 0),
+        said: "uno.!tre.-",
+        replies: "ok,!,ok,",
+    },
+    Row {
+        accept: NEVER,
+        broken: (1, 1),
+        said: "uno.seco!tre.-",
+        replies: "ok,!,ok,",
+    },
+    Row {
+        accept: NEVER,
+        broken: (1, 2),
+        said: "uno.secondo!tre.-",
+        replies: "ok,!,ok,",
+    },
+    Row {
+        accept: NEVER,
+        broken: (1, 3),
+        said: "uno.secondo!tre.-",
+        replies: "ok,!,ok,",
+    },
+    Row {
+        accept: NEVER,
+        broken: (1, 4),
+        said: "uno.secondo!tre.-",
+        replies: "ok,o!,ok,",
+    },
+    // a connection makes no more calls than these
+    Row {
+        accept: NEVER,
+        broken: (1, 5),
+        said: "uno.secondo.tre.-",
+        replies: "ok,ok,ok,",
+    },
+    // both at once
+    Row {
+        accept: 1,
+        broken: (2, 0),
+        said: "uno.-secondo.!",
+        replies: "ok,ok,!,",
+    },
+];
+
+#[test]
+fn a_door_gives_its_requests_and_keeps_the_replies(rt: HostRuntime) {
+    assert_eq!(rt; first_wrong(rt.alloc(), &ROWS), None);
+}
+
+/// The place of the first row that goes otherwise; none where each goes so.
+fn first_wrong(alloc: Global, rows: &[Row]) -> Option<usize> {
+    for (place, row) in rows.iter().enumerate() {
+        if !goes_so(alloc, row) {
+            return Some(place);
+        }
+    }
+    None
+}
+
+fn goes_so(alloc: Global, row: &Row) -> bool {
+    let Ok(mut door) = door_of(alloc, row.accept, row.broken) else {
+        return false;
+    };
+    let mut said = Vec::new(alloc);
+    for _ in 0..4 {
+        if serve_next(&mut door, &mut said).is_err() {
+            return false;
+        }
+    }
+    if said.as_slice() != row.said.as_bytes() {
+        return false;
+    }
+    match replies_of(alloc, &door) {
+        Ok(replies) => replies.as_slice() == row.replies.as_bytes(),
+        Err(_) => false,
+    }
+}
+
+fn door_of(alloc: Global, accept: u64, broken: (usize, u64)) -> Result<MemDoor, AllocError> {
+    let mut requests = Vec::new(alloc);
+    requests.push(Vec::from_slice(alloc, b"uno")?)?;
+    requests.push(Vec::from_slice(alloc, b"secondo")?)?;
+    requests.push(Vec::from_slice(alloc, b"tre")?)?;
+    let mut lists = Vec::new(alloc);
+    for _ in 0..broken.0 {
+        lists.push(Vec::new(alloc))?;
+    }
+    lists.push(Vec::from_slice(alloc, &[broken.1])?)?;
+    Ok(MemDoor::new(alloc, requests, Vec::from_slice(alloc, &[accept])?, lists))
+}
+
+/// Accepts a connection, talks to it and closes it, through the bound alone.
+fn serve_next<R: Door>(door: &mut R, said: &mut Vec<u8>) -> Result<(), AllocError> {
+    match door.accept() {
+        Ok(mut connection) => {
+            let sign = match talk(&mut connection, said) {
+                Ok(()) => b'.',
+                Err(Failed) => b'!',
+            };
+            door.close(connection);
+            said.push(sign)?;
+        }
+        Err(Failed) => said.push(b'-')?,
+    }
+    Ok(())
+}
+
+/// Reads all that a connection has, and answers it.
+fn talk<C: Source + Sink>(connection: &mut C, said: &mut Vec<u8>) -> Result<(), Failed> {
+    let mut room = [0; 4];
+    for _ in 0..u64::MAX {
+        let count = connection.read(&mut room)?;
+        if count == 0 {
+            break;
+        }
+        if said.extend_from_slice(&room[..count]).is_err() {
+            return Err(Failed);
+        }
+    }
+    write_all(connection, b"o")?;
+    write_all(connection, b"k")
+}
+
+fn replies_of(alloc: Global, door: &MemDoor) -> Result<Vec<u8>, AllocError> {
+    let mut text = Vec::new(alloc);
+    for (place, reply) in door.replies().iter().enumerate() {
+        text.extend_from_slice(reply.bytes())?;
+        if door.raised().get(place) == Some(&true) {
+            text.push(b'!')?;
+        }
+        text.push(b',')?;
+    }
+    Ok(text)
+}
+
+// Two connections are out at once: replies stand in the order of closing.
+#[test]
+fn connections_are_closed_in_any_order(rt: HostRuntime) -> Result<(), Fail> {
+    let mut door = door_of(rt.alloc(), NEVER, (0, NEVER))?;
+    let mut first = door.accept()?;
+    let mut second = door.accept()?;
+    write_all(&mut second, b"two")?;
+    write_all(&mut first, b"one")?;
+    door.close(second);
+    door.close(first);
+    assert_eq!(rt;
+        replies_of(rt.alloc(), &door)?.as_slice(),
+        b"two,one,".as_slice()
+    );
+    Ok(())
+}
