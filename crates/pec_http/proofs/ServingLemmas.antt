@@ -227,29 +227,33 @@ stop_or_lack : {Desk : Type 0} (answers : Answers Desk) (left : Option Bytes) (b
 stop_or_lack answers left before after stop reply same no_read stopped (inl is) = stop_answered answers left before after stop reply same no_read stopped is
 stop_or_lack answers left before after stop reply same no_read stopped (inr is) = lacking answers left before after reply same is
 
-replies : {Desk : Type 0} (answers : Answers Desk) (left : Option Bytes) (before after : Desk) (held held_then : Option Bytes) (served : Served) (reply : Reply)
+replies : {Desk : Type 0} (answers : Answers Desk) (left held : Option Bytes) (before after : Desk) (held_then : Option Bytes) (served : Served) (reply : Reply)
     → ((input : Bytes) × IsInput left input × IsAnswerOrLack answers before input after reply) → Sends held held_then served reply.status (reply_text reply)
-    → Serves answers left before after held_then served
-replies answers left before after held held_then (Answered code) reply answer sends = record { input = answer.0; is_input = answer.1; reply = reply; is_answer = answer.2; held = held; sends = sends }
-replies answers left before after held held_then WriteFault reply answer sends = record { input = answer.0; is_input = answer.1; reply = reply; is_answer = answer.2; held = held; sends = sends }
-replies answers left before after held held_then ReadFault reply answer sends = absurd sends
+    → Serves answers left held before after held_then served
+replies answers left held before after held_then (Answered code) reply answer sends = record { input = answer.0; is_input = answer.1; reply = reply; is_answer = answer.2; sends = sends }
+replies answers left held before after held_then WriteFault reply answer sends = record { input = answer.0; is_input = answer.1; reply = reply; is_answer = answer.2; sends = sends }
+replies answers left held before after held_then ReadFault reply answer sends = absurd sends
 
--- a request that isn't put to the desk is served
-pub stop_served : {Desk : Type 0} (answers : Answers Desk) (left : Option Bytes) (before after : Desk) (stop : Stop) (held held_then : Option Bytes) (served : Served)
-    → after ≡ before → stop ≢ stops.ReadFault → StopsFor (answers.pass before) left stop
-    → ((reply : Reply) × ((reply ≡ stop_reply stop) ⊎ (reply ≡ memory_reply)) × Sends held held_then served reply.status (reply_text reply))
-    → Serves answers left before after held_then served
-stop_served answers left before after stop held held_then served same no_read stopped answered =
-    replies answers left before after held held_then served answered.0 (stop_or_lack answers left before after stop answered.0 same no_read stopped answered.1) answered.2
+-- a request that isn't put to the desk is served; reading it left what the connection held
+pub stop_served : {Desk : Type 0} (answers : Answers Desk) (left held held_read : Option Bytes) (before after : Desk) (stop : Stop) (held_then : Option Bytes) (served : Served)
+    → held_read ≡ held → after ≡ before → stop ≢ stops.ReadFault → StopsFor (answers.pass before) left stop
+    → ((reply : Reply) × ((reply ≡ stop_reply stop) ⊎ (reply ≡ memory_reply)) × Sends held_read held_then served reply.status (reply_text reply))
+    → Serves answers left held before after held_then served
+stop_served answers left held held_read before after stop held_then served kept same no_read stopped answered =
+    let P : Option Bytes → Type 0 = λ h. Sends h held_then served answered.0.status (reply_text answered.0) in
+    replies answers left held before after held_then served answered.0 (stop_or_lack answers left before after stop answered.0 same no_read stopped answered.1)
+    (subst P kept answered.2)
 
 -- one that is put to the desk is served
-pub exchange_served : {Desk : Type 0} (answers : Answers Desk) (left : Option Bytes) (before after : Desk) (written : Written) (held held_then : Option Bytes) (served : Served)
-    → Exchanges answers left before after written → Sends held held_then served written.status written.text.items → Serves answers left before after held_then served
-exchange_served answers left before after written held held_then served exchange sends =
+pub exchange_served : {Desk : Type 0} (answers : Answers Desk) (left held held_read : Option Bytes) (before after : Desk) (written : Written) (held_then : Option Bytes) (served : Served)
+    → held_read ≡ held → Exchanges answers left before after written → Sends held_read held_then served written.status written.text.items
+    → Serves answers left held before after held_then served
+exchange_served answers left held held_read before after written held_then served kept exchange sends =
+    let O : Option Bytes → Type 0 = λ h. Sends h held_then served written.status written.text.items in
     let P : Status → Type 0 = λ s. Sends held held_then served s written.text.items in
     let Q : Bytes → Type 0 = λ t. Sends held held_then served exchange.reply.status t in
-    replies answers left before after held held_then served exchange.reply (exchange.input, exchange.is_input, inl exchange.is_answer)
-    (subst Q exchange.is_written.text (subst P exchange.is_written.status sends))
+    replies answers left held before after held_then served exchange.reply (exchange.input, exchange.is_input, inl exchange.is_answer)
+    (subst Q exchange.is_written.text (subst P exchange.is_written.status (subst O kept sends)))
 
 -- who sends doesn't read
 pub not_read : (held held_then : Option Bytes) (served : Served) (status : Status) (text : Bytes) → Sends held held_then served status text → served ≡ ReadFault → ⊥

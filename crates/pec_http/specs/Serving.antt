@@ -86,18 +86,22 @@ Sends held held_then (Answered code) status text = (code ≡ number_of status) �
 Sends held held_then WriteFault status text = WrotePart held held_then text
 Sends held held_then ReadFault status text = ⊥
 
--- A connection that had this to come was answered: by the answer to its bytes, behind what it held when these were read.
-pub record Replies {Desk : Type 0} (answers : Answers Desk) (left : Option Bytes) (before after : Desk) (held_then : Option Bytes) (served : Served) : Type 0 where
+-- A connection that had this to come and held that was answered: behind what it held stands the answer to its bytes, or a
+-- front of it.
+pub record Replies {Desk : Type 0} (answers : Answers Desk) (left held : Option Bytes) (before after : Desk) (held_then : Option Bytes) (served : Served) : Type 0 where
   pub input : Bytes
   pub is_input : IsInput left input
   pub reply : Reply
   pub is_answer : IsAnswerOrLack answers before input after reply
-  pub held : Option Bytes
   pub sends : Sends held held_then served reply.status (reply_text reply)
 
--- What a call did to a desk and to a connection that had this to come and holds that now. After a fault of reading
--- nothing was asked of the desk.
-abbrev pub Serves : {Desk : Type 0} → Answers Desk → Option Bytes → Desk → Desk → Option Bytes → Served → Type 0
-Serves answers left before after held_then ReadFault = after ≡ before
-Serves answers left before after held_then (Answered code) = Replies answers left before after held_then (Answered code)
-Serves answers left before after held_then WriteFault = Replies answers left before after held_then WriteFault
+-- Nothing was asked of the desk, and nothing was written.
+pub record RestsUnread {Desk : Type 0} (before after : Desk) (held held_then : Option Bytes) : Type 0 where
+  pub same : after ≡ before
+  pub unwritten : held_then ≡ held
+
+-- What a call did to a desk and to a connection that had this to come and held that.
+abbrev pub Serves : {Desk : Type 0} → Answers Desk → Option Bytes → Option Bytes → Desk → Desk → Option Bytes → Served → Type 0
+Serves answers left held before after held_then ReadFault = RestsUnread before after held held_then
+Serves answers left held before after held_then (Answered code) = Replies answers left held before after held_then (Answered code)
+Serves answers left held before after held_then WriteFault = Replies answers left held before after held_then WriteFault

@@ -25,6 +25,7 @@ pub(crate) fn exchange<S: Source, K: Desk>(
     ensures ok { IfOk result (Exchanges K.answers (S.left connection.old) desk.old desk.new) }
     ensures stop { IfErr result (StopsFor (K.answers.pass desk.old) (S.left connection.old)) }
     ensures same { IfErr result (λ stop. desk.new ≡ desk.old) }
+    ensures kept { S.held connection.new ≡ S.held connection.old }
     ensures later { S.faults connection.old ≤ S.faults connection.new }
     ensures cause { IsErrOf result stops.ReadFault → HasRisen (S.faults connection.old) (S.faults connection.new) }
 {

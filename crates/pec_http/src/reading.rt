@@ -21,6 +21,7 @@ pub(crate) fn read_head<S: Source>(connection: &mut S, came: &mut Vec<u8>) -> Re
     ensures end { IfOk result (λ end. (more : Bytes) → cut_of (came.new.items ++ more) ≡ Ends end) }
     ensures within { IfOk result (λ end. end ≤ length came.new.items) }
     ensures stop { IfErr result (StopsHead (S.left connection.old)) }
+    ensures kept { S.held connection.new ≡ S.held connection.old }
     ensures later { S.faults connection.old ≤ S.faults connection.new }
     ensures cause { IsErrOf result stops.ReadFault → HasRisen (S.faults connection.old) (S.faults connection.new) }
 {
@@ -48,6 +49,7 @@ pub(crate) fn read_body<S: Source>(
     ensures came { OnOk result (TakesMore (S.left connection.old) came.old.items (S.left connection.new) came.new.items) }
     ensures whole { OnOk result (until ≤ length came.new.items) }
     ensures stop { IfErr result (StopsBody (S.left connection.old) came.old.items until) }
+    ensures kept { S.held connection.new ≡ S.held connection.old }
     ensures later { S.faults connection.old ≤ S.faults connection.new }
     ensures cause { IsErrOf result stops.ReadFault → HasRisen (S.faults connection.old) (S.faults connection.new) }
 {
@@ -69,6 +71,7 @@ fn read_piece<S: Source>(connection: &mut S, came: &mut Vec<u8>, most: usize) ->
     ensures most { IfOk result (λ count. count ≤ most) }
     ensures end { IfOk result (λ count. IfSome (S.left connection.old) (λ bytes. (count ≡ 0) ↔ (bytes ≡ []))) }
     ensures stop { IfErr result IsReadStop }
+    ensures kept { S.held connection.new ≡ S.held connection.old }
     ensures later { S.faults connection.old ≤ S.faults connection.new }
     ensures cause { IsErrOf result stops.ReadFault → HasRisen (S.faults connection.old) (S.faults connection.new) }
 {

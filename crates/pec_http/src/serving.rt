@@ -35,9 +35,11 @@ pub fn serve_one<C: Source + Sink, K: Desk>(
     connection: &mut C,
     desk: &mut K,
 ) -> Served
-    // What is written is the answer to the bytes of the request at this desk, or a front of it after a fault of writing.
-    // The desk is asked to take a submission once where no row from 1 to 11 applies to one, and never otherwise.
-    ensures serves { Serves K.answers (C.left connection.old) desk.old desk.new (C.held connection.new) result }
+    // What is written, behind what the connection held, is the answer to the bytes of the request at this desk, or a front
+    // of it after a fault of writing, and nothing after one of reading. The desk is asked to take a submission once where
+    // no row from 1 to 11 applies to one, and never otherwise.
+    ensures serves { Serves K.answers (C.left connection.old) (C.held connection.old) desk.old desk.new
+        (C.held connection.new) result }
     // A fault is told only where the connection's count rose in this call.
     ensures read_fault { result ≡ served.ReadFault → HasRisen (C.faults connection.old) (C.faults connection.new) }
     ensures write_fault { result ≡ served.WriteFault → HasRisen (C.faults connection.old) (C.faults connection.new) }

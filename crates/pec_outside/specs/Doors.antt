@@ -1,6 +1,6 @@
 -- Doors: the replies to connections, and the door in memory. The headlines are `Reply` and `replied`. This project's profile.
 use Rattle.std.specs.Prelude.{ℕ, ◌+◌, nat_lt, Bool, List, [], ◌∷◌, ◌++◌, drop, slice_index_or, Option, None, Some}
-use Rattle.pec_outside.specs.Memory.{CallState, answered, no_calls, risen}
+use Rattle.pec_outside.specs.Memory.{CallState, answered, no_calls}
 
 -- What was written to a connection that was closed, and whether it had faults, so that closing it raised the door's count of
 -- such connections.

@@ -2,7 +2,7 @@ ghost use Rattle.std.specs.Prelude.{◌≡◌, ◌≢◌, ◌+◌, ◌<◌, ◌�
 ghost use Rattle.pec_outside.specs.DepotSlots.{failing_of};
 ghost use Rattle.pec_outside.specs.Doors.{DoorState, next_of, no_replies, reply_of};
 ghost use Rattle.pec_outside.specs.Flow.{HasRisen, as_u64, u64_of};
-ghost use Rattle.pec_outside.specs.Memory.{NextFails, faulted, risen};
+ghost use Rattle.pec_outside.specs.Memory.{NextFails, faulted};
 
 use crate::calls::Calls;
 use crate::counts::Counted;

@@ -3,8 +3,9 @@ use Rattle.pec_http.specs.Input.{TakesMore}
 use Rattle.pec_http.proofs.reading.read_body.Given as goal
 
 abbrev pub invariant-pieces : goal.invariant-pieces
-invariant-pieces g l = let port = g.S.Source in let counts = g.S.Counted in record {
+invariant-pieces g l = let port = g.S.Stream in let counts = g.S.Counted in record {
   more : TakesMore (port.left l.fn.connection) l.fn.came.items (port.left l.connection) l.came.items;
+  kept : port.held l.connection ≡ port.held l.fn.connection;
   later : counts.faults l.fn.connection ≤ counts.faults l.connection;
 }
 

@@ -8,6 +8,6 @@ use Rattle.pec_http.proofs.reading.read_head.Goals as goal
 
 pub returns-in-TooLarge-clause-stop : goal.returns-in-TooLarge-clause-stop
 returns-in-TooLarge-clause-stop g c =
-    let taken : g.S.Source.left c.args.connection.now ≡ behind c.read_piece.new.came.items (g.S.Source.left c.read_piece.new.connection) = grind (arith, common_steps) in
+    let taken : g.S.Stream.left c.args.connection.now ≡ behind c.read_piece.new.came.items (g.S.Stream.left c.read_piece.new.connection) = grind (arith, common_steps) in
     let each : (more : Bytes) → cut_of (c.read_piece.new.came.items ++ more) ≡ TooLarge = λ more. grind (arith, common_steps) in
     cut_known _ _ _ _ taken each
