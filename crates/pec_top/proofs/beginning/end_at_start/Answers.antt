@@ -14,7 +14,7 @@ returns-in_err-end-in-NotFit-clause-ends g c =
     rw (p.1, p.2, c.in_err-end-in-NotFit.ensures.stop, c.in-NotFit.is) (record {
       next = Unfits (unfit_of c.in-NotFit.why);
       is_next = inl refl;
-      told = λ other. subst (WrotePart (g.W.Sink.held c.args.out.now) (g.W.Sink.held c.write_last-in-NotFit.new.out))
+      told = λ other. subst (WrotePart (g.W.Stream.held c.args.out.now) (g.W.Stream.held c.write_last-in-NotFit.new.out))
           text c.in_err-end-in-NotFit.ensures.err;
     })
 
@@ -26,7 +26,7 @@ returns-in_ok-end-in-NotFit-clause-ends g c =
       is_next = inl refl;
       told = λ other. (
         refl,
-        c.in_ok-end-in-NotFit.ensures.ok.1 ∙ ap (followed_by (g.W.Sink.held c.args.out.now))
+        c.in_ok-end-in-NotFit.ensures.ok.1 ∙ ap (followed_by (g.W.Stream.held c.args.out.now))
             text,
       );
     })

@@ -26,9 +26,9 @@ returns-clause-ran g c = λ stand.
       sites network,
       (
         ran_later tells (trade_of old.kept (g.H.Sealer.seals old.sealer)) (providers_of old.kept)
-            (place_at faults old last 1 (behind c.args.buffer.now (g.S.Source.left c.args.source.now))) counts
+            (place_at faults old last 1 (behind c.args.buffer.now (g.S.Stream.left c.args.source.now))) counts
             (g.P.Depot.last c.close.new.depot)
-            (result_shown c.play_script-result.result) (g.W.Sink.held c.args.out.now) (g.W.Sink.held
+            (result_shown c.play_script-result.result) (g.W.Stream.held c.args.out.now) (g.W.Stream.held
             c.play_script-result.new.out) (sites network)
             (λ k. let e = closed k in omega (arith, e)) (c.play_script-result.ensures.ran stand last),
         rw (← same) (all_kept_so g.P.Depot.tells g.D.Disk.tells g.D.Disk.sight network c.a_network_is_whole.ensures

@@ -19,7 +19,7 @@ returns-in_err-fault-clause-ran g c = λ words unread is input.
     let home = g.P.Depot.home c.args.depot.now in
     let disks = disks_at tells g.P.D.Disk.sight home in
     let last = g.P.Depot.last c.args.depot.now in
-    let before = g.W.Sink.held c.args.out.now in
+    let before = g.W.Stream.held c.args.out.now in
     let p = err_from_is_err_and c.from_residual.result c.from_residual.ensures.1 in
     rw (p.1, p.2) (ran_halted words unread before before tells disks disks last last (untouched tells
     g.P.D.Disk.sight home) (form_shown c.args.form) statuses.NoMemory is
@@ -31,7 +31,7 @@ returns-in_err-text-in-Refused-clause-ran g c = λ words unread is input.
     let home = g.P.Depot.home c.args.depot.now in
     let disks = disks_at tells g.P.D.Disk.sight home in
     let last = g.P.Depot.last c.args.depot.now in
-    let before = g.W.Sink.held c.args.out.now in
+    let before = g.W.Stream.held c.args.out.now in
     let p = err_from_is_err_and c.from_residual-in_err-text-in-Refused.result
     c.from_residual-in_err-text-in-Refused.ensures.1 in
     rw (p.1, p.2) (ran_halted words unread before before tells disks disks last last (untouched tells
@@ -44,9 +44,9 @@ returns-in_err-end-in-Refused-clause-ran g c = λ words unread is input.
     let home = g.P.Depot.home c.args.depot.now in
     let disks = disks_at tells g.P.D.Disk.sight home in
     let last = g.P.Depot.last c.args.depot.now in
-    let before = g.W.Sink.held c.args.out.now in
-    let after = g.W.Sink.held c.write_last.new.out in
-    let behind_it = behind c.args.buffer.now (g.S.Source.left c.args.source.now) in
+    let before = g.W.Stream.held c.args.out.now in
+    let after = g.W.Stream.held c.write_last.new.out in
+    let behind_it = behind c.args.buffer.now (g.S.Stream.left c.args.source.now) in
     let lines = lines_there behind_it in
     let bytes = c.args.bytes.now in
     let fault = c.in-Refused.fault in
@@ -68,9 +68,9 @@ returns-in_ok-end-in-Refused-clause-ran g c = λ words unread is input.
     let home = g.P.Depot.home c.args.depot.now in
     let disks = disks_at tells g.P.D.Disk.sight home in
     let last = g.P.Depot.last c.args.depot.now in
-    let before = g.W.Sink.held c.args.out.now in
-    let after = g.W.Sink.held c.write_last.new.out in
-    let behind_it = behind c.args.buffer.now (g.S.Source.left c.args.source.now) in
+    let before = g.W.Stream.held c.args.out.now in
+    let after = g.W.Stream.held c.write_last.new.out in
+    let behind_it = behind c.args.buffer.now (g.S.Stream.left c.args.source.now) in
     let lines = lines_there behind_it in
     let bytes = c.args.bytes.now in
     let fault = c.in-Refused.fault in

@@ -21,8 +21,8 @@ returns-in_err-read_directory-clause-ran g c = λ words is.
     let disks = disks_at tells g.P.D.Disk.sight home in
     let last = g.P.Depot.last c.args.depot.now in
     let form = form_shown c.args.form in
-    let unread = behind c.args.buffer.now (g.S.Source.left c.args.source.now) in
-    let before = g.W.Sink.held c.args.out.now in
+    let unread = behind c.args.buffer.now (g.S.Stream.left c.args.source.now) in
+    let before = g.W.Stream.held c.args.out.now in
     let p = err_from_is_err_and c.from_residual.result c.from_residual.ensures.1 in
     let fault = c.in_err-read_directory.field-0.0 in
     rw (p.1, p.2) (ran_halted words unread before before tells disks disks last last (untouched tells
@@ -36,12 +36,12 @@ returns-in_err-end-in-TooLong-clause-ran g c = λ words is.
     let disks = disks_at tells g.P.D.Disk.sight home in
     let last = g.P.Depot.last c.args.depot.now in
     let form = form_shown c.args.form in
-    let unread = behind c.args.buffer.now (g.S.Source.left c.args.source.now) in
-    let before = g.W.Sink.held c.args.out.now in
+    let unread = behind c.args.buffer.now (g.S.Stream.left c.args.source.now) in
+    let before = g.W.Stream.held c.args.out.now in
     let opens = subst (λ (opening : Opening). Opens opening unread (behind c.read_directory.new.buffer
-    (g.S.Source.left c.read_directory.new.source)))
+    (g.S.Stream.left c.read_directory.new.source)))
     c.in-TooLong.is c.in_ok-read_directory.ensures.opens in
-    let after = g.W.Sink.held c.write_last.new.out in
+    let after = g.W.Stream.held c.write_last.new.out in
     let parts = long_parts LONGEST_DIRECTORY (parts_left unread) opens in
     let p = err_from_is_err_and c.from_residual-in_err-end-in-TooLong.result
     c.from_residual-in_err-end-in-TooLong.ensures.1 in
@@ -58,12 +58,12 @@ returns-in_ok-end-in-TooLong-clause-ran g c = λ words is.
     let disks = disks_at tells g.P.D.Disk.sight home in
     let last = g.P.Depot.last c.args.depot.now in
     let form = form_shown c.args.form in
-    let unread = behind c.args.buffer.now (g.S.Source.left c.args.source.now) in
-    let before = g.W.Sink.held c.args.out.now in
+    let unread = behind c.args.buffer.now (g.S.Stream.left c.args.source.now) in
+    let before = g.W.Stream.held c.args.out.now in
     let opens = subst (λ (opening : Opening). Opens opening unread (behind c.read_directory.new.buffer
-    (g.S.Source.left c.read_directory.new.source)))
+    (g.S.Stream.left c.read_directory.new.source)))
     c.in-TooLong.is c.in_ok-read_directory.ensures.opens in
-    let after = g.W.Sink.held c.write_last.new.out in
+    let after = g.W.Stream.held c.write_last.new.out in
     let parts = long_parts LONGEST_DIRECTORY (parts_left unread) opens in
     rw c.in_ok-end-in-TooLong.ensures.ok.0
     (ran_over words unread before after tells disks disks last last (untouched tells g.P.D.Disk.sight home)
@@ -78,12 +78,12 @@ returns-in_err-end-in-NoScript-clause-ran g c = λ words is.
     let disks = disks_at tells g.P.D.Disk.sight home in
     let last = g.P.Depot.last c.args.depot.now in
     let form = form_shown c.args.form in
-    let unread = behind c.args.buffer.now (g.S.Source.left c.args.source.now) in
-    let before = g.W.Sink.held c.args.out.now in
+    let unread = behind c.args.buffer.now (g.S.Stream.left c.args.source.now) in
+    let before = g.W.Stream.held c.args.out.now in
     let opens = subst (λ (opening : Opening). Opens opening unread (behind c.read_directory.new.buffer
-    (g.S.Source.left c.read_directory.new.source)))
+    (g.S.Stream.left c.read_directory.new.source)))
     c.in-NoScript.is c.in_ok-read_directory.ensures.opens in
-    let after = g.W.Sink.held c.write_last-in-NoScript.new.out in
+    let after = g.W.Stream.held c.write_last-in-NoScript.new.out in
     let parts = unmarked_parts LONGEST_DIRECTORY (parts_left unread) opens in
     let p = err_from_is_err_and c.from_residual-in_err-end-in-NoScript.result
     c.from_residual-in_err-end-in-NoScript.ensures.1 in
@@ -100,12 +100,12 @@ returns-in_ok-end-in-NoScript-clause-ran g c = λ words is.
     let disks = disks_at tells g.P.D.Disk.sight home in
     let last = g.P.Depot.last c.args.depot.now in
     let form = form_shown c.args.form in
-    let unread = behind c.args.buffer.now (g.S.Source.left c.args.source.now) in
-    let before = g.W.Sink.held c.args.out.now in
+    let unread = behind c.args.buffer.now (g.S.Stream.left c.args.source.now) in
+    let before = g.W.Stream.held c.args.out.now in
     let opens = subst (λ (opening : Opening). Opens opening unread (behind c.read_directory.new.buffer
-    (g.S.Source.left c.read_directory.new.source)))
+    (g.S.Stream.left c.read_directory.new.source)))
     c.in-NoScript.is c.in_ok-read_directory.ensures.opens in
-    let after = g.W.Sink.held c.write_last-in-NoScript.new.out in
+    let after = g.W.Stream.held c.write_last-in-NoScript.new.out in
     let parts = unmarked_parts LONGEST_DIRECTORY (parts_left unread) opens in
     rw c.in_ok-end-in-NoScript.ensures.ok.0
     (ran_over words unread before after tells disks disks last last (untouched tells g.P.D.Disk.sight home)
@@ -115,9 +115,9 @@ returns-in_ok-end-in-NoScript-clause-ran g c = λ words is.
 
 pub returns-in_err-end-in-Script-clause-ran : goal.returns-in_err-end-in-Script-clause-ran
 returns-in_err-end-in-Script-clause-ran g c = λ words is.
-    let unread = behind c.args.buffer.now (g.S.Source.left c.args.source.now) in
+    let unread = behind c.args.buffer.now (g.S.Stream.left c.args.source.now) in
     let opens = subst (λ (opening : Opening). Opens opening unread (behind c.read_directory.new.buffer
-    (g.S.Source.left c.read_directory.new.source)))
+    (g.S.Stream.left c.read_directory.new.source)))
     c.in-Script.is c.in_ok-read_directory.ensures.opens in
     let p = err_from_is_err_and c.from_residual-in_err-end-in-Script.result
     c.from_residual-in_err-end-in-Script.ensures.1 in

@@ -28,7 +28,7 @@ returns-in_err-sealer-clause-ran g c = λ words bytes unread is short opens inpu
     let home = g.P.Depot.home c.args.depot.now in
     let disks = disks_at tells g.P.D.Disk.sight home in
     let last = g.P.Depot.last c.args.depot.now in
-    let before = g.W.Sink.held c.args.out.now in
+    let before = g.W.Stream.held c.args.out.now in
     let p = err_from_is_err_and c.from_residual.result c.from_residual.ensures.1 in
     rw (p.1, p.2) (ran_halted words unread before before tells disks disks last last (untouched tells
     g.P.D.Disk.sight home) (form_shown c.args.form) statuses.NoMemory is
@@ -55,8 +55,8 @@ returns-in_err-end-in-Ok-clause-ran g c = λ words bytes unread is short opens i
     } in
     let of = c.a_trade_says_what_its_parts_say.ensures.directory kept seals in
     let old = g.P.Depot.home c.args.depot.now in
-    let before = g.W.Sink.held c.args.out.now in
-    let unread_now = behind c.args.buffer.now (g.S.Source.left c.args.source.now) in
+    let before = g.W.Stream.held c.args.out.now in
+    let unread_now = behind c.args.buffer.now (g.S.Stream.left c.args.source.now) in
     let from = g.P.Depot.last c.args.depot.now in
     let network = c.in-Ok.network in
     let mid = g.P.Depot.home c.begin.new.depot in
@@ -80,7 +80,7 @@ returns-in_err-end-in-Ok-clause-ran g c = λ words bytes unread is short opens i
     let p = err_from_is_err_and c.from_residual-in_err-end-in-Ok.result c.from_residual-in_err-end-in-Ok.ensures.1 in
     rw (p.1, p.2) (ran_script words (form_shown c.args.form) is bytes short setting opens is_setting journals
     (stop_shown c.in_err-end-in-Ok.field-0.0) unread unread_now
-    before (g.W.Sink.held c.play_all.new.out) tells (disks_at tells g.P.D.Disk.sight old) (disks_at tells
+    before (g.W.Stream.held c.play_all.new.out) tells (disks_at tells g.P.D.Disk.sight old) (disks_at tells
     g.P.D.Disk.sight new)
     from (counts_in faults network.providers mid_last) (g.P.Depot.last c.play_all.new.depot) (sites network) ran.0
     (c.a_loop_climbs.ensures (trade_in setting) (providers_of kept)).since
@@ -130,8 +130,8 @@ returns-in_ok-end-in-Ok-clause-ran g c = λ words bytes unread is short opens in
     } in
     let of = c.a_trade_says_what_its_parts_say.ensures.directory kept seals in
     let old = g.P.Depot.home c.args.depot.now in
-    let before = g.W.Sink.held c.args.out.now in
-    let unread_now = behind c.args.buffer.now (g.S.Source.left c.args.source.now) in
+    let before = g.W.Stream.held c.args.out.now in
+    let unread_now = behind c.args.buffer.now (g.S.Stream.left c.args.source.now) in
     let from = g.P.Depot.last c.args.depot.now in
     let network = c.in-Ok.network in
     let mid = g.P.Depot.home c.begin.new.depot in
@@ -154,7 +154,7 @@ returns-in_ok-end-in-Ok-clause-ran g c = λ words bytes unread is short opens in
     network.providers count begun in
     (ran_script words (form_shown c.args.form) is bytes short setting opens is_setting journals (end_shown
     c.in_ok-end-in-Ok.end) unread unread_now
-    before (g.W.Sink.held c.play_all.new.out) tells (disks_at tells g.P.D.Disk.sight old) (disks_at tells
+    before (g.W.Stream.held c.play_all.new.out) tells (disks_at tells g.P.D.Disk.sight old) (disks_at tells
     g.P.D.Disk.sight new)
     from (counts_in faults network.providers mid_last) (g.P.Depot.last c.play_all.new.depot) (sites network) ran.0
     (c.a_loop_climbs.ensures (trade_in setting) (providers_of kept)).since
@@ -204,8 +204,8 @@ returns-in_err-end-in-Err-clause-ran g c = λ words bytes unread is short opens 
     } in
     let of = c.a_trade_says_what_its_parts_say.ensures.directory kept seals in
     let old = g.P.Depot.home c.args.depot.now in
-    let before = g.W.Sink.held c.args.out.now in
-    let unread_now = behind c.args.buffer.now (g.S.Source.left c.args.source.now) in
+    let before = g.W.Stream.held c.args.out.now in
+    let unread_now = behind c.args.buffer.now (g.S.Stream.left c.args.source.now) in
     let from = g.P.Depot.last c.args.depot.now in
     let new = g.P.Depot.home c.begin.new.depot in
     let p = err_from_is_err_and c.from_residual-in_err-end-in-Err.result c.from_residual-in_err-end-in-Err.ensures.1
@@ -214,7 +214,7 @@ returns-in_err-end-in-Err-clause-ran g c = λ words bytes unread is short opens 
     c.in-Err.refused.0 c.in-Err.ensures.refused
     c.a_disk_reads_as_an_image.ensures words is bytes short opens is_setting (stop_shown
     c.in_err-end-in-Err.field-0.0) unread unread_now
-    before (g.W.Sink.held c.end_at_start.new.out) from (g.P.Depot.last c.begin.new.depot) input (rw (←
+    before (g.W.Stream.held c.end_at_start.new.out) from (g.P.Depot.last c.begin.new.depot) input (rw (←
     c.in-Err.ensures.given_back) c.in_err-end-in-Err.ensures.ends))
 
 pub returns-in_err-end-in-Err-clause-home : goal.returns-in_err-end-in-Err-clause-home
@@ -241,15 +241,15 @@ returns-in_ok-end-in-Err-clause-ran g c = λ words bytes unread is short opens i
     } in
     let of = c.a_trade_says_what_its_parts_say.ensures.directory kept seals in
     let old = g.P.Depot.home c.args.depot.now in
-    let before = g.W.Sink.held c.args.out.now in
-    let unread_now = behind c.args.buffer.now (g.S.Source.left c.args.source.now) in
+    let before = g.W.Stream.held c.args.out.now in
+    let unread_now = behind c.args.buffer.now (g.S.Stream.left c.args.source.now) in
     let from = g.P.Depot.last c.args.depot.now in
     let new = g.P.Depot.home c.begin.new.depot in
     (ran_refused g.P.Depot.tells g.P.D.Disk.tells g.P.D.Disk.sight kept seals of old new c.args.form
     c.in-Err.refused.0 c.in-Err.ensures.refused
     c.a_disk_reads_as_an_image.ensures words is bytes short opens is_setting (end_shown c.in_ok-end-in-Err.end)
     unread unread_now
-    before (g.W.Sink.held c.end_at_start.new.out) from (g.P.Depot.last c.begin.new.depot) input (rw (←
+    before (g.W.Stream.held c.end_at_start.new.out) from (g.P.Depot.last c.begin.new.depot) input (rw (←
     c.in-Err.ensures.given_back) c.in_ok-end-in-Err.ensures.ends))
 
 pub returns-in_ok-end-in-Err-clause-home : goal.returns-in_ok-end-in-Err-clause-home

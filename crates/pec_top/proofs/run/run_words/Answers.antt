@@ -17,9 +17,9 @@ returns-in_err-end-clause-ran g c =
     let words : List Bytes = map string_bytes c.args.words.now in
     let tells = g.P.Depot.tells × g.P.D.Disk.tells in
     let disks = disks_at tells g.P.D.Disk.sight (g.P.Depot.home c.args.depot.now) in
-    let unread = g.S.Source.left c.args.input.now in
-    let before = g.W.Sink.held c.args.out.now in
-    let after = g.W.Sink.held c.write_last.new.out in
+    let unread = g.S.Stream.left c.args.input.now in
+    let before = g.W.Stream.held c.args.out.now in
+    let after = g.W.Stream.held c.write_last.new.out in
     let parts = parts_there unread in
     let p = err_from_is_err_and c.from_residual.result c.from_residual.ensures.1 in
     rw (p.1, p.2, c.in_err-end.ensures.stop)
@@ -34,9 +34,9 @@ returns-in_default-clause-ran g c =
     let words : List Bytes = map string_bytes c.args.words.now in
     let tells = g.P.Depot.tells × g.P.D.Disk.tells in
     let disks = disks_at tells g.P.D.Disk.sight (g.P.Depot.home c.args.depot.now) in
-    let unread = g.S.Source.left c.args.input.now in
-    let before = g.W.Sink.held c.args.out.now in
-    let after = g.W.Sink.held c.write_last.new.out in
+    let unread = g.S.Stream.left c.args.input.now in
+    let before = g.W.Stream.held c.args.out.now in
+    let after = g.W.Stream.held c.write_last.new.out in
     let parts = parts_there unread in
     rw c.in_ok-end.ensures.ok.0
     (ran_over words unread before after tells disks disks (g.P.Depot.last c.args.depot.now) (g.P.Depot.last
@@ -48,9 +48,9 @@ returns-in_default-clause-ran g c =
 pub returns-in_err-end-2-clause-ran : goal.returns-in_err-end-2-clause-ran
 returns-in_err-end-2-clause-ran g c =
     let p = err_from_is_err_and c.from_residual-in_err-end-2.result c.from_residual-in_err-end-2.ensures.1 in
-    rw (p.1, p.2) (rw (c.new-buffer.ensures, behind_nothing (g.S.Source.left c.args.input.now)) at
+    rw (p.1, p.2) (rw (c.new-buffer.ensures, behind_nothing (g.S.Stream.left c.args.input.now)) at
     c.in_err-end-2.ensures.ran (map string_bytes c.args.words.now) (sym c.in-Some.ensures))
 
 pub returns-clause-all_read : goal.returns-clause-all_read
-returns-clause-all_read g c = λ done. at_end_behind _ (g.S.Source.left c.run_input.new.source)
+returns-clause-all_read g c = λ done. at_end_behind _ (g.S.Stream.left c.run_input.new.source)
     (c.in_ok-end-2.ensures.all_read done)

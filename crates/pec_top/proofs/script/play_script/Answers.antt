@@ -46,15 +46,15 @@ returns-in_err-found-clause-ran g c = λ stand elsewhere.
     let trade = trade_of c.args.network.now.kept (g.H.Sealer.seals c.args.network.now.sealer) in
     let providers = providers_of c.args.network.now.kept in
     let laws = c.a_loop_climbs.ensures trade providers in
-    let first = place_at g.D.Counted.faults c.args.network.now elsewhere 1 (behind c.args.buffer.now (g.S.Source.left
+    let first = place_at g.D.Counted.faults c.args.network.now elsewhere 1 (behind c.args.buffer.now (g.S.Stream.left
     c.args.source.now)) in
     let here = place_at g.D.Counted.faults c.lines.network elsewhere c.lines.number (behind c.lines.buffer
-    (g.S.Source.left c.lines.source)) in
+    (g.S.Stream.left c.lines.source)) in
     let came = c.lines.invariant.came stand elsewhere in
     let p = err_from_is_err_and c.from_residual.result c.from_residual.ensures.1 in
     let lines = lines_there here.unread in
     rw (p.1, p.2) (halts tells trade providers laws first here (counts_in g.D.Counted.faults
-    c.lines.network.providers elsewhere) _ (g.W.Sink.held c.args.out.now) (g.W.Sink.held c.lines.out)
+    c.lines.network.providers elsewhere) _ (g.W.Stream.held c.args.out.now) (g.W.Stream.held c.lines.out)
     lines.0 (sites c.lines.network) (halt_of tells trade providers c.in_err-found.field-0.0) lines.1 (λ q. omega
     arith) refl came)
 
@@ -64,12 +64,12 @@ returns-in_err-taken-clause-ran g c = λ stand elsewhere.
     let trade = trade_of c.args.network.now.kept (g.H.Sealer.seals c.args.network.now.sealer) in
     let providers = providers_of c.args.network.now.kept in
     let laws = c.a_loop_climbs.ensures trade providers in
-    let first = place_at g.D.Counted.faults c.args.network.now elsewhere 1 (behind c.args.buffer.now (g.S.Source.left
+    let first = place_at g.D.Counted.faults c.args.network.now elsewhere 1 (behind c.args.buffer.now (g.S.Stream.left
     c.args.source.now)) in
     let here = place_at g.D.Counted.faults c.lines.network elsewhere c.lines.number (behind c.lines.buffer
-    (g.S.Source.left c.lines.source)) in
+    (g.S.Stream.left c.lines.source)) in
     let came = c.lines.invariant.came stand elsewhere in
-    let unread = behind c.next_line.new.buffer (g.S.Source.left c.next_line.new.source) in
+    let unread = behind c.next_line.new.buffer (g.S.Stream.left c.next_line.new.source) in
     let upto = counts_in g.D.Counted.faults c.take_found.new.network.providers elsewhere in
     let line = c.next_line.new.line.items in
     let now = sites c.take_found.new.network in
@@ -78,8 +78,8 @@ returns-in_err-taken-clause-ran g c = λ stand elsewhere.
     let stopped = rw (c.deref.ensures.value, c.lines.invariant.same.0, c.lines.invariant.same.1) at
     c.in_err-taken.ensures.stops stand_here in
     let p = err_from_is_err_and c.from_residual-in_err-taken.result c.from_residual-in_err-taken.ensures.1 in
-    rw (p.1, p.2) (memory_at tells trade providers laws first here upto line unread now (g.W.Sink.held
-    c.args.out.now) (g.W.Sink.held c.lines.out)
+    rw (p.1, p.2) (memory_at tells trade providers laws first here upto line unread now (g.W.Stream.held
+    c.args.out.now) (g.W.Stream.held c.lines.out)
     (c.take_found.ensures.later elsewhere) c.in_ok-found.found stopped c.in_ok-found.ensures.found came)
 
 pub returns-in_err-write_all-clause-ran : goal.returns-in_err-write_all-clause-ran
@@ -88,12 +88,12 @@ returns-in_err-write_all-clause-ran g c = λ stand elsewhere.
     let trade = trade_of c.args.network.now.kept (g.H.Sealer.seals c.args.network.now.sealer) in
     let providers = providers_of c.args.network.now.kept in
     let laws = c.a_loop_climbs.ensures trade providers in
-    let first = place_at g.D.Counted.faults c.args.network.now elsewhere 1 (behind c.args.buffer.now (g.S.Source.left
+    let first = place_at g.D.Counted.faults c.args.network.now elsewhere 1 (behind c.args.buffer.now (g.S.Stream.left
     c.args.source.now)) in
     let here = place_at g.D.Counted.faults c.lines.network elsewhere c.lines.number (behind c.lines.buffer
-    (g.S.Source.left c.lines.source)) in
+    (g.S.Stream.left c.lines.source)) in
     let came = c.lines.invariant.came stand elsewhere in
-    let unread = behind c.next_line.new.buffer (g.S.Source.left c.next_line.new.source) in
+    let unread = behind c.next_line.new.buffer (g.S.Stream.left c.next_line.new.source) in
     let upto = counts_in g.D.Counted.faults c.take_found.new.network.providers elsewhere in
     let line = c.next_line.new.line.items in
     let now = sites c.take_found.new.network in
@@ -104,8 +104,8 @@ returns-in_err-write_all-clause-ran g c = λ stand elsewhere.
     let part = rw c.deref-in-lines.ensures.value at c.in_err-write_all.ensures.err in
     let p = err_from_is_err_and c.from_residual-in_err-write_all.result c.from_residual-in_err-write_all.ensures.1 in
     rw (p.1, p.2) (found_in_part tells trade providers laws first here upto line unread c.in_ok-taken.taken now
-    (g.W.Sink.held c.args.out.now) (g.W.Sink.held c.lines.out)
-    c.in_ok-found.found (g.W.Sink.held c.write_all.new.out) takes c.in_ok-found.ensures.found part came)
+    (g.W.Stream.held c.args.out.now) (g.W.Stream.held c.lines.out)
+    c.in_ok-found.found (g.W.Stream.held c.write_all.new.out) takes c.in_ok-found.ensures.found part came)
 
 pub returns-in-Some-clause-ran : goal.returns-in-Some-clause-ran
 returns-in-Some-clause-ran g c = λ stand elsewhere.
@@ -113,12 +113,12 @@ returns-in-Some-clause-ran g c = λ stand elsewhere.
     let trade = trade_of c.args.network.now.kept (g.H.Sealer.seals c.args.network.now.sealer) in
     let providers = providers_of c.args.network.now.kept in
     let laws = c.a_loop_climbs.ensures trade providers in
-    let first = place_at g.D.Counted.faults c.args.network.now elsewhere 1 (behind c.args.buffer.now (g.S.Source.left
+    let first = place_at g.D.Counted.faults c.args.network.now elsewhere 1 (behind c.args.buffer.now (g.S.Stream.left
     c.args.source.now)) in
     let here = place_at g.D.Counted.faults c.lines.network elsewhere c.lines.number (behind c.lines.buffer
-    (g.S.Source.left c.lines.source)) in
+    (g.S.Stream.left c.lines.source)) in
     let came = c.lines.invariant.came stand elsewhere in
-    let unread = behind c.next_line.new.buffer (g.S.Source.left c.next_line.new.source) in
+    let unread = behind c.next_line.new.buffer (g.S.Stream.left c.next_line.new.source) in
     let upto = counts_in g.D.Counted.faults c.take_found.new.network.providers elsewhere in
     let line = c.next_line.new.line.items in
     let now = sites c.take_found.new.network in
@@ -127,10 +127,10 @@ returns-in-Some-clause-ran g c = λ stand elsewhere.
     let takes = rw (c.deref.ensures.value, c.lines.invariant.same.0, c.lines.invariant.same.1) at
     c.in_ok-taken.ensures.takes stand_here elsewhere in
     let ended : c.in_ok-taken.taken.end ≡ Some c.in-Some.end = c.in-Some.is in
-    found_ends tells trade providers laws first here upto line unread c.in_ok-taken.taken now (g.W.Sink.held
-    c.args.out.now) (g.W.Sink.held c.lines.out)
-    c.in_ok-found.found (g.W.Sink.held c.write_all.new.out) c.in-Some.end takes c.in_ok-found.ensures.found ended
-    (c.in_ok-write_all.ensures.ok ∙ ap (followed_by (g.W.Sink.held c.lines.out)) c.deref-in-lines.ensures.value) came
+    found_ends tells trade providers laws first here upto line unread c.in_ok-taken.taken now (g.W.Stream.held
+    c.args.out.now) (g.W.Stream.held c.lines.out)
+    c.in_ok-found.found (g.W.Stream.held c.write_all.new.out) c.in-Some.end takes c.in_ok-found.ensures.found ended
+    (c.in_ok-write_all.ensures.ok ∙ ap (followed_by (g.W.Stream.held c.lines.out)) c.deref-in-lines.ensures.value) came
 
 pub lines-preserved : goal.lines-preserved
 lines-preserved g c =
@@ -142,11 +142,11 @@ lines-preserved g c =
           let providers = providers_of c.args.network.now.kept in
           let laws = c.a_loop_climbs.ensures trade providers in
           let first = place_at g.D.Counted.faults c.args.network.now elsewhere 1 (behind c.args.buffer.now
-          (g.S.Source.left c.args.source.now)) in
+          (g.S.Stream.left c.args.source.now)) in
           let here = place_at g.D.Counted.faults c.lines.network elsewhere c.lines.number (behind c.lines.buffer
-          (g.S.Source.left c.lines.source)) in
+          (g.S.Stream.left c.lines.source)) in
           let came = c.lines.invariant.came stand elsewhere in
-          let unread = behind c.next_line.new.buffer (g.S.Source.left c.next_line.new.source) in
+          let unread = behind c.next_line.new.buffer (g.S.Stream.left c.next_line.new.source) in
           let upto = counts_in g.D.Counted.faults c.take_found.new.network.providers elsewhere in
           let line = c.next_line.new.line.items in
           let now = sites c.take_found.new.network in
@@ -154,10 +154,10 @@ lines-preserved g c =
           c.lines.invariant.stands told.1 (stand told) in
           let takes = rw (c.deref.ensures.value, c.lines.invariant.same.0, c.lines.invariant.same.1) at
           c.in_ok-taken.ensures.takes stand_here elsewhere in
-          found_on tells trade providers laws first here upto line unread c.in_ok-taken.taken now (g.W.Sink.held
-          c.args.out.now) (g.W.Sink.held c.lines.out)
-          c.in_ok-found.found (g.W.Sink.held c.write_all.new.out) takes c.in_ok-found.ensures.found goes_on
-          (c.in_ok-write_all.ensures.ok ∙ ap (followed_by (g.W.Sink.held c.lines.out))
+          found_on tells trade providers laws first here upto line unread c.in_ok-taken.taken now (g.W.Stream.held
+          c.args.out.now) (g.W.Stream.held c.lines.out)
+          c.in_ok-found.found (g.W.Stream.held c.write_all.new.out) takes c.in_ok-found.ensures.found goes_on
+          (c.in_ok-write_all.ensures.ok ∙ ap (followed_by (g.W.Stream.held c.lines.out))
           c.deref-in-lines.ensures.value) came;
       number = let bound = c.in_ok-taken.ensures.bound goes_on in omega (arith, bound);
       same = (

@@ -15,8 +15,8 @@ abbrev pub invariant-lines : goal.invariant-lines
 invariant-lines g l =
     let disk = g.D.Disk in
     let depot = g.P.Depot in
-    let port = g.S.Source in
-    let sink = g.W.Sink in
+    let port = g.S.Stream in
+    let sink = g.W.Stream in
     let faults = g.D.Counted.faults in
     record {
       came : (depot.tells × disk.tells → AllStand disk.sight l.fn.network.providers) → (elsewhere : ℕ → ℕ)

@@ -27,8 +27,8 @@ returns-in-Err-clause-ran g c =
     } in
     let devices = c.in-Err.ensures.blame in
     rw c.stop_status.ensures (ran_whole (map string_bytes c.args.words.now) (stop_shown c.in-Err.stop)
-    (g.S.Source.left c.args.input.now) (g.W.Sink.held c.args.out.now)
-    (g.W.Sink.held c.run_words.new.out) tells (disks_at tells g.P.D.Disk.sight (g.P.Depot.home c.args.depot.now))
+    (g.S.Stream.left c.args.input.now) (g.W.Stream.held c.args.out.now)
+    (g.W.Stream.held c.run_words.new.out) tells (disks_at tells g.P.D.Disk.sight (g.P.Depot.home c.args.depot.now))
     (disks_at tells g.P.D.Disk.sight (g.P.Depot.home c.run_words.new.depot))
     old new (blames_stop c.in-Err.stop old new devices c.in-Err.ensures.start)
     (record {
