@@ -5,7 +5,7 @@ use Rattle.pec_input.proofs.buffers.next_line.Given as goal
 
 abbrev pub invariant-pieces : goal.invariant-pieces
 invariant-pieces g l =
-    let port = g.S.Source in
+    let port = g.S.Stream in
     record {
       read : behind l.fn.buffer (port.left l.fn.source) ≡ behind l.line.items (behind l.buffer (port.left l.source));
       none : HasNoEnd l.line.items;

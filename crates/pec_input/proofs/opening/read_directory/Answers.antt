@@ -8,7 +8,7 @@ use Rattle.pec_input.proofs.opening.read_directory.Goals as goal
 
 pub returns-in-Long-clause-opens : goal.returns-in-Long-clause-opens
 returns-in-Long-clause-opens g c =
-    let left = g.S.Source.left in
+    let left = g.S.Stream.left in
     let before = behind c.lines.buffer (left c.lines.source) in
     let after = behind c.next_line.new.buffer (left c.next_line.new.source) in
     let found = subst (λ what. IsFound LONGEST_DIRECTORY what c.next_line.new.line.items before after) c.in-Long.is
@@ -17,7 +17,7 @@ returns-in-Long-clause-opens g c =
 
 pub returns-then-is_mark-clause-opens : goal.returns-then-is_mark-clause-opens
 returns-then-is_mark-clause-opens g c =
-    let left = g.S.Source.left in
+    let left = g.S.Stream.left in
     let before = behind c.lines.buffer (left c.lines.source) in
     let after = behind c.next_line.new.buffer (left c.next_line.new.source) in
     let found = subst (λ what. IsFound LONGEST_DIRECTORY what c.next_line.new.line.items before after) c.in-Line.is
@@ -31,7 +31,7 @@ returns-then-is_mark-clause-opens g c =
 
 pub lines-preserved : goal.lines-preserved
 lines-preserved g c =
-    let left = g.S.Source.left in
+    let left = g.S.Stream.left in
     let before = behind c.lines.buffer (left c.lines.source) in
     let after = behind c.next_line.new.buffer (left c.next_line.new.source) in
     let found = subst (λ what. IsFound LONGEST_DIRECTORY what c.next_line.new.line.items before after) c.in-Line.is

@@ -7,7 +7,7 @@ use Rattle.pec_input.proofs.opening.read_directory.Given as goal
 
 abbrev pub invariant-lines : goal.invariant-lines
 invariant-lines g l =
-    let port = g.S.Source in
+    let port = g.S.Stream in
     record {
       parts : parts_left (behind l.fn.buffer (port.left l.fn.source)) ≡ option_map
           (λ parts. onto_directory l.directory.items parts) (parts_left (behind l.buffer (port.left l.source)));
