@@ -17,7 +17,6 @@ use std::alloc::Global;
 use std::marker::Model;
 
 /// The directory of providers. Contracts see the list of what is kept of each.
-#[derive(Drop)]
 pub struct Directory {
     providers: Vec<Provider>,
     homes: Index<u32>,
@@ -38,6 +37,17 @@ impl Model for Directory {
 
     ghost invariant = { λ directory. IsIndexed directory.providers.items directory.homes directory.places
         × IsLawful (providers_of directory.providers.items) };
+}
+
+// Written out, so that to drop a directory is one call wherever it is done, and not the drops of its lists and indexes.
+impl Drop for Directory {
+    fn drop(self) {
+        let Directory {
+            providers: _,
+            homes: _,
+            places: _,
+        } = self;
+    }
 }
 
 impl Directory {

@@ -27,12 +27,23 @@ pub struct Headed<'a> {
 }
 
 /// A letter that was read: the provider that sealed it, its head, its parts, slices of the text, and what it certifies.
-#[derive(Drop)]
 pub struct Letter<'a> {
     pub sealer: u32,
     pub head: Head,
     pub parts: Parts<'a>,
     pub cert: CertData,
+}
+
+// Written out, so that to drop a letter is one call wherever it is done, and not the drops of all its fields.
+impl Drop for Letter<'_> {
+    fn drop(self) {
+        let Letter {
+            sealer: _,
+            head: _,
+            parts: _,
+            cert: _,
+        } = self;
+    }
 }
 
 /// The law of what is behind a head: one letter or a fault, never both, and `letter_in` gives it.
