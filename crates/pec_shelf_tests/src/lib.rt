@@ -1,0 +1,17 @@
+//! Tests of `pec_shelf` over its public calls: scripts of entries and questions, beside the lines that have to come.
+#![tactic(auto)]
+
+#[cfg(test)]
+mod conditions;
+#[cfg(test)]
+mod directories;
+#[cfg(test)]
+mod lines;
+#[cfg(test)]
+mod playing;
+#[cfg(test)]
+mod reading;
+#[cfg(test)]
+mod steps;
+#[cfg(test)]
+mod worked;
