@@ -5,7 +5,7 @@ use crate::running::{Case, Run, first_wrong};
 use pec_top::Status;
 use std::test::Fail;
 
-const CASES: [Case; 13] = [
+static CASES: [Case; 13] = [
     Case {
         why: "a message is accepted, and stands open in its sender's book",
         directory: ALFA,
@@ -49,7 +49,8 @@ const CASES: [Case; 13] = [
                      submit alfa 1704186000 alice@alfa.example bob@beta.example,x@posta.example \
                      {From: alice@alfa.example|To: bob@beta.example, x@posta.example||}\nbook alice@alfa.example\n",
             output: "accepted I0\naccepted I1\n\
-                     I0 bob@beta.example primary 1704186000 - - - open\nI0 carl@beta.example copy 1704186000 - - - open\n\
+                     I0 bob@beta.example primary 1704186000 - - - open\n\
+                     I0 carl@beta.example copy 1704186000 - - - open\n\
                      I1 bob@beta.example primary 1704186000 - - - open\nbook 3\n",
             status: Status::Done,
         }],
@@ -83,8 +84,10 @@ const CASES: [Case; 13] = [
             script: "submit alfa 1704186000 alice@alfa.example bob@beta.example {M2}\n\
                      round 1704186001\nlose alfa beta 0\nround 1704186002\nlose alfa beta 0\nround 1704186003\n\
                      repeat alfa beta 0\nrepeat alfa beta 0\nrepeat alfa beta 0\n\
-                     round 1704186004\nround 1704186005\nround 1704186006\nround 1704186007\nmailbox bob@beta.example\n",
-            output: "accepted I0\nalfa sent beta 1\nround\nlost\nalfa sent beta 1\nround\nlost\nalfa sent beta 1\nround\n\
+                     round 1704186004\nround 1704186005\nround 1704186006\nround 1704186007\n\
+                     mailbox bob@beta.example\n",
+            output: "accepted I0\nalfa sent beta 1\nround\nlost\nalfa sent beta 1\nround\nlost\n\
+                     alfa sent beta 1\nround\n\
                      repeated\nrepeated\nrepeated\n\
                      alfa sent beta 1\nbeta took I0\nbeta repeat envelope I0\nbeta repeat envelope I0\n\
                      beta repeat envelope I0\nbeta decided I0 bob@beta.example delivered\nbeta sent alfa 5\nround\n\
@@ -134,7 +137,8 @@ const CASES: [Case; 13] = [
         runs: &[Run {
             form: "run",
             script: "submit alfa 1704186000 alice@alfa.example anna@alfa.example {M1}\n\
-                     submit beta 1704186000 bob@beta.example alice@alfa.example {From: bob@beta.example|To: alice@alfa.example||}\n\
+                     submit beta 1704186000 bob@beta.example alice@alfa.example \
+                     {From: bob@beta.example|To: alice@alfa.example||}\n\
                      tick alfa 1704272400\ntick beta 1704272401\n",
             output: "accepted I0\naccepted J0\nnoticed I0 anna@alfa.example\nticked\n\
                      noticed-late J0 alice@alfa.example\nticked\n",
@@ -228,9 +232,14 @@ const CASES: [Case; 13] = [
     },
 ];
 
+/// The table, by a function without a clause: the proof of the test is spared its texts.
+fn cases() -> &'static [Case] {
+    &CASES
+}
+
 #[test]
 fn messages_come_to_their_ends(rt: HostRuntime) -> Result<(), Fail> {
-    let wrong = first_wrong(rt.alloc(), &CASES)?;
+    let wrong = first_wrong(rt.alloc(), cases())?;
     assert_eq!(rt; wrong, None);
     Ok(())
 }

@@ -1,30 +1,114 @@
 //! Directories and messages of the tests.
 
 /// The provider `alfa` with the accounts alice and anna.
-pub(crate) const ALFA: &str =
-    "[[provider]]\nname = \"alfa\"\nmailReceipt = \"ricevute@alfa.example\"\n\
-managedDomains = [\"alfa.example\"]\nkey = \"000102030405060708090a0b0c0d0e0f\"\nzone = \"CET-1CEST,M3.5.0,M10.5.0/3\"\n\
-[[provider.account]]\naddress = \"alice@alfa.example\"\nquota = 100\nkey = \"chiave-alice\"\n\
-[[provider.account]]\naddress = \"anna@alfa.example\"\nquota = 100\nkey = \"chiave-anna\"\n";
+pub(crate) const ALFA: &str = r#"[[provider]]
+name = "alfa"
+mailReceipt = "ricevute@alfa.example"
+managedDomains = ["alfa.example"]
+key = "000102030405060708090a0b0c0d0e0f"
+zone = "CET-1CEST,M3.5.0,M10.5.0/3"
+[[provider.account]]
+address = "alice@alfa.example"
+quota = 100
+key = "chiave-alice"
+[[provider.account]]
+address = "anna@alfa.example"
+quota = 100
+key = "chiave-anna"
+"#;
 
 /// The providers `alfa`, of alice and anna, and `beta`, of bob and carl.
-pub(crate) const TWO: &str =
-    "[[provider]]\nname = \"alfa\"\nmailReceipt = \"ricevute@alfa.example\"\n\
-managedDomains = [\"alfa.example\"]\nkey = \"000102030405060708090a0b0c0d0e0f\"\nzone = \"CET-1CEST,M3.5.0,M10.5.0/3\"\n\
-[[provider.account]]\naddress = \"alice@alfa.example\"\nquota = 100\nkey = \"chiave-alice\"\n\
-[[provider.account]]\naddress = \"anna@alfa.example\"\nquota = 100\nkey = \"chiave-anna\"\n\
-[[provider]]\nname = \"beta\"\nmailReceipt = \"ricevute@beta.example\"\n\
-managedDomains = [\"beta.example\"]\nkey = \"101112131415161718191a1b1c1d1e1f\"\nzone = \"CET-1CEST,M3.5.0,M10.5.0/3\"\n\
-[[provider.account]]\naddress = \"bob@beta.example\"\nquota = 100\nkey = \"chiave-bob\"\n\
-[[provider.account]]\naddress = \"carl@beta.example\"\nquota = 1\nkey = \"chiave-carl\"\n";
+pub(crate) const TWO: &str = r#"[[provider]]
+name = "alfa"
+mailReceipt = "ricevute@alfa.example"
+managedDomains = ["alfa.example"]
+key = "000102030405060708090a0b0c0d0e0f"
+zone = "CET-1CEST,M3.5.0,M10.5.0/3"
+[[provider.account]]
+address = "alice@alfa.example"
+quota = 100
+key = "chiave-alice"
+[[provider.account]]
+address = "anna@alfa.example"
+quota = 100
+key = "chiave-anna"
+[[provider]]
+name = "beta"
+mailReceipt = "ricevute@beta.example"
+managedDomains = ["beta.example"]
+key = "101112131415161718191a1b1c1d1e1f"
+zone = "CET-1CEST,M3.5.0,M10.5.0/3"
+[[provider.account]]
+address = "bob@beta.example"
+quota = 100
+key = "chiave-bob"
+[[provider.account]]
+address = "carl@beta.example"
+quota = 1
+key = "chiave-carl"
+"#;
+
+/// The providers `alfa`, of alice and anna, `beta`, of bob and carl, and `gamma`, of gina.
+pub(crate) const THREE: &str = r#"[[provider]]
+name = "alfa"
+mailReceipt = "ricevute@alfa.example"
+managedDomains = ["alfa.example"]
+key = "000102030405060708090a0b0c0d0e0f"
+zone = "CET-1CEST,M3.5.0,M10.5.0/3"
+[[provider.account]]
+address = "alice@alfa.example"
+quota = 100
+key = "chiave-alice"
+[[provider.account]]
+address = "anna@alfa.example"
+quota = 100
+key = "chiave-anna"
+[[provider]]
+name = "beta"
+mailReceipt = "ricevute@beta.example"
+managedDomains = ["beta.example"]
+key = "101112131415161718191a1b1c1d1e1f"
+zone = "CET-1CEST,M3.5.0,M10.5.0/3"
+[[provider.account]]
+address = "bob@beta.example"
+quota = 100
+key = "chiave-bob"
+[[provider.account]]
+address = "carl@beta.example"
+quota = 1
+key = "chiave-carl"
+[[provider]]
+name = "gamma"
+mailReceipt = "ricevute@gamma.example"
+managedDomains = ["gamma.example"]
+key = "202122232425262728292a2b2c2d2e2f"
+zone = "UTC0"
+[[provider.account]]
+address = "gina@gamma.example"
+quota = 100
+key = "chiave-gina"
+"#;
 
 /// The provider `gamma` of three domains, with an account in each.
-pub(crate) const DOMAINS: &str =
-    "[[provider]]\nname = \"gamma\"\nmailReceipt = \"ricevute@gamma.example\"\n\
-managedDomains = [\"Uno.example\", \"gamma.example\", \"Due.example\"]\nkey = \"202122232425262728292a2b2c2d2e2f\"\nzone = \"UTC0\"\n\
-[[provider.account]]\naddress = \"a@uno.example\"\nquota = 1\nkey = \"a\"\n\
-[[provider.account]]\naddress = \"b@gamma.example\"\nquota = 1\nkey = \"b\"\n\
-[[provider.account]]\naddress = \"c@due.example\"\nquota = 1\nkey = \"c\"\n";
+pub(crate) const DOMAINS: &str = r#"[[provider]]
+name = "gamma"
+mailReceipt = "ricevute@gamma.example"
+managedDomains = ["Uno.example", "gamma.example", "Due.example"]
+key = "202122232425262728292a2b2c2d2e2f"
+zone = "UTC0"
+[[provider.account]]
+address = "a@uno.example"
+quota = 1
+key = "a"
+[[provider.account]]
+address = "b@gamma.example"
+quota = 1
+key = "b"
+[[provider.account]]
+address = "c@due.example"
+quota = 1
+key = "c"
+"#;
 
 /// Messages and frames by their names.
 const MESSAGES: [(&str, &str); 5] = [

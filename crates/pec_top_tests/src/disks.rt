@@ -1,7 +1,7 @@
 //! Disks that fail, crashes, and runs that go on where others left: over memory disks.
 
-use crate::directories::{ALFA, TWO};
-use crate::running::{Case, Run, depot_failing, first_wrong, played};
+use crate::directories::{ALFA, THREE, TWO};
+use crate::running::{Case, Run, depot_failing, first_wrong, played, written_out};
 use pec_outside::MemDepot;
 use pec_top::Status;
 use std::alloc::{AllocError, Global};
@@ -23,7 +23,7 @@ const NOTHING: &[u8] = b"mailbox 0\nmailbox 0\n";
 /// Whether a run that a fault of alfa's disk may end or hold up, and further runs over its disks, deliver the message
 /// once or not at all: not at all only where it wasn't accepted.
 fn is_delivered_once(alloc: Global, call: u64) -> Result<bool, AllocError> {
-    let mut depot = depot_failing(alloc, &[call])?;
+    let mut depot = depot_failing(alloc, &[(0, call)])?;
     let mut script = String::from_str(alloc, SUBMISSION)?;
     script.push_str(ROUNDS)?;
     let first = played(alloc, &mut depot, ALFA, "run", script.as_str())?;
@@ -67,58 +67,220 @@ fn cut_up(alloc: Global, depot: &mut MemDepot, lines: &[&str]) -> Result<Vec<u8>
     Ok(text)
 }
 
-const SETTLED: [&str; 7] = [
+/// A script in ten pieces, at whose ends no frame waits.
+static SETTLED: [&str; 10] = [
     "submit alfa 1704186000 alice@alfa.example bob@beta.example {M2}\n",
     "round 1704186001\nround 1704186002\nround 1704186003\nround 1704186004\nround 1704186005\n",
     "submit alfa 1704186006 alice@alfa.example carl@beta.example {M3}\n",
     "round 1704186007\nround 1704186008\nround 1704186009\nround 1704186010\nround 1704186011\n",
     "tick alfa 1704186012\n",
     "submit beta 1704186012 bob@beta.example alice@alfa.example {From: bob@beta.example|To: alice@alfa.example||}\n",
-    "book alice@alfa.example\nbook bob@beta.example\nmailbox alice@alfa.example\nmailbox bob@beta.example\n",
+    "round 1704186013\nround 1704186014\nround 1704186015\nround 1704186016\nround 1704186017\n",
+    "submit alfa 1704186018 anna@alfa.example bob@beta.example {From: anna@alfa.example|To: bob@beta.example||}\n\
+     tick alfa 1704265218\n",
+    "crash beta\nrestart beta\n\
+     round 1704265219\nround 1704265220\nround 1704265221\nround 1704265222\nround 1704265223\n",
+    "book alice@alfa.example\nbook anna@alfa.example\nbook bob@beta.example\nmailbox alice@alfa.example\n\
+     mailbox anna@alfa.example\nmailbox bob@beta.example\nmailbox carl@beta.example\n",
 ];
 
-/// A script in one run and the same script cut into seven resumed runs end with the same books and mailboxes, where no
-/// frame waits at the cuts.
+const SETTLED_BOOKS: &str =
+    "I0 bob@beta.example primary 1704186000 1704186003 - - delivered 1704186002\n\
+I1 carl@beta.example primary 1704186006 1704186009 - - delivered 1704186008\nbook 2\n\
+I2 bob@beta.example primary 1704186018 1704265221 - 1704265218 delivered 1704265220\nbook 1\n\
+J0 alice@alfa.example primary 1704186012 1704186015 - - delivered 1704186014\nbook 1\n\
+0 acceptance I0 -\n1 delivery I0 bob@beta.example\n2 acceptance I1 -\n3 delivery I1 carl@beta.example\n\
+4 envelope J0 -\nmailbox 5\n\
+0 acceptance I2 -\n1 notice I2 bob@beta.example\n2 delivery I2 bob@beta.example\nmailbox 3\n\
+0 envelope I0 -\n1 acceptance J0 -\n2 delivery J0 alice@alfa.example\n3 envelope I2 -\nmailbox 4\n\
+0 envelope I1 -\nmailbox 1\n";
+
+fn settled() -> &'static [&'static str] {
+    &SETTLED
+}
+
+/// A script in one run and the same script cut into ten runs end with the same books and mailboxes.
 #[test]
 fn a_script_may_be_cut_into_runs(rt: HostRuntime) -> Result<(), Fail> {
     let mut whole = String::new(rt.alloc());
-    for line in SETTLED {
-        whole.push_str(line)?;
+    for piece in settled() {
+        whole.push_str(piece)?;
     }
+    let books = written_out(rt.alloc(), SETTLED_BOOKS)?;
     let mut depot = depot_failing(rt.alloc(), &[])?;
     let once = played(rt.alloc(), &mut depot, TWO, "run", whole.as_str())?;
+    assert!(rt; once.text.ends_with(books.as_bytes()));
     let mut other = depot_failing(rt.alloc(), &[])?;
-    let last = cut_up(rt.alloc(), &mut other, &SETTLED)?;
-    assert!(rt; last.len() > 100);
-    assert!(rt; once.text.ends_with(&last));
+    let last = cut_up(rt.alloc(), &mut other, settled())?;
+    assert_eq!(rt; last.as_slice(), books.as_bytes());
     Ok(())
 }
 
-const CASES: [Case; 1] = [Case {
-    why: "frames on links are gone with a run, and what is due is sent again",
-    directory: TWO,
-    failing: &[],
-    runs: &[
-        Run {
-            form: "run",
-            script: "submit alfa 1704186000 alice@alfa.example bob@beta.example {M2}\nround 1704186001\n",
-            output: "accepted I0\nalfa sent beta 1\nround\n",
-            status: Status::Done,
-        },
-        Run {
-            form: "resume",
-            script: "round 1704186002\nround 1704186003\nbook alice@alfa.example\n",
-            output: "alfa sent beta 1\nround\nalfa sent beta 1\nbeta took I0\n\
+// A journal is made by three calls of its disk, and an entry is appended by four. So those of a provider's first four
+// entries are 3 to 6 (its Start), 7 to 10, 11 to 14 and 15 to 18.
+
+const FAULTED: &str =
+    "submit alfa 1704186000 alice@alfa.example anna@alfa.example {M1}\nround 1704186001\nround 1704186002\n\
+book alice@alfa.example\nrestart alfa\nround 1704186003\nround 1704186004\nround 1704186005\nround 1704186006\n\
+round 1704186007\nbook alice@alfa.example\nmailbox alice@alfa.example\nmailbox anna@alfa.example\nrestart alfa\n";
+
+/// The decision isn't in the journal, and comes in the round behind the restart.
+const DECIDED_AGAIN: &str =
+    "accepted I0\nalfa sent alfa 1\nround\nalfa took I0\nalfa fault disk\nround\ndown\nrestarted 3\n\
+alfa decided I0 anna@alfa.example delivered\nalfa sent alfa 2\nround\n\
+alfa learned I0 anna@alfa.example delivered\nalfa repeat envelope I0\nalfa sent alfa 3\nround\n\
+alfa acked I0 anna@alfa.example\nalfa charged I0 alfa\nalfa repeat outcome I0 anna@alfa.example\n\
+alfa sent alfa 1\nround\nalfa repeat ack I0 anna@alfa.example\nround\nround\n\
+I0 anna@alfa.example primary 1704186000 1704186005 - - delivered 1704186003\nbook 1\n\
+0 acceptance I0 -\n1 delivery I0 anna@alfa.example\nmailbox 2\n0 envelope I0 -\nmailbox 1\nup\n";
+
+/// The decision is in the journal, though it was never told.
+const DECIDED_ONCE: &str =
+    "accepted I0\nalfa sent alfa 1\nround\nalfa took I0\nalfa fault disk\nround\ndown\nrestarted 4\n\
+alfa sent alfa 2\nround\n\
+alfa learned I0 anna@alfa.example delivered\nalfa repeat envelope I0\nalfa sent alfa 3\nround\n\
+alfa acked I0 anna@alfa.example\nalfa charged I0 alfa\nalfa repeat outcome I0 anna@alfa.example\n\
+alfa sent alfa 1\nround\nalfa repeat ack I0 anna@alfa.example\nround\nround\n\
+I0 anna@alfa.example primary 1704186000 1704186005 - - delivered 1704186002\nbook 1\n\
+0 acceptance I0 -\n1 delivery I0 anna@alfa.example\nmailbox 2\n0 envelope I0 -\nmailbox 1\nup\n";
+
+const DECIDED_AGAIN_RUN: [Run; 1] = [Run {
+    form: "run",
+    script: FAULTED,
+    output: DECIDED_AGAIN,
+    status: Status::Done,
+}];
+
+const DECIDED_ONCE_RUN: [Run; 1] = [Run {
+    form: "run",
+    script: FAULTED,
+    output: DECIDED_ONCE,
+    status: Status::Done,
+}];
+
+static CASES: [Case; 8] = [
+    Case {
+        why: "where the write of a decision fails it isn't in the journal, and is made again",
+        directory: ALFA,
+        failing: &[(0, 15)],
+        runs: &DECIDED_AGAIN_RUN,
+    },
+    Case {
+        why: "and where the sync behind it fails",
+        directory: ALFA,
+        failing: &[(0, 16)],
+        runs: &DECIDED_AGAIN_RUN,
+    },
+    Case {
+        why: "and where the write of its gate fails",
+        directory: ALFA,
+        failing: &[(0, 17)],
+        runs: &DECIDED_AGAIN_RUN,
+    },
+    Case {
+        why: "where the last sync fails the decision is in the journal, and isn't made again",
+        directory: ALFA,
+        failing: &[(0, 18)],
+        runs: &DECIDED_ONCE_RUN,
+    },
+    Case {
+        why: "frames on links are gone with a run, and what is due is sent again",
+        directory: TWO,
+        failing: &[],
+        runs: &[
+            Run {
+                form: "run",
+                script: "submit alfa 1704186000 alice@alfa.example bob@beta.example {M2}\nround 1704186001\n",
+                output: "accepted I0\nalfa sent beta 1\nround\n",
+                status: Status::Done,
+            },
+            Run {
+                form: "resume",
+                script: "round 1704186002\nround 1704186003\nbook alice@alfa.example\n",
+                output: "alfa sent beta 1\nround\nalfa sent beta 1\nbeta took I0\n\
                          beta decided I0 bob@beta.example delivered\nbeta sent alfa 2\nround\n\
                          I0 bob@beta.example primary 1704186000 - - - open\nbook 1\n",
-            status: Status::Done,
-        },
-    ],
-}];
+                status: Status::Done,
+            },
+        ],
+    },
+    Case {
+        why: "without a journal nothing is resumed",
+        directory: THREE,
+        failing: &[],
+        runs: &[Run {
+            form: "resume",
+            script: "book alice@alfa.example\n",
+            output: "not-fit alfa journal 0\n",
+            status: Status::NotFit,
+        }],
+    },
+    Case {
+        why: "where a second journal can't be made the first is neither made again nor resumed without it",
+        directory: THREE,
+        failing: &[(1, 0)],
+        runs: &[
+            Run {
+                form: "run",
+                script: "book alice@alfa.example\n",
+                output: "",
+                status: Status::StartFault,
+            },
+            Run {
+                form: "resume",
+                script: "book alice@alfa.example\n",
+                output: "not-fit beta journal 0\n",
+                status: Status::NotFit,
+            },
+            Run {
+                form: "run",
+                script: "book alice@alfa.example\n",
+                output: "not-empty alfa\n",
+                status: Status::NotEmpty,
+            },
+        ],
+    },
+    Case {
+        why: "the journals of three providers are resumed together",
+        directory: THREE,
+        failing: &[],
+        runs: &[
+            Run {
+                form: "run",
+                script: "submit gamma 1704186000 gina@gamma.example bob@beta.example \
+                         {From: gina@gamma.example|To: bob@beta.example||}\n\
+                         round 1704186001\nround 1704186002\n",
+                output: "accepted K0\ngamma sent beta 1\nround\nbeta took K0\n\
+                         beta decided K0 bob@beta.example delivered\nbeta sent gamma 2\n\
+                         gamma sent beta 1\nround\n",
+                status: Status::Done,
+            },
+            Run {
+                form: "resume",
+                script: "mailbox bob@beta.example\nround 1704186003\nround 1704186004\nround 1704186005\n\
+                         book gina@gamma.example\nbook alice@alfa.example\n",
+                output: "0 envelope K0 -\nmailbox 1\n\
+                         beta sent gamma 1\ngamma sent beta 1\nround\n\
+                         beta repeat envelope K0\nbeta sent gamma 2\n\
+                         gamma learned K0 bob@beta.example delivered\ngamma sent beta 1\nround\n\
+                         beta acked K0 bob@beta.example\n\
+                         gamma charged K0 beta\ngamma repeat outcome K0 bob@beta.example\n\
+                         gamma sent beta 1\nround\n\
+                         K0 bob@beta.example primary 1704186000 1704186005 - - delivered 1704186002\nbook 1\nbook 0\n",
+                status: Status::Done,
+            },
+        ],
+    },
+];
+
+/// The table, by a function without a clause: the proof of the test is spared its texts.
+fn cases() -> &'static [Case] {
+    &CASES
+}
 
 #[test]
 fn runs_go_on_where_others_left(rt: HostRuntime) -> Result<(), Fail> {
-    let wrong = first_wrong(rt.alloc(), &CASES)?;
+    let wrong = first_wrong(rt.alloc(), cases())?;
     assert_eq!(rt; wrong, None);
     Ok(())
 }

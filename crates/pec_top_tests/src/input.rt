@@ -29,6 +29,54 @@ fn ran(
     run_over(alloc, &mut depot, words, input, piece, reads, writes)
 }
 
+/// Words that are no form of the program.
+static WRONG_WORDS: [&[&str]; 15] = [
+    &[],
+    &[""],
+    &["", "run"],
+    &["run", ""],
+    &["run", "x"],
+    &["run", "run"],
+    &["run", "resume"],
+    &["resume", "run"],
+    &["resume", "x"],
+    &["Resume"],
+    &["RUN"],
+    &["run "],
+    &[" resume"],
+    &["ru"],
+    &["--run"],
+];
+
+/// The tables, by functions without a clause: the proofs of the tests are spared their texts.
+fn wrong_words() -> &'static [&'static [&'static str]] {
+    &WRONG_WORDS
+}
+
+fn inputs() -> &'static [Begun] {
+    &BEGUN
+}
+
+fn faults() -> &'static [(&'static str, &'static str, &'static [u8])] {
+    &FAULTS
+}
+
+fn long_inputs() -> &'static [Long] {
+    &LONG
+}
+
+/// Whatever stands in the input, and whether it can be read or not.
+#[test]
+fn other_words_are_answered_with_the_usage(rt: HostRuntime) -> Result<(), Fail> {
+    let input = input_of(rt.alloc(), ALFA, FIRST)?;
+    for words in wrong_words() {
+        let ran = ran(rt.alloc(), words, &input, 7, &[0], &[])?;
+        assert_eq!(rt; ran.text.as_slice(), b"usage\n".as_slice());
+        assert_eq!(rt; ran.status, Status::Usage);
+    }
+    Ok(())
+}
+
 /// Words, an input, and what is written for them.
 #[derive(Clone, Copy)]
 struct Begun {
@@ -38,25 +86,7 @@ struct Begun {
     status: Status,
 }
 
-const BEGUN: [Begun; 7] = [
-    Begun {
-        words: &["run", "x"],
-        input: b"",
-        output: b"usage\n",
-        status: Status::Usage,
-    },
-    Begun {
-        words: &[],
-        input: b"",
-        output: b"usage\n",
-        status: Status::Usage,
-    },
-    Begun {
-        words: &["Resume"],
-        input: b"",
-        output: b"usage\n",
-        status: Status::Usage,
-    },
+static BEGUN: [Begun; 4] = [
     Begun {
         words: &["resume"],
         input: b"",
@@ -85,7 +115,7 @@ const BEGUN: [Begun; 7] = [
 
 #[test]
 fn words_and_directories_come_first(rt: HostRuntime) -> Result<(), Fail> {
-    for begun in BEGUN {
+    for begun in inputs() {
         let ran = ran(rt.alloc(), begun.words, begun.input, 7, &[], &[])?;
         assert_eq!(rt; ran.text.as_slice(), begun.output);
         assert_eq!(rt; ran.status, begun.status);
@@ -97,7 +127,7 @@ fn words_and_directories_come_first(rt: HostRuntime) -> Result<(), Fail> {
 }
 
 /// Each row has a text of the directory, what stands there instead, and the fault of that.
-const FAULTS: [(&str, &str, &[u8]); 12] = [
+static FAULTS: [(&str, &str, &[u8]); 12] = [
     (
         "[[provider]]",
         "[[provider",
@@ -162,11 +192,11 @@ const FAULTS: [(&str, &str, &[u8]); 12] = [
 
 #[test]
 fn a_directory_is_refused_for_its_first_fault(rt: HostRuntime) -> Result<(), Fail> {
-    for (there, instead, output) in FAULTS {
+    for (there, instead, output) in faults() {
         let directory = TWO.replacen(rt.alloc(), there, instead, 1)?;
         let mut depot = depot_failing(rt.alloc(), &[])?;
         let ran = played(rt.alloc(), &mut depot, directory.as_str(), "run", "")?;
-        assert_eq!(rt; ran.text.as_slice(), output);
+        assert_eq!(rt; ran.text.as_slice(), *output);
         assert_eq!(rt; ran.status, Status::Refused);
     }
     Ok(())
@@ -242,7 +272,7 @@ struct Long {
     status: Status,
 }
 
-const LONG: [Long; 6] = [
+static LONG: [Long; 6] = [
     Long {
         front: "#",
         byte: b'x',
@@ -309,8 +339,8 @@ fn long_input(alloc: Global, long: &Long) -> Result<Vec<u8>, AllocError> {
 
 #[test]
 fn the_limits_of_an_input_are_kept(rt: HostRuntime) -> Result<(), Fail> {
-    for long in LONG {
-        let input = long_input(rt.alloc(), &long)?;
+    for long in long_inputs() {
+        let input = long_input(rt.alloc(), long)?;
         let ran = ran(rt.alloc(), &["run"], &input, 1_000_000, &[], &[])?;
         assert_eq!(rt; ran.text.as_slice(), long.output);
         assert_eq!(rt; ran.status, long.status);

@@ -12,6 +12,12 @@ mod forgery;
 #[cfg(test)]
 mod input;
 #[cfg(test)]
+mod letters;
+#[cfg(test)]
 mod refusals;
 #[cfg(test)]
 mod running;
+#[cfg(test)]
+mod shown;
+#[cfg(test)]
+mod three;

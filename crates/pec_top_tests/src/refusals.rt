@@ -1,13 +1,14 @@
 //! Commands and lines that are refused, and journals that aren't taken. All outputs were worked out by hand.
 
 use crate::directories::{ALFA, TWO};
-use crate::running::{Case, Run, first_wrong};
+use crate::running::{Case, Run, depot_failing, first_wrong, played};
 use pec_top::Status;
+use std::alloc::{AllocError, Global};
 use std::test::Fail;
 
 const ROW: &str = "submit alfa 1704186000 alice@alfa.example anna@alfa.example {M1}\n";
 
-const CASES: [Case; 10] = [
+static CASES: [Case; 8] = [
     Case {
         why: "a message that breaks a row of the table of admission isn't accepted",
         directory: TWO,
@@ -115,44 +116,109 @@ const CASES: [Case; 10] = [
         }],
     },
     Case {
-        why: "a number has one spelling",
+        why: "what needs no disk is refused before the disk is asked, and who is down says no more",
         directory: TWO,
-        failing: &[],
+        failing: &[(0, 11), (0, 12)],
         runs: &[Run {
             form: "run",
-            script: "round 01\n",
-            output: "refused line 1 bad-number 1\n",
-            status: Status::Refused,
-        }],
-    },
-    Case {
-        why: "an address has an at sign",
-        directory: TWO,
-        failing: &[],
-        runs: &[Run {
-            form: "run",
-            script: "book bob\n",
-            output: "refused line 1 bad-address 1\n",
-            status: Status::Refused,
-        }],
-    },
-    Case {
-        why: "a provider is one of the directory",
-        directory: TWO,
-        failing: &[],
-        runs: &[Run {
-            form: "run",
-            script: "crash gamma\n",
-            output: "refused line 1 unknown-provider 1\n",
-            status: Status::Refused,
+            script: "submit alfa 1704186000 alice@alfa.example anna@alfa.example {M1}\n\
+                     submit alfa 1704186001 bob@beta.example anna@alfa.example {M1}\n\
+                     submit alfa 1704185999 alice@alfa.example anna@alfa.example {no message}\n\
+                     tick alfa 1704185999\nrestart alfa\nshow alice@alfa.example 1\n\
+                     tick alfa 1704186001\ntick alfa 1704185999\nshow alice@alfa.example 1\n\
+                     restart alfa\nbook alice@alfa.example\nrestart alfa\ntick alfa 1704186001\n\
+                     tick alfa 1704186000\n",
+            output: "accepted I0\nno-account\nclock-back 1704186000\nclock-back 1704186000\nup\nno-item\n\
+                     fault disk\ndown\ndown\nfault disk\ndown\nrestarted 2\nticked\nclock-back 1704186001\n",
+            status: Status::Done,
         }],
     },
 ];
 
+/// Lines that say no command, and the fault of each. The tests of pec_script have each fault of each command.
+static LINES: [(&str, &str); 9] = [
+    ("Book alice@alfa.example", "unknown-word"),
+    (" book alice@alfa.example", "unknown-word"),
+    ("book", "arity"),
+    ("crash alfa ", "arity"),
+    ("round 01", "bad-number 1"),
+    ("book bob", "bad-address 1"),
+    ("inject alfa beta ???", "bad-base64 3"),
+    ("crash gamma", "unknown-provider 1"),
+    ("swap alfa gamma x", "unknown-provider 2"),
+];
+
+/// The tables, by functions without a clause: the proofs of the tests are spared their texts.
+fn cases() -> &'static [Case] {
+    &CASES
+}
+
+fn lines() -> &'static [(&'static str, &'static str)] {
+    &LINES
+}
+
 #[test]
 fn what_is_refused_is_told_by_its_first_cause(rt: HostRuntime) -> Result<(), Fail> {
-    let wrong = first_wrong(rt.alloc(), &CASES)?;
+    let wrong = first_wrong(rt.alloc(), cases())?;
     assert_eq!(rt; wrong, None);
+    Ok(())
+}
+
+#[test]
+fn a_line_that_says_no_command_ends_the_run(rt: HostRuntime) -> Result<(), Fail> {
+    for (line, fault) in lines() {
+        assert!(rt; is_refused_for(rt.alloc(), line, fault)?, "{line}");
+    }
+    Ok(())
+}
+
+/// Whether a script of this line is refused for this fault, and ends there.
+fn is_refused_for(alloc: Global, line: &str, fault: &str) -> Result<bool, AllocError> {
+    let mut script = String::from_str(alloc, line)?;
+    script.push_str("\nbook alice@alfa.example\n")?;
+    let mut output = String::from_str(alloc, "refused line 1 ")?;
+    output.push_str(fault)?;
+    output.push('\n')?;
+    let mut depot = depot_failing(alloc, &[])?;
+    let ran = played(alloc, &mut depot, TWO, "run", script.as_str())?;
+    if ran.status != Status::Refused {
+        return Ok(false);
+    }
+    Ok(ran.text.as_slice() == output.as_bytes())
+}
+
+/// A message of 69 bytes of head and so many of body, to bob and carl.
+fn submission_of(alloc: Global, body: u32) -> Result<String, AllocError> {
+    let mut line = String::from_str(
+        alloc,
+        "submit alfa 1704186000 alice@alfa.example bob@beta.example,carl@beta.example \
+         {From: alice@alfa.example|To: bob@beta.example, carl@beta.example||",
+    )?;
+    for _ in 0..body {
+        line.push('x')?;
+    }
+    line.push_str("}\n")?;
+    Ok(line)
+}
+
+/// Where the limit is 1000, a message of 500 bytes may go to two recipients, and one of 501 bytes may not.
+#[test]
+fn a_message_counts_once_for_each_recipient(rt: HostRuntime) -> Result<(), Fail> {
+    let limit = "name = \"alfa\"\nlimit = 1000";
+    let directory = TWO.replacen(rt.alloc(), "name = \"alfa\"", limit, 1)?;
+    let mut script = submission_of(rt.alloc(), 431)?;
+    let larger = submission_of(rt.alloc(), 432)?;
+    script.push_str(larger.as_str())?;
+    let mut depot = depot_failing(rt.alloc(), &[])?;
+    let ran = played(
+        rt.alloc(),
+        &mut depot,
+        directory.as_str(),
+        "run",
+        script.as_str(),
+    )?;
+    let output = "accepted pec.0000000@alfa.example\nnot-accepted pec.0000001@alfa.example size\n";
+    assert_eq!(rt; ran.text.as_slice(), output.as_bytes());
     Ok(())
 }
 
@@ -167,8 +233,8 @@ fn a_full_link_takes_no_frame(rt: HostRuntime) -> Result<(), Fail> {
     }
     script.push_str("inject alfa beta {F1}\nrepeat alfa beta 0\nrepeat alfa beta 64\n")?;
     output.push_str("link-full\nlink-full\nno-frame\n")?;
-    let mut depot = crate::running::depot_failing(rt.alloc(), &[])?;
-    let ran = crate::running::played(rt.alloc(), &mut depot, TWO, "run", script.as_str())?;
+    let mut depot = depot_failing(rt.alloc(), &[])?;
+    let ran = played(rt.alloc(), &mut depot, TWO, "run", script.as_str())?;
     assert_eq!(rt; ran.text.as_slice(), output.as_bytes());
     assert_eq!(rt; ran.status, Status::Done);
     Ok(())

@@ -9,7 +9,7 @@ use pec_top::{Status, run_pec};
 use std::alloc::{AllocError, Global};
 
 /// One run: its form, its script, what it has to write, and its status. In a script `{..}` holds a message or its name,
-/// and its base64 is written; in an output `I0` and `I1` are the first two messages of alfa, `J0` is beta's first.
+/// and its base64 is written; in an output `I0` to `I2` are the first messages of alfa, `J0` is beta's, `K0` gamma's.
 #[derive(Clone, Copy)]
 pub(crate) struct Run {
     pub(crate) form: &'static str,
@@ -18,12 +18,12 @@ pub(crate) struct Run {
     pub(crate) status: Status,
 }
 
-/// Runs in a folder of their own, where the named calls of alfa's disk fail.
+/// Runs in a folder of their own, where the named calls of disks fail: each by its provider's number and its own.
 #[derive(Clone, Copy)]
 pub(crate) struct Case {
     pub(crate) why: &'static str,
     pub(crate) directory: &'static str,
-    pub(crate) failing: &'static [u64],
+    pub(crate) failing: &'static [(u32, u64)],
     pub(crate) runs: &'static [Run],
 }
 
@@ -52,11 +52,24 @@ fn comes(alloc: Global, case: &Case) -> Result<bool, AllocError> {
     Ok(true)
 }
 
-/// A depot of empty disks, where these calls of alfa's disk fail.
-pub(crate) fn depot_failing(alloc: Global, failing: &[u64]) -> Result<MemDepot, AllocError> {
+/// A depot of three empty disks, where these calls fail, each by its provider's number and its own.
+pub(crate) fn depot_failing(alloc: Global, failing: &[(u32, u64)]) -> Result<MemDepot, AllocError> {
+    let mut disks = Vec::new(alloc);
+    for provider in 0..3u32 {
+        disks.push(calls_of(alloc, failing, provider)?)?;
+    }
+    Ok(MemDepot::new(alloc, disks, Vec::new(alloc)))
+}
+
+/// The failing calls of one provider's disk.
+fn calls_of(alloc: Global, failing: &[(u32, u64)], provider: u32) -> Result<Vec<u64>, AllocError> {
     let mut calls = Vec::new(alloc);
-    calls.push(Vec::from_slice(alloc, failing)?)?;
-    Ok(MemDepot::new(alloc, calls, Vec::new(alloc)))
+    for (whose, call) in failing {
+        if *whose == provider {
+            calls.push(*call)?;
+        }
+    }
+    Ok(calls)
 }
 
 /// What a run wrote, and its status.
@@ -132,7 +145,7 @@ fn script_of(alloc: Global, text: &str) -> Result<Vec<u8>, AllocError> {
 }
 
 /// The bytes of a message, whose lines end at `|`.
-fn lines_of(alloc: Global, text: &str) -> Result<Vec<u8>, AllocError> {
+pub(crate) fn lines_of(alloc: Global, text: &str) -> Result<Vec<u8>, AllocError> {
     let mut bytes = Vec::new(alloc);
     for b in text.as_bytes() {
         if *b == b'|' {
@@ -144,10 +157,29 @@ fn lines_of(alloc: Global, text: &str) -> Result<Vec<u8>, AllocError> {
     Ok(bytes)
 }
 
+/// Messages by their short names in outputs.
+const NAMES: [(&str, &str); 5] = [
+    ("I0", "pec.0000000@alfa.example"),
+    ("I1", "pec.0000001@alfa.example"),
+    ("I2", "pec.0000002@alfa.example"),
+    ("J0", "pec.0000000@beta.example"),
+    ("K0", "pec.0000000@gamma.example"),
+];
+
 /// An output with the names of messages written out.
-fn written_out(alloc: Global, output: &str) -> Result<String, AllocError> {
-    let text = output.replace(alloc, "I0", "pec.0000000@alfa.example")?;
-    let text = text.replace(alloc, "I1", "pec.0000001@alfa.example")?;
-    let text = text.replace(alloc, "J0", "pec.0000000@beta.example")?;
-    Ok(text)
+pub(crate) fn written_out(alloc: Global, output: &str) -> Result<String, AllocError> {
+    with_words(alloc, output, &NAMES)
+}
+
+/// A text with the first of each pair made the second, in the order of the pairs.
+pub(crate) fn with_words(
+    alloc: Global,
+    text: &str,
+    words: &[(&str, &str)],
+) -> Result<String, AllocError> {
+    let mut written = String::from_str(alloc, text)?;
+    for (word, instead) in words {
+        written = written.replace(alloc, word, instead)?;
+    }
+    Ok(written)
 }
