@@ -27,7 +27,6 @@ use std::alloc::Global;
 use std::marker::Model;
 
 /// One provider's entries over its disk. This project's profile.
-#[derive(Drop)]
 pub struct Chronicle<D> {
     drive: Drive<D>,
     entries: Vec<Encoded>,
@@ -55,6 +54,18 @@ impl<D> Model for Chronicle<D> {
     } };
 
     ghost invariant = { λ kept. IsChronicle kept.drive kept.entries.items kept.interrupted kept.down };
+}
+
+// Written out, so that to drop a chronicle is one call, and not the drops of all that it has wherever one is dropped.
+impl<D: Drop> Drop for Chronicle<D> {
+    fn drop(self) {
+        let Chronicle {
+            drive: _,
+            entries: _,
+            interrupted: _,
+            down: _,
+        } = self;
+    }
 }
 
 impl<D> Chronicle<D> {

@@ -17,13 +17,7 @@ impl<D: Disk, S: Drop> Network<D, S> {
         ensures later { P.faults depot.old ≤ P.faults depot.new }
     {
         few_providers(&self.directory);
-        let Network {
-            directory: _,
-            sealer: _,
-            providers,
-            arrivals: _,
-        } = self;
-        keep_all(providers, depot);
+        keep_all(self.into_providers(), depot);
     }
 }
 

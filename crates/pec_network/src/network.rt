@@ -7,7 +7,6 @@ use pec_provider::Provider;
 use std::marker::Model;
 
 /// A network of certified mail providers, each over its own disk, by their numbers in a directory. `S` seals for them.
-#[derive(Drop)]
 pub struct Network<D, S> {
     pub(crate) directory: Directory,
     pub(crate) sealer: S,
@@ -33,6 +32,18 @@ impl<D, S> Model for Network<D, S> {
     ghost invariant = { λ network. IsOfDirectory network.directory network.providers.items network.arrivals.items };
 }
 
+// Written out, so that to drop a network is one call, and not the drops of all that it has wherever one is dropped.
+impl<D: Drop, S: Drop> Drop for Network<D, S> {
+    fn drop(self) {
+        let Network {
+            directory: _,
+            sealer: _,
+            providers: _,
+            arrivals: _,
+        } = self;
+    }
+}
+
 impl<D, S> Network<D, S> {
     /// The directory of its providers. It takes no memory.
     pub fn directory(&self) -> &Directory
@@ -41,5 +52,20 @@ impl<D, S> Network<D, S> {
         ensures whole { IsOfDirectory self.now.kept self.now.providers self.now.waiting }
     {
         &self.directory
+    }
+}
+
+impl<D, S: Drop> Network<D, S> {
+    // Its providers, by their numbers; all else is dropped.
+    pub(crate) fn into_providers(self) -> Vec<Provider<D>>
+        ensures { result.items ≡ self.providers }
+    {
+        let Network {
+            directory: _,
+            sealer: _,
+            providers,
+            arrivals: _,
+        } = self;
+        providers
     }
 }

@@ -111,11 +111,7 @@ impl<D: Disk> Provider<D> {
         ensures last { Alike (P.last depot.old) (P.last depot.new) }
         ensures later { P.faults depot.old ≤ P.faults depot.new }
     {
-        let Provider {
-            chronicle,
-            shelf,
-            owed,
-        } = self;
+        let (chronicle, shelf, owed) = self.parts();
         Provider {
             chronicle: chronicle.crash(depot, me),
             shelf,
@@ -152,11 +148,7 @@ impl<D: Disk> Provider<D> {
         ensures later { IfOk result (λ provider. D.faults self.chronicle.disk ≤ D.faults provider.chronicle.disk) }
         ensures later_err { IfErr result (λ refused. D.faults self.chronicle.disk ≤ D.faults refused.1.chronicle.disk) }
     {
-        let Provider {
-            chronicle,
-            shelf,
-            owed,
-        } = self;
+        let (chronicle, shelf, owed) = self.parts();
         match restart(alloc, house.directory, chronicle, shelf) {
             Ok((chronicle, shelf)) => Ok(Provider {
                 chronicle,

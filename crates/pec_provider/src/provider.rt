@@ -14,7 +14,6 @@ use pec_types::{Letter, Moment, Text8};
 use std::marker::Model;
 
 /// One provider over its disk.
-#[derive(Drop)]
 pub struct Provider<D> {
     pub(crate) chronicle: Chronicle<D>,
     pub(crate) shelf: Shelf,
@@ -37,6 +36,17 @@ impl<D> Model for Provider<D> {
     } };
 
     ghost invariant = { λ provider. provider.shelf.half.last < END_OF_TIME };
+}
+
+// Written out, so that to drop a provider is one call, and not the drops of all that it has wherever one is dropped.
+impl<D: Drop> Drop for Provider<D> {
+    fn drop(self) {
+        let Provider {
+            chronicle: _,
+            shelf: _,
+            owed: _,
+        } = self;
+    }
 }
 
 /// Its figures, also while it is down. None of these takes memory.
@@ -94,6 +104,19 @@ impl<D> Provider<D> {
         ensures disk { result.0 ≡ self.chronicle.disk }
         ensures interrupted { result.1 ≡ option_map entry_text self.chronicle.interrupted }
     {
-        self.chronicle.into_parts()
+        let (chronicle, _, _) = self.parts();
+        chronicle.into_parts()
+    }
+
+    // All that it has.
+    pub(crate) fn parts(self) -> (Chronicle<D>, Shelf, Vec<Letter>)
+        ensures { (result.0 ≡ self.chronicle) × (result.1 ≡ self.shelf) × (result.2.items ≡ self.owed) }
+    {
+        let Provider {
+            chronicle,
+            shelf,
+            owed,
+        } = self;
+        (chronicle, shelf, owed)
     }
 }
