@@ -4,5 +4,6 @@ use Rattle.pec_provider.proofs.provider.Provider.crash.Goals as goal
 
 pub returns-clause-runs : goal.returns-clause-runs
 returns-clause-runs g c = λ kept runs.
-    runs_down kept c.args.me _ c.args.self c.self.view_is c.crash.result c.self.inside.shelf c.self.inside.owed.items _
-    refl c.crash.ensures.down runs
+    let parts = c.parts-chronicle in
+    runs_down kept c.args.me c.args.self c.args.self refl c.crash.result parts.result.1 parts.result.2.items _
+    parts.ensures.1 (rw (← parts.ensures.0) c.crash.ensures.down) runs
