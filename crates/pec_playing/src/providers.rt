@@ -47,13 +47,12 @@ pub(crate) fn submit<D: Disk, S: Sealer, J: Judge>(
         (finds_in (map J.patterns screens.old) provider message.now)) network.old network.new result }
     ensures patterns { map J.patterns screens.new ≡ map J.patterns screens.old }
 {
-    match screens.get_mut(provider as usize) {
-        Some(own) => submit_under(alloc, network, own, provider, moment, sender, path, message),
-        None => {
-            let mut none = NoScreens;
-            submit_under(alloc, network, &mut none, provider, moment, sender, path, message)
-        }
+    let at = provider as usize;
+    if at >= screens.len() {
+        let mut none = NoScreens;
+        return submit_under(alloc, network, &mut none, provider, moment, sender, path, message);
     }
+    submit_under(alloc, network, &mut screens[at], provider, moment, sender, path, message)
 }
 
 /// Hands in a message under the screens of its provider.

@@ -1,6 +1,12 @@
-use Rattle.std.proofs.Common.{◌≡◌, ◌<◌, ◌≤◌, ℕ, length, ap, sym, subst, ◌∙◌}
+use Rattle.std.proofs.Common.{◌≡◌, ◌<◌, ◌≤◌, ℕ, Result, length, ap, refl, sym, subst, ◌∙◌}
 use Rattle.pec_types.specs.declared.messages.TheConstants.{MESSAGES}
+use Rattle.pec_types.specs.declared.turns.ProviderFault.{ProviderFault}
 use Rattle.pec_types.specs.declared.turns.Submitted.{Submitted}
+use Rattle.pec_directory.specs.Directory.{providers_of}
+use Rattle.pec_records.specs.Entry.{IsWithinLimits}
+use Rattle.pec_points.specs.Case.{case_at}
+use Rattle.pec_provider.specs.Looking.{Looks}
+use Rattle.pec_provider.proofs.LookLemmas.{handed, still, within_limits}
 use Rattle.pec_records.specs.declared.entries.Entry.{Entry}
 use Rattle.pec_ledger.specs.Ledger.{Meets}
 use Rattle.pec_ledger.specs.Pairs.{id_of}
@@ -108,3 +114,22 @@ returns-clause-follows g c = λ journals.
     c.args.sender.now c.args.path.now c.args.message.now found
     (sym c.is_account_of.ensures.value ∙ c.if-not-is_account_of.false)
     (subst (λ (n : ℕ). n < MESSAGES) count c.in-Some.ensures.0) c.requires.path.0 c.requires.path.1)
+
+pub returns-in_err-at_work-clause-looked : goal.returns-in_err-at_work-clause-looked
+returns-in_err-at_work-clause-looked g c =
+    let kept = c.args.house.now.directory.now in
+    let me = c.args.house.now.me in
+    let trade = trade_of kept (g.S.Sealer.seals c.args.house.now.sealer.now) in
+    let found = finds (g.J.Judge.patterns c.args.screens.now) c.args.message.now in
+    let case = case_at (providers_of kept) me c.args.sender.now c.args.path.now c.args.message.now found in
+    let seen = g.J.Judge.seen c.args.screens.now in
+    handed (λ (r : Result (Entry × Submitted) ProviderFault). Looks case seen seen r) c.in_err-at_work.field-0.0
+    c.from_residual.result c.from_residual.ensures.1
+    (still (Entry × Submitted) case seen seen trade me c.args.moment (desk_of c.args.self.now) c.in_err-at_work.field-0.0
+    (c.in_err-at_work.ensures.works kept me trade c.requires.runs c.a_house_is_a_trade.ensures.of) refl)
+
+pub returns-clause-limits : goal.returns-clause-limits
+returns-clause-limits g c =
+    subst (λ (e : Entry). IsWithinLimits e) (sym c.in_ok-entry.ensures)
+    (within_limits c.in_ok-cause.cause c.args.moment c.args.sender.now c.args.path.now c.args.message.now c.requires.path.1
+    c.requires.message)
