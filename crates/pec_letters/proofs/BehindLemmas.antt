@@ -14,7 +14,8 @@ use Rattle.pec_letter_parts.specs.Letters.{Headed, Letter}
 use Rattle.pec_letter_parts.specs.LettersReading.{certified_by, headed_of, letter_in, letter_of}
 use Rattle.pec_letter_facts.specs.Questions.{marking_of}
 use Rattle.pec_letters.specs.Seen.{Seen, certifies_envelope, is_envelope, is_marked, seen_of}
-use Rattle.pec_letters.specs.SeenReading.{view, view_in}
+use Rattle.pec_letters.specs.Behind.{view_in}
+use Rattle.pec_letters.specs.SeenReading.{view}
 
 -- a text whose head is read is seen as what is behind that
 pub behind_head : (seals : Seals) (providers : List Provider) (text : Bytes) (read : Headed) → headed_of seals text ≡ Ok read

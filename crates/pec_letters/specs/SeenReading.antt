@@ -5,14 +5,9 @@ use Rattle.pec_types.specs.Results.{◌>>=◌}
 use Rattle.pec_types.specs.declared.disputes.LetterFault.{LetterFault}
 use Rattle.pec_directory.specs.Directory.{Provider}
 use Rattle.pec_seal.specs.Seals.{Seals}
-use Rattle.pec_letter_parts.specs.Letters.{Headed}
-use Rattle.pec_letter_parts.specs.LettersReading.{letter_in, letter_of}
+use Rattle.pec_letter_parts.specs.LettersReading.{letter_of}
 use Rattle.pec_letters.specs.Seen.{Seen, seen_of}
 
 -- What is seen of a text that is an envelope, or why it is none.
 unfoldable pub view : Seals → List Provider → Bytes → Result Seen LetterFault
 view seals providers text = letter_of seals text >>= seen_of providers
-
--- what is seen behind a head: of a text with this head the same as `view`
-unfoldable pub view_in : List Provider → Headed → Result Seen LetterFault
-view_in providers read = letter_in read >>= seen_of providers

@@ -7,8 +7,9 @@ ghost use Rattle.pec_directory.specs.Directory.{Provider, providers_of};
 ghost use Rattle.pec_letter_parts.specs.LettersReading.{headed_of};
 ghost use Rattle.pec_letter_parts.specs.Views.{headed_shown, letter_shown};
 ghost use Rattle.pec_letter_facts.specs.Questions.{marking_of};
+ghost use Rattle.pec_letters.specs.Behind.{view_in};
 ghost use Rattle.pec_letters.specs.Seen.{IsSeen, IsUnseen, dated, is_marked, seen_of};
-ghost use Rattle.pec_letters.specs.SeenReading.{view, view_in};
+ghost use Rattle.pec_letters.specs.SeenReading.{view};
 ghost use Rattle.pec_letters.specs.Views.{view_shown};
 ghost use Rattle.pec_seal.specs.Seals.{Seals};
 
@@ -88,7 +89,7 @@ pub fn has_envelope_head(headed: &Headed<'_>) -> bool
 }
 
 /// What is seen behind a head.
-#[tactic(auto, unfolding(crate::specs::SeenReading::view_in))]
+#[tactic(auto, unfolding(crate::specs::Behind::view_in))]
 fn see_behind<'a>(
     alloc: Global,
     directory: &Directory,
