@@ -59,7 +59,8 @@ pub(crate) fn take_found<D: Disk, H: Sealer, P: Depot<D = D>, J: Judge>(
         found line.now taken (sites network.new)) }
     ensures stops { (P.tells × D.tells → AllStand D.sight network.old.providers) → OnErr result
         (StopsAtFound (P.tells × D.tells) (trade_of network.old.kept (H.seals network.old.sealer))
-        (finds_in (map J.patterns screens.old)) (providers_of network.old.kept) (sites network.old) number found line.now (sites network.new)) }
+        (finds_in (map J.patterns screens.old)) (providers_of network.old.kept) (sites network.old) number found line.now
+        (sites network.new)) }
     ensures bound { IfOk result (λ taken. taken.end ≡ None → number ≤ most_lines) }
     ensures done { IfOk result (λ taken. taken.end ≡ Some End.Done → found ≡ Found.End) }
     ensures same { (network.new.kept ≡ network.old.kept) × (network.new.sealer ≡ network.old.sealer) }
@@ -93,10 +94,13 @@ fn take_long<D: Disk, H: Sealer>(
     network: &Network<D, H>,
     number: u64,
 ) -> Result<Taken, NoMemory>
-    ensures long { (finds : Finds) (state : List Site) (counts : ℕ → ℕ) (line : Bytes) → longest_line < length (content_of line)
-        → IfOk result (λ taken. EndsAt finds (providers_of network.now.kept) state number counts counts line taken state) }
+    ensures long { (finds : Finds) (state : List Site) (counts : ℕ → ℕ) (line : Bytes)
+        → longest_line < length (content_of line)
+        → IfOk result (λ taken.
+        EndsAt finds (providers_of network.now.kept) state number counts counts line taken state) }
     ensures many { (finds : Finds) (state : List Site) (counts : ℕ → ℕ) (line : Bytes) → most_lines < number
-        → IfOk result (λ taken. EndsAt finds (providers_of network.now.kept) state number counts counts line taken state) }
+        → IfOk result (λ taken.
+        EndsAt finds (providers_of network.now.kept) state number counts counts line taken state) }
     ensures ends { IfOk result (λ taken. taken.end ≡ Some End.TooLong) }
 {
     if number > MOST_LINES {
@@ -134,7 +138,8 @@ fn take_line<D: Disk, H: Sealer, P: Depot<D = D>, J: Judge>(
     ensures stops { (P.tells × D.tells → AllStand D.sight network.old.providers) → (line : Bytes)
         → content_of line ≡ said.now → OnErr result
         (StopsAt (P.tells × D.tells) (trade_of network.old.kept (H.seals network.old.sealer))
-        (finds_in (map J.patterns screens.old)) (providers_of network.old.kept) (sites network.old) number line (sites network.new)) }
+        (finds_in (map J.patterns screens.old)) (providers_of network.old.kept) (sites network.old) number line
+        (sites network.new)) }
     ensures bound { IfOk result (λ taken. taken.end ≡ None → number ≤ most_lines) }
     ensures not_done { IfOk result (λ taken. taken.end ≡ Some End.Done → ⊥) }
     ensures same { (network.new.kept ≡ network.old.kept) × (network.new.sealer ≡ network.old.sealer) }
@@ -183,7 +188,8 @@ fn take_command<D: Disk, H: Sealer, P: Depot<D = D>, J: Judge>(
     ensures stops { (P.tells × D.tells → AllStand D.sight network.old.providers) → (line : Bytes)
         → content_of line ≡ said.now → OnErr result
         (StopsAt (P.tells × D.tells) (trade_of network.old.kept (H.seals network.old.sealer))
-        (finds_in (map J.patterns screens.old)) (providers_of network.old.kept) (sites network.old) number line (sites network.new)) }
+        (finds_in (map J.patterns screens.old)) (providers_of network.old.kept) (sites network.old) number line
+        (sites network.new)) }
     ensures not_done { IfOk result (λ taken. taken.end ≡ Some End.Done → ⊥) }
     ensures same { (network.new.kept ≡ network.old.kept) × (network.new.sealer ≡ network.old.sealer) }
     ensures stands { D.tells → AllStand D.sight network.old.providers → AllStand D.sight network.new.providers }

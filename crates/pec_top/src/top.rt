@@ -12,9 +12,10 @@ use pec_screen::Judge;
 use std::alloc::Global;
 
 /// Runs the program: `words` are its arguments, `input` is the directory, a line `%%` and the script, every line goes
-/// to `out`, and the journals of providers are on the disks of the depot: `run` makes them, `resume` opens them.
-/// The screens of a provider, which look at what its accounts hand in, are those at its number, and none where there are
-/// fewer; a crash or a restart leaves them as they are. Moments are seconds since 1970-01-01T00:00:00Z. This project's profile of RFC 6109, sections 2 to 4.
+/// to `out`, and the journals of providers are on the disks of the depot: `run` makes them, `resume` opens them. The
+/// screens of a provider, which look at what its accounts hand in, are those at its number, and none where there are
+/// fewer; a crash and a restart leave them as they are. Moments are seconds since 1970-01-01T00:00:00Z. This project's
+/// profile of RFC 6109, sections 2 to 4.
 pub fn run_pec<S: Source, W: Sink, P: Depot, J: Judge>(
     alloc: Global,
     words: &[String],

@@ -77,3 +77,6 @@ returns-clause-later g c =
     rw (← c.self.view_is)
     (falls_from c.self.inside.providers.items c.args.provider c.index_mut.result.now c.submit.new.self within c.index_mut.ensures.value
     g.D.Counted.faults c.submit.ensures.later)
+
+pub returns-clause-looked : goal.returns-clause-looked
+returns-clause-looked g c = rw (← c.self.view_is) c.submit.ensures.looked
