@@ -94,7 +94,14 @@ mod tests {
             let mut depot = MemDepot::new(rt.alloc(), Vec::new(rt.alloc()), Vec::new(rt.alloc()));
             let none: Vec<NoScreens> = Vec::new(rt.alloc());
             assert_eq!(rt;
-                run_pec(rt.alloc(), &words, &mut input, &mut output, &mut depot, none),
+                run_pec(
+                    rt.alloc(),
+                    &words,
+                    &mut input,
+                    &mut output,
+                    &mut depot,
+                    none
+                ),
                 status,
                 "at {word:?}"
             );

@@ -64,7 +64,9 @@ impl<D: Disk, S: Sealer> Network<D, S> {
             sealer: &self.sealer,
             me: provider,
         };
-        self.providers[provider as usize].submit(alloc, &house, moment, sender, path, message, screens)
+        self.providers[provider as usize].submit(
+            alloc, &house, moment, sender, path, message, screens,
+        )
     }
 
     /// Has a provider look at the clock: the marks that are due by then are set, and told. The first of these refusals

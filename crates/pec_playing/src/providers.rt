@@ -11,8 +11,8 @@ ghost use Rattle.pec_playing.specs.Doing.{Does};
 use crate::refusals::refusal_text;
 use pec_network::Network;
 use pec_outside::Disk;
-use pec_script::{marks_text, submitted_text};
 use pec_screen::{Judge, NoScreens};
+use pec_script::{marks_text, submitted_text};
 use pec_seal::Sealer;
 use pec_types::{Address, Moment, NoMemory};
 use std::alloc::Global;
@@ -50,9 +50,20 @@ pub(crate) fn submit<D: Disk, S: Sealer, J: Judge>(
     let at = provider as usize;
     if at >= screens.len() {
         let mut none = NoScreens;
-        return submit_under(alloc, network, &mut none, provider, moment, sender, path, message);
+        return submit_under(
+            alloc, network, &mut none, provider, moment, sender, path, message,
+        );
     }
-    submit_under(alloc, network, &mut screens[at], provider, moment, sender, path, message)
+    submit_under(
+        alloc,
+        network,
+        &mut screens[at],
+        provider,
+        moment,
+        sender,
+        path,
+        message,
+    )
 }
 
 /// Hands in a message under the screens of its provider.

@@ -136,8 +136,13 @@ fn admit_message(
 ) -> Result<Admission, NoMemory>
     ensures { IfOk result (λ admission.
         admission
-        ≡ admission_of (record { limit = limit; sender = sender.now; path = path.now; message = message.now;
-        found = false })) }
+        ≡ admission_of (record {
+          limit = limit;
+          sender = sender.now;
+          path = path.now;
+          message = message.now;
+          found = false;
+        })) }
 {
     let Some(head) = read_head(alloc, message)? else {
         return Ok(Admission::Not(Cause::Head));

@@ -36,11 +36,38 @@ impl Screen for Counting {
 /// A message, the cause for which it isn't accepted under a screen of the pattern `VIRUS`, and how often a box beside it
 /// looks.
 const LOOKS: [(Row, u64); 6] = [
-    (("1000", "b@b", "From: a@a|To: b@b||VIRUS", Some(Cause::Virus)), 1),
-    (("1000", "b@b", "From: a@a|To: b@b|Subject: VIRUS||", Some(Cause::Virus)), 1), // in the head, too
+    (
+        (
+            "1000",
+            "b@b",
+            "From: a@a|To: b@b||VIRUS",
+            Some(Cause::Virus),
+        ),
+        1,
+    ),
+    (
+        (
+            "1000",
+            "b@b",
+            "From: a@a|To: b@b|Subject: VIRUS||",
+            Some(Cause::Virus),
+        ),
+        1,
+    ), // in the head, too
     (("1000", "b@b", "From: a@a|To: b@b||VIRU S", None), 1),
-    (("1000", "b@b", "From: a@a|To: b@b|Bcc: x||VIRUS", Some(Cause::Bcc)), 0),
-    (("1", "b@b", "From: a@a|To: b@b||VIRUS", Some(Cause::Size)), 0),
+    (
+        (
+            "1000",
+            "b@b",
+            "From: a@a|To: b@b|Bcc: x||VIRUS",
+            Some(Cause::Bcc),
+        ),
+        0,
+    ),
+    (
+        ("1", "b@b", "From: a@a|To: b@b||VIRUS", Some(Cause::Size)),
+        0,
+    ),
     (("1000", "b@b", "VIRUS", Some(Cause::Head)), 0),
 ];
 
@@ -48,7 +75,10 @@ const LOOKS: [(Row, u64); 6] = [
 fn screens_look_at_what_no_earlier_row_refuses(rt: HostRuntime) -> Result<(), Fail> {
     for (row, looks) in LOOKS {
         let counted = Arc::new(rt.alloc(), AtomicU64::new(0))?;
-        let counting = Counting { looks: Arc::try_clone(&counted)?, seen: 0 };
+        let counting = Counting {
+            looks: Arc::try_clone(&counted)?,
+            seen: 0,
+        };
         let first: Box<dyn Screen> = Box::new(rt.alloc(), counting)?;
         let second: Box<dyn Screen> = Box::new(rt.alloc(), of_the_pattern(rt.alloc())?)?;
         let mut screens = Screens::new(vec![in rt.alloc(); first, second]?);

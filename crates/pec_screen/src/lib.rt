@@ -7,7 +7,6 @@ mod looking;
 mod patterns;
 mod screens;
 
-
 pub use judging::{Judge, NoScreens};
 pub use looking::Screen;
 pub use patterns::{PatternScreen, a_rule_is_the_least_pattern};

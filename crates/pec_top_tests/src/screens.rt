@@ -71,19 +71,16 @@ fn last_line(alloc: Global, ran: &Ran) -> Result<Vec<u8>, Fail> {
 }
 
 /// Runs a script with so many lists of screens, where the named ones have one of the pattern.
-fn screened(
-    alloc: Global,
-    named: &[usize],
-    lists: usize,
-    script: &str,
-) -> Result<Ran, AllocError> {
+fn screened(alloc: Global, named: &[usize], lists: usize, script: &str) -> Result<Ran, AllocError> {
     let mut screens = Vec::new(alloc);
     for place in 0..lists {
         let mut boxes: Vec<Box<dyn Screen>> = Vec::new(alloc);
         if named.contains(&place) {
             let pattern = Text8::of(Vec::from_slice(alloc, b"PEC-VIRUS-DI-PROVA")?);
-            let screen: Box<dyn Screen> =
-                Box::new(alloc, PatternScreen::new(vec![in alloc; pattern]?))?;
+            let screen: Box<dyn Screen> = Box::new(
+                alloc,
+                PatternScreen::new(vec![in alloc; pattern]?),
+            )?;
             boxes = vec![in alloc; screen]?;
         }
         screens.push(Screens::new(boxes))?;

@@ -25,7 +25,7 @@ halt_of tells trade finds providers faults.ReadFault = ByInput refl
 
 pub lines-init : goal.lines-init
 lines-init g c = record {
-  came = λ stand elsewhere. starts _ _ _ _ _;
+  came = λ stand elsewhere. starts _ _ _ _ _ _;
   number = omega arith;
   same = (refl, refl);
   stands = λ told stand. stand;
