@@ -1,11 +1,19 @@
-ghost use Rattle.std.specs.Prelude.{◌≡◌, ◌≤◌, List, length, Ok};
+ghost use Rattle.std.specs.Prelude.{◌≡◌, ℕ, ◌<◌, ◌≤◌, List, length, Ok};
 ghost use Rattle.pec_types.specs.Bytes.{Bytes};
+ghost use Rattle.pec_types.specs.declared.turns.ProviderFault.{ProviderFault as SomeFault};
+ghost use Rattle.pec_types.specs.declared.turns.ProviderFault.TheVariants as faults;
 ghost use Rattle.pec_directory.specs.Directory.{Kept, providers_of};
+ghost use Rattle.pec_plays.specs.Commands.{Refuses};
+ghost use Rattle.pec_provider.specs.Provider.{ProviderState};
+ghost use Rattle.pec_network.specs.Carrying.{NoneFalls};
+ghost use Rattle.pec_network.specs.Changing.{HasRisenAt};
 ghost use Rattle.pec_script.specs.LinesReading.{command_of};
 ghost use Rattle.pec_script.specs.declared.commands.Command.{Command as Written};
 ghost use Rattle.pec_runs.specs.ScriptLines.{longest_line};
-ghost use Rattle.pec_playing.specs.Playing.{CanPlay};
+ghost use Rattle.pec_runs.specs.Plays.{RoseBy, faults_at};
+ghost use Rattle.pec_playing.specs.Playing.{CanPlay, counts_in};
 
+use pec_outside::Disk;
 use pec_script::a_line_has_one_reading;
 
 /// What a line says that isn't too long can be played over a network of the same directory.
@@ -15,3 +23,15 @@ pub fn what_a_line_says_can_be_played()
 {
     a_line_has_one_reading();
 }
+
+/// A call of one provider raises the count of its disk's faults by as many as its answer tells, and no count falls.
+pub fn what_is_told_was_counted<D: Disk>()
+    ensures refused { (old new : List (ProviderState D)) → length new ≡ length old → (elsewhere : ℕ → ℕ)
+        → NoneFalls D.faults old new → (asked : ℕ) → asked < length old → (fault : SomeFault)
+        → (fault ≡ faults.DiskFault → HasRisenAt D.faults asked old new) → (number : ℕ)
+        → RoseBy (faults_at number asked (Refuses fault)) (counts_in D.faults old elsewhere number)
+        (counts_in D.faults new elsewhere number) }
+    ensures later { (old new : List (ProviderState D)) → length new ≡ length old → (elsewhere : ℕ → ℕ)
+        → NoneFalls D.faults old new → (number : ℕ)
+        → counts_in D.faults old elsewhere number ≤ counts_in D.faults new elsewhere number }
+{}

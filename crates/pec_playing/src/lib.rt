@@ -10,5 +10,7 @@ mod providers;
 mod refusals;
 mod rounds;
 
-pub use laws::what_a_line_says_can_be_played;
+pub use laws::{what_a_line_says_can_be_played, what_is_told_was_counted};
 pub use playing::play;
+pub use providers::tick;
+pub use rounds::round;

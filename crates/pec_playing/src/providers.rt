@@ -101,7 +101,7 @@ fn submit_under<D: Disk, S: Sealer, J: Judge>(
 }
 
 /// Has a provider look at the clock: a line for each mark that it set, and `ticked`.
-pub(crate) fn tick<D: Disk, S: Sealer>(
+pub fn tick<D: Disk, S: Sealer>(
     alloc: Global,
     network: &mut Network<D, S>,
     provider: u32,

@@ -13,7 +13,7 @@ use pec_types::{Moment, NoMemory};
 use std::alloc::Global;
 
 /// Has each provider take its turn: the lines of each turn, and `round`.
-pub(crate) fn round<D: Disk, S: Sealer>(
+pub fn round<D: Disk, S: Sealer>(
     alloc: Global,
     network: &mut Network<D, S>,
     moment: Moment,

@@ -1,0 +1,5 @@
+pub mod DeskLemmas
+pub mod KeyLemmas
+pub mod LimitLemmas
+pub mod OwnLemmas
+pub mod ShareLemmas

@@ -1,0 +1,175 @@
+-- The law of accounts, over any disks and seals.
+use Rattle.std.proofs.Common.{◌≡◌, inl, inr, ℕ, false, List, refl, ap, sym, ◌∙◌, subst, Option, Some, None, Result, Ok, Err}
+use Rattle.std.specs.Prelude.{◌⊎◌}
+use Rattle.std.specs.Option.{option_and_then, option_map}
+use Rattle.pec_outside.specs.DiskModel.{Sight}
+use Rattle.pec_types.specs.Bytes.{Bytes, Path}
+use Rattle.pec_types.specs.declared.turns.ProviderFault.{ProviderFault}
+use Rattle.pec_types.specs.declared.turns.ProviderFault.TheVariants as faults
+use Rattle.pec_types.specs.declared.turns.Submitted.{Submitted}
+use Rattle.pec_directory.specs.Directory.{Kept, account_home, providers_of}
+use Rattle.pec_seal.specs.Seals.{Seals}
+use Rattle.pec_ledger.specs.Network.{Site}
+use Rattle.pec_provider.specs.Playing.{luck_of}
+use Rattle.pec_network.specs.Network.{sites}
+use Rattle.pec_http.specs.Asking.{Asks, Question, Submit, See}
+use Rattle.pec_http.specs.Desks.{Answers}
+use Rattle.pec_http.specs.Replies.{Reply, shown_reply, submitted_reply}
+use Rattle.pec_http.specs.Serving.{IsAnswer, IsAnswered, MayShow, Submits, kind_of}
+use Rattle.pec_http.specs.declared.demands.Look.{Look}
+use Rattle.pec_http.specs.declared.demands.Look.TheVariants as looks
+use Rattle.pec_http.specs.declared.passes.Pass.{Pass}
+use Rattle.pec_http.specs.declared.stops.Stop.{Stop}
+use Rattle.pec_desk.specs.Desks.{DeskState, HandsIn, answers_of, domain_at, pass_of, world_of}
+use Rattle.pec_desk.specs.Own.{IsFaultOf, IsFaultReply, Share, asker, asking_share, reply_to, reply_with, share_at, share_of, shown_to}
+use Rattle.pec_desk.proofs.ShareLemmas.{book_is, book_of_nobody, item_is, item_of_nobody, items_is, items_of_nobody, submission_is}
+
+-- a request asks one thing
+abbrev AsksOne : Type 0
+AsksOne = (pass : Bytes → Bytes → Pass) (input : Bytes) (asked other : Result Question Stop)
+    → Asks pass input asked → Asks pass input other → asked ≡ other
+
+module _ {D S : Type 0} (sight : D → Sight) (count : D → ℕ) (tells : Type 0) (seals : S → Seals) where
+  abbrev desk_answers : Answers (DeskState D S)
+  desk_answers = answers_of sight count tells seals
+
+  module _ (desk after : DeskState D S) where
+    abbrev kept : List Kept
+    kept = desk.network.kept
+
+    abbrev state : List Site
+    state = sites desk.network
+
+    abbrev homes : Bytes → Option ℕ
+    homes address = account_home (providers_of kept) address
+
+    abbrev own_reply : Result Question Stop → Reply
+    own_reply asked = reply_to (providers_of kept) desk.moment (asking_share seals desk asked) asked
+
+    abbrev IsOwnReply : Result Question Stop → Reply → Type 0
+    IsOwnReply asked reply = (reply ≡ own_reply asked) ⊎ IsFaultOf asked reply
+
+    -- the share of an account, whose provider is known
+    with_home : (address : Bytes) (home : Option ℕ) (question : Question) → homes address ≡ home
+        → reply_with (providers_of kept) desk.moment (share_of seals desk address) question
+        ≡ reply_with (providers_of kept) desk.moment
+        (option_map (share_at (world_of seals desk.network) state address) home) question
+    with_home address home question is =
+        ap (λ (h : Option ℕ). reply_with (providers_of kept) desk.moment
+        (option_map (share_at (world_of seals desk.network) state address) h) question) is
+
+    handed_reply : (address : Bytes) (path : Path) (message : Bytes) (reply : Reply)
+        → Submits desk_answers desk address path message after reply
+        → IsOwnReply (Ok (Submit address path message)) reply
+    handed_reply address path message reply submits =
+        let handed : HandsIn sight count tells seals desk address path message submits.said after = submits.may_say
+        in let domain : submitted_reply (domain_at (providers_of kept) (homes address)) submits.said
+        ≡ submitted_reply (domain_at (providers_of kept) (Some handed.number)) submits.said =
+        ap (λ (h : Option ℕ). submitted_reply (domain_at (providers_of kept) h) submits.said) handed.home
+        in let answered : reply ≡ submitted_reply (domain_at (providers_of kept) (Some handed.number)) submits.said =
+        submits.answer ∙ domain
+        in elim (submission_is kept (seals desk.network.sealer) state address handed.number handed.home desk.moment path
+        message (sites after.network) submits.said handed.plays) [
+          | inl own ↦ inl (answered
+              ∙ ap (λ (r : Result Submitted ProviderFault).
+              submitted_reply (domain_at (providers_of kept) (Some handed.number)) r) own
+              ∙ sym (with_home address (Some handed.number) (Submit address path message) handed.home))
+          | inr fault ↦ inr (elim fault [
+            | inl lack ↦ inl (answered ∙ ap (λ (r : Result Submitted ProviderFault).
+                submitted_reply (domain_at (providers_of kept) (Some handed.number)) r) lack)
+            | inr disk ↦ inr (answered ∙ ap (λ (r : Result Submitted ProviderFault).
+                submitted_reply (domain_at (providers_of kept) (Some handed.number)) r) disk)
+          ])
+        ]
+
+    -- what the desk may show is the account's own
+    shown_own : (address : Bytes) (number : ℕ) → homes address ≡ Some number → (looked : Look)
+        (said : Result Bytes ProviderFault) → MayShow desk_answers desk address looked said
+        → (said ≡ Err faults.NoMemory)
+        ⊎ (said ≡ shown_to (providers_of kept) (share_at (world_of seals desk.network) state address number) looked)
+    shown_own address number home looks.Book said shows =
+        book_is kept (seals desk.network.sealer) state address number home (luck_of false) said shows
+    shown_own address number home looks.Items said shows =
+        items_is kept (seals desk.network.sealer) state address number home (luck_of false) said shows
+    shown_own address number home (looks.Item place) said shows =
+        item_is kept (seals desk.network.sealer) state address number home (luck_of false) place said shows
+
+    shown_nobody : (address : Bytes) → homes address ≡ None → (looked : Look) (said : Result Bytes ProviderFault)
+        → MayShow desk_answers desk address looked said
+        → (said ≡ Err faults.NoMemory) ⊎ (said ≡ Err faults.NoAccount)
+    shown_nobody address none looks.Book said shows =
+        book_of_nobody kept (seals desk.network.sealer) state address none (luck_of false) said shows
+    shown_nobody address none looks.Items said shows =
+        items_of_nobody kept (seals desk.network.sealer) state address none (luck_of false) said shows
+    shown_nobody address none (looks.Item place) said shows =
+        item_of_nobody kept (seals desk.network.sealer) state address none (luck_of false) place said shows
+
+    seen_by : (address : Bytes) (looked : Look) (home : Option ℕ) → homes address ≡ home → (reply : Reply)
+        (said : Result Bytes ProviderFault) → MayShow desk_answers desk address looked said
+        → reply ≡ shown_reply (kind_of looked) said → IsOwnReply (Ok (See address looked)) reply
+    seen_by address looked None home reply said shows answer = elim (shown_nobody address home looked said shows) [
+      | inl lack ↦ inr (answer ∙ ap (shown_reply (kind_of looked)) lack)
+      | inr none ↦ inl (answer ∙ ap (shown_reply (kind_of looked)) none ∙ sym (with_home address None (See address looked) home))
+    ]
+    seen_by address looked (Some number) home reply said shows answer =
+        elim (shown_own address number home looked said shows) [
+          | inl lack ↦ inr (answer ∙ ap (shown_reply (kind_of looked)) lack)
+          | inr own ↦ inl (answer ∙ ap (shown_reply (kind_of looked)) own
+              ∙ sym (with_home address (Some number) (See address looked) home))
+        ]
+
+    answered_own : (asked : Result Question Stop) (reply : Reply) → IsAnswered desk_answers desk asked after reply
+        → IsOwnReply asked reply
+    answered_own (Err stop) reply stays = inl stays.is
+    answered_own (Ok (Submit address path message)) reply submits = handed_reply address path message reply submits
+    answered_own (Ok (See address looked)) reply shows =
+        seen_by address looked (homes address) refl reply shows.said shows.may_say shows.answer
+
+    pub own_answer : AsksOne → (input : Bytes) (reply : Reply) → IsAnswer desk_answers desk input after reply
+        → (asked : Result Question Stop) → Asks (pass_of kept) input asked → IsOwnReply asked reply
+    own_answer one input reply answer asked asks =
+        answered_own asked reply
+        (subst (λ (a : Result Question Stop). IsAnswered desk_answers desk a after reply)
+        (one (pass_of kept) input answer.asked asked answer.asks asks) answer.answered)
+
+  -- ---- two networks
+
+  is_fault : (asked : Result Question Stop) (reply : Reply) → IsFaultOf asked reply → IsFaultReply reply
+  is_fault (Ok (Submit address path message)) reply fault = fault
+  is_fault (Ok (See address looked)) reply fault = inl fault
+  is_fault (Err stop) reply fault = absurd fault
+
+  module _ (one other after last : DeskState D S) (kept_same : one.network.kept ≡ other.network.kept)
+      (moment_same : one.moment ≡ other.moment) where
+    same_asker : (asker' : Option Bytes)
+        → ((account : Bytes) → asker' ≡ Some account → share_of seals one account ≡ share_of seals other account)
+        → option_and_then (share_of seals one) asker' ≡ option_and_then (share_of seals other) asker'
+    same_asker None same = refl
+    same_asker (Some account) same = same account refl
+
+    same_reply : (asked : Result Question Stop)
+        → ((account : Bytes) → asker asked ≡ Some account → share_of seals one account ≡ share_of seals other account)
+        → own_reply one after asked ≡ own_reply other last asked
+    same_reply asked same =
+        ap (λ (share : Option Share). reply_to (providers_of one.network.kept) one.moment share asked)
+        (same_asker (asker asked) same)
+        ∙ ap (λ (k : List Kept). reply_to (providers_of k) one.moment (asking_share seals other asked) asked) kept_same
+        ∙ ap (λ (m : ℕ). reply_to (providers_of other.network.kept) m (asking_share seals other asked) asked) moment_same
+
+    pub apart : AsksOne → (input : Bytes) (reply again : Reply)
+        → ((asked : Result Question Stop) (account : Bytes) → Asks (pass_of one.network.kept) input asked
+        → asker asked ≡ Some account → share_of seals one account ≡ share_of seals other account)
+        → IsAnswer desk_answers one input after reply → IsAnswer desk_answers other input last again
+        → (reply ≡ again) ⊎ IsFaultReply reply ⊎ IsFaultReply again
+    apart asks_one input reply again same answer answer' =
+        let asked = answer.asked
+        in let asks = answer.asks
+        in let asks' : Asks (pass_of other.network.kept) input asked =
+        subst (λ (k : List Kept). Asks (pass_of k) input asked) kept_same asks
+        in elim (own_answer one after asks_one input reply answer asked asks) [
+          | inr fault ↦ inr (inl (is_fault asked reply fault))
+          | inl own ↦ elim (own_answer other last asks_one input again answer' asked asks') [
+            | inr fault ↦ inr (inr (is_fault asked again fault))
+            | inl own' ↦ inl (own ∙ same_reply asked (λ account is. same asked account asks is) ∙ sym own')
+          ]
+        ]

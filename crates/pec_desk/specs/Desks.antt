@@ -1,0 +1,136 @@
+-- The desk of a network at a moment: what it answers, `answers_of`, in the words of what the network plays and shows. Its
+-- accounts are those of the directory, whichever provider they are at. This project's profile.
+use Rattle.std.specs.Prelude.{◌≡◌, ℕ, ◌<◌, ◌≤◌, false, List, [], Option, None, Some, Result, Ok, Err, IsErrOf, is_some, length, slice_get, if◌then◌else◌}
+use Rattle.std.specs.Str.{bytes_eq}
+use Rattle.pec_types.specs.Bytes.{Bytes, Path}
+use Rattle.pec_types.specs.declared.mailboxes.ItemLine.{ItemLine}
+use Rattle.pec_types.specs.declared.messages.BookLine.{BookLine}
+use Rattle.pec_types.specs.declared.turns.ProviderFault.{ProviderFault}
+use Rattle.pec_types.specs.declared.turns.ProviderFault.TheVariants as faults
+use Rattle.pec_types.specs.declared.turns.Submitted.{Submitted}
+use Rattle.pec_outside.specs.DiskModel.{Sight}
+use Rattle.pec_directory.specs.Directory.{Account, Kept, Provider, account_home, account_of, first_domain, providers_of}
+use Rattle.pec_records.specs.Entry.{most_addresses}
+use Rattle.pec_seal.specs.Seals.{Seals}
+use Rattle.pec_ledger.specs.Ledger.{Journals}
+use Rattle.pec_ledger.specs.Network.{Site}
+use Rattle.pec_ledger.specs.Trade.{Trade}
+use Rattle.pec_plays.specs.Commands.{Answer, Book, Items, Lines, Mailbox, Played, Refuses, Show, Shown, Submit, Submits, answers, played}
+use Rattle.pec_trade.specs.TradeOf.{trade_of}
+use Rattle.pec_provider.specs.Playing.{luck_of}
+use Rattle.pec_provider.specs.Provider.{ProviderState}
+use Rattle.pec_network.specs.Carrying.{AllCarryOn, NoneFalls}
+use Rattle.pec_network.specs.Changing.{ChangesOnly, HasRisenAt}
+use Rattle.pec_network.specs.Network.{NetworkState, sites}
+use Rattle.pec_network.specs.Playing.{IsPlayed}
+use Rattle.pec_http.specs.Desks.{Answers}
+use Rattle.pec_http.specs.declared.passes.Pass.{Pass}
+use Rattle.pec_http.specs.declared.passes.Pass.TheVariants as passes
+use Rattle.pec_script.specs.Texts.{book_text, items_text}
+
+-- The network, and the moment at which all that comes to the desk is done, in seconds.
+pub record DeskState (D S : Type 0) : Type 0 where
+  pub network : NetworkState D S
+  pub moment : ℕ
+
+-- ---- who asks
+
+-- the most bytes of a message that a provider takes
+abbrev pub limit_in : Option Kept → ℕ
+limit_in None = 0
+limit_in (Some kept) = kept.provider.limit
+
+-- an account, by what is said of it: its key is the one that was given, or isn't
+abbrev pub keyed : ℕ → Option Account → Bytes → Pass
+keyed limit None key = passes.WrongKey
+keyed limit (Some account) key = if bytes_eq key account.key then passes.Admitted limit else passes.WrongKey
+
+-- an address, by the number of the provider whose account it is
+abbrev pub passed : List Kept → Bytes → Bytes → Option ℕ → Pass
+passed kept address key None = passes.NoAddress
+passed kept address key (Some number) = keyed (limit_in (slice_get kept number)) (account_of (providers_of kept) address) key
+
+-- What is said of an address and a key.
+unfoldable pub pass_of : List Kept → Bytes → Bytes → Pass
+pass_of kept address key = passed kept address key (account_home (providers_of kept) address)
+
+-- the first domain of the provider of a number
+abbrev pub domain_at : List Provider → Option ℕ → Bytes
+domain_at providers None = []
+domain_at providers (Some number) = first_domain providers number
+
+-- ---- what is asked
+
+-- the world in which the network plays
+abbrev pub world_of : {D S : Type 0} → (S → Seals) → NetworkState D S → Trade
+world_of seals network = trade_of network.kept (seals network.sealer)
+
+-- the count of faults of a provider's disk
+abbrev pub count_in : {D : Type 0} → (D → ℕ) → Option (ProviderState D) → ℕ
+count_in count None = 0
+count_in count (Some provider) = count provider.chronicle.disk
+
+abbrev pub count_at : {D : Type 0} → (D → ℕ) → List (ProviderState D) → Option ℕ → ℕ
+count_at count providers None = 0
+count_at count providers (Some number) = count_in count (slice_get providers number)
+
+-- An account handed a message in, and its provider said this: the command was played so at the desk's moment. No other
+-- provider was touched, and the disks carry on.
+pub record HandsIn {D S : Type 0} (sight : D → Sight) (count : D → ℕ) (tells : Type 0) (seals : S → Seals)
+    (old : DeskState D S) (address : Bytes) (addresses : Path) (message : Bytes) (said : Result Submitted ProviderFault)
+    (new : DeskState D S) : Type 0 where
+  pub number : ℕ
+  pub home : account_home (providers_of old.network.kept) address ≡ Some number
+  pub within : number < length old.network.kept
+  pub moment : new.moment ≡ old.moment
+  pub path : (0 < length addresses) × (length addresses ≤ most_addresses)
+  pub plays : IsPlayed Submits
+      (λ luck. played (world_of seals old.network) luck (sites old.network) (Submit number old.moment address addresses message))
+      (sites old.network) (sites new.network) said
+  pub others : ChangesOnly number old.network new.network
+  pub carries : tells → (journals : Journals)
+      → AllCarryOn sight (world_of seals old.network) journals old.network.providers new.network.providers
+  pub disk_fault : IsErrOf said faults.DiskFault → HasRisenAt count number old.network.providers new.network.providers
+  pub later : NoneFalls count old.network.providers new.network.providers
+
+-- What was answered to a command that shows something is written so.
+pub record IsWritten {X : Type 0} (tells : X → Answer) (text : X → Bytes) (asked : Played) (state : List Site) (bytes : Bytes) : Type 0 where
+  pub what : X
+  pub answer : asked ≡ answers state (tells what)
+  pub is : bytes ≡ text what
+
+-- An account was shown what it asked for, or refused.
+abbrev pub IsSeen : {X : Type 0} → (X → Answer) → (X → Bytes) → Played → List Site → Result Bytes ProviderFault → Type 0
+IsSeen tells text asked state (Ok bytes) = IsWritten tells text asked state bytes
+IsSeen tells text asked state (Err faults.NoMemory) = Unit {0}
+IsSeen tells text asked state (Err fault) = asked ≡ answers state (Refuses fault)
+
+abbrev pub lines_shown : List BookLine → Answer
+lines_shown lines = Lines lines
+
+abbrev pub items_shown : List ItemLine → Answer
+items_shown lines = Items lines
+
+abbrev pub bytes_shown : Bytes → Answer
+bytes_shown bytes = Shown bytes
+
+abbrev pub as_they_are : Bytes → Bytes
+as_they_are bytes = bytes
+
+-- ---- the desk
+
+-- What the desk answers: of a command no luck changes what an account is shown, so it stands here with any.
+abbrev pub answers_of : {D S : Type 0} → (D → Sight) → (D → ℕ) → Type 0 → (S → Seals) → Answers (DeskState D S)
+answers_of sight count tells seals = record {
+  is_account = λ desk address. is_some (account_home (providers_of desk.network.kept) address);
+  pass = λ desk address key. pass_of desk.network.kept address key;
+  domain = λ desk address. domain_at (providers_of desk.network.kept) (account_home (providers_of desk.network.kept) address);
+  faults = λ desk address. count_at count desk.network.providers (account_home (providers_of desk.network.kept) address);
+  submit = λ desk address path message said after. HandsIn sight count tells seals desk address path message said after;
+  book = λ desk address said. IsSeen lines_shown (book_text (providers_of desk.network.kept))
+      (played (world_of seals desk.network) (luck_of false) (sites desk.network) (Book address)) (sites desk.network) said;
+  items = λ desk address said. IsSeen items_shown (items_text (providers_of desk.network.kept))
+      (played (world_of seals desk.network) (luck_of false) (sites desk.network) (Mailbox address)) (sites desk.network) said;
+  item = λ desk address place said. IsSeen bytes_shown as_they_are
+      (played (world_of seals desk.network) (luck_of false) (sites desk.network) (Show address place)) (sites desk.network) said;
+}

@@ -1,0 +1,5 @@
+use Rattle.pec_service.proofs.ConnectionLemmas.{replies_are}
+use Rattle.pec_service.proofs.replies.a_connection_has_one_reply.Goals as goal
+
+pub returns : goal.returns
+returns c = λ trade kept here all replies are told. replies_are trade kept here all replies are told

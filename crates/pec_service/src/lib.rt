@@ -1,0 +1,12 @@
+//! What a run of the program is that serves connections: what each comes to at the desk of the network, what is played of
+//! it, and how a service ends. There is no code here: each public function is a law with an empty body, whose contract is
+//! the statement.
+#![tactic(auto)]
+
+mod headline;
+mod joining;
+mod replies;
+
+pub use headline::a_services_books_belong_to_the_ledger;
+pub use joining::{calls_are_joined, connections_are_joined};
+pub use replies::{a_connection_has_one_reply, what_was_stored_is_not_answered_500};

@@ -1,0 +1,99 @@
+-- What the desk keeps of a network, whatever was asked of it.
+use Rattle.std.proofs.Common.{◌≡◌, inl, inr, ℕ, ◌<◌, ◌≤◌, List, [], length, refl, ap, sym, subst, ◌∙◌, arith, Option, Result, Ok, Err}
+use Rattle.std.proofs.lemmas.Option.{slice_get_cases}
+use Rattle.pec_types.specs.Bytes.{Bytes}
+use Rattle.pec_types.specs.declared.turns.ProviderFault.{ProviderFault}
+use Rattle.pec_types.specs.declared.turns.Submitted.{Submitted}
+use Rattle.pec_outside.specs.DiskModel.{Sight}
+use Rattle.pec_directory.specs.Directory.{Kept}
+use Rattle.pec_seal.specs.Seals.{Seals}
+use Rattle.pec_ledger.specs.Trade.{Trade}
+use Rattle.pec_trade.specs.TradeOf.{trade_of}
+use Rattle.pec_provider.specs.Provider.{ProviderState}
+use Rattle.pec_network.specs.Carrying.{AllStand, NoneFalls}
+use Rattle.pec_network.specs.Network.{NetworkState}
+use Rattle.pec_http.specs.Asking.{Question, See}
+use Rattle.pec_http.specs.Asking as asking
+use Rattle.pec_http.specs.Desks.{Answers}
+use Rattle.pec_http.specs.Replies.{Reply}
+use Rattle.pec_http.specs.Serving.{IsAnswerOrLack, IsAnswered, Serves}
+use Rattle.pec_http.specs.declared.serving.Served.{Served}
+use Rattle.pec_http.specs.declared.serving.Served.TheVariants as served
+use Rattle.pec_http.specs.declared.stops.Stop.{Stop}
+use Rattle.pec_desk.specs.Desks.{DeskState, HandsIn, answers_of}
+use Rattle.pec_playing.specs.Doing.{Keeps}
+
+module _ {D S : Type 0} (sight : D → Sight) (count : D → ℕ) (disks : Type 0) where
+  pub keeps_all : (network : NetworkState D S) → Keeps sight count disks network network
+  keeps_all network = record {
+    directory = refl;
+    seals = refl;
+    stands = λ told all. all;
+    later = λ number other within. omega arith;
+  }
+
+  -- what is kept twice is kept
+  pub keeps_on : (old mid new : NetworkState D S) → length mid.providers ≡ length old.providers
+      → Keeps sight count disks old mid → Keeps sight count disks mid new → Keeps sight count disks old new
+  keeps_on old mid new many first second = record {
+    directory = second.directory ∙ first.directory;
+    seals = second.seals ∙ first.seals;
+    stands = λ told all. second.stands told (first.stands told all);
+    later = λ number other within.
+        omega (arith, first.later number other within, second.later number other (omega (arith, within, many)));
+  }
+
+  module _ (seals : S → Seals) (desk after : DeskState D S) (whole : length desk.network.providers ≡ length desk.network.kept)
+      (whole_after : length after.network.providers ≡ length after.network.kept) where
+    abbrev desk_answers : Answers (DeskState D S)
+    desk_answers = answers_of sight count disks seals
+
+    keeps_same : after ≡ desk → Keeps sight count disks desk.network after.network
+    keeps_same same =
+        subst (λ (d : DeskState D S). Keeps sight count disks desk.network d.network) (sym same) (keeps_all desk.network)
+
+    keeps_handed : (address : Bytes) (path : List Bytes) (message : Bytes) (said : Result Submitted ProviderFault)
+        → HandsIn sight count disks seals desk address path message said after
+        → Keeps sight count disks desk.network after.network
+    keeps_handed address path message said handed = elim (slice_get_cases desk.network.providers handed.number).1 [
+      | inl there ↦
+          let only = handed.others there.0
+          in let kept : after.network.kept ≡ desk.network.kept = ap (λ (n : NetworkState D S). n.kept) only
+          in let many : length after.network.providers ≡ length desk.network.providers =
+              whole_after ∙ ap (λ (k : List Kept). length k) kept ∙ sym whole
+          in record {
+            directory = kept;
+            seals = ap (λ (n : NetworkState D S). n.sealer) only;
+            stands = λ told all number other within.
+                (let below : number < length desk.network.providers = omega (arith, within, many)
+                in (handed.carries told (λ p. []) number other below).stands (all number other below));
+            later = handed.later;
+          }
+      | inr past ↦ absurd (omega (arith, past.0, handed.within, whole))
+    ]
+
+    keeps_answered : (asked : Result Question Stop) (reply : Reply) → IsAnswered desk_answers desk asked after reply
+        → Keeps sight count disks desk.network after.network
+    keeps_answered (Err stop) reply stays = keeps_same stays.same
+    keeps_answered (Ok (asking.Submit address path message)) reply submits =
+        keeps_handed address path message submits.said submits.may_say
+    keeps_answered (Ok (See address looked)) reply shows = keeps_same shows.same
+
+    keeps_by : (input : Bytes) (reply : Reply) → IsAnswerOrLack desk_answers desk input after reply
+        → Keeps sight count disks desk.network after.network
+    keeps_by input reply (inl answer) = keeps_answered answer.asked reply answer.answered
+    keeps_by input reply (inr stays) = keeps_same stays.same
+
+    pub serves_keep : (left held held_then : Option Bytes) (told : Served)
+        → Serves desk_answers left held desk after held_then told → Keeps sight count disks desk.network after.network
+    serves_keep left held held_then (served.Answered code) replies = keeps_by replies.input replies.reply replies.is_answer
+    serves_keep left held held_then served.WriteFault replies = keeps_by replies.input replies.reply replies.is_answer
+    serves_keep left held held_then served.ReadFault rest = keeps_same rest.same
+
+-- the world is the same as long as directory and seals are kept
+pub as_begun : {D S : Type 0} (sight : D → Sight) (count : D → ℕ) (disks : Type 0) (seals : S → Seals)
+    (old now : NetworkState D S) → Keeps sight count disks old now → (P : Trade → List Kept → Type 0)
+    → P (trade_of now.kept (seals now.sealer)) now.kept → P (trade_of old.kept (seals old.sealer)) old.kept
+as_begun {D} {S} sight count disks seals old now keeps P holds =
+    subst (λ (s : S). P (trade_of old.kept (seals s)) old.kept) keeps.seals
+    (subst (λ (k : List Kept). P (trade_of k (seals now.sealer)) k) keeps.directory holds)

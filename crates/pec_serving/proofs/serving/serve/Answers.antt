@@ -1,0 +1,348 @@
+use Rattle.std.proofs.Common.{◌≡◌, ◌∙◌, ◌+◌, ◌<◌, ◌≤◌, ℕ, List, length, ap, sym, subst, refl, arith, Result, Ok, Err}
+use Rattle.pec_directory.specs.Directory.{Kept, providers_of}
+use Rattle.pec_letters.specs.Fitting.{Fits}
+use Rattle.pec_seal.specs.Hmac.{hmac_seals}
+use Rattle.pec_seal.specs.Seals.{Seals}
+use Rattle.pec_seal.specs.declared.hmac.HmacSealer.{HmacSealer}
+use Rattle.pec_trade.specs.TradeOf.{trade_of}
+use Rattle.pec_service.specs.Calls.{clock_from}
+use Rattle.pec_serving.specs.Playing.{PlaysAll, state_of}
+use Rattle.pec_serving.specs.Serving.{ComesNext, place_of}
+use Rattle.pec_serving.specs.declared.next.Came.{Came}
+use Rattle.pec_serving.specs.declared.stops.Stop.{Stop}
+use Rattle.pec_serving.proofs.EndLemmas.{risen_since, ends_broken, ends_lacking, ends_stopped, ends_unmet, ends_untold, ends_written}
+use Rattle.pec_serving.proofs.KeepLemmas.{keeps_all, keeps_on}
+use Rattle.pec_serving.proofs.ServiceLemmas.{CallLaws, ConnectionLaws, all_served, goes_none}
+use Rattle.pec_serving.proofs.serving.serve.Goals as goal
+
+abbrev seals_of : HmacSealer → Seals
+seals_of sealer = hmac_seals sealer.names.items sealer.keys.items
+
+pub loop-served-init : goal.loop-served-init
+loop-served-init g c = record {
+  going = λ elsewhere.
+      goes_none (trade_of c.args.network.kept (seals_of c.args.network.sealer)) c.args.network.kept
+      (place_of g.D.Counted.faults elsewhere c.args.network (g.T.Ticks.coming c.args.ticks.now)
+      (g.R.Door.requests c.args.door.now) (g.R.Door.replies c.args.door.now)) (g.W.Stream.held c.args.out.now);
+  keeps = keeps_all g.D.Disk.sight g.D.Counted.faults g.D.Disk.tells c.args.network;
+  fits = c.requires;
+  many = refl;
+  out = refl;
+  clock_later = omega arith;
+  door_later = omega arith;
+  out_later = omega arith
+}
+
+pub returns-in-NoConnection-clause-serves : goal.returns-in-NoConnection-clause-serves
+returns-in-NoConnection-clause-serves g c = λ elsewhere.
+    let start = c.args.network in
+    let seals = seals_of in
+    let trade = trade_of start.kept (seals_of start.sealer) in
+    let laws : CallLaws trade = record {
+      all = c.calls_are_joined.ensures.all trade;
+      since = c.calls_are_joined.ensures.since trade;
+      same = c.calls_are_joined.ensures.same;
+      later = c.calls_are_joined.ensures.later;
+      same_text = c.calls_are_joined.ensures.same_text trade;
+      behind = c.calls_are_joined.ensures.behind;
+    } in
+    let joins : ConnectionLaws trade start.kept = record {
+      one = c.connections_are_joined.ensures.one trade start.kept;
+      behind = c.connections_are_joined.ensures.behind;
+      text = c.connections_are_joined.ensures.text trade start.kept;
+    } in
+    let now = c.loop-served.network in
+    let again = c.next-again.result.0 in
+    let here = place_of g.D.Counted.faults elsewhere start (g.T.Ticks.coming c.args.ticks.now)
+        (g.R.Door.requests c.args.door.now) (g.R.Door.replies c.args.door.now) in
+    ends_unmet g.D.Disk.sight g.D.Counted.faults g.D.Disk.tells seals_of start laws joins elsewhere here now again
+    c.loop-served.invariant.keeps (g.T.Ticks.coming c.loop-served.ticks) (g.R.Door.requests c.loop-served.door)
+    (g.R.Door.replies c.loop-served.door) c.loop-served.served (g.W.Stream.held c.args.out.now)
+    (g.W.Stream.held c.loop-served.out) (c.loop-served.invariant.going elsewhere) (g.T.Ticks.coming c.next-again.new.ticks)
+    (g.R.Door.requests c.next-again.new.door) (g.R.Door.replies c.next-again.new.door) c.args.wanted c.loop-served-test.true
+    (subst (λ (came : Came). ComesNext (trade_of now.kept (seals_of now.sealer)) now.kept
+    (place_of g.D.Counted.faults elsewhere now (g.T.Ticks.coming c.loop-served.ticks) (g.R.Door.requests c.loop-served.door)
+    (g.R.Door.replies c.loop-served.door))
+    (place_of g.D.Counted.faults elsewhere again (g.T.Ticks.coming c.next-again.new.ticks)
+    (g.R.Door.requests c.next-again.new.door) (g.R.Door.replies c.next-again.new.door)) came) c.in-NoConnection.is
+    (c.next-again.ensures.comes elsewhere))
+
+pub returns-in-NoConnection-clause-keeps : goal.returns-in-NoConnection-clause-keeps
+returns-in-NoConnection-clause-keeps g c =
+    keeps_on g.D.Disk.sight g.D.Counted.faults g.D.Disk.tells c.args.network c.loop-served.network c.next-again.result.0
+    c.loop-served.invariant.many c.loop-served.invariant.keeps c.next-again.ensures.keeps
+
+pub returns-in-NoConnection-clause-no_connection : goal.returns-in-NoConnection-clause-no_connection
+returns-in-NoConnection-clause-no_connection g c = λ same.
+    risen_since (g.R.Counted.faults c.args.door.now) (g.R.Counted.faults c.loop-served.door)
+    (g.R.Counted.faults c.next-again.new.door) c.loop-served.invariant.door_later
+    c.next-again.ensures.door_later (c.next-again.ensures.no_connection c.in-NoConnection.is)
+
+pub returns-in-NoMoment-clause-serves : goal.returns-in-NoMoment-clause-serves
+returns-in-NoMoment-clause-serves g c = λ elsewhere.
+    let start = c.args.network in
+    let seals = seals_of in
+    let trade = trade_of start.kept (seals_of start.sealer) in
+    let laws : CallLaws trade = record {
+      all = c.calls_are_joined.ensures.all trade;
+      since = c.calls_are_joined.ensures.since trade;
+      same = c.calls_are_joined.ensures.same;
+      later = c.calls_are_joined.ensures.later;
+      same_text = c.calls_are_joined.ensures.same_text trade;
+      behind = c.calls_are_joined.ensures.behind;
+    } in
+    let joins : ConnectionLaws trade start.kept = record {
+      one = c.connections_are_joined.ensures.one trade start.kept;
+      behind = c.connections_are_joined.ensures.behind;
+      text = c.connections_are_joined.ensures.text trade start.kept;
+    } in
+    let now = c.loop-served.network in
+    let again = c.next-again.result.0 in
+    let here = place_of g.D.Counted.faults elsewhere start (g.T.Ticks.coming c.args.ticks.now)
+        (g.R.Door.requests c.args.door.now) (g.R.Door.replies c.args.door.now) in
+    ends_untold g.D.Disk.sight g.D.Counted.faults g.D.Disk.tells seals_of start laws joins elsewhere here now again
+    c.loop-served.invariant.keeps (g.T.Ticks.coming c.loop-served.ticks) (g.R.Door.requests c.loop-served.door)
+    (g.R.Door.replies c.loop-served.door) c.loop-served.served (g.W.Stream.held c.args.out.now)
+    (g.W.Stream.held c.loop-served.out) (c.loop-served.invariant.going elsewhere) (g.T.Ticks.coming c.next-again.new.ticks)
+    (g.R.Door.requests c.next-again.new.door) (g.R.Door.replies c.next-again.new.door) c.args.wanted c.loop-served-test.true
+    (subst (λ (came : Came). ComesNext (trade_of now.kept (seals_of now.sealer)) now.kept
+    (place_of g.D.Counted.faults elsewhere now (g.T.Ticks.coming c.loop-served.ticks) (g.R.Door.requests c.loop-served.door)
+    (g.R.Door.replies c.loop-served.door))
+    (place_of g.D.Counted.faults elsewhere again (g.T.Ticks.coming c.next-again.new.ticks)
+    (g.R.Door.requests c.next-again.new.door) (g.R.Door.replies c.next-again.new.door)) came) c.in-NoMoment.is
+    (c.next-again.ensures.comes elsewhere))
+
+pub returns-in-NoMoment-clause-keeps : goal.returns-in-NoMoment-clause-keeps
+returns-in-NoMoment-clause-keeps g c =
+    keeps_on g.D.Disk.sight g.D.Counted.faults g.D.Disk.tells c.args.network c.loop-served.network c.next-again.result.0
+    c.loop-served.invariant.many c.loop-served.invariant.keeps c.next-again.ensures.keeps
+
+pub returns-in-NoMoment-clause-no_moment : goal.returns-in-NoMoment-clause-no_moment
+returns-in-NoMoment-clause-no_moment g c = λ same.
+    risen_since (g.T.Counted.faults c.args.ticks.now) (g.T.Counted.faults c.loop-served.ticks)
+    (g.T.Counted.faults c.next-again.new.ticks) c.loop-served.invariant.clock_later
+    c.next-again.ensures.clock_later (c.next-again.ensures.no_moment c.in-NoMoment.is)
+
+pub returns-in-Err-clause-serves : goal.returns-in-Err-clause-serves
+returns-in-Err-clause-serves g c = λ elsewhere.
+    let start = c.args.network in
+    let seals = seals_of in
+    let trade = trade_of start.kept (seals_of start.sealer) in
+    let laws : CallLaws trade = record {
+      all = c.calls_are_joined.ensures.all trade;
+      since = c.calls_are_joined.ensures.since trade;
+      same = c.calls_are_joined.ensures.same;
+      later = c.calls_are_joined.ensures.later;
+      same_text = c.calls_are_joined.ensures.same_text trade;
+      behind = c.calls_are_joined.ensures.behind;
+    } in
+    let joins : ConnectionLaws trade start.kept = record {
+      one = c.connections_are_joined.ensures.one trade start.kept;
+      behind = c.connections_are_joined.ensures.behind;
+      text = c.connections_are_joined.ensures.text trade start.kept;
+    } in
+    let now = c.loop-served.network in
+    let again = c.next-again.result.0 in
+    let here = place_of g.D.Counted.faults elsewhere start (g.T.Ticks.coming c.args.ticks.now)
+        (g.R.Door.requests c.args.door.now) (g.R.Door.replies c.args.door.now) in
+    ends_broken g.D.Disk.sight g.D.Counted.faults g.D.Disk.tells seals_of start laws joins elsewhere here now again
+    c.loop-served.invariant.keeps (g.T.Ticks.coming c.loop-served.ticks) (g.R.Door.requests c.loop-served.door)
+    (g.R.Door.replies c.loop-served.door) c.loop-served.served (g.W.Stream.held c.args.out.now)
+    (g.W.Stream.held c.loop-served.out) (c.loop-served.invariant.going elsewhere) (g.T.Ticks.coming c.next-again.new.ticks)
+    (g.R.Door.requests c.next-again.new.door) (g.R.Door.replies c.next-again.new.door) c.args.wanted c.loop-served-test.true
+    c.in-Served.moment c.in-Served.told
+    (subst (λ (came : Came). ComesNext (trade_of now.kept (seals_of now.sealer)) now.kept
+    (place_of g.D.Counted.faults elsewhere now (g.T.Ticks.coming c.loop-served.ticks) (g.R.Door.requests c.loop-served.door)
+    (g.R.Door.replies c.loop-served.door))
+    (place_of g.D.Counted.faults elsewhere again (g.T.Ticks.coming c.next-again.new.ticks)
+    (g.R.Door.requests c.next-again.new.door) (g.R.Door.replies c.next-again.new.door)) came) c.in-Served.is
+    (c.next-again.ensures.comes elsewhere))
+    (g.W.Stream.held c.write_outcome.new.out) c.in-Err.ensures.err
+
+pub returns-in-Err-clause-keeps : goal.returns-in-Err-clause-keeps
+returns-in-Err-clause-keeps g c =
+    keeps_on g.D.Disk.sight g.D.Counted.faults g.D.Disk.tells c.args.network c.loop-served.network c.next-again.result.0
+    c.loop-served.invariant.many c.loop-served.invariant.keeps c.next-again.ensures.keeps
+
+pub returns-in-Err-WriteFault-clause-serves : goal.returns-in-Err-WriteFault-clause-serves
+returns-in-Err-WriteFault-clause-serves g c = λ elsewhere.
+    let start = c.args.network in
+    let seals = seals_of in
+    let trade = trade_of start.kept (seals_of start.sealer) in
+    let laws : CallLaws trade = record {
+      all = c.calls_are_joined.ensures.all trade;
+      since = c.calls_are_joined.ensures.since trade;
+      same = c.calls_are_joined.ensures.same;
+      later = c.calls_are_joined.ensures.later;
+      same_text = c.calls_are_joined.ensures.same_text trade;
+      behind = c.calls_are_joined.ensures.behind;
+    } in
+    let joins : ConnectionLaws trade start.kept = record {
+      one = c.connections_are_joined.ensures.one trade start.kept;
+      behind = c.connections_are_joined.ensures.behind;
+      text = c.connections_are_joined.ensures.text trade start.kept;
+    } in
+    let now = c.loop-served.network in
+    let again = c.next-again.result.0 in
+    let here = place_of g.D.Counted.faults elsewhere start (g.T.Ticks.coming c.args.ticks.now)
+        (g.R.Door.requests c.args.door.now) (g.R.Door.replies c.args.door.now) in
+    ends_stopped g.D.Disk.sight g.D.Counted.faults g.D.Disk.tells seals_of start laws joins elsewhere here now again
+    c.loop-served.invariant.keeps (g.T.Ticks.coming c.loop-served.ticks) (g.R.Door.requests c.loop-served.door)
+    (g.R.Door.replies c.loop-served.door) c.loop-served.served (g.W.Stream.held c.args.out.now)
+    (g.W.Stream.held c.loop-served.out) (c.loop-served.invariant.going elsewhere) (g.T.Ticks.coming c.next-again.new.ticks)
+    (g.R.Door.requests c.next-again.new.door) (g.R.Door.replies c.next-again.new.door) c.args.wanted c.loop-served-test.true
+    c.in-Served.moment c.in-Served.told
+    (subst (λ (came : Came). ComesNext (trade_of now.kept (seals_of now.sealer)) now.kept
+    (place_of g.D.Counted.faults elsewhere now (g.T.Ticks.coming c.loop-served.ticks) (g.R.Door.requests c.loop-served.door)
+    (g.R.Door.replies c.loop-served.door))
+    (place_of g.D.Counted.faults elsewhere again (g.T.Ticks.coming c.next-again.new.ticks)
+    (g.R.Door.requests c.next-again.new.door) (g.R.Door.replies c.next-again.new.door)) came) c.in-Served.is
+    (c.next-again.ensures.comes elsewhere))
+    (keeps_on g.D.Disk.sight g.D.Counted.faults g.D.Disk.tells c.args.network c.loop-served.network c.next-again.result.0
+    c.loop-served.invariant.many c.loop-served.invariant.keeps c.next-again.ensures.keeps) c.play_clock.new.network (g.W.Stream.held c.write_outcome.new.out)
+    (g.W.Stream.held c.play_clock.new.out) c.in_default.ensures.ok
+    (subst (λ (stop : Stop). PlaysAll (trade_of again.kept (seals_of again.sealer)) (providers_of again.kept)
+    (state_of g.D.Counted.faults elsewhere again) (state_of g.D.Counted.faults elsewhere c.play_clock.new.network)
+    (clock_from (length again.kept) 0 c.in-Served.moment) (g.W.Stream.held c.write_outcome.new.out)
+    (g.W.Stream.held c.play_clock.new.out) (Err stop)) c.in-Err-WriteFault.field-0-is (c.in-Err-WriteFault.ensures.plays elsewhere))
+
+pub returns-in-Err-WriteFault-clause-keeps : goal.returns-in-Err-WriteFault-clause-keeps
+returns-in-Err-WriteFault-clause-keeps g c =
+    keeps_on g.D.Disk.sight g.D.Counted.faults g.D.Disk.tells c.args.network c.next-again.result.0 c.play_clock.new.network
+    (c.as_many_providers-in-loop-served.ensures
+    ∙ ap (λ (k : List Kept). length k) (keeps_on g.D.Disk.sight g.D.Counted.faults g.D.Disk.tells c.args.network c.loop-served.network c.next-again.result.0
+    c.loop-served.invariant.many c.loop-served.invariant.keeps c.next-again.ensures.keeps).directory ∙ sym c.as_many_providers.ensures) (keeps_on g.D.Disk.sight g.D.Counted.faults g.D.Disk.tells c.args.network c.loop-served.network c.next-again.result.0
+    c.loop-served.invariant.many c.loop-served.invariant.keeps c.next-again.ensures.keeps) c.play_clock.ensures.keeps
+
+pub returns-in-Err-NoMemory-clause-serves : goal.returns-in-Err-NoMemory-clause-serves
+returns-in-Err-NoMemory-clause-serves g c = λ elsewhere.
+    let start = c.args.network in
+    let seals = seals_of in
+    let trade = trade_of start.kept (seals_of start.sealer) in
+    let laws : CallLaws trade = record {
+      all = c.calls_are_joined.ensures.all trade;
+      since = c.calls_are_joined.ensures.since trade;
+      same = c.calls_are_joined.ensures.same;
+      later = c.calls_are_joined.ensures.later;
+      same_text = c.calls_are_joined.ensures.same_text trade;
+      behind = c.calls_are_joined.ensures.behind;
+    } in
+    let joins : ConnectionLaws trade start.kept = record {
+      one = c.connections_are_joined.ensures.one trade start.kept;
+      behind = c.connections_are_joined.ensures.behind;
+      text = c.connections_are_joined.ensures.text trade start.kept;
+    } in
+    let now = c.loop-served.network in
+    let again = c.next-again.result.0 in
+    let here = place_of g.D.Counted.faults elsewhere start (g.T.Ticks.coming c.args.ticks.now)
+        (g.R.Door.requests c.args.door.now) (g.R.Door.replies c.args.door.now) in
+    ends_lacking g.D.Disk.sight g.D.Counted.faults g.D.Disk.tells seals_of start laws joins elsewhere here now again
+    c.loop-served.invariant.keeps (g.T.Ticks.coming c.loop-served.ticks) (g.R.Door.requests c.loop-served.door)
+    (g.R.Door.replies c.loop-served.door) c.loop-served.served (g.W.Stream.held c.args.out.now)
+    (g.W.Stream.held c.loop-served.out) (c.loop-served.invariant.going elsewhere) (g.T.Ticks.coming c.next-again.new.ticks)
+    (g.R.Door.requests c.next-again.new.door) (g.R.Door.replies c.next-again.new.door) c.args.wanted c.loop-served-test.true
+    c.in-Served.moment c.in-Served.told
+    (subst (λ (came : Came). ComesNext (trade_of now.kept (seals_of now.sealer)) now.kept
+    (place_of g.D.Counted.faults elsewhere now (g.T.Ticks.coming c.loop-served.ticks) (g.R.Door.requests c.loop-served.door)
+    (g.R.Door.replies c.loop-served.door))
+    (place_of g.D.Counted.faults elsewhere again (g.T.Ticks.coming c.next-again.new.ticks)
+    (g.R.Door.requests c.next-again.new.door) (g.R.Door.replies c.next-again.new.door)) came) c.in-Served.is
+    (c.next-again.ensures.comes elsewhere))
+    (keeps_on g.D.Disk.sight g.D.Counted.faults g.D.Disk.tells c.args.network c.loop-served.network c.next-again.result.0
+    c.loop-served.invariant.many c.loop-served.invariant.keeps c.next-again.ensures.keeps) c.play_clock.new.network (g.W.Stream.held c.write_outcome.new.out)
+    (g.W.Stream.held c.play_clock.new.out) c.in_default.ensures.ok
+    (subst (λ (stop : Stop). PlaysAll (trade_of again.kept (seals_of again.sealer)) (providers_of again.kept)
+    (state_of g.D.Counted.faults elsewhere again) (state_of g.D.Counted.faults elsewhere c.play_clock.new.network)
+    (clock_from (length again.kept) 0 c.in-Served.moment) (g.W.Stream.held c.write_outcome.new.out)
+    (g.W.Stream.held c.play_clock.new.out) (Err stop)) c.in-Err-NoMemory.field-0-is (c.in-Err-NoMemory.ensures.plays elsewhere))
+
+pub returns-in-Err-NoMemory-clause-keeps : goal.returns-in-Err-NoMemory-clause-keeps
+returns-in-Err-NoMemory-clause-keeps g c =
+    keeps_on g.D.Disk.sight g.D.Counted.faults g.D.Disk.tells c.args.network c.next-again.result.0 c.play_clock.new.network
+    (c.as_many_providers-in-loop-served.ensures
+    ∙ ap (λ (k : List Kept). length k) (keeps_on g.D.Disk.sight g.D.Counted.faults g.D.Disk.tells c.args.network c.loop-served.network c.next-again.result.0
+    c.loop-served.invariant.many c.loop-served.invariant.keeps c.next-again.ensures.keeps).directory ∙ sym c.as_many_providers.ensures) (keeps_on g.D.Disk.sight g.D.Counted.faults g.D.Disk.tells c.args.network c.loop-served.network c.next-again.result.0
+    c.loop-served.invariant.many c.loop-served.invariant.keeps c.next-again.ensures.keeps) c.play_clock.ensures.keeps
+
+pub loop-served-preserved : goal.loop-served-preserved
+loop-served-preserved g c =
+    let keeps_again = keeps_on g.D.Disk.sight g.D.Counted.faults g.D.Disk.tells c.args.network c.next-again.result.0 c.play_clock.new.network
+    (c.as_many_providers-in-loop-served.ensures
+    ∙ ap (λ (k : List Kept). length k) (keeps_on g.D.Disk.sight g.D.Counted.faults g.D.Disk.tells c.args.network c.loop-served.network c.next-again.result.0
+    c.loop-served.invariant.many c.loop-served.invariant.keeps c.next-again.ensures.keeps).directory ∙ sym c.as_many_providers.ensures) (keeps_on g.D.Disk.sight g.D.Counted.faults g.D.Disk.tells c.args.network c.loop-served.network c.next-again.result.0
+    c.loop-served.invariant.many c.loop-served.invariant.keeps c.next-again.ensures.keeps) c.play_clock.ensures.keeps in record {
+  going = λ elsewhere.
+    let start = c.args.network in
+    let seals = seals_of in
+    let trade = trade_of start.kept (seals_of start.sealer) in
+    let laws : CallLaws trade = record {
+      all = c.calls_are_joined.ensures.all trade;
+      since = c.calls_are_joined.ensures.since trade;
+      same = c.calls_are_joined.ensures.same;
+      later = c.calls_are_joined.ensures.later;
+      same_text = c.calls_are_joined.ensures.same_text trade;
+      behind = c.calls_are_joined.ensures.behind;
+    } in
+    let joins : ConnectionLaws trade start.kept = record {
+      one = c.connections_are_joined.ensures.one trade start.kept;
+      behind = c.connections_are_joined.ensures.behind;
+      text = c.connections_are_joined.ensures.text trade start.kept;
+    } in
+    let now = c.loop-served.network in
+    let again = c.next-again.result.0 in
+    let here = place_of g.D.Counted.faults elsewhere start (g.T.Ticks.coming c.args.ticks.now)
+        (g.R.Door.requests c.args.door.now) (g.R.Door.replies c.args.door.now) in
+    ends_written g.D.Disk.sight g.D.Counted.faults g.D.Disk.tells seals_of start laws joins elsewhere here now again
+    c.loop-served.invariant.keeps (g.T.Ticks.coming c.loop-served.ticks) (g.R.Door.requests c.loop-served.door)
+    (g.R.Door.replies c.loop-served.door) c.loop-served.served (g.W.Stream.held c.args.out.now)
+    (g.W.Stream.held c.loop-served.out) (c.loop-served.invariant.going elsewhere) (g.T.Ticks.coming c.next-again.new.ticks)
+    (g.R.Door.requests c.next-again.new.door) (g.R.Door.replies c.next-again.new.door) c.args.wanted c.loop-served-test.true
+    c.in-Served.moment c.in-Served.told
+    (subst (λ (came : Came). ComesNext (trade_of now.kept (seals_of now.sealer)) now.kept
+    (place_of g.D.Counted.faults elsewhere now (g.T.Ticks.coming c.loop-served.ticks) (g.R.Door.requests c.loop-served.door)
+    (g.R.Door.replies c.loop-served.door))
+    (place_of g.D.Counted.faults elsewhere again (g.T.Ticks.coming c.next-again.new.ticks)
+    (g.R.Door.requests c.next-again.new.door) (g.R.Door.replies c.next-again.new.door)) came) c.in-Served.is
+    (c.next-again.ensures.comes elsewhere))
+    (keeps_on g.D.Disk.sight g.D.Counted.faults g.D.Disk.tells c.args.network c.loop-served.network c.next-again.result.0
+    c.loop-served.invariant.many c.loop-served.invariant.keeps c.next-again.ensures.keeps) c.play_clock.new.network (g.W.Stream.held c.write_outcome.new.out)
+    (g.W.Stream.held c.play_clock.new.out) c.in_default.ensures.ok (c.in-Ok.ensures.plays elsewhere);
+  keeps = keeps_again;
+  fits = subst (λ (k : List Kept). Fits (seals_of c.play_clock.new.network.sealer) (providers_of k))
+      (sym c.play_clock.ensures.keeps.directory)
+      (subst (λ (s : HmacSealer). Fits (seals_of s) (providers_of c.next-again.result.0.kept))
+      (sym c.play_clock.ensures.keeps.seals) c.next-again.ensures.fits);
+  many = c.as_many_providers-in-Ok.ensures ∙ ap (λ (k : List Kept). length k) keeps_again.directory
+      ∙ sym c.as_many_providers.ensures;
+  out = c.next-again.ensures.out ∙ c.loop-served.invariant.out;
+  clock_later = omega (arith, c.loop-served.invariant.clock_later, c.next-again.ensures.clock_later);
+  door_later = omega (arith, c.loop-served.invariant.door_later, c.next-again.ensures.door_later);
+  out_later = omega (arith, c.loop-served.invariant.out_later, c.write_outcome.ensures.later, c.play_clock.ensures.later)
+}
+
+pub returns-clause-serves : goal.returns-clause-serves
+returns-clause-serves g c = λ elsewhere.
+    let start = c.args.network in
+    let seals = seals_of in
+    let trade = trade_of start.kept (seals_of start.sealer) in
+    let laws : CallLaws trade = record {
+      all = c.calls_are_joined.ensures.all trade;
+      since = c.calls_are_joined.ensures.since trade;
+      same = c.calls_are_joined.ensures.same;
+      later = c.calls_are_joined.ensures.later;
+      same_text = c.calls_are_joined.ensures.same_text trade;
+      behind = c.calls_are_joined.ensures.behind;
+    } in
+    let joins : ConnectionLaws trade start.kept = record {
+      one = c.connections_are_joined.ensures.one trade start.kept;
+      behind = c.connections_are_joined.ensures.behind;
+      text = c.connections_are_joined.ensures.text trade start.kept;
+    } in
+    let here = place_of g.D.Counted.faults elsewhere start (g.T.Ticks.coming c.args.ticks.now)
+        (g.R.Door.requests c.args.door.now) (g.R.Door.replies c.args.door.now) in
+    let there = place_of g.D.Counted.faults elsewhere c.loop-served.network (g.T.Ticks.coming c.loop-served.ticks)
+        (g.R.Door.requests c.loop-served.door) (g.R.Door.replies c.loop-served.door) in
+    let all : c.loop-served.served ≡ c.args.wanted =
+        omega (arith, c.loop-served-test.false, c.loop-served.auto.served-end) in
+    all_served trade start.kept laws joins here there c.loop-served.served (g.W.Stream.held c.args.out.now)
+    (g.W.Stream.held c.loop-served.out) (c.loop-served.invariant.going elsewhere) c.args.wanted all

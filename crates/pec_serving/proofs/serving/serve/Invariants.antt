@@ -1,0 +1,29 @@
+use Rattle.std.proofs.Common.{◌≡◌, ◌≤◌, ℕ, length}
+use Rattle.pec_directory.specs.Directory.{providers_of}
+use Rattle.pec_letters.specs.Fitting.{Fits}
+use Rattle.pec_seal.specs.Hmac.{hmac_seals}
+use Rattle.pec_trade.specs.TradeOf.{trade_of}
+use Rattle.pec_playing.specs.Doing.{Keeps}
+use Rattle.pec_serving.specs.Serving.{place_of}
+use Rattle.pec_serving.proofs.ServiceLemmas.{Going}
+use Rattle.pec_serving.proofs.serving.serve.Given as goal
+
+-- So many connections were served whole, and written.
+abbrev pub invariant-loop-served : goal.invariant-loop-served
+invariant-loop-served g l = record {
+  going : (elsewhere : ℕ → ℕ)
+      → Going (trade_of l.fn.network.kept (hmac_seals l.fn.network.sealer.names.items l.fn.network.sealer.keys.items))
+      l.fn.network.kept
+      (place_of g.D.Counted.faults elsewhere l.fn.network (g.T.Ticks.coming l.fn.ticks) (g.R.Door.requests l.fn.door)
+      (g.R.Door.replies l.fn.door))
+      (place_of g.D.Counted.faults elsewhere l.network (g.T.Ticks.coming l.ticks) (g.R.Door.requests l.door)
+      (g.R.Door.replies l.door))
+      l.served (g.W.Stream.held l.fn.out) (g.W.Stream.held l.out);
+  keeps : Keeps g.D.Disk.sight g.D.Counted.faults g.D.Disk.tells l.fn.network l.network;
+  fits : Fits (hmac_seals l.network.sealer.names.items l.network.sealer.keys.items) (providers_of l.network.kept);
+  many : length l.network.providers ≡ length l.fn.network.providers;
+  out : g.R.Door.out l.door ≡ g.R.Door.out l.fn.door;
+  clock_later : g.T.Counted.faults l.fn.ticks ≤ g.T.Counted.faults l.ticks;
+  door_later : g.R.Counted.faults l.fn.door ≤ g.R.Counted.faults l.door;
+  out_later : g.W.Counted.faults l.fn.out ≤ g.W.Counted.faults l.out
+}

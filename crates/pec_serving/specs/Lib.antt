@@ -1,0 +1,3 @@
+pub mod Hearing
+pub mod Playing
+pub mod Serving

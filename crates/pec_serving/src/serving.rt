@@ -1,0 +1,86 @@
+ghost use Rattle.std.specs.Prelude.{◌≡◌, ℕ, ◌≤◌};
+ghost use Rattle.pec_outside.specs.Flow.{HasRisen};
+ghost use Rattle.pec_directory.specs.Directory.{providers_of};
+ghost use Rattle.pec_letters.specs.Fitting.{Fits};
+ghost use Rattle.pec_trade.specs.TradeOf.{trade_of};
+ghost use Rattle.pec_playing.specs.Doing.{Keeps};
+ghost use Rattle.pec_serving.specs.Serving.{ServesSo, place_of};
+
+use crate::answering::as_many_providers;
+use crate::clock::play_clock;
+use crate::lines::write_outcome;
+use crate::next::{Came, next};
+use crate::stops::Stop;
+use pec_network::Network;
+use pec_outside::{Disk, Door, Sink, Ticks};
+use pec_seal::{HmacSealer, Sealer};
+use pec_service::{calls_are_joined, connections_are_joined};
+use std::alloc::Global;
+
+/// How a service ends.
+#[derive(Clone, Copy, Debug, PartialEq, Eq)]
+pub enum Ending {
+    /// As many connections were served as were asked for.
+    AllServed,
+    /// The door failed.
+    NoConnection,
+    /// The clock failed, and the connection that had come in was closed unread.
+    NoMoment,
+    /// Memory ran out behind an answer.
+    NoMemory,
+    /// The output failed.
+    WriteFault,
+}
+
+/// Serves so many connections, one after another, over a network whose journals are made or opened. Each is answered at the
+/// desk of the network at one moment, its line is written, and then every provider looks at the clock, in the order of the
+/// directory, and one round is played, all at that moment. This project's profile.
+pub fn serve<D: Disk, T: Ticks, R: Door, W: Sink>(
+    alloc: Global,
+    network: Network<D, HmacSealer>,
+    ticks: &mut T,
+    door: &mut R,
+    out: &mut W,
+    wanted: u32,
+) -> (Network<D, HmacSealer>, Ending)
+    requires { Fits (⟦<HmacSealer as Sealer>⟧.seals network.sealer) (providers_of network.kept) }
+    ensures serves { (elsewhere : ℕ → ℕ)
+        → ServesSo (trade_of network.kept (⟦<HmacSealer as Sealer>⟧.seals network.sealer)) network.kept wanted
+        (place_of D.faults elsewhere network (T.coming ticks.old) (R.requests door.old) (R.replies door.old))
+        (place_of D.faults elsewhere result.0 (T.coming ticks.new) (R.requests door.new) (R.replies door.new))
+        (W.held out.old) (W.held out.new) result.1 }
+    ensures keeps { Keeps D.sight D.faults D.tells network result.0 }
+    ensures no_moment { result.1 ≡ Ending.NoMoment → HasRisen (T.faults ticks.old) (T.faults ticks.new) }
+    ensures no_connection { result.1 ≡ Ending.NoConnection → HasRisen (R.faults door.old) (R.faults door.new) }
+    ensures write_fault { result.1 ≡ Ending.WriteFault → HasRisen (W.faults out.old) (W.faults out.new) }
+    // Each connection is given back.
+    ensures out { R.out door.new ≡ R.out door.old }
+    ensures clock_later { T.faults ticks.old ≤ T.faults ticks.new }
+    ensures door_later { R.faults door.old ≤ R.faults door.new }
+    ensures out_later { W.faults out.old ≤ W.faults out.new }
+{
+    calls_are_joined();
+    connections_are_joined();
+    as_many_providers(&network);
+    let mut network = network;
+    for served in 0..wanted {
+        let (again, came) = next(alloc, network, ticks, door);
+        network = again;
+        as_many_providers(&network);
+        match came {
+            Came::NoConnection => return (network, Ending::NoConnection),
+            Came::NoMoment => return (network, Ending::NoMoment),
+            Came::Served(moment, told) => {
+                if let Err(_) = write_outcome(out, told) {
+                    return (network, Ending::WriteFault);
+                }
+                match play_clock(alloc, &mut network, moment, out) {
+                    Ok(()) => as_many_providers(&network),
+                    Err(Stop::WriteFault) => return (network, Ending::WriteFault),
+                    Err(Stop::NoMemory) => return (network, Ending::NoMemory),
+                }
+            }
+        }
+    }
+    (network, Ending::AllServed)
+}
