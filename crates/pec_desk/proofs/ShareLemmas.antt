@@ -331,7 +331,7 @@ module _ (kept : List Kept) (seals : Seals) (state : List Site) (address : Bytes
     by_tests true false back few full last after e = refl
     by_tests false works back few full last after e = absurd (cc)
 
-    pub submit_told : (played trade (luck_of false) state (Submit number moment address path message)).answer
+    pub submit_told : (played trade (luck_of false) state (Submit number moment address path message false)).answer
         ≡ told submitted_shown said
     unfolding played has_no_room
     submit_told =
@@ -340,7 +340,7 @@ module _ (kept : List Kept) (seals : Seals) (state : List Site) (address : Bytes
         (plays.with_site state number (plays.with_entry (site_at state number) entry)) is_ours
 
     submitted_err : (fault : ProviderFault) (after : List Site)
-        → (played trade (luck_of false) state (Submit number moment address path message) ≡ answers state (Refuses fault))
+        → (played trade (luck_of false) state (Submit number moment address path message false) ≡ answers state (Refuses fault))
         × (after ≡ state) → Err fault ≡ said
     submitted_err fault after is =
         told_once submitted_shown submitted_tell (Err fault) said
@@ -348,7 +348,7 @@ module _ (kept : List Kept) (seals : Seals) (state : List Site) (address : Bytes
 
     -- what the provider said is what its figures say, but for want of memory and a fault of its disk
     pub submission_is : (after : List Site) (heard : Result Submitted ProviderFault)
-        → IsPlayed Submits (λ luck. played trade luck state (Submit number moment address path message)) state after heard
+        → IsPlayed Submits (λ luck. played trade luck state (Submit number moment address path message false)) state after heard
         → (heard ≡ said) ⊎ (heard ≡ Err faults.NoMemory) ⊎ (heard ≡ Err faults.DiskFault)
     submission_is after (Ok submitted) is =
         inl (told_once submitted_shown submitted_tell (Ok submitted) said
@@ -373,7 +373,7 @@ module _ (kept : List Kept) (seals : Seals) (state : List Site) (address : Bytes
     said_refuses false back few full last = tt
 
     pub submission_refuses : (after : List Site) (heard : Result Submitted ProviderFault)
-        → IsPlayed Submits (λ luck. played trade luck state (Submit number moment address path message)) state after heard
+        → IsPlayed Submits (λ luck. played trade luck state (Submit number moment address path message false)) state after heard
         → IfErr heard IsSubmitFault
     submission_refuses after heard is = elim (submission_is after heard is) [
       | inl own ↦ subst (λ (r : Result Submitted ProviderFault). IfErr r IsSubmitFault) (sym own)

@@ -74,7 +74,8 @@ abbrev pub count_at : {D : Type 0} → (D → ℕ) → List (ProviderState D) �
 count_at count providers None = 0
 count_at count providers (Some number) = count_in count (slice_get providers number)
 
--- An account handed a message in, and its provider said this: the command was played so at the desk's moment. No other
+-- An account handed a message in, and its provider said this: the command was played so at the desk's moment, where no
+-- screen finds anything, for the desk has none. No other
 -- provider was touched, and the disks carry on.
 pub record HandsIn {D S : Type 0} (sight : D → Sight) (count : D → ℕ) (tells : Type 0) (seals : S → Seals)
     (old : DeskState D S) (address : Bytes) (addresses : Path) (message : Bytes) (said : Result Submitted ProviderFault)
@@ -85,7 +86,7 @@ pub record HandsIn {D S : Type 0} (sight : D → Sight) (count : D → ℕ) (tel
   pub moment : new.moment ≡ old.moment
   pub path : (0 < length addresses) × (length addresses ≤ most_addresses)
   pub plays : IsPlayed Submits
-      (λ luck. played (world_of seals old.network) luck (sites old.network) (Submit number old.moment address addresses message))
+      (λ luck. played (world_of seals old.network) luck (sites old.network) (Submit number old.moment address addresses message false))
       (sites old.network) (sites new.network) said
   pub others : ChangesOnly number old.network new.network
   pub carries : tells → (journals : Journals)

@@ -1,11 +1,12 @@
 -- What an account is answered is its own: `reply_to` is the answer of HTTP as a function of the question, the moment, the
 -- directory, and the account's share of the network (`Share`): its own book and items, and what its provider comes to.
 -- This project's profile.
-use Rattle.std.specs.Prelude.{◌≡◌, ◌⊎◌, ℕ, ◌+◌, nat_lt, Bool, List, length, map, Option, None, Some, Result, Ok, Err, slice_get, if◌then◌else◌}
+use Rattle.std.specs.Prelude.{◌≡◌, ◌⊎◌, ℕ, ◌+◌, nat_lt, Bool, List, length, map, Option, None, Some, Result, Ok, Err, slice_get, if◌then◌else◌, false}
 use Rattle.std.specs.Option.{option_and_then, option_map}
 use Rattle.pec_types.specs.Bytes.{Bytes, Path}
 use Rattle.pec_types.specs.declared.mailboxes.ItemLine.{ItemLine}
 use Rattle.pec_types.specs.declared.messages.BookLine.{BookLine}
+use Rattle.pec_types.specs.declared.messages.Cause.{Cause}
 use Rattle.pec_types.specs.declared.messages.TheConstants.{MESSAGES}
 use Rattle.pec_types.specs.declared.turns.ProviderFault.{ProviderFault}
 use Rattle.pec_types.specs.declared.turns.ProviderFault.TheVariants as faults
@@ -21,7 +22,7 @@ use Rattle.pec_ledger.specs.Network.{Site, journal_at, site_at}
 use Rattle.pec_ledger.specs.Pairs.{id_of}
 use Rattle.pec_ledger.specs.Steps.{half, size_of}
 use Rattle.pec_ledger.specs.Trade.{Trade}
-use Rattle.pec_plays.specs.Commands.{entry_by, told_by}
+use Rattle.pec_plays.specs.Commands.{entry_by, screened_cause, told_by}
 use Rattle.pec_plays.specs.Steps.{longest_journal}
 use Rattle.pec_trade.specs.TradeOf.{cause_at}
 use Rattle.pec_network.specs.Network.{sites}
@@ -82,14 +83,18 @@ share_of seals desk address =
 
 -- ---- what is answered to it
 
+-- what speaks against a message, where no screen finds anything
+abbrev pub cause_seen : List Provider → ℕ → Bytes → Path → Bytes → Option Cause
+cause_seen providers number address path message = screened_cause false (cause_at providers number address path message)
+
 abbrev pub entry_for : List Provider → ℕ → ℕ → Bytes → Path → Bytes → Entry
 entry_for providers number moment address path message =
-    entry_by (cause_at providers number address path message) moment address path message
+    entry_by (cause_seen providers number address path message) moment address path message
 
 -- what the provider says to a submission for which its journal has room
 abbrev pub numbered : List Provider → ℕ → ℕ → Bytes → Path → Bytes → Submitted
 numbered providers number messages address path message =
-    told_by (cause_at providers number address path message) (id_of number messages)
+    told_by (cause_seen providers number address path message) (id_of number messages)
 
 -- What a provider says to a submission, by its figures: the first refusal that applies, or that it is accepted or isn't.
 abbrev pub said_by : List Provider → ℕ → ℕ → Figures → Bytes → Path → Bytes → Result Submitted ProviderFault

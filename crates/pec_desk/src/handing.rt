@@ -9,11 +9,13 @@ ghost use Rattle.pec_desk.specs.Desks.{HandsIn, count_at};
 
 use pec_network::Network;
 use pec_outside::Disk;
+use pec_screen::NoScreens;
 use pec_seal::Sealer;
 use pec_types::{Address, Moment, ProviderFault, Submitted};
 use std::alloc::Global;
 
-/// Hands the provider of an account, by its number, a message that the account submits at a moment for a forward path.
+/// Hands the provider of an account, by its number, a message that the account submits at a moment for a forward path. No
+/// screen looks at it.
 pub(crate) fn hand_in<D: Disk, S: Sealer>(
     alloc: Global,
     network: &mut Network<D, S>,
@@ -39,7 +41,8 @@ pub(crate) fn hand_in<D: Disk, S: Sealer>(
         (count_at D.faults network.new.providers (Some number)) }
 {
     as_many_providers(network);
-    let said = network.submit(alloc, number, moment, account, path, message);
+    let mut none = NoScreens;
+    let said = network.submit(alloc, number, moment, account, path, message, &mut none);
     as_many_providers(network);
     said
 }

@@ -9,7 +9,7 @@ use Rattle.pec_types.specs.declared.turns.Submitted.{Submitted}
 use Rattle.pec_directory.specs.Directory.{Kept}
 use Rattle.pec_ledger.specs.Network.{Site, journal_at, site_at}
 use Rattle.pec_ledger.specs.Trade.{Trade}
-use Rattle.pec_plays.specs.Commands.{Command, Luck, Played, Submit, Submits, appended, entry_by, messages_at, played, told_by}
+use Rattle.pec_plays.specs.Commands.{Command, Luck, Played, Submit, Submits, appended, entry_by, messages_at, played, screened_cause, told_by}
 use Rattle.pec_plays.specs.Steps.{has_no_room}
 use Rattle.pec_plays.specs.Turns.{last_of}
 use Rattle.pec_ledger.specs.Pairs.{id_of}
@@ -39,7 +39,7 @@ module _ (trade : Trade) (luck : Luck) (sites : List Site) (number moment : ℕ)
   appends true entry submitted = tt
   appends false entry submitted = tt
 
-  pub submission_tells : Tells (played trade luck sites (Submit number moment address path message))
+  pub submission_tells : Tells (played trade luck sites (Submit number moment address path message false))
   unfolding played
   submission_tells =
       tells_if (trade.is_account number address) _ _
@@ -47,9 +47,9 @@ module _ (trade : Trade) (luck : Luck) (sites : List Site) (number moment : ℕ)
       (tells_if (nat_lt moment (last_of trade number (journal_at sites number))) _ _ tt
       (tells_if (nat_lt (messages_at trade sites number) MESSAGES) _ _
       (tells_if (has_no_room trade number (journal_at sites number)
-      (entry_by (trade.cause number address path message) moment address path message)) _ _ tt
-      (appends luck.fails (entry_by (trade.cause number address path message) moment address path message)
-      (told_by (trade.cause number address path message) (id_of number (messages_at trade sites number)))))
+      (entry_by (screened_cause false (trade.cause number address path message)) moment address path message)) _ _ tt
+      (appends luck.fails (entry_by (screened_cause false (trade.cause number address path message)) moment address path message)
+      (told_by (screened_cause false (trade.cause number address path message)) (id_of number (messages_at trade sites number)))))
       tt)) tt) tt
 
 -- ---- a connection
@@ -61,7 +61,7 @@ module _ (trade : Trade) (sites : List Site) where
   said_by moment (connections.Stops stop) call calls is = cc
   said_by moment (connections.Sees address looked) call calls is = cc
   said_by moment (connections.HandsIn number address path message) call calls is =
-      subst (λ (c : Command). Tells (played trade call.luck sites c)) (sym (ap (first_or (Submit number moment address path message)) is))
+      subst (λ (c : Command). Tells (played trade call.luck sites c)) (sym (ap (first_or (Submit number moment address path message false)) is))
       (submission_tells trade call.luck sites number moment address path message)
 
   said_in_hearing : (moment : ℕ) (hearing : Hearing) (call : Call) (calls : List Call)

@@ -1,7 +1,7 @@
 -- One connection that is served, as it went: it is accepted, the moment is asked, its request is answered at the desk of
 -- the network at that moment, and then each provider looks at the clock, in order, and one round is played, all at that
 -- moment. The headline is `IsConnection`. This project's profile.
-use Rattle.std.specs.Prelude.{◌≡◌, ℕ, ◌+◌, ◌<◌, ◌≤◌, true, List, [], ◌∷◌, ◌++◌, length, codes, Option, Some, Result, Ok, Err, IfSome}
+use Rattle.std.specs.Prelude.{◌≡◌, ℕ, ◌+◌, ◌<◌, ◌≤◌, true, List, [], ◌∷◌, ◌++◌, length, codes, Option, Some, Result, Ok, Err, IfSome, false}
 use Rattle.std.specs.Fmt.{decimal}
 use Rattle.pec_types.specs.Bytes.{Bytes, Path}
 use Rattle.pec_types.specs.declared.moments.TheConstants.{END_OF_TIME}
@@ -57,9 +57,9 @@ IsHeardSo kept input Unheard = Unit {0}
 IsHeardSo kept input (Heard answering) = AsksSo kept input answering
 IsHeardSo kept input (Broken answering) = AsksSo kept input answering
 
--- the command by which a message is handed in, where one is
+-- the command by which a message is handed in, where one is; no screen looks at it
 abbrev pub handed_by : ℕ → Answering → List Command
-handed_by moment (HandsIn number address path message) = Submit number moment address path message ∷ []
+handed_by moment (HandsIn number address path message) = Submit number moment address path message false ∷ []
 handed_by moment _ = []
 
 abbrev pub handed_in : ℕ → Hearing → List Command

@@ -33,12 +33,12 @@ module _ {D S : Type 0} (sight : D → Sight) (count : D → ℕ) (disks : Type 
       → IsPlayed trade (providers_of old.kept) (state_of count elsewhere old) (state_of count elsewhere new) command text.items
   does_play text does elsewhere = elim (does.said elsewhere) [
     | inl is ↦ record {
-        call = record { command = command; luck = is.luck; behind = state_of count elsewhere new };
-        is = record { meet = is.meet; memory = is.memory; counts = is.counts; state = is.state };
-        command_is = refl;
-        behind_is = refl;
-        text_is = is.lines;
-      }
+      call = record { command = command; luck = is.luck; behind = state_of count elsewhere new };
+      is = record { meet = is.meet; memory = is.memory; counts = is.counts; state = is.state };
+      command_is = refl;
+      behind_is = refl;
+      text_is = is.lines;
+    }
     | inr strange ↦ absurd (calm strange.provider strange.restarts)
   ]
 
@@ -65,14 +65,19 @@ module _ {D S : Type 0} (sight : D → Sight) (count : D → ℕ) (disks : Type 
       → bytes ≡ text.items → (after : Option Bytes) → WrotePart before after bytes
       → (result : Result (Unit {0}) Stop) → result ≡ Err stops.WriteFault → One after result
   one_breaks text does bytes same after part result is =
-      subst (One after) (sym is) (text.items, does_play sight count disks trade command old new calm text does elsewhere,
-      subst (λ (t : Bytes). WrotePart before after t) same part)
+      subst (One after) (sym is) (
+        text.items,
+        does_play sight count disks trade command old new calm text does elsewhere,
+        subst (λ (t : Bytes). WrotePart before after t) same part,
+      )
 
   pub one_plays : (text : Vec ℕ Global) → Does sight count disks trade command old new (Ok text) → (bytes : Bytes)
       → bytes ≡ text.items → (after : Option Bytes) → after ≡ followed_by before bytes → One after (Ok tt)
-  one_plays text does bytes same after written =
-      (text.items, does_play sight count disks trade command old new calm text does elsewhere,
-      written ∙ ap (followed_by before) same)
+  one_plays text does bytes same after written = (
+    text.items,
+    does_play sight count disks trade command old new calm text does elsewhere,
+    written ∙ ap (followed_by before) same,
+  )
 
 -- ---- commands one after another
 

@@ -176,7 +176,7 @@ module _ {D S : Type 0} (sight : D → Sight) (count : D → ℕ) (tells : Type 
     number = handed_in_so.number
 
     abbrev command : Command
-    command = Submit number moment address path message
+    command = Submit number moment address path message false
 
     abbrev play : Luck → Played
     play luck = played trade luck here.sites command

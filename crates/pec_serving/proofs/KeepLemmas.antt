@@ -60,7 +60,7 @@ module _ {D S : Type 0} (sight : D → Sight) (count : D → ℕ) (disks : Type 
           let only = handed.others there.0
           in let kept : after.network.kept ≡ desk.network.kept = ap (λ (n : NetworkState D S). n.kept) only
           in let many : length after.network.providers ≡ length desk.network.providers =
-              whole_after ∙ ap (λ (k : List Kept). length k) kept ∙ sym whole
+          whole_after ∙ ap (λ (k : List Kept). length k) kept ∙ sym whole
           in record {
             directory = kept;
             seals = ap (λ (n : NetworkState D S). n.sealer) only;

@@ -30,7 +30,6 @@ module _ (trade : Trade) (kept : List Kept) (moment : ℕ) (in_time : moment < E
     (hears : Hears trade kept moment here.network there.network left held held_then told)
     (read_fault : told ≡ served.ReadFault → HasRisen fresh faults)
     (write_fault : told ≡ served.WriteFault → HasRisen fresh faults) where
-
   abbrev reply : Bytes → ToldReply
   reply text = record { text = text; raised = nat_lt 0 faults }
 

@@ -81,9 +81,9 @@ module _ (trade : Trade) (kept : List Kept) (laws : CallLaws trade) (here there 
   mid_later : (provider : ℕ) → mid.counts provider ≤ there.network.counts provider
   mid_later provider =
       let a : (state_behind here.network (handed ++ connection.clock)).counts provider ≡ mid.counts provider =
-          ap (λ (l : List Call). (state_behind here.network l).counts provider) only_handed
+      ap (λ (l : List Call). (state_behind here.network l).counts provider) only_handed
       in let b : connection.behind.network.counts provider ≡ there.network.counts provider =
-          ap (λ (p : Place). p.network.counts provider) next.behind_is
+      ap (λ (p : Place). p.network.counts provider) next.behind_is
       in omega (arith, a, b, next.is.later provider)
 
   -- with these calls behind its answer, and the network as it then is
@@ -111,7 +111,7 @@ module _ (trade : Trade) (kept : List Kept) (laws : CallLaws trade) (here there 
         ≤ (state_behind there.network calls).counts provider
     behind_later provider =
         let a : (state_behind here.network (handed ++ calls)).counts provider ≡ (state_behind mid calls).counts provider =
-            ap (λ (s : State). s.counts provider) behind_is
+        ap (λ (s : State). s.counts provider) behind_is
         in omega (arith, a, laws.later mid there.network calls mid_later provider)
 
     pub with_calls_is : (now : State) → now.sites ≡ (state_behind here.network (handed ++ calls)).sites
@@ -242,7 +242,7 @@ module _ (trade : Trade) (kept : List Kept) (laws : CallLaws trade) (joins : Con
           → (state_behind now.network (next.connection.handed ++ calls)).counts provider ≤ left.counts provider
       at_later is provider =
           let a : (state_behind there.network calls).counts provider ≡ left.counts provider =
-              ap (λ (s : State). s.counts provider) is
+          ap (λ (s : State). s.counts provider) is
           in omega (arith, a, behind_later trade kept laws now there moment told next calls unplayed plays are provider)
 
       -- as many calls as are due
@@ -279,8 +279,10 @@ module _ (trade : Trade) (kept : List Kept) (laws : CallLaws trade) (joins : Con
           each = one_is left (at_same is) (at_later is);
           whole = going.all_whole;
           ends = omega (arith, few, going.count);
-          leaves = (Behind (ap (λ (p : Place). p.network.sites) (sym (joins.behind here going.whole (then_at left)))),
-              ap (λ (p : Place). p.replies) (sym (joins.behind here going.whole (then_at left))));
+          leaves = (
+            Behind (ap (λ (p : Place). p.network.sites) (sym (joins.behind here going.whole (then_at left)))),
+            ap (λ (p : Place). p.replies) (sym (joins.behind here going.whole (then_at left))),
+          );
           later = λ provider. (let e : (place_behind here (going.whole ++ then_at left ∷ [])).network.counts provider
               ≡ left.counts provider = ap (λ (p : Place). p.network.counts provider)
               (joins.behind here going.whole (then_at left)) in omega (arith, e));
@@ -369,7 +371,7 @@ module _ (trade : Trade) (kept : List Kept) (laws : CallLaws trade) (joins : Con
       → (place_behind here (going.whole ++ [])).network.counts provider ≤ left.network.counts provider
   count_is provider left same =
       let a : (place_behind here (going.whole ++ [])).network.counts provider ≡ now.network.counts provider =
-          ap (λ (p : Place). p.network.counts provider) place_is
+      ap (λ (p : Place). p.network.counts provider) place_is
       in let b : left.network.counts provider ≡ now.network.counts provider = ap (λ (s : State). s.counts provider) same
       in omega (arith, a, b)
 
@@ -415,8 +417,10 @@ module _ (trade : Trade) (kept : List Kept) (laws : CallLaws trade) (joins : Con
       each = each_is;
       whole = going.all_whole;
       ends = (omega (arith, few, going.count), refl);
-      leaves = (sites_is left same,
-          replies ∙ ap (λ (p : Place). replied p.replies (Some []) 0) (sym place_is));
+      leaves = (
+        sites_is left same,
+        replies ∙ ap (λ (p : Place). replied p.replies (Some []) 0) (sym place_is),
+      );
       later = λ provider. count_is provider left same;
     };
     ending_is = refl;

@@ -12,9 +12,9 @@ use crate::answering::as_many_providers;
 use crate::stops::Stop;
 use pec_network::Network;
 use pec_outside::{Disk, Sink, write_all};
-use pec_service::calls_are_joined;
 use pec_playing::{round, tick, what_is_told_was_counted};
 use pec_seal::Sealer;
+use pec_service::calls_are_joined;
 use pec_types::Moment;
 use std::alloc::Global;
 

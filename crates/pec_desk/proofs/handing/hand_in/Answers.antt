@@ -1,11 +1,13 @@
 use Rattle.std.proofs.Common.{◌≡◌, ◌∙◌, ◌<◌, List, length, ap, refl, sym, arith}
 use Rattle.pec_directory.specs.Directory.{Kept}
+use Rattle.pec_screen.specs.VerdictReading.{finds}
 use Rattle.pec_network.specs.Network.{sites}
 use Rattle.pec_desk.proofs.DeskLemmas.{count_rises, counts_stay_or_rise, kept_stays, sealer_stays}
 use Rattle.pec_desk.proofs.ShareLemmas.{submission_refuses}
 use Rattle.pec_desk.proofs.handing.hand_in.Goals as goal
 
 pub returns-clause-handed : goal.returns-clause-handed
+unfolding finds
 returns-clause-handed g c = record {
   number = c.args.number;
   home = c.requires.home;
@@ -28,6 +30,7 @@ returns-clause-same g c =
     )
 
 pub returns-clause-refusals : goal.returns-clause-refusals
+unfolding finds
 returns-clause-refusals g c =
     submission_refuses c.args.network.now.kept (g.S.Sealer.seals c.args.network.now.sealer) (sites c.args.network.now)
     c.args.account.now c.args.number c.requires.home c.args.moment c.args.path.now c.args.message.now

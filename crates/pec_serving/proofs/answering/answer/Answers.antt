@@ -26,15 +26,15 @@ returns-clause-keeps g c =
     let held = g.C.Stream.held c.args.connection.now in
     let held_then = g.C.Stream.held c.serve_one-told.new.connection in
     let serves : Serves (answers_of g.D.Disk.sight g.D.Counted.faults g.D.Disk.tells seals_of) left held start after held_then
-        c.serve_one-told.result =
-        subst (λ (d : X). Serves (answers_of g.D.Disk.sight g.D.Counted.faults g.D.Disk.tells seals_of) left held d after
-        held_then c.serve_one-told.result)
-        (opened_is c.open-desk.result c.args.network c.args.moment c.open-desk.ensures.0 c.open-desk.ensures.1)
-        c.serve_one-told.ensures.serves in
+    c.serve_one-told.result =
+    subst (λ (d : X). Serves (answers_of g.D.Disk.sight g.D.Counted.faults g.D.Disk.tells seals_of) left held d after
+    held_then c.serve_one-told.result)
+    (opened_is c.open-desk.result c.args.network c.args.moment c.open-desk.ensures.0 c.open-desk.ensures.1)
+    c.serve_one-told.ensures.serves in
     let closed : c.close-network.result ≡ after.network = c.close-network.ensures.is in
     let whole_after : length after.network.providers ≡ length after.network.kept =
-        subst (λ (n : NetworkState g.row.D.Denot HmacSealer). length n.providers ≡ length n.kept) closed
-        c.as_many_providers-2.ensures in
+    subst (λ (n : NetworkState g.row.D.Denot HmacSealer). length n.providers ≡ length n.kept) closed
+    c.as_many_providers-2.ensures in
     subst (λ (n : NetworkState g.row.D.Denot HmacSealer).
     Keeps g.D.Disk.sight g.D.Counted.faults g.D.Disk.tells c.args.network n) (sym closed)
     (serves_keep g.D.Disk.sight g.D.Counted.faults g.D.Disk.tells seals_of start after c.as_many_providers.ensures whole_after
@@ -49,16 +49,16 @@ returns-clause-hears g c = λ elsewhere.
     let held = g.C.Stream.held c.args.connection.now in
     let held_then = g.C.Stream.held c.serve_one-told.new.connection in
     let serves : Serves (answers_of g.D.Disk.sight g.D.Counted.faults g.D.Disk.tells seals_of) left held start after held_then
-        c.serve_one-told.result =
-        subst (λ (d : X). Serves (answers_of g.D.Disk.sight g.D.Counted.faults g.D.Disk.tells seals_of) left held d after
-        held_then c.serve_one-told.result)
-        (opened_is c.open-desk.result c.args.network c.args.moment c.open-desk.ensures.0 c.open-desk.ensures.1)
-        c.serve_one-told.ensures.serves in
+    c.serve_one-told.result =
+    subst (λ (d : X). Serves (answers_of g.D.Disk.sight g.D.Counted.faults g.D.Disk.tells seals_of) left held d after
+    held_then c.serve_one-told.result)
+    (opened_is c.open-desk.result c.args.network c.args.moment c.open-desk.ensures.0 c.open-desk.ensures.1)
+    c.serve_one-told.ensures.serves in
     let closed : c.close-network.result ≡ after.network = c.close-network.ensures.is in
     let keeps = returns-clause-keeps g c in
     let many : length after.network.providers ≡ length c.args.network.providers =
-        subst (λ (n : NetworkState g.row.D.Denot HmacSealer). length n.providers ≡ length c.args.network.providers) closed
-        (c.as_many_providers-2.ensures ∙ ap (λ (k : List Kept). length k) keeps.directory ∙ sym c.as_many_providers.ensures) in
+    subst (λ (n : NetworkState g.row.D.Denot HmacSealer). length n.providers ≡ length c.args.network.providers) closed
+    (c.as_many_providers-2.ensures ∙ ap (λ (k : List Kept). length k) keeps.directory ∙ sym c.as_many_providers.ensures) in
     subst (λ (n : NetworkState g.row.D.Denot HmacSealer).
     Hears (trade_of c.args.network.kept (seals_of c.args.network.sealer)) c.args.network.kept c.args.moment
     (state_of g.D.Counted.faults elsewhere c.args.network) (state_of g.D.Counted.faults elsewhere n) left held held_then

@@ -22,7 +22,7 @@ loop-provider-init g c =
       keeps = keeps_all g.D.Disk.sight g.D.Counted.faults g.D.Disk.tells start;
       later = omega arith;
       within = omega arith;
-      many = refl
+      many = refl;
     }
 
 pub returns-in-Err-clause-plays : goal.returns-in-Err-clause-plays
@@ -36,8 +36,12 @@ returns-in-Err-clause-plays g c = λ elsewhere.
       text = c.calls_are_joined.ensures.text (trade_of start.kept (seals start.sealer)) (providers_of start.kept);
     } in
     let below : c.loop-provider.provider < length start.kept =
-        omega (arith, c.loop-provider-test.true, c.count-provider-end.ensures.count,
-        ap (λ (k : List Kept). length k) c.directory.ensures.value) in
+    omega (
+      arith,
+      c.loop-provider-test.true,
+      c.count-provider-end.ensures.count,
+      ap (λ (k : List Kept). length k) c.directory.ensures.value,
+    ) in
     tick_stops g.D.Disk.sight g.D.Counted.faults g.D.Disk.tells seals start joins elsewhere c.args.moment
     c.loop-provider.network c.play_tick.new.network c.loop-provider.invariant.keeps c.loop-provider.provider below
     (g.W.Stream.held c.args.out.now) (g.W.Stream.held c.loop-provider.out) (g.W.Stream.held c.play_tick.new.out)
@@ -59,10 +63,14 @@ loop-provider-preserved g c =
       text = c.calls_are_joined.ensures.text (trade_of start.kept (seals start.sealer)) (providers_of start.kept);
     } in
     let below : c.loop-provider.provider < length start.kept =
-        omega (arith, c.loop-provider-test.true, c.count-provider-end.ensures.count,
-        ap (λ (k : List Kept). length k) c.directory.ensures.value) in
+    omega (
+      arith,
+      c.loop-provider-test.true,
+      c.count-provider-end.ensures.count,
+      ap (λ (k : List Kept). length k) c.directory.ensures.value,
+    ) in
     let keeps = keeps_on g.D.Disk.sight g.D.Counted.faults g.D.Disk.tells c.args.network.now c.loop-provider.network
-        c.play_tick.new.network c.loop-provider.invariant.many c.loop-provider.invariant.keeps c.in_default.ensures.keeps in
+    c.play_tick.new.network c.loop-provider.invariant.many c.loop-provider.invariant.keeps c.in_default.ensures.keeps in
     record {
       plays = λ elsewhere.
           tick_on g.D.Disk.sight g.D.Counted.faults g.D.Disk.tells seals start joins elsewhere c.args.moment
@@ -73,7 +81,7 @@ loop-provider-preserved g c =
       later = omega (arith, c.loop-provider.invariant.later, c.play_tick.ensures.later);
       within = omega (arith, below);
       many = c.as_many_providers-in-loop-provider.ensures ∙ ap (λ (k : List Kept). length k) keeps.directory
-          ∙ sym c.as_many_providers.ensures
+          ∙ sym c.as_many_providers.ensures;
     }
 
 pub returns-clause-plays : goal.returns-clause-plays
@@ -87,8 +95,13 @@ returns-clause-plays g c = λ elsewhere.
       text = c.calls_are_joined.ensures.text (trade_of start.kept (seals start.sealer)) (providers_of start.kept);
     } in
     let last : c.loop-provider.provider ≡ length start.kept =
-        omega (arith, c.loop-provider-test.false, c.loop-provider.invariant.within, c.count-provider-end.ensures.count,
-        ap (λ (k : List Kept). length k) c.directory.ensures.value) in
+    omega (
+      arith,
+      c.loop-provider-test.false,
+      c.loop-provider.invariant.within,
+      c.count-provider-end.ensures.count,
+      ap (λ (k : List Kept). length k) c.directory.ensures.value,
+    ) in
     round_ends g.D.Disk.sight g.D.Counted.faults g.D.Disk.tells seals start joins elsewhere c.args.moment
     c.loop-provider.network c.play_round.new.network c.loop-provider.invariant.keeps c.loop-provider.provider last
     (g.W.Stream.held c.args.out.now) (g.W.Stream.held c.loop-provider.out) (g.W.Stream.held c.play_round.new.out)

@@ -18,5 +18,5 @@ invariant-loop-provider g l = record {
   keeps : Keeps g.D.Disk.sight g.D.Counted.faults g.D.Disk.tells l.fn.network l.network;
   later : g.W.Counted.faults l.fn.out ≤ g.W.Counted.faults l.out;
   within : l.provider ≤ length l.fn.network.kept;
-  many : length l.network.providers ≡ length l.fn.network.providers
+  many : length l.network.providers ≡ length l.fn.network.providers;
 }

@@ -14,7 +14,7 @@ returns-in_err-text-clause-plays g c = λ elsewhere.
     let trade = trade_of old.kept (g.S.Sealer.seals old.sealer) in
     let does = c.in_err-text.ensures in
     let many : length new.providers ≡ length old.providers =
-        c.as_many_providers-2.ensures ∙ ap (λ (k : List Kept). length k) does.keeps.directory ∙ sym c.as_many_providers.ensures in
+    c.as_many_providers-2.ensures ∙ ap (λ (k : List Kept). length k) does.keeps.directory ∙ sym c.as_many_providers.ensures in
     let p = err_from_is_err_and c.from_residual.result c.from_residual.ensures.1 in
     one_lacks g.D.Disk.sight g.D.Counted.faults g.D.Disk.tells trade (Tick c.args.provider c.args.moment) old new (tick_calm c.args.provider c.args.moment) elsewhere
     (g.W.Stream.held c.args.out.now) c.in_err-text.field-0.0 does

@@ -30,7 +30,7 @@ loop-served-init g c = record {
   out = refl;
   clock_later = omega arith;
   door_later = omega arith;
-  out_later = omega arith
+  out_later = omega arith;
 }
 
 pub returns-in-NoConnection-clause-serves : goal.returns-in-NoConnection-clause-serves
@@ -54,7 +54,7 @@ returns-in-NoConnection-clause-serves g c = λ elsewhere.
     let now = c.loop-served.network in
     let again = c.next-again.result.0 in
     let here = place_of g.D.Counted.faults elsewhere start (g.T.Ticks.coming c.args.ticks.now)
-        (g.R.Door.requests c.args.door.now) (g.R.Door.replies c.args.door.now) in
+    (g.R.Door.requests c.args.door.now) (g.R.Door.replies c.args.door.now) in
     ends_unmet g.D.Disk.sight g.D.Counted.faults g.D.Disk.tells seals_of start laws joins elsewhere here now again
     c.loop-served.invariant.keeps (g.T.Ticks.coming c.loop-served.ticks) (g.R.Door.requests c.loop-served.door)
     (g.R.Door.replies c.loop-served.door) c.loop-served.served (g.W.Stream.held c.args.out.now)
@@ -99,7 +99,7 @@ returns-in-NoMoment-clause-serves g c = λ elsewhere.
     let now = c.loop-served.network in
     let again = c.next-again.result.0 in
     let here = place_of g.D.Counted.faults elsewhere start (g.T.Ticks.coming c.args.ticks.now)
-        (g.R.Door.requests c.args.door.now) (g.R.Door.replies c.args.door.now) in
+    (g.R.Door.requests c.args.door.now) (g.R.Door.replies c.args.door.now) in
     ends_untold g.D.Disk.sight g.D.Counted.faults g.D.Disk.tells seals_of start laws joins elsewhere here now again
     c.loop-served.invariant.keeps (g.T.Ticks.coming c.loop-served.ticks) (g.R.Door.requests c.loop-served.door)
     (g.R.Door.replies c.loop-served.door) c.loop-served.served (g.W.Stream.held c.args.out.now)
@@ -144,7 +144,7 @@ returns-in-Err-clause-serves g c = λ elsewhere.
     let now = c.loop-served.network in
     let again = c.next-again.result.0 in
     let here = place_of g.D.Counted.faults elsewhere start (g.T.Ticks.coming c.args.ticks.now)
-        (g.R.Door.requests c.args.door.now) (g.R.Door.replies c.args.door.now) in
+    (g.R.Door.requests c.args.door.now) (g.R.Door.replies c.args.door.now) in
     ends_broken g.D.Disk.sight g.D.Counted.faults g.D.Disk.tells seals_of start laws joins elsewhere here now again
     c.loop-served.invariant.keeps (g.T.Ticks.coming c.loop-served.ticks) (g.R.Door.requests c.loop-served.door)
     (g.R.Door.replies c.loop-served.door) c.loop-served.served (g.W.Stream.held c.args.out.now)
@@ -185,7 +185,7 @@ returns-in-Err-WriteFault-clause-serves g c = λ elsewhere.
     let now = c.loop-served.network in
     let again = c.next-again.result.0 in
     let here = place_of g.D.Counted.faults elsewhere start (g.T.Ticks.coming c.args.ticks.now)
-        (g.R.Door.requests c.args.door.now) (g.R.Door.replies c.args.door.now) in
+    (g.R.Door.requests c.args.door.now) (g.R.Door.replies c.args.door.now) in
     ends_stopped g.D.Disk.sight g.D.Counted.faults g.D.Disk.tells seals_of start laws joins elsewhere here now again
     c.loop-served.invariant.keeps (g.T.Ticks.coming c.loop-served.ticks) (g.R.Door.requests c.loop-served.door)
     (g.R.Door.replies c.loop-served.door) c.loop-served.served (g.W.Stream.held c.args.out.now)
@@ -235,7 +235,7 @@ returns-in-Err-NoMemory-clause-serves g c = λ elsewhere.
     let now = c.loop-served.network in
     let again = c.next-again.result.0 in
     let here = place_of g.D.Counted.faults elsewhere start (g.T.Ticks.coming c.args.ticks.now)
-        (g.R.Door.requests c.args.door.now) (g.R.Door.replies c.args.door.now) in
+    (g.R.Door.requests c.args.door.now) (g.R.Door.replies c.args.door.now) in
     ends_lacking g.D.Disk.sight g.D.Counted.faults g.D.Disk.tells seals_of start laws joins elsewhere here now again
     c.loop-served.invariant.keeps (g.T.Ticks.coming c.loop-served.ticks) (g.R.Door.requests c.loop-served.door)
     (g.R.Door.replies c.loop-served.door) c.loop-served.served (g.W.Stream.held c.args.out.now)
@@ -271,54 +271,54 @@ loop-served-preserved g c =
     ∙ ap (λ (k : List Kept). length k) (keeps_on g.D.Disk.sight g.D.Counted.faults g.D.Disk.tells c.args.network c.loop-served.network c.next-again.result.0
     c.loop-served.invariant.many c.loop-served.invariant.keeps c.next-again.ensures.keeps).directory ∙ sym c.as_many_providers.ensures) (keeps_on g.D.Disk.sight g.D.Counted.faults g.D.Disk.tells c.args.network c.loop-served.network c.next-again.result.0
     c.loop-served.invariant.many c.loop-served.invariant.keeps c.next-again.ensures.keeps) c.play_clock.ensures.keeps in record {
-  going = λ elsewhere.
-    let start = c.args.network in
-    let seals = seals_of in
-    let trade = trade_of start.kept (seals_of start.sealer) in
-    let laws : CallLaws trade = record {
-      all = c.calls_are_joined.ensures.all trade;
-      since = c.calls_are_joined.ensures.since trade;
-      same = c.calls_are_joined.ensures.same;
-      later = c.calls_are_joined.ensures.later;
-      same_text = c.calls_are_joined.ensures.same_text trade;
-      behind = c.calls_are_joined.ensures.behind;
-    } in
-    let joins : ConnectionLaws trade start.kept = record {
-      one = c.connections_are_joined.ensures.one trade start.kept;
-      behind = c.connections_are_joined.ensures.behind;
-      text = c.connections_are_joined.ensures.text trade start.kept;
-    } in
-    let now = c.loop-served.network in
-    let again = c.next-again.result.0 in
-    let here = place_of g.D.Counted.faults elsewhere start (g.T.Ticks.coming c.args.ticks.now)
-        (g.R.Door.requests c.args.door.now) (g.R.Door.replies c.args.door.now) in
-    ends_written g.D.Disk.sight g.D.Counted.faults g.D.Disk.tells seals_of start laws joins elsewhere here now again
-    c.loop-served.invariant.keeps (g.T.Ticks.coming c.loop-served.ticks) (g.R.Door.requests c.loop-served.door)
-    (g.R.Door.replies c.loop-served.door) c.loop-served.served (g.W.Stream.held c.args.out.now)
-    (g.W.Stream.held c.loop-served.out) (c.loop-served.invariant.going elsewhere) (g.T.Ticks.coming c.next-again.new.ticks)
-    (g.R.Door.requests c.next-again.new.door) (g.R.Door.replies c.next-again.new.door) c.args.wanted c.loop-served-test.true
-    c.in-Served.moment c.in-Served.told
-    (subst (λ (came : Came). ComesNext (trade_of now.kept (seals_of now.sealer)) now.kept
-    (place_of g.D.Counted.faults elsewhere now (g.T.Ticks.coming c.loop-served.ticks) (g.R.Door.requests c.loop-served.door)
-    (g.R.Door.replies c.loop-served.door))
-    (place_of g.D.Counted.faults elsewhere again (g.T.Ticks.coming c.next-again.new.ticks)
-    (g.R.Door.requests c.next-again.new.door) (g.R.Door.replies c.next-again.new.door)) came) c.in-Served.is
-    (c.next-again.ensures.comes elsewhere))
-    (keeps_on g.D.Disk.sight g.D.Counted.faults g.D.Disk.tells c.args.network c.loop-served.network c.next-again.result.0
-    c.loop-served.invariant.many c.loop-served.invariant.keeps c.next-again.ensures.keeps) c.play_clock.new.network (g.W.Stream.held c.write_outcome.new.out)
-    (g.W.Stream.held c.play_clock.new.out) c.in_default.ensures.ok (c.in-Ok.ensures.plays elsewhere);
-  keeps = keeps_again;
-  fits = subst (λ (k : List Kept). Fits (seals_of c.play_clock.new.network.sealer) (providers_of k))
-      (sym c.play_clock.ensures.keeps.directory)
-      (subst (λ (s : HmacSealer). Fits (seals_of s) (providers_of c.next-again.result.0.kept))
-      (sym c.play_clock.ensures.keeps.seals) c.next-again.ensures.fits);
-  many = c.as_many_providers-in-Ok.ensures ∙ ap (λ (k : List Kept). length k) keeps_again.directory
-      ∙ sym c.as_many_providers.ensures;
-  out = c.next-again.ensures.out ∙ c.loop-served.invariant.out;
-  clock_later = omega (arith, c.loop-served.invariant.clock_later, c.next-again.ensures.clock_later);
-  door_later = omega (arith, c.loop-served.invariant.door_later, c.next-again.ensures.door_later);
-  out_later = omega (arith, c.loop-served.invariant.out_later, c.write_outcome.ensures.later, c.play_clock.ensures.later)
-}
+      going = λ elsewhere.
+          let start = c.args.network in
+          let seals = seals_of in
+          let trade = trade_of start.kept (seals_of start.sealer) in
+          let laws : CallLaws trade = record {
+            all = c.calls_are_joined.ensures.all trade;
+            since = c.calls_are_joined.ensures.since trade;
+            same = c.calls_are_joined.ensures.same;
+            later = c.calls_are_joined.ensures.later;
+            same_text = c.calls_are_joined.ensures.same_text trade;
+            behind = c.calls_are_joined.ensures.behind;
+          } in
+          let joins : ConnectionLaws trade start.kept = record {
+            one = c.connections_are_joined.ensures.one trade start.kept;
+            behind = c.connections_are_joined.ensures.behind;
+            text = c.connections_are_joined.ensures.text trade start.kept;
+          } in
+          let now = c.loop-served.network in
+          let again = c.next-again.result.0 in
+          let here = place_of g.D.Counted.faults elsewhere start (g.T.Ticks.coming c.args.ticks.now)
+          (g.R.Door.requests c.args.door.now) (g.R.Door.replies c.args.door.now) in
+          ends_written g.D.Disk.sight g.D.Counted.faults g.D.Disk.tells seals_of start laws joins elsewhere here now again
+          c.loop-served.invariant.keeps (g.T.Ticks.coming c.loop-served.ticks) (g.R.Door.requests c.loop-served.door)
+          (g.R.Door.replies c.loop-served.door) c.loop-served.served (g.W.Stream.held c.args.out.now)
+          (g.W.Stream.held c.loop-served.out) (c.loop-served.invariant.going elsewhere) (g.T.Ticks.coming c.next-again.new.ticks)
+          (g.R.Door.requests c.next-again.new.door) (g.R.Door.replies c.next-again.new.door) c.args.wanted c.loop-served-test.true
+          c.in-Served.moment c.in-Served.told
+          (subst (λ (came : Came). ComesNext (trade_of now.kept (seals_of now.sealer)) now.kept
+          (place_of g.D.Counted.faults elsewhere now (g.T.Ticks.coming c.loop-served.ticks) (g.R.Door.requests c.loop-served.door)
+          (g.R.Door.replies c.loop-served.door))
+          (place_of g.D.Counted.faults elsewhere again (g.T.Ticks.coming c.next-again.new.ticks)
+          (g.R.Door.requests c.next-again.new.door) (g.R.Door.replies c.next-again.new.door)) came) c.in-Served.is
+          (c.next-again.ensures.comes elsewhere))
+          (keeps_on g.D.Disk.sight g.D.Counted.faults g.D.Disk.tells c.args.network c.loop-served.network c.next-again.result.0
+          c.loop-served.invariant.many c.loop-served.invariant.keeps c.next-again.ensures.keeps) c.play_clock.new.network (g.W.Stream.held c.write_outcome.new.out)
+          (g.W.Stream.held c.play_clock.new.out) c.in_default.ensures.ok (c.in-Ok.ensures.plays elsewhere);
+      keeps = keeps_again;
+      fits = subst (λ (k : List Kept). Fits (seals_of c.play_clock.new.network.sealer) (providers_of k))
+          (sym c.play_clock.ensures.keeps.directory)
+          (subst (λ (s : HmacSealer). Fits (seals_of s) (providers_of c.next-again.result.0.kept))
+          (sym c.play_clock.ensures.keeps.seals) c.next-again.ensures.fits);
+      many = c.as_many_providers-in-Ok.ensures ∙ ap (λ (k : List Kept). length k) keeps_again.directory
+          ∙ sym c.as_many_providers.ensures;
+      out = c.next-again.ensures.out ∙ c.loop-served.invariant.out;
+      clock_later = omega (arith, c.loop-served.invariant.clock_later, c.next-again.ensures.clock_later);
+      door_later = omega (arith, c.loop-served.invariant.door_later, c.next-again.ensures.door_later);
+      out_later = omega (arith, c.loop-served.invariant.out_later, c.write_outcome.ensures.later, c.play_clock.ensures.later);
+    }
 
 pub returns-clause-serves : goal.returns-clause-serves
 returns-clause-serves g c = λ elsewhere.
@@ -339,10 +339,10 @@ returns-clause-serves g c = λ elsewhere.
       text = c.connections_are_joined.ensures.text trade start.kept;
     } in
     let here = place_of g.D.Counted.faults elsewhere start (g.T.Ticks.coming c.args.ticks.now)
-        (g.R.Door.requests c.args.door.now) (g.R.Door.replies c.args.door.now) in
+    (g.R.Door.requests c.args.door.now) (g.R.Door.replies c.args.door.now) in
     let there = place_of g.D.Counted.faults elsewhere c.loop-served.network (g.T.Ticks.coming c.loop-served.ticks)
-        (g.R.Door.requests c.loop-served.door) (g.R.Door.replies c.loop-served.door) in
+    (g.R.Door.requests c.loop-served.door) (g.R.Door.replies c.loop-served.door) in
     let all : c.loop-served.served ≡ c.args.wanted =
-        omega (arith, c.loop-served-test.false, c.loop-served.auto.served-end) in
+    omega (arith, c.loop-served-test.false, c.loop-served.auto.served-end) in
     all_served trade start.kept laws joins here there c.loop-served.served (g.W.Stream.held c.args.out.now)
     (g.W.Stream.held c.loop-served.out) (c.loop-served.invariant.going elsewhere) c.args.wanted all

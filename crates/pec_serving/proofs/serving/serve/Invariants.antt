@@ -25,5 +25,5 @@ invariant-loop-served g l = record {
   out : g.R.Door.out l.door ≡ g.R.Door.out l.fn.door;
   clock_later : g.T.Counted.faults l.fn.ticks ≤ g.T.Counted.faults l.ticks;
   door_later : g.R.Counted.faults l.fn.door ≤ g.R.Counted.faults l.door;
-  out_later : g.W.Counted.faults l.fn.out ≤ g.W.Counted.faults l.out
+  out_later : g.W.Counted.faults l.fn.out ≤ g.W.Counted.faults l.out;
 }
