@@ -1,0 +1,98 @@
+use super::*;
+use pec_outside::{Sink, Source, write_all};
+use std::io::{Read, Write};
+use std::net::Shutdown;
+use std::test::Fail;
+use std::time::Instant;
+
+#[test]
+fn a_client_that_wrote_before_is_answered(rt: HostRuntime) -> Result<(), Fail> {
+    let mut door = TcpDoor::new(&rt, 0, limit());
+    let mut client = client_of(&rt, &mut door)?;
+    client.write_all(b"abc")?;
+    client.shutdown(Shutdown::Write)?;
+    let mut connection = door.accept()?;
+    let mut room = [b'-'; 4];
+    assert_eq!(rt; connection.read(&mut room), Ok(3));
+    assert_eq!(rt; room, *b"abc-");
+    assert_eq!(rt; connection.read(&mut room), Ok(0));
+    assert_eq!(rt; write_all(&mut connection, b"reply"), Ok(()));
+    door.close(connection);
+    let reply = io::read_to_string(rt.alloc(), client)?;
+    assert_eq!(rt; reply.as_str(), "reply");
+    assert_eq!(rt; (door.faults, door.faulty, door.out), (0, 0, 0));
+    Ok(())
+}
+
+#[test]
+fn a_reply_outlives_what_was_not_read(rt: HostRuntime) -> Result<(), Fail> {
+    let mut door = TcpDoor::new(&rt, 0, limit());
+    let mut client = client_of(&rt, &mut door)?;
+    client.write_all(&[b'a'; 20_000])?;
+    let mut connection = door.accept()?;
+    assert_eq!(rt; connection.read(&mut [0; 4]), Ok(4));
+    assert_eq!(rt; write_all(&mut connection, b"reply"), Ok(()));
+    door.close(connection);
+    let reply = io::read_to_string(rt.alloc(), client)?;
+    assert_eq!(rt; reply.as_str(), "reply");
+    assert_eq!(rt; door.faulty, 0);
+    Ok(())
+}
+
+#[test]
+fn a_silent_client_is_a_fault_within_the_limit(rt: HostRuntime) -> Result<(), Fail> {
+    let mut door = TcpDoor::new(&rt, 0, limit());
+    let client = client_of(&rt, &mut door)?;
+    let mut connection = door.accept()?;
+    let start = Instant::now(&rt)?;
+    assert_eq!(rt; connection.read(&mut [0; 4]), Err(Failed));
+    let waited = start.elapsed(&rt)?;
+    assert!(rt; waited >= Duration::from_millis(100), "waited {waited:?}");
+    assert!(rt; waited < Duration::from_secs(20), "waited {waited:?}");
+    assert_eq!(rt; connection.faults(), 1);
+    // Nor does it read, so that at some time the system takes no more for it.
+    for _ in 0..20_000 {
+        if connection.write(&[b'a'; 8_192]).is_err() {
+            break;
+        }
+    }
+    assert_eq!(rt; connection.faults(), 2);
+    door.close(connection);
+    assert_eq!(rt; (door.faults, door.faulty, door.out), (0, 1, 0));
+    drop(client);
+    Ok(())
+}
+
+#[test]
+fn a_port_that_is_taken_is_a_fault(rt: HostRuntime) -> Result<(), Fail> {
+    let taken = TcpListener::bind(&rt, (Ipv4Addr::LOCALHOST, 0))?;
+    let port = taken.local_addr()?.port();
+    let mut door = TcpDoor::new(&rt, port, limit());
+    for faults in [1, 2] {
+        assert!(rt; door.accept().is_err());
+        assert_eq!(rt; door.faults(), faults);
+    }
+    drop(taken);
+    let client = client_of(&rt, &mut door)?;
+    let connection = door.accept()?;
+    drop(client);
+    door.close(connection);
+    assert_eq!(rt; (door.faults, door.faulty, door.out), (2, 0, 0));
+    Ok(())
+}
+
+fn limit() -> Duration {
+    Duration::from_millis(200)
+}
+
+// A client that has connected, and waits to be accepted.
+fn client_of<'a>(
+    rt: &'a HostRuntime,
+    door: &mut TcpDoor<&'a HostRuntime>,
+) -> Result<TcpStream, Fail> {
+    door.listen()?;
+    let Some(listener) = &door.listener else {
+        return Err("the port isn't open".into());
+    };
+    Ok(TcpStream::connect(rt, listener.local_addr()?)?)
+}
