@@ -1,8 +1,8 @@
 ghost use Rattle.std.specs.Prelude.{◌≡◌, ◌≢◌, ◌+◌, ◌<◌, ◌≤◌, true, is_some, None, IsErr, IfOk, OnOk, OnErr};
 ghost use Rattle.std.specs.Duration.{as_nanos};
 ghost use Rattle.pec_outside.specs.Flow.{HasRisen, as_u64, u64_of};
-ghost use Rattle.pec_doors.specs.Devices.{DoorState, unused, shut, accepted, closed, Refused};
 ghost use Rattle.pec_outside.specs.Memory.{risen};
+ghost use Rattle.pec_doors.specs.Devices.{DoorState, unused, shut, accepted, closed, Refused};
 
 use crate::descriptors::apart_from_the_streams;
 use crate::tcp_connection::TcpConnection;
@@ -126,7 +126,7 @@ impl<R: Net<Listener = TcpListener, Stream = TcpStream>> Door for TcpDoor<R> {
     ghost faulty_counted = { λ door. u64_of door.faulty };
 
     /// As in the trait. It waits for a client as long as none comes. It fails where the port can't be opened, as one that
-    /// is taken, where the system has no connection, and where 2^64 - 1 are out.
+    /// is taken, where the system can't give a connection or its limit, and where 2^64 - 1 are out.
     fn accept(&mut self) -> Result<TcpConnection, Failed>
         ensures fresh { IfOk result (λ connection. as_u64 connection.faults ≡ 0) }
         ensures ok { OnOk result (self.new.out ≡ self.old.out + 1) }
