@@ -50,15 +50,24 @@ fn a_silent_client_is_a_fault_within_the_limit(rt: HostRuntime) -> Result<(), Fa
     assert!(rt; waited >= Duration::from_millis(100), "waited {waited:?}");
     assert!(rt; waited < Duration::from_secs(20), "waited {waited:?}");
     assert_eq!(rt; connection.faults(), 1);
-    // Nor does it read, so that at some time the system takes no more for it.
+    door.close(connection);
+    assert_eq!(rt; (door.faults, door.faulty, door.out), (0, 1, 0));
+    drop(client);
+    Ok(())
+}
+
+// The system takes some megabytes for a client that reads nothing.
+#[test]
+fn a_client_that_does_not_read_is_a_fault(rt: HostRuntime) -> Result<(), Fail> {
+    let mut door = TcpDoor::new(&rt, 0, limit());
+    let client = client_of(&rt, &mut door)?;
+    let mut connection = door.accept()?;
     for _ in 0..20_000 {
         if connection.write(&[b'a'; 8_192]).is_err() {
             break;
         }
     }
-    assert_eq!(rt; connection.faults(), 2);
-    door.close(connection);
-    assert_eq!(rt; (door.faults, door.faulty, door.out), (0, 1, 0));
+    assert_eq!(rt; connection.faults(), 1);
     drop(client);
     Ok(())
 }
