@@ -2,11 +2,13 @@
 #![tactic(auto)]
 
 mod adapters;
+mod screening;
 mod words;
 
 use adapters::{Input, Output};
 use pec_files::FileDepot;
-use pec_top::{Status, run_pec};
+use pec_top::Status;
+use screening::run_screened;
 use std::io;
 use std::process::ExitCode;
 use words::words;
@@ -22,6 +24,8 @@ fn main(rt: HostRuntime) -> ExitCode {
     let mut depot = FileDepot::new(&rt, folder);
     let mut input = Input::new(rt.reader());
     let mut output = Output::new(io::writer(&rt));
-    let status = run_pec(rt.alloc(), &words, &mut input, &mut output, &mut depot);
-    ExitCode::from(status.code())
+    match run_screened(rt.alloc(), &words, &mut input, &mut output, &mut depot) {
+        Ok(status) => ExitCode::from(status.code()),
+        Err(_) => ExitCode::from(Status::NoMemory.code()),
+    }
 }

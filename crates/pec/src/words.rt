@@ -41,6 +41,7 @@ fn word<R: Env>(rt: &R, alloc: Global, place: usize) -> Result<Option<String>, A
 mod tests {
     use super::*;
     use pec_outside::{MemDepot, MemSink, MemSource};
+    use pec_screen::NoScreens;
     use pec_top::{Status, run_pec};
     use std::test::Fail;
 
@@ -91,8 +92,9 @@ mod tests {
             );
             let mut output = MemSink::new(rt.alloc(), Vec::new(rt.alloc()));
             let mut depot = MemDepot::new(rt.alloc(), Vec::new(rt.alloc()), Vec::new(rt.alloc()));
+            let none: Vec<NoScreens> = Vec::new(rt.alloc());
             assert_eq!(rt;
-                run_pec(rt.alloc(), &words, &mut input, &mut output, &mut depot),
+                run_pec(rt.alloc(), &words, &mut input, &mut output, &mut depot, none),
                 status,
                 "at {word:?}"
             );

@@ -9,7 +9,7 @@ use Rattle.pec_grammar.proofs.Alternatives.{maybe_lawful, many_lawful}
 use Rattle.pec_grammar.proofs.Openings.{Opens, apart_by, led_opens, word_opens, maybe_opens, many_opens, both_opens}
 use Rattle.pec_grammar.proofs.Repeats.{several_lawful}
 use Rattle.pec_cert.specs.Lines.{text_of, Fits}
-use Rattle.pec_cert.specs.LinesReading.{front_at, addressee_at, shown_at, wish_at, received_at, lines_at}
+use Rattle.pec_cert.specs.LinesReading.{front_at, addressee_at, shown_at, wish_at, received_at, heading_at, issue_at, lines_at}
 use Rattle.pec_cert.specs.declared.certificates.CertKind.{CertKind}
 use Rattle.pec_cert.specs.declared.certificates.CertError.{CertError}
 use Rattle.pec_cert.specs.declared.lines.Addressee.{Addressee}
@@ -295,9 +295,67 @@ led_step : {B C : Type 0} (r : Read (Unit {0})) (s : Cursor → Read B) (view : 
 led_step (Ok a) s view next at further = further a
 led_step (Err stop) s view next at further = refl
 
+-- Reading goes along parts that are read one behind the other as along all their pieces.
+onward : {A B C : Type 0} (r : Read A) (f : A × Cursor → Read B) (k : B × Cursor → Read C) (g : A × Cursor → Read C)
+    → ((a : A × Cursor) → (f a >>= k) ≡ g a) → ((r >>= f) >>= k) ≡ (r >>= g)
+onward (Ok a) f k g further = further a
+onward (Err stop) f k g further = refl
+
+-- the pieces of a text in a row
+abbrev row_at : Cursor → Read Lines
+row_at at =
+    front_at at >>= λ f.
+    sender.read f.1 >>= λ s.
+    several_at addressee_at s.1 >>= λ r.
+    reply.read r.1 >>= λ a.
+    optional_at subject.read a.1 >>= λ o.
+    word_at (codes "</intestazione>\r\n<dati>\r\n") o.1 >>= λ b.
+    provider.read b.1 >>= λ g.
+    shown_at g.1 >>= λ d.
+    id.read d.1 >>= λ i.
+    optional_at reference.read i.1 >>= λ m.
+    optional_at wish_at m.1 >>= λ w.
+    optional_at delivered.read w.1 >>= λ e.
+    many_at received_at e.1 >>= λ c.
+    optional_at detail.read c.1 >>= λ t.
+    word_at (codes "</dati>\r\n</postacert>\r\n") t.1 >>= λ z.
+    Ok (
+      record {
+        kind = f.0.0;
+        error = f.0.1;
+        sender = s.0;
+        recipients = r.0;
+        reply = a.0;
+        subject = o.0;
+        provider = g.0;
+        shown = d.0;
+        id = i.0;
+        reference = m.0;
+        wish = w.0;
+        delivered = e.0;
+        received = c.0;
+        detail = t.0;
+      },
+      z.1,
+    )
+
+in_a_row : (at : Cursor) → lines_at at ≡ row_at at
+unfolding lines_at heading_at issue_at
+in_a_row at =
+    onward (front_at at) _ _ _ (λ f.
+    onward (sender.read f.1) _ _ _ (λ s.
+    onward (several_at addressee_at s.1) _ _ _ (λ r.
+    onward (reply.read r.1) _ _ _ (λ a.
+    onward (optional_at subject.read a.1) _ _ _ (λ o.
+    onward (word_at (codes "</intestazione>\r\n<dati>\r\n") o.1) _ _ _ (λ b.
+    onward (provider.read b.1) _ _ _ (λ g.
+    onward (shown_at g.1) _ _ _ (λ d.
+    onward (id.read d.1) _ _ _ (λ i.
+    onward (optional_at reference.read i.1) _ _ _ (λ m. refl))))))))))
+
 reads : (at : Cursor) → lines_at at ≡ seen_at view all.read at
-unfolding lines_at
 reads at =
+    in_a_row at ∙
     both_step (front_at at) from_sender.read view _ at (λ f.
     both_step (sender.read f.1) from_addressees.read _ _ f.1 (λ s.
     both_step (several_at addressee_at s.1) from_reply.read _ _ s.1 (λ r.

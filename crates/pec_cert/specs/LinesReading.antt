@@ -13,6 +13,8 @@ use Rattle.pec_cert.specs.declared.certificates.CertKind.TheVariants as kinds
 use Rattle.pec_cert.specs.declared.certificates.CertError.{CertError}
 use Rattle.pec_cert.specs.declared.certificates.CertError.TheVariants as errors
 use Rattle.pec_cert.specs.declared.lines.Addressee.{Addressee}
+use Rattle.pec_cert.specs.declared.lines.Heading.{Heading}
+use Rattle.pec_cert.specs.declared.lines.Issue.{Issue}
 use Rattle.pec_cert.specs.declared.lines.Lines.{Lines}
 use Rattle.pec_cert.specs.declared.stamps.ShownZone.{ShownZone}
 use Rattle.pec_cert.specs.declared.stamps.ShownDay.{ShownDay}
@@ -144,23 +146,15 @@ unfoldable pub received_at : Cursor → Read Bytes
 received_at = element_at (codes "<ricezione>") (codes "</ricezione>\r\n")
 
 -- all the lines
-unfoldable pub lines_at : Cursor → Read Lines
-lines_at at = do
+-- the lines up to those of the data
+unfoldable pub heading_at : Cursor → Read Heading
+heading_at at = do
   front ← front_at at
   sender ← element_at (codes "<mittente>") (codes "</mittente>\r\n") front.1
   recipients ← several_at addressee_at sender.1
   reply ← element_at (codes "<risposte>") (codes "</risposte>\r\n") recipients.1
   subject ← optional_at (element_at (codes "<oggetto>") (codes "</oggetto>\r\n")) reply.1
   between ← word_at (codes "</intestazione>\r\n<dati>\r\n") subject.1
-  provider ← element_at (codes "<gestore-emittente>") (codes "</gestore-emittente>\r\n") between.1
-  shown ← shown_at provider.1
-  id ← element_at (codes "<identificativo>") (codes "</identificativo>\r\n") shown.1
-  reference ← optional_at (element_at (codes "<msgid>") (codes "</msgid>\r\n")) id.1
-  wish ← optional_at wish_at reference.1
-  delivered ← optional_at (element_at (codes "<consegna>") (codes "</consegna>\r\n")) wish.1
-  received ← many_at received_at delivered.1
-  detail ← optional_at (element_at (codes "<errore-esteso>") (codes "</errore-esteso>\r\n")) received.1
-  end ← word_at (codes "</dati>\r\n</postacert>\r\n") detail.1
   Ok (
     record {
       kind = front.0.0;
@@ -169,10 +163,40 @@ lines_at at = do
       recipients = recipients.0;
       reply = reply.0;
       subject = subject.0;
-      provider = provider.0;
-      shown = shown.0;
-      id = id.0;
-      reference = reference.0;
+    },
+    between.1,
+  )
+
+-- the lines of the data that say who certifies, when, and what
+unfoldable pub issue_at : Cursor → Read Issue
+issue_at at = do
+  provider ← element_at (codes "<gestore-emittente>") (codes "</gestore-emittente>\r\n") at
+  shown ← shown_at provider.1
+  id ← element_at (codes "<identificativo>") (codes "</identificativo>\r\n") shown.1
+  reference ← optional_at (element_at (codes "<msgid>") (codes "</msgid>\r\n")) id.1
+  Ok (record { provider = provider.0; shown = shown.0; id = id.0; reference = reference.0 }, reference.1)
+
+unfoldable pub lines_at : Cursor → Read Lines
+lines_at at = do
+  heading ← heading_at at
+  issue ← issue_at heading.1
+  wish ← optional_at wish_at issue.1
+  delivered ← optional_at (element_at (codes "<consegna>") (codes "</consegna>\r\n")) wish.1
+  received ← many_at received_at delivered.1
+  detail ← optional_at (element_at (codes "<errore-esteso>") (codes "</errore-esteso>\r\n")) received.1
+  end ← word_at (codes "</dati>\r\n</postacert>\r\n") detail.1
+  Ok (
+    record {
+      kind = heading.0.kind;
+      error = heading.0.error;
+      sender = heading.0.sender;
+      recipients = heading.0.recipients;
+      reply = heading.0.reply;
+      subject = heading.0.subject;
+      provider = issue.0.provider;
+      shown = issue.0.shown;
+      id = issue.0.id;
+      reference = issue.0.reference;
       wish = wish.0;
       delivered = delivered.0;
       received = received.0;

@@ -9,6 +9,26 @@ pub(crate) struct Addressee {
     pub address: Text,
 }
 
+/// The values of the elements in front of the data.
+#[derive(Drop)]
+pub(crate) struct Heading {
+    pub kind: CertKind,
+    pub error: CertError,
+    pub sender: Text,
+    pub recipients: Items<Addressee>,
+    pub reply: Text,
+    pub subject: Option<Text>,
+}
+
+/// The values of the data that say who certifies, when, and what.
+#[derive(Drop)]
+pub(crate) struct Issue {
+    pub provider: Text,
+    pub shown: Shown,
+    pub id: Text,
+    pub reference: Option<Text>,
+}
+
 /// The values of a text's elements as they stand there.
 #[derive(Drop)]
 pub(crate) struct Lines {

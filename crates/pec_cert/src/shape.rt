@@ -1,11 +1,11 @@
 ghost use Rattle.std.specs.Prelude.{◌≡◌};
 ghost use Rattle.pec_grammar.specs.Grammar.{choice_at, many_at, several_at, optional_at};
 ghost use Rattle.pec_grammar.specs.Reading.{standing, Gives, MayGive};
-ghost use Rattle.pec_cert.specs.LinesReading.{kind_table, error_table, class_table, wish_table, front_at, addressee_at, wish_at, received_at, lines_at};
+ghost use Rattle.pec_cert.specs.LinesReading.{kind_table, error_table, class_table, wish_table, front_at, addressee_at, wish_at, received_at, heading_at, issue_at, lines_at};
 
 use crate::certificates::{CertError, CertKind};
 use crate::digits::shown;
-use crate::lines::{Addressee, Lines};
+use crate::lines::{Addressee, Heading, Issue, Lines};
 use crate::markup::{content, element, optional_element};
 use pec_grammar::{Cursor, ReadError, Stop, one_of, word};
 use pec_types::{Items, Text, Wish};
@@ -16,12 +16,59 @@ use std::alloc::Global;
 pub(crate) fn lines(alloc: Global, at: Cursor<'_>) -> Result<(Lines, Cursor<'_>), ReadError<'_>>
     ensures { MayGive (λ x. (x.0, standing x.1)) result (lines_at (standing at.entry)) }
 {
+    let (heading, at) = heading(alloc, at)?;
+    let (issue, at) = issue(alloc, at)?;
+    let (wish, at) = optional_wish(at)?;
+    let (delivered, at) = optional_element(alloc, at, b"<consegna>", b"</consegna>\r\n")?;
+    let (received, at) = all_received(alloc, at)?;
+    let (detail, at) = optional_element(alloc, at, b"<errore-esteso>", b"</errore-esteso>\r\n")?;
+    let at = word(at, b"</dati>\r\n</postacert>\r\n")?;
+    let lines = Lines {
+        kind: heading.kind,
+        error: heading.error,
+        sender: heading.sender,
+        recipients: heading.recipients,
+        reply: heading.reply,
+        subject: heading.subject,
+        provider: issue.provider,
+        shown: issue.shown,
+        id: issue.id,
+        reference: issue.reference,
+        wish,
+        delivered,
+        received,
+        detail,
+    };
+    Ok((lines, at))
+}
+
+/// Reads the lines up to those of the data.
+#[tactic(auto, unfolding(crate::specs::LinesReading::heading_at))]
+fn heading(alloc: Global, at: Cursor<'_>) -> Result<(Heading, Cursor<'_>), ReadError<'_>>
+    ensures { MayGive (λ x. (x.0, standing x.1)) result (heading_at (standing at.entry)) }
+{
     let ((kind, error), at) = front(at)?;
     let (sender, at) = element(alloc, at, b"<mittente>", b"</mittente>\r\n")?;
     let (recipients, at) = addressees(alloc, at)?;
     let (reply, at) = element(alloc, at, b"<risposte>", b"</risposte>\r\n")?;
     let (subject, at) = optional_element(alloc, at, b"<oggetto>", b"</oggetto>\r\n")?;
     let at = word(at, b"</intestazione>\r\n<dati>\r\n")?;
+    let heading = Heading {
+        kind,
+        error,
+        sender,
+        recipients,
+        reply,
+        subject,
+    };
+    Ok((heading, at))
+}
+
+/// Reads the lines of the data that say who certifies, when, and what.
+#[tactic(auto, unfolding(crate::specs::LinesReading::issue_at))]
+fn issue(alloc: Global, at: Cursor<'_>) -> Result<(Issue, Cursor<'_>), ReadError<'_>>
+    ensures { MayGive (λ x. (x.0, standing x.1)) result (issue_at (standing at.entry)) }
+{
     let (provider, at) = element(
         alloc,
         at,
@@ -31,28 +78,13 @@ pub(crate) fn lines(alloc: Global, at: Cursor<'_>) -> Result<(Lines, Cursor<'_>)
     let (shown, at) = shown(at)?;
     let (id, at) = element(alloc, at, b"<identificativo>", b"</identificativo>\r\n")?;
     let (reference, at) = optional_element(alloc, at, b"<msgid>", b"</msgid>\r\n")?;
-    let (wish, at) = optional_wish(at)?;
-    let (delivered, at) = optional_element(alloc, at, b"<consegna>", b"</consegna>\r\n")?;
-    let (received, at) = all_received(alloc, at)?;
-    let (detail, at) = optional_element(alloc, at, b"<errore-esteso>", b"</errore-esteso>\r\n")?;
-    let at = word(at, b"</dati>\r\n</postacert>\r\n")?;
-    let lines = Lines {
-        kind,
-        error,
-        sender,
-        recipients,
-        reply,
-        subject,
+    let issue = Issue {
         provider,
         shown,
         id,
         reference,
-        wish,
-        delivered,
-        received,
-        detail,
     };
-    Ok((lines, at))
+    Ok((issue, at))
 }
 
 /// Reads the first three lines.

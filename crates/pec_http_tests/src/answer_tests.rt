@@ -559,6 +559,22 @@ fn each_cut_of_a_submission_is_refused(rt: HostRuntime) {
     assert_eq!(rt; first_cut_taken(rt.alloc(), SUBMISSION), None);
 }
 
+// The last row before the desk's own answers: a desk that is down isn't asked for a cut submission.
+#[test]
+fn a_cut_submission_is_refused_before_the_desk_is_asked(rt: HostRuntime) {
+    let cut = &SUBMISSION[..SUBMISSION.len() - 1];
+    assert!(rt;
+        is_answered(
+            rt.alloc(),
+            Mood::Down,
+            cut,
+            4096,
+            TEXT,
+            (400, "bad-request\n")
+        )
+    );
+}
+
 /// After how many bytes the text may be cut first and not be refused; none where it is wherever it is cut.
 fn first_cut_taken(alloc: Global, text: &[u8]) -> Option<usize> {
     for end in 0..text.len() {

@@ -20,12 +20,9 @@ fn head_of(alloc: Global, bytes: usize) -> Result<Vec<u8>, AllocError> {
     Ok(request)
 }
 
-/// A request for a book with so many lines behind its first.
-fn head_with(alloc: Global, lines: u32) -> Result<Vec<u8>, AllocError> {
-    let mut request = Vec::from_slice(
-        alloc,
-        b"GET /mail/anna@alfa.example/book HTTP/1.1\r\nx-key: chiave\r\n",
-    )?;
+/// A request that begins so, with two lines, and has so many behind the first.
+fn head_with(alloc: Global, front: &[u8], lines: u32) -> Result<Vec<u8>, AllocError> {
+    let mut request = Vec::from_slice(alloc, front)?;
     for _ in 1..lines {
         request.extend_from_slice(b"x:\r\n")?;
     }
@@ -58,26 +55,35 @@ fn has_size_answered(alloc: Global, bytes: usize, status: u16) -> bool {
     }
 }
 
-// How many lines a head has, and the status of the answer.
+/// A request for a book, and what is no request.
+const FRONT: &[u8] = b"GET /mail/anna@alfa.example/book HTTP/1.1\r\nx-key: chiave\r\n";
+
+const NO_FRONT: &[u8] = b"GET /nowhere\r\nx-key\r\n";
+
+// How many lines a head has behind its first, and the status of the answer.
 const LINES: [(u32, u16); 4] = [(63, 200), (64, 200), (65, 431), (1000, 431)];
+
+// The same of what is no head: too many lines are found before that.
+const NO_LINES: [(u32, u16); 2] = [(64, 400), (65, 431)];
 
 #[test]
 fn a_head_has_at_most_64_lines(rt: HostRuntime) {
-    assert_eq!(rt; first_wrong_count(rt.alloc(), &LINES), None);
+    assert_eq!(rt; first_wrong_count(rt.alloc(), FRONT, &LINES), None);
+    assert_eq!(rt; first_wrong_count(rt.alloc(), NO_FRONT, &NO_LINES), None);
 }
 
 /// The first number of lines that a head is answered otherwise with; none where each is answered so.
-fn first_wrong_count(alloc: Global, rows: &[(u32, u16)]) -> Option<u32> {
+fn first_wrong_count(alloc: Global, front: &[u8], rows: &[(u32, u16)]) -> Option<u32> {
     for (lines, status) in rows {
-        if !has_count_answered(alloc, *lines, *status) {
+        if !has_count_answered(alloc, front, *lines, *status) {
             return Some(*lines);
         }
     }
     None
 }
 
-fn has_count_answered(alloc: Global, lines: u32, status: u16) -> bool {
-    match head_with(alloc, lines) {
+fn has_count_answered(alloc: Global, front: &[u8], lines: u32, status: u16) -> bool {
+    match head_with(alloc, front, lines) {
         Ok(request) => answers(alloc, &request, 4096, status, 0),
         Err(_) => false,
     }

@@ -4,3 +4,4 @@ mod SeenLemmas
 mod PlaceLemmas
 mod RowLemmas
 mod AnomalyLemmas
+mod BehindLemmas

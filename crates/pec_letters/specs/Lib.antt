@@ -3,4 +3,5 @@ pub mod Envelopes
 pub mod Anomalies
 pub mod Seen
 pub mod SeenReading
+pub mod Behind
 pub mod Views

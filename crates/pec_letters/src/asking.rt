@@ -26,7 +26,8 @@ pub(crate) fn is_envelope(letter: &Letter<'_>) -> bool
     is_marked(&letter.head) && certifies_envelope(&letter.cert)
 }
 
-fn is_marked(head: &Head) -> bool
+/// Whether a head says that it is an envelope's.
+pub(crate) fn is_marked(head: &Head) -> bool
     ensures { result ≡ is_marked (marking_of head.now) }
 {
     match marking(head) {

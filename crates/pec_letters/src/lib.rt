@@ -14,4 +14,4 @@ pub use laws::{
     a_message_has_one_anomaly, a_message_has_one_envelope, a_text_is_one_envelope,
     an_anomaly_is_no_letter, what_is_composed_is_seen,
 };
-pub use reading::{EnvelopeView, read_envelope};
+pub use reading::{EnvelopeView, envelope_in, has_envelope_head, read_envelope};

@@ -1,14 +1,21 @@
-ghost use Rattle.std.specs.Prelude.{◌≡◌};
+ghost use Rattle.std.specs.Prelude.{◌≡◌, List, None, Ok, false};
+ghost use Rattle.std.specs.Result.{result_ok};
 ghost use Rattle.pec_types.specs.Answers.{Gives, ReadsExactly, seen_as};
+ghost use Rattle.pec_types.specs.Bytes.{Bytes};
 ghost use Rattle.pec_types.specs.declared.disputes.LetterFault.TheVariants as faults;
-ghost use Rattle.pec_directory.specs.Directory.{providers_of};
-ghost use Rattle.pec_letter_parts.specs.LettersReading.{letter_of};
-ghost use Rattle.pec_letter_parts.specs.Views.{letter_shown};
-ghost use Rattle.pec_letters.specs.Seen.{IsSeen, IsUnseen, dated, seen_of};
+ghost use Rattle.pec_directory.specs.Directory.{Provider, providers_of};
+ghost use Rattle.pec_letter_parts.specs.LettersReading.{headed_of};
+ghost use Rattle.pec_letter_parts.specs.Views.{headed_shown, letter_shown};
+ghost use Rattle.pec_letter_facts.specs.Questions.{marking_of};
+ghost use Rattle.pec_letters.specs.Behind.{view_in};
+ghost use Rattle.pec_letters.specs.Seen.{IsSeen, IsUnseen, dated, is_marked, seen_of};
 ghost use Rattle.pec_letters.specs.SeenReading.{view};
 ghost use Rattle.pec_letters.specs.Views.{view_shown};
+ghost use Rattle.pec_seal.specs.Seals.{Seals};
 
-use crate::asking::{are_recipients, facts_in, is_envelope, is_sealed_at_home, is_wished};
+use crate::asking::{
+    are_recipients, facts_in, is_envelope, is_marked, is_sealed_at_home, is_wished,
+};
 use crate::laws::a_text_is_one_envelope;
 use pec_directory::Directory;
 use pec_letter_facts::{id_named, is_dated, is_from_home};
@@ -45,7 +52,7 @@ pub fn read_envelope<'a, S: Sealer>(
     view_text(alloc, sealer, directory, message)
 }
 
-#[tactic(auto, unfolding(crate::specs::SeenReading::view))]
+#[tactic(auto, using(crate::proofs::BehindLemmas::no_head))]
 fn view_text<'a, S: Sealer>(
     alloc: Global,
     sealer: &S,
@@ -54,21 +61,44 @@ fn view_text<'a, S: Sealer>(
 ) -> Result<EnvelopeView<'a>, LetterFault>
     ensures { Gives faults.NoMemory view_shown result (view (S.seals sealer.now) (providers_of directory.now) message.now) }
 {
-    let letter = read_letter(alloc, sealer, message)?;
-    see(alloc, directory, &letter)
+    let headed = Headed::read(alloc, sealer, message)?;
+    envelope_in(alloc, directory, headed)
 }
 
-/// The letter that a text is.
-#[tactic(auto, unfolding(pec_letter_parts::specs::LettersReading::letter_of))]
-fn read_letter<'a, S: Sealer>(
+/// What `read_envelope` sees of a text, where its seal was opened and its head read already.
+pub fn envelope_in<'a>(
     alloc: Global,
-    sealer: &S,
-    message: &'a [u8],
-) -> Result<Letter<'a>, LetterFault>
-    ensures { Gives faults.NoMemory letter_shown result (letter_of (S.seals sealer.now) message.now) }
+    directory: &Directory,
+    headed: Headed<'a>,
+) -> Result<EnvelopeView<'a>, LetterFault>
+    // Whatever text was read so, and whoever seals: it is what that text is seen as.
+    ensures exact { (seals : Seals) (text : Bytes) → headed_of seals text ≡ Ok (headed_shown headed.entry)
+        → Gives faults.NoMemory view_shown result (view seals (providers_of directory.now) text) }
 {
-    let headed = Headed::read(alloc, sealer, message)?;
-    headed.letter(alloc)
+    see_behind(alloc, directory, headed)
+}
+
+/// Whether a head that was read says that it is an envelope's: a text with another head is none. It takes no memory.
+pub fn has_envelope_head(headed: &Headed<'_>) -> bool
+    ensures value { result ≡ is_marked (marking_of headed.now.head) }
+    ensures none { (seals : Seals) (providers : List Provider) (text : Bytes)
+        → headed_of seals text ≡ Ok (headed_shown headed.now) → result ≡ false
+        → result_ok (view seals providers text) ≡ None }
+{
+    is_marked(&headed.head)
+}
+
+/// What is seen behind a head.
+#[tactic(auto, unfolding(crate::specs::Behind::view_in))]
+fn see_behind<'a>(
+    alloc: Global,
+    directory: &Directory,
+    headed: Headed<'a>,
+) -> Result<EnvelopeView<'a>, LetterFault>
+    ensures { Gives faults.NoMemory view_shown result (view_in (providers_of directory.now) (headed_shown headed.entry)) }
+{
+    let letter = headed.letter(alloc)?;
+    see(alloc, directory, &letter)
 }
 
 /// What is seen of a letter that was read: the rows in their order, the last by `dated`.

@@ -5,6 +5,9 @@ ghost use Rattle.pec_letters.specs.Fitting.{Fits};
 ghost use Rattle.pec_records.specs.Entry.{longest_message, most_addresses};
 ghost use Rattle.pec_ledger.specs.Ledger.{Journals};
 ghost use Rattle.pec_plays.specs.Commands.{Marks, Submit, Submits, Tick, played};
+ghost use Rattle.pec_points.specs.Case.{case_at};
+ghost use Rattle.pec_provider.specs.Looking.{Looks};
+ghost use Rattle.pec_screen.specs.VerdictReading.{finds};
 ghost use Rattle.pec_trade.specs.TradeOf.{trade_of};
 ghost use Rattle.pec_network.specs.Carrying.{AllCarryOn, NoneFalls};
 ghost use Rattle.pec_network.specs.Changing.{ChangesOnly, HasRisenAt};
@@ -15,6 +18,7 @@ use crate::laws::what_rests_carries_on;
 use crate::network::Network;
 use pec_outside::Disk;
 use pec_provider::House;
+use pec_screen::Judge;
 use pec_seal::Sealer;
 use pec_types::{Address, Mark, Moment, ProviderFault, Submitted};
 use std::alloc::Global;
@@ -23,8 +27,9 @@ use std::alloc::Global;
 impl<D: Disk, S: Sealer> Network<D, S> {
     /// Hands a provider a message that an account submits for a forward path, in bytes as it was handed in. The first
     /// of these refusals that applies is answered, and leaves all as it was: `NoAccount`, `Down`, `ClockBack`, `Full`,
-    /// `NoMemory`, `JournalFull`. After `DiskFault` the provider is down.
-    pub fn submit(
+    /// `NoMemory`, `JournalFull`. After `DiskFault` the provider is down. The screens are that provider's; they look where
+    /// none of the first four applies and no row of the admission table before theirs does.
+    pub fn submit<J: Judge>(
         &mut self,
         alloc: Global,
         provider: u32,
@@ -32,6 +37,7 @@ impl<D: Disk, S: Sealer> Network<D, S> {
         sender: &Address,
         path: &[Address],
         message: &[u8],
+        screens: &mut J,
     ) -> Result<Submitted, ProviderFault>
         requires provider { provider < length self.old.kept }
         requires fits { Fits (S.seals self.old.sealer) (providers_of self.old.kept) }
@@ -39,7 +45,12 @@ impl<D: Disk, S: Sealer> Network<D, S> {
         requires message { length message.now ≤ longest_message }
         ensures plays { IsPlayed Submits
             (λ luck. played (trade_of self.old.kept (S.seals self.old.sealer)) luck (sites self.old)
-            (Submit provider moment sender.now path.now message.now)) (sites self.old) (sites self.new) result }
+            (Submit provider moment sender.now path.now message.now (finds (J.patterns screens.old) message.now)))
+            (sites self.old) (sites self.new) result }
+        // Each screen has looked once exactly where the message came to the screens, also where it is refused then.
+        ensures looked { Looks (case_at (providers_of self.old.kept) provider sender.now path.now message.now
+            (finds (J.patterns screens.old) message.now)) (J.seen screens.old) (J.seen screens.new) result }
+        ensures patterns { J.patterns screens.new ≡ J.patterns screens.old }
         ensures others { ChangesOnly provider self.old self.new }
         ensures carries { D.tells → (journals : Journals) → AllCarryOn D.sight
             (trade_of self.old.kept (S.seals self.old.sealer)) journals self.old.providers self.new.providers }
@@ -53,7 +64,7 @@ impl<D: Disk, S: Sealer> Network<D, S> {
             sealer: &self.sealer,
             me: provider,
         };
-        self.providers[provider as usize].submit(alloc, &house, moment, sender, path, message)
+        self.providers[provider as usize].submit(alloc, &house, moment, sender, path, message, screens)
     }
 
     /// Has a provider look at the clock: the marks that are due by then are set, and told. The first of these refusals

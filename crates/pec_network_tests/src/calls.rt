@@ -8,6 +8,7 @@ ghost use Rattle.pec_records.specs.Entry.{longest_message, most_addresses};
 use pec_network::{Network, RestartFault};
 use pec_outside::{MemDepot, MemDisk};
 use pec_provider::{ProviderFault, Submitted};
+use pec_screen::NoScreens;
 use pec_seal::{HmacSealer, Sealer};
 use pec_types::{Address, Mark, Moment};
 use std::alloc::Global;
@@ -28,7 +29,8 @@ pub(crate) fn submit(
     ensures { (network.new.kept ≡ network.old.kept) × (network.new.sealer ≡ network.old.sealer) }
 {
     network.directory();
-    network.submit(alloc, provider, moment, sender, path, message)
+    let mut none = NoScreens;
+    network.submit(alloc, provider, moment, sender, path, message, &mut none)
 }
 
 pub(crate) fn tick(

@@ -1,5 +1,5 @@
 -- Commands that one provider answers: submissions, clock calls, and what accounts ask for.
-use Rattle.std.proofs.Common.{◌≡◌, ℕ, ◌<◌, true, false, List, length, refl, ap, sym, subst, ◌∙◌, Global, Vec, Some}
+use Rattle.std.proofs.Common.{◌≡◌, ℕ, ◌<◌, Bool, true, false, List, length, refl, ap, sym, subst, ◌∙◌, Global, Vec, Some}
 use Rattle.std.proofs.Common.{Result, Ok, Err}
 use Rattle.std.specs.Prelude.{IsErr}
 use Rattle.pec_outside.specs.DiskModel.{Sight}
@@ -175,8 +175,8 @@ module _ {D S : Type 0} (sight : D → Sight) (count : D → ℕ) (disks : Type 
       (any_left tells trade (sites old) (sites new) command outcome is)
 
 pub submit_of : (trade : Trade) (asked moment : ℕ) (sender : Bytes) (path : List Bytes) (message : Bytes)
-    → IsOfProvider trade (Submit asked moment sender path message) asked
-submit_of trade asked moment sender path message = record { meets = λ luck state. tt; blames = λ provider answer. refl }
+    (found : Bool) → IsOfProvider trade (Submit asked moment sender path message found) asked
+submit_of trade asked moment sender path message found = record { meets = λ luck state. tt; blames = λ provider answer. refl }
 
 pub tick_of : (trade : Trade) (asked moment : ℕ) → IsOfProvider trade (Tick asked moment) asked
 tick_of trade asked moment = record { meets = λ luck state. tt; blames = λ provider answer. refl }

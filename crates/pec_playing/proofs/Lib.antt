@@ -7,3 +7,4 @@ pub mod PlayLemmas
 pub mod RestartLemmas
 pub mod RoundLemmas
 pub mod SameLemmas
+mod FindLemmas

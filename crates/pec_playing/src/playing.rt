@@ -1,11 +1,11 @@
-ghost use Rattle.std.specs.Prelude.{◌≡◌, ℕ, ◌≤◌, length, IfOk, OnErr};
+ghost use Rattle.std.specs.Prelude.{◌≡◌, ℕ, ◌≤◌, length, map, IfOk, OnErr};
 ghost use Rattle.pec_outside.specs.Depots.{Alike};
 ghost use Rattle.pec_directory.specs.Directory.{providers_of};
 ghost use Rattle.pec_letters.specs.Fitting.{Fits};
 ghost use Rattle.pec_trade.specs.TradeOf.{trade_of};
 ghost use Rattle.pec_network.specs.Carrying.{AllStand, NoneFalls};
 ghost use Rattle.pec_network.specs.Network.{sites};
-ghost use Rattle.pec_runs.specs.ScriptLines.{command_in};
+ghost use Rattle.pec_runs.specs.ScriptLines.{command_in, finds_in};
 ghost use Rattle.pec_playing.specs.Doing.{Does};
 ghost use Rattle.pec_playing.specs.Playing.{CanPlay, HasPlayed, HasStopped, counts_in};
 
@@ -17,16 +17,19 @@ use crate::rounds::round;
 use pec_network::Network;
 use pec_outside::{Depot, Disk};
 use pec_script::Command;
+use pec_screen::Judge;
 use pec_seal::Sealer;
 use pec_types::NoMemory;
 use std::alloc::Global;
 
-/// Plays a command of a script, and gives the lines that are written of its answer. Want of memory ends the run: the
+/// Plays a command of a script, and gives the lines that are written of its answer. The screens of a provider are those
+/// at its number, and none where there are fewer. Want of memory ends the run: the
 /// command may have been played then, in whole or in part.
-pub fn play<D: Disk, S: Sealer, P: Depot<D = D>>(
+pub fn play<D: Disk, S: Sealer, P: Depot<D = D>, J: Judge>(
     alloc: Global,
     network: &mut Network<D, S>,
     depot: &mut P,
+    screens: &mut [J],
     command: Command,
 ) -> Result<Vec<u8>, NoMemory>
     requires fits { Fits (S.seals network.old.sealer) (providers_of network.old.kept) }
@@ -37,10 +40,10 @@ pub fn play<D: Disk, S: Sealer, P: Depot<D = D>>(
         → IfOk result (λ text. HasPlayed (P.tells × D.tells)
         (trade_of network.old.kept (S.seals network.old.sealer)) (providers_of network.old.kept) (sites network.old)
         (counts_in D.faults network.old.providers elsewhere) (counts_in D.faults network.new.providers elsewhere)
-        (command_in command) text.items (sites network.new)) }
+        (command_in (finds_in (map J.patterns screens.old)) command) text.items (sites network.new)) }
     ensures stops { (P.tells × D.tells → AllStand D.sight network.old.providers)
         → OnErr result (HasStopped (P.tells × D.tells)
-        (trade_of network.old.kept (S.seals network.old.sealer)) (sites network.old) (command_in command)
+        (trade_of network.old.kept (S.seals network.old.sealer)) (sites network.old) (command_in (finds_in (map J.patterns screens.old)) command)
         (sites network.new)) }
     ensures same { (network.new.kept ≡ network.old.kept) × (network.new.sealer ≡ network.old.sealer) }
     ensures stands { D.tells → AllStand D.sight network.old.providers → AllStand D.sight network.new.providers }
@@ -48,24 +51,28 @@ pub fn play<D: Disk, S: Sealer, P: Depot<D = D>>(
     ensures home { P.tells → Alike (P.home depot.old) (P.home depot.new) }
     ensures last { Alike (P.last depot.old) (P.last depot.new) }
     ensures depot_later { P.faults depot.old ≤ P.faults depot.new }
+    // Screens keep what they look for.
+    ensures patterns { map J.patterns screens.new ≡ map J.patterns screens.old }
 {
-    play_command(alloc, network, depot, command)
+    play_command(alloc, network, depot, screens, command)
 }
 
 /// The same, whatever is known of disks.
-fn play_command<D: Disk, S: Sealer, P: Depot<D = D>>(
+fn play_command<D: Disk, S: Sealer, P: Depot<D = D>, J: Judge>(
     alloc: Global,
     network: &mut Network<D, S>,
     depot: &mut P,
+    screens: &mut [J],
     command: Command,
 ) -> Result<Vec<u8>, NoMemory>
     requires fits { Fits (S.seals network.old.sealer) (providers_of network.old.kept) }
     requires can { CanPlay (length network.old.kept) command }
     ensures does { Does D.sight D.faults D.tells (trade_of network.old.kept (S.seals network.old.sealer))
-        (command_in command) network.old network.new result }
+        (command_in (finds_in (map J.patterns screens.old)) command) network.old network.new result }
     ensures home { P.tells → Alike (P.home depot.old) (P.home depot.new) }
     ensures last { Alike (P.last depot.old) (P.last depot.new) }
     ensures later { P.faults depot.old ≤ P.faults depot.new }
+    ensures patterns { map J.patterns screens.new ≡ map J.patterns screens.old }
 {
     match command {
         Command::Submit {
@@ -77,6 +84,7 @@ fn play_command<D: Disk, S: Sealer, P: Depot<D = D>>(
         } => submit(
             alloc,
             network,
+            screens,
             provider,
             moment,
             &sender,

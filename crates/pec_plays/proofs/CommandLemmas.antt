@@ -19,7 +19,7 @@ use Rattle.pec_ledger.specs.Own.{Own}
 use Rattle.pec_ledger.specs.Steps.{half, moment_of}
 use Rattle.pec_ledger.specs.Trade.{Trade}
 use Rattle.pec_ledger.specs.TradeLaws.{IsTrade}
-use Rattle.pec_plays.specs.Commands.{Answer, Luck, Played, append, appended, asked, at_work, entry_by, injected, lost, messages_at, put_again, restarted, restarted_site, stopped_site, submitted, swapped, swapped_at, ticked, with_entry, with_frames, with_site}
+use Rattle.pec_plays.specs.Commands.{Answer, Luck, Played, append, appended, asked, at_work, entry_by, injected, lost, messages_at, put_again, restarted, restarted_site, screened_cause, stopped_site, submitted, swapped, swapped_at, ticked, with_entry, with_frames, with_site}
 use Rattle.pec_plays.specs.Rounds.{link_size, with_waiting}
 use Rattle.pec_plays.specs.Steps.{has_no_room}
 use Rattle.pec_plays.specs.Turns.{broken, last_of}
@@ -28,27 +28,32 @@ use Rattle.pec_plays.proofs.SiteLemmas.{StateLaws, next_as_it_was, next_with, no
 -- ---- the entry of a submission
 
 module _ (trade : Trade) (world : IsTrade trade) (p now : ℕ) (es : List Entry) where
-  pub entry_own : (sender : Bytes) (path : Path) (message : Bytes) (cause : Option Cause) → trade.cause p sender path message ≡ cause
+  pub entry_own : (sender : Bytes) (path : Path) (message : Bytes) (found : Bool) (cause : Option Cause) → trade.cause p sender path message ≡ cause
       → trade.is_account p sender ≡ true → length (half trade p es).messages < MESSAGES → 0 < length path → length path ≤ most_addresses
-      → Own trade p (half trade p es) (entry_by cause now sender path message) × (moment_of (entry_by cause now sender path message) ≡ now)
-  entry_own sender path message None e account room some few =
+      → Own trade p (half trade p es) (entry_by (screened_cause found cause) now sender path message)
+      × (moment_of (entry_by (screened_cause found cause) now sender path message) ≡ now)
+  entry_own sender path message false None e account room some few =
       let admitted = world.admitted p sender path message e
       in ((room, account, record { facts = admitted.0; are = admitted.1; sent = admitted.2; few = let l = admitted.4 in omega arith }), refl)
-  entry_own sender path message (Some cause) e account room some few = ((room, account, some, few), refl)
+  entry_own sender path message true None e account room some few = ((room, account, some, few), refl)
+  entry_own sender path message found (Some cause) e account room some few = ((room, account, some, few), refl)
 
-  pub entry_meets : (J : Journals) (sender : Bytes) (path : Path) (message : Bytes) (cause : Option Cause) → trade.cause p sender path message ≡ cause
+  pub entry_meets : (J : Journals) (sender : Bytes) (path : Path) (message : Bytes) (found : Bool) (cause : Option Cause) → trade.cause p sender path message ≡ cause
       → trade.is_account p sender ≡ true → length (half trade p es).messages < MESSAGES → 0 < length path → length path ≤ most_addresses
-      → (half trade p es).last ≤ now → now < END_OF_TIME → Meets trade J p (half trade p es) (entry_by cause now sender path message)
-  entry_meets J sender path message None e account room some few time range =
+      → (half trade p es).last ≤ now → now < END_OF_TIME
+      → Meets trade J p (half trade p es) (entry_by (screened_cause found cause) now sender path message)
+  entry_meets J sender path message false None e account room some few time range =
       let admitted = world.admitted p sender path message e
       in record {
-        own = (entry_own sender path message None e account room some few).0;
+        own = (entry_own sender path message false None e account room some few).0;
         in_time = time;
         in_range = range;
         joint = record { facts = admitted.0; are = admitted.1; none = admitted.3 };
       }
-  entry_meets J sender path message (Some cause) e account room some few time range =
-      record { own = (entry_own sender path message (Some cause) e account room some few).0; in_time = time; in_range = range; joint = inl e }
+  entry_meets J sender path message true None e account room some few time range =
+      record { own = (entry_own sender path message true None e account room some few).0; in_time = time; in_range = range; joint = inr (refl, e) }
+  entry_meets J sender path message found (Some cause) e account room some few time range =
+      record { own = (entry_own sender path message found (Some cause) e account room some few).0; in_time = time; in_range = range; joint = inl e }
 
 module _ (trade : Trade) (world : IsTrade trade) (laws : StateLaws trade) where
   -- ---- appends
@@ -94,14 +99,14 @@ module _ (trade : Trade) (world : IsTrade trade) (laws : StateLaws trade) where
 
   -- ---- submissions
 
-  pub next_submitted : (luck : Luck) (sites : List Site) (p now : ℕ) (sender : Bytes) (path : Path) (message : Bytes) → Sound trade sites
-      → 0 < length path → length path ≤ most_addresses → now < END_OF_TIME → IsNext trade sites (submitted trade luck sites p now sender path message).after
-  next_submitted luck sites p now sender path message sound some few range =
+  pub next_submitted : (luck : Luck) (sites : List Site) (p now : ℕ) (sender : Bytes) (path : Path) (message : Bytes) (found : Bool) → Sound trade sites
+      → 0 < length path → length path ≤ most_addresses → now < END_OF_TIME → IsNext trade sites (submitted trade luck sites p now sender path message found).after
+  next_submitted luck sites p now sender path message found sound some few range =
       by_test sites (trade.is_account p sender) _ _
       (λ account. next_at_work sites p now _ sound
       (λ up time. by_test sites (nat_lt (messages_at trade sites p) MESSAGES) _ _
-      (λ room. next_append luck sites p (entry_by (trade.cause p sender path message) now sender path message) _ sound up
-      (entry_meets trade world p now (journal_at sites p) (journals_of sites) sender path message (trade.cause p sender path message) refl account
+      (λ room. next_append luck sites p (entry_by (screened_cause found (trade.cause p sender path message)) now sender path message) _ sound up
+      (entry_meets trade world p now (journal_at sites p) (journals_of sites) sender path message found (trade.cause p sender path message) refl account
       (ltb-true (messages_at trade sites p) MESSAGES room) some few time range))
       (λ e. next_as_it_was trade laws sites sound)))
       (λ e. next_as_it_was trade laws sites sound)

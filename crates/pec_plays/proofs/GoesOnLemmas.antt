@@ -57,8 +57,8 @@ module _ (trade : Trade) (sites : List Site) where
   work_goes_on p now done more =
       by_test (site_at sites p).up _ _ (by_test (nat_lt now (last_of trade p (journal_at sites p))) _ done as_they_are more) as_they_are
 
-  submitted_goes_on : (luck : Luck) (p now : ℕ) (sender : Bytes) (path : Path) (message : Bytes) → GoOn (submitted trade luck sites p now sender path message).after
-  submitted_goes_on luck p now sender path message =
+  submitted_goes_on : (luck : Luck) (p now : ℕ) (sender : Bytes) (path : Path) (message : Bytes) (found : Bool) → GoOn (submitted trade luck sites p now sender path message found).after
+  submitted_goes_on luck p now sender path message found =
       by_test (trade.is_account p sender) _ _
       (work_goes_on p now _ (by_test (nat_lt (messages_at trade sites p) MESSAGES) _ _ (append_goes_on luck p _ _) as_they_are)) as_they_are
 
@@ -109,7 +109,7 @@ module _ (trade : Trade) (sites : List Site) where
 
   pub played_goes_on : (luck : Luck) (command : Command) → GoOn (played trade luck sites command).after
   unfolding played
-  played_goes_on luck (Submit p now sender path message) = submitted_goes_on luck p now sender path message
+  played_goes_on luck (Submit p now sender path message found) = submitted_goes_on luck p now sender path message found
   played_goes_on luck (Tick p now) = work_goes_on p now _ (append_goes_on luck p (entries.Ticked now) _)
   played_goes_on luck (Round now) = rounded_goes_on now luck
   played_goes_on luck (Lose from to place) = lost_goes_on from to place

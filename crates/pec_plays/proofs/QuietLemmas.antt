@@ -101,9 +101,9 @@ module _ (trade : Trade) (sites : List Site) (a b : Luck) (quiet_a : IsQuiet a) 
   work_one : (p now : ℕ) (x y : Played) → x ≡ y → at_work trade sites p now x ≡ at_work trade sites p now y
   work_one p now x y e = ap (at_work trade sites p now) e
 
-  submitted_one : (p now : ℕ) (sender : Bytes) (path : Path) (message : Bytes)
-      → submitted trade a sites p now sender path message ≡ submitted trade b sites p now sender path message
-  submitted_one p now sender path message =
+  submitted_one : (p now : ℕ) (sender : Bytes) (path : Path) (message : Bytes) (found : Bool)
+      → submitted trade a sites p now sender path message found ≡ submitted trade b sites p now sender path message found
+  submitted_one p now sender path message found =
       ap (λ (x : Played). if trade.is_account p sender then x else answers sites (Refuses faults.NoAccount))
       (work_one p now _ _
       (ap (λ (x : Played). if nat_lt (messages_at trade sites p) MESSAGES then x else answers sites (Refuses faults.Full)) (append_one p _ _)))
@@ -195,7 +195,7 @@ module _ (trade : Trade) (sites : List Site) (a b : Luck) (quiet_a : IsQuiet a) 
   pub played_one : (command : Command) → NoneInterrupted sites → MayMeet trade a sites command → MayMeet trade b sites command
       → played trade a sites command ≡ played trade b sites command
   unfolding played
-  played_one (Submit p now sender path message) none may_a may_b = submitted_one p now sender path message
+  played_one (Submit p now sender path message found) none may_a may_b = submitted_one p now sender path message found
   played_one (Tick p now) none may_a may_b = ticked_one p now
   played_one (Round now) none may_a may_b =
       ap (λ (r : Rounded). let x : Played = record { answer = Turns r.turns; after = r.sites } in x) (rounded_one now may_a may_b)
@@ -289,7 +289,7 @@ module _ (trade : Trade) (sites : List Site) (luck : Luck) (quiet : IsQuiet luck
 
   pub none_behind : (command : Command) → NoneInterrupted (played trade luck sites command).after
   unfolding played
-  none_behind (Submit p now sender path message) =
+  none_behind (Submit p now sender path message found) =
       none_by (trade.is_account p sender) _ _
       (none_work p now _ (none_by (nat_lt (messages_at trade sites p) MESSAGES) _ _ (none_append p _ _) none)) none
   none_behind (Tick p now) = none_work p now _ (none_append p (entries.Ticked now) _)
@@ -332,7 +332,7 @@ quiet_there trade sites (Round now) = (
   λ p l up late. quiet_may (plan trade p now (site_at sites p).journal (frames_in (site_at sites p).waiting)),
   record { cuts = λ p. quiet_is_calm (plan trade p now (site_at sites p).journal (frames_in (site_at sites p).waiting)); works = refl },
 )
-quiet_there trade sites (Submit p now sender path message) = (tt, record { cuts = λ p. tt; works = refl })
+quiet_there trade sites (Submit p now sender path message found) = (tt, record { cuts = λ p. tt; works = refl })
 quiet_there trade sites (Tick p now) = (tt, record { cuts = λ p. tt; works = refl })
 quiet_there trade sites (Lose from to place) = (tt, record { cuts = λ p. tt; works = refl })
 quiet_there trade sites (Repeat from to place) = (tt, record { cuts = λ p. tt; works = refl })

@@ -12,7 +12,7 @@ use Rattle.pec_ledger.specs.Network.{Site, is_up, journal_at, site_at}
 use Rattle.pec_ledger.specs.Pairs.{id_of}
 use Rattle.pec_ledger.specs.Steps.{half, marks_by}
 use Rattle.pec_ledger.specs.Trade.{Trade}
-use Rattle.pec_plays.specs.Commands.{Answer, Luck, Marks, Played, Refuses, Submit, Submits, Tick, answers, append, appended, at_work, entry_by, messages_at, played, submitted, told_by, told_mark}
+use Rattle.pec_plays.specs.Commands.{Answer, Luck, Marks, Played, Refuses, Submit, Submits, Tick, answers, append, appended, at_work, entry_by, messages_at, played, screened_cause, submitted, told_by, told_mark}
 use Rattle.pec_plays.specs.Refusals.{HasRoomFor, IsAtWork, TakesMessages}
 use Rattle.pec_plays.specs.Steps.{has_no_room}
 use Rattle.pec_plays.specs.Turns.{last_of}
@@ -60,38 +60,38 @@ module _ (trade : Trade) (luck : Luck) (sites : List Site) (p now : ℕ) where
 
   -- ---- submissions
 
-  module _ (sender : Bytes) (path : Path) (message : Bytes) where
+  module _ (sender : Bytes) (path : Path) (message : Bytes) (found : Bool) where
     abbrev entry : Entry
-    entry = entry_by (trade.cause p sender path message) now sender path message
+    entry = entry_by (screened_cause found (trade.cause p sender path message)) now sender path message
 
     abbrev told : Answer
-    told = Submits (told_by (trade.cause p sender path message) (id_of p (messages_at trade sites p)))
+    told = Submits (told_by (screened_cause found (trade.cause p sender path message)) (id_of p (messages_at trade sites p)))
 
     abbrev numbered : Played
     numbered =
         if nat_lt (messages_at trade sites p) MESSAGES then append trade luck sites p entry told else answers sites (Refuses faults.Full)
 
     abbrev submission : Played
-    submission = submitted trade luck sites p now sender path message
+    submission = submitted trade luck sites p now sender path message found
 
     of_account : IsTrue (trade.is_account p sender) → submission ≡ at_work trade sites p now numbered
     of_account account = where_so (trade.is_account p sender) _ _ account
 
-    pub no_account : trade.is_account p sender ≡ false → played trade luck sites (Submit p now sender path message) ≡ refused faults.NoAccount
+    pub no_account : trade.is_account p sender ≡ false → played trade luck sites (Submit p now sender path message found) ≡ refused faults.NoAccount
     unfolding played
     no_account e = where_not (trade.is_account p sender) _ _ e
 
-    pub submits_down : IsTrue (trade.is_account p sender) → is_up sites p ≡ false → played trade luck sites (Submit p now sender path message) ≡ refused faults.Down
+    pub submits_down : IsTrue (trade.is_account p sender) → is_up sites p ≡ false → played trade luck sites (Submit p now sender path message found) ≡ refused faults.Down
     unfolding played
     submits_down account e = of_account account ∙ is_down numbered e
 
     pub submits_back : IsTrue (trade.is_account p sender) → is_up sites p ≡ true → now < last_of trade p (journal_at sites p)
-        → played trade luck sites (Submit p now sender path message) ≡ refused (faults.ClockBack (last_of trade p (journal_at sites p)))
+        → played trade luck sites (Submit p now sender path message found) ≡ refused (faults.ClockBack (last_of trade p (journal_at sites p)))
     unfolding played
     submits_back account u l = of_account account ∙ is_back numbered u l
 
     pub submits_full : IsTrue (trade.is_account p sender) → IsAtWork trade sites p now → MESSAGES ≤ messages_at trade sites p
-        → played trade luck sites (Submit p now sender path message) ≡ refused faults.Full
+        → played trade luck sites (Submit p now sender path message found) ≡ refused faults.Full
     unfolding played
     submits_full account work l =
         of_account account ∙ works numbered work
@@ -103,12 +103,12 @@ module _ (trade : Trade) (luck : Luck) (sites : List Site) (p now : ℕ) where
         ∙ where_so (nat_lt (messages_at trade sites p) MESSAGES) _ _ (lt-ltb (messages_at trade sites p) MESSAGES takes.number)
 
     pub submits_no_room : TakesMessages trade sites p now sender → has_no_room trade p (journal_at sites p) entry ≡ true
-        → played trade luck sites (Submit p now sender path message) ≡ refused faults.JournalFull
+        → played trade luck sites (Submit p now sender path message found) ≡ refused faults.JournalFull
     unfolding played
     submits_no_room takes e = takes_one takes ∙ is_full entry told e
 
     pub submits : TakesMessages trade sites p now sender → HasRoomFor trade sites p now entry
-        → played trade luck sites (Submit p now sender path message) ≡ appended luck.fails sites p entry told
+        → played trade luck sites (Submit p now sender path message found) ≡ appended luck.fails sites p entry told
     unfolding played
     submits takes e = takes_one takes ∙ is_appended entry told e
 

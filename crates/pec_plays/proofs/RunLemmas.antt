@@ -227,8 +227,8 @@ module _ (trade : Trade) (names : Event → List Pair) (rows : Half → List Pai
       → Grows sites luck command
   unfolding played
   command_grows sites luck (Round now) one = round_grows sites luck now one
-  command_grows sites luck (Submit p now sender path message) one =
-      names_none sites luck (Submit p now sender path message)
+  command_grows sites luck (Submit p now sender path message found) one =
+      names_none sites luck (Submit p now sender path message found)
       (by_test (trade.is_account p sender) _ _
       (work_names sites p now _ (by_test (nat_lt (messages_at trade sites p) MESSAGES) _ _ (append_names luck sites p _ _ refl) refl)) refl)
   command_grows sites luck (Tick p now) one =

@@ -60,9 +60,9 @@ module _ (trade : Trade) (sites : List Site) (a b : Luck) where
       settled_by (site_at sites p).up _ _ (answers sites (Refuses faults.Down))
       (settled_else (nat_lt now (last_of trade p (journal_at sites p))) x y (answers sites (Refuses (faults.ClockBack (last_of trade p (journal_at sites p))))) s)
 
-  submitted_settled : (p now : ℕ) (sender : Bytes) (path : Path) (message : Bytes)
-      → Settled (submitted trade a sites p now sender path message) (submitted trade b sites p now sender path message)
-  submitted_settled p now sender path message =
+  submitted_settled : (p now : ℕ) (sender : Bytes) (path : Path) (message : Bytes) (found : Bool)
+      → Settled (submitted trade a sites p now sender path message found) (submitted trade b sites p now sender path message found)
+  submitted_settled p now sender path message found =
       settled_by (trade.is_account p sender) _ _ (answers sites (Refuses faults.NoAccount))
       (work_settled p now _ _
       (settled_by (nat_lt (messages_at trade sites p) MESSAGES) _ _ (answers sites (Refuses faults.Full)) (append_settled p _ _ refl)))
@@ -266,7 +266,7 @@ turns_told _ = []
 
 pub played_settled : (trade : Trade) (sites : List Site) (command : Command) (a b : Luck) → Settled (played trade a sites command) (played trade b sites command)
 unfolding played
-played_settled trade sites (Submit p now sender path message) a b = submitted_settled trade sites a b p now sender path message
+played_settled trade sites (Submit p now sender path message found) a b = submitted_settled trade sites a b p now sender path message found
 played_settled trade sites (Tick p now) a b = ticked_settled trade sites a b p now
 played_settled trade sites (Round now) a b = λ e. rounded_settled trade now sites a.cuts b.cuts (ap turns_told e)
 played_settled trade sites (Lose from to place) a b = λ e. refl

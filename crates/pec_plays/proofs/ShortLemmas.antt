@@ -38,8 +38,8 @@ module _ (trade : Trade) (sites : List Site) (short : LinksAreShort sites) where
       by_test (site_at sites p).up _ _
       (λ up. by_test (nat_lt now (last_of trade p (journal_at sites p))) _ done (λ e. short) (λ e. more)) (λ e. short)
 
-  pub short_submitted : (luck : Luck) (p now : ℕ) (sender : Bytes) (path : Path) (message : Bytes) → LinksAreShort (submitted trade luck sites p now sender path message).after
-  short_submitted luck p now sender path message =
+  pub short_submitted : (luck : Luck) (p now : ℕ) (sender : Bytes) (path : Path) (message : Bytes) (found : Bool) → LinksAreShort (submitted trade luck sites p now sender path message found).after
+  short_submitted luck p now sender path message found =
       by_test (trade.is_account p sender) _ _
       (λ account. short_at_work p now _ (by_test (nat_lt (messages_at trade sites p) MESSAGES) _ _ (λ room. short_append luck p _ _) (λ e. short)))
       (λ e. short)

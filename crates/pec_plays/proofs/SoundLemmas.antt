@@ -45,8 +45,8 @@ module _ (trade : Trade) (world : IsTrade trade) (laws : LedgerLaws trade) where
   pub next_played : (luck : Luck) (sites : List Site) (command : Command) → Sound trade sites → IsUnforged trade sites command
       → IsNext trade sites (played trade luck sites command).after
   unfolding played
-  next_played luck sites (Submit p now sender path message) sound given =
-      next_submitted trade world laws.states luck sites p now sender path message sound given.0 given.1 given.2
+  next_played luck sites (Submit p now sender path message found) sound given =
+      next_submitted trade world laws.states luck sites p now sender path message found sound given.0 given.1 given.2
   next_played luck sites (Tick p now) sound given = next_ticked trade world laws.states luck sites p now sound given
   next_played luck sites (Round now) sound given =
       next_rounded trade world laws.states sites sound (laws.arrivals (journals_of sites) sound.fit) (laws.images sites sound) laws.texts now given luck.cuts
@@ -91,7 +91,7 @@ module _ (trade : Trade) (world : IsTrade trade) (laws : LedgerLaws trade) where
   pub short_played : (luck : Luck) (sites : List Site) (command : Command) → Sound trade sites → IsUnforged trade sites command → LinksAreShort sites
       → LinksAreShort (played trade luck sites command).after
   unfolding played
-  short_played luck sites (Submit p now sender path message) sound given short = short_submitted trade sites short luck p now sender path message
+  short_played luck sites (Submit p now sender path message found) sound given short = short_submitted trade sites short luck p now sender path message found
   short_played luck sites (Tick p now) sound given short = short_ticked trade sites short luck p now
   short_played luck sites (Round now) sound given short =
       short_rounded trade world laws.states sites sound (laws.arrivals (journals_of sites) sound.fit) (laws.images sites sound) laws.texts now given luck.cuts short

@@ -8,6 +8,7 @@ use Rattle.pec_types.specs.declared.mailboxes.ItemLine.{ItemLine}
 use Rattle.pec_types.specs.declared.mailboxes.Mark.{Mark as ToldMark}
 use Rattle.pec_types.specs.declared.messages.BookLine.{BookLine}
 use Rattle.pec_types.specs.declared.messages.Cause.{Cause}
+use Rattle.pec_types.specs.declared.messages.Cause.TheVariants as causes
 use Rattle.pec_types.specs.declared.messages.TheConstants.{MESSAGES}
 use Rattle.pec_types.specs.declared.turns.ProviderFault.{ProviderFault}
 use Rattle.pec_types.specs.declared.turns.ProviderFault.TheVariants as faults
@@ -28,8 +29,9 @@ use Rattle.pec_plays.specs.Rounds.{link_size, rounded, with_waiting}
 use Rattle.pec_plays.specs.Steps.{has_no_room}
 use Rattle.pec_plays.specs.Turns.{Cut, broken, last_of}
 
+-- A submission says what the provider's screens find in its message: whether one of them finds a rule.
 pub data Command : Type 0 where
-  Submit : (provider moment : ℕ) (sender : Bytes) (path : Path) (message : Bytes) → Command
+  Submit : (provider moment : ℕ) (sender : Bytes) (path : Path) (message : Bytes) (found : Bool) → Command
   Tick : (provider moment : ℕ) → Command
   Round : (moment : ℕ) → Command
   Lose : (from to place : ℕ) → Command
@@ -109,6 +111,12 @@ at_work trade sites provider now done =
 
 -- ---- submissions
 
+-- what speaks against a message: a cause of the table, and where there is none, that a screen finds a rule
+abbrev pub screened_cause : Bool → Option Cause → Option Cause
+screened_cause found (Some cause) = Some cause
+screened_cause true None = Some causes.Virus
+screened_cause false None = None
+
 -- the entry of a submission, by what speaks against it
 abbrev pub entry_by : Option Cause → ℕ → Bytes → Path → Bytes → Entry
 entry_by None moment sender path message = entries.Accepted moment sender message
@@ -121,13 +129,14 @@ told_by (Some cause) id = submissions.NotAccepted id cause
 abbrev pub messages_at : Trade → List Site → ℕ → ℕ
 messages_at trade sites provider = length (half trade provider (journal_at sites provider)).messages
 
-abbrev pub submitted : Trade → Luck → List Site → ℕ → ℕ → Bytes → Path → Bytes → Played
-submitted trade luck sites provider moment sender path message =
+abbrev pub submitted : Trade → Luck → List Site → ℕ → ℕ → Bytes → Path → Bytes → Bool → Played
+submitted trade luck sites provider moment sender path message found =
     if trade.is_account provider sender
     then at_work trade sites provider moment
     (if nat_lt (messages_at trade sites provider) MESSAGES
-    then append trade luck sites provider (entry_by (trade.cause provider sender path message) moment sender path message)
-    (Submits (told_by (trade.cause provider sender path message) (id_of provider (messages_at trade sites provider))))
+    then append trade luck sites provider
+    (entry_by (screened_cause found (trade.cause provider sender path message)) moment sender path message)
+    (Submits (told_by (screened_cause found (trade.cause provider sender path message)) (id_of provider (messages_at trade sites provider))))
     else answers sites (Refuses faults.Full))
     else answers sites (Refuses faults.NoAccount)
 
@@ -227,7 +236,8 @@ shown trade sites provider (Some posted) = shown_bytes sites (item_text trade pr
 
 -- What a command does.
 unfoldable pub played : Trade → Luck → List Site → Command → Played
-played trade luck sites (Submit provider moment sender path message) = submitted trade luck sites provider moment sender path message
+played trade luck sites (Submit provider moment sender path message found) =
+    submitted trade luck sites provider moment sender path message found
 played trade luck sites (Tick provider moment) = ticked trade luck sites provider moment
 played trade luck sites (Round moment) =
     record { answer = Turns (rounded trade moment luck.cuts sites).turns; after = (rounded trade moment luck.cuts sites).sites }

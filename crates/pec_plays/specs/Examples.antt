@@ -32,7 +32,7 @@ finding = record { cuts = λ provider. Whole; fails = false; found = true }
 
 -- what alice writes, to this address
 abbrev pub writes_to : Bytes → Command
-writes_to recipient = Submit 0 morning alice (recipient ∷ []) (to_one recipient)
+writes_to recipient = Submit 0 morning alice (recipient ∷ []) (to_one recipient) false
 
 abbrev pub turn_of : ℕ → List Event → List (ℕ × ℕ) → Option ProviderFault → Turn
 turn_of provider events sent ended = record { provider = provider; events = events; sent = sent; ended = ended }

@@ -27,7 +27,7 @@ script trade (luck ∷ lucks) sites (command ∷ commands) =
 -- forged frame is injected. Where a message stands in an injected frame and opens, that is the text of a licensed letter
 -- or of an item, as the command begins; all other frames are free.
 abbrev pub IsUnforged : Trade → List Site → Command → Type 0
-IsUnforged trade sites (Submit provider moment sender path message) =
+IsUnforged trade sites (Submit provider moment sender path message found) =
     (0 < length path) × (length path ≤ most_addresses) × (moment < END_OF_TIME)
 IsUnforged trade sites (Tick provider moment) = moment < END_OF_TIME
 IsUnforged trade sites (Round moment) = moment < END_OF_TIME

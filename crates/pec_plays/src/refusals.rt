@@ -1,4 +1,4 @@
-ghost use Rattle.std.specs.Prelude.{◌≡◌, ℕ, ◌<◌, ◌≤◌, true, false, List, IsTrue, map};
+ghost use Rattle.std.specs.Prelude.{◌≡◌, ℕ, ◌<◌, ◌≤◌, Bool, true, false, List, IsTrue, map};
 ghost use Rattle.pec_types.specs.Bytes.{Bytes, Path};
 ghost use Rattle.pec_types.specs.declared.messages.TheConstants.{MESSAGES};
 ghost use Rattle.pec_types.specs.declared.turns.ProviderFault.TheVariants as faults;
@@ -7,7 +7,7 @@ ghost use Rattle.pec_ledger.specs.Network.{is_up, journal_at, Site};
 ghost use Rattle.pec_ledger.specs.Pairs.{id_of};
 ghost use Rattle.pec_ledger.specs.Steps.{half, marks_by};
 ghost use Rattle.pec_ledger.specs.Trade.{Trade};
-ghost use Rattle.pec_plays.specs.Commands.{answers, appended, entry_by, Luck, Marks, messages_at, played, Refuses, Submit, Submits, Tick, told_by, told_mark};
+ghost use Rattle.pec_plays.specs.Commands.{answers, appended, entry_by, Luck, Marks, messages_at, played, Refuses, Submit, Submits, Tick, screened_cause, told_by, told_mark};
 ghost use Rattle.pec_plays.specs.Refusals.{HasRoomFor, IsAtWork, TakesMessages};
 ghost use Rattle.pec_plays.specs.Steps.{has_no_room};
 ghost use Rattle.pec_plays.specs.Turns.{last_of};
@@ -16,29 +16,29 @@ ghost use Rattle.pec_plays.specs.Turns.{last_of};
 /// the moment is before the greatest of its journal, it has as many messages as it may, or its journal has no room for
 /// the entry. Else the entry is appended, whose append may fail.
 pub fn submissions_are_refused_in_order()
-    ensures no_account { (trade : Trade) (luck : Luck) (sites : List Site) (provider now : ℕ) (sender : Bytes) (path : Path) (message : Bytes)
+    ensures no_account { (trade : Trade) (luck : Luck) (sites : List Site) (provider now : ℕ) (sender : Bytes) (path : Path) (message : Bytes) (found : Bool)
         → trade.is_account provider sender ≡ false
-        → played trade luck sites (Submit provider now sender path message) ≡ answers sites (Refuses faults.NoAccount) }
-    ensures down { (trade : Trade) (luck : Luck) (sites : List Site) (provider now : ℕ) (sender : Bytes) (path : Path) (message : Bytes)
+        → played trade luck sites (Submit provider now sender path message found) ≡ answers sites (Refuses faults.NoAccount) }
+    ensures down { (trade : Trade) (luck : Luck) (sites : List Site) (provider now : ℕ) (sender : Bytes) (path : Path) (message : Bytes) (found : Bool)
         → IsTrue (trade.is_account provider sender) → is_up sites provider ≡ false
-        → played trade luck sites (Submit provider now sender path message) ≡ answers sites (Refuses faults.Down) }
-    ensures clock_back { (trade : Trade) (luck : Luck) (sites : List Site) (provider now : ℕ) (sender : Bytes) (path : Path) (message : Bytes)
+        → played trade luck sites (Submit provider now sender path message found) ≡ answers sites (Refuses faults.Down) }
+    ensures clock_back { (trade : Trade) (luck : Luck) (sites : List Site) (provider now : ℕ) (sender : Bytes) (path : Path) (message : Bytes) (found : Bool)
         → IsTrue (trade.is_account provider sender) → is_up sites provider ≡ true → now < last_of trade provider (journal_at sites provider)
-        → played trade luck sites (Submit provider now sender path message)
+        → played trade luck sites (Submit provider now sender path message found)
         ≡ answers sites (Refuses (faults.ClockBack (last_of trade provider (journal_at sites provider)))) }
-    ensures full { (trade : Trade) (luck : Luck) (sites : List Site) (provider now : ℕ) (sender : Bytes) (path : Path) (message : Bytes)
+    ensures full { (trade : Trade) (luck : Luck) (sites : List Site) (provider now : ℕ) (sender : Bytes) (path : Path) (message : Bytes) (found : Bool)
         → IsTrue (trade.is_account provider sender) → IsAtWork trade sites provider now → MESSAGES ≤ messages_at trade sites provider
-        → played trade luck sites (Submit provider now sender path message) ≡ answers sites (Refuses faults.Full) }
-    ensures journal_full { (trade : Trade) (luck : Luck) (sites : List Site) (provider now : ℕ) (sender : Bytes) (path : Path) (message : Bytes)
+        → played trade luck sites (Submit provider now sender path message found) ≡ answers sites (Refuses faults.Full) }
+    ensures journal_full { (trade : Trade) (luck : Luck) (sites : List Site) (provider now : ℕ) (sender : Bytes) (path : Path) (message : Bytes) (found : Bool)
         → TakesMessages trade sites provider now sender
-        → has_no_room trade provider (journal_at sites provider) (entry_by (trade.cause provider sender path message) now sender path message) ≡ true
-        → played trade luck sites (Submit provider now sender path message) ≡ answers sites (Refuses faults.JournalFull) }
-    ensures done { (trade : Trade) (luck : Luck) (sites : List Site) (provider now : ℕ) (sender : Bytes) (path : Path) (message : Bytes)
+        → has_no_room trade provider (journal_at sites provider) (entry_by (screened_cause found (trade.cause provider sender path message)) now sender path message) ≡ true
+        → played trade luck sites (Submit provider now sender path message found) ≡ answers sites (Refuses faults.JournalFull) }
+    ensures done { (trade : Trade) (luck : Luck) (sites : List Site) (provider now : ℕ) (sender : Bytes) (path : Path) (message : Bytes) (found : Bool)
         → TakesMessages trade sites provider now sender
-        → HasRoomFor trade sites provider now (entry_by (trade.cause provider sender path message) now sender path message)
-        → played trade luck sites (Submit provider now sender path message)
-        ≡ appended luck.fails sites provider (entry_by (trade.cause provider sender path message) now sender path message)
-        (Submits (told_by (trade.cause provider sender path message) (id_of provider (messages_at trade sites provider)))) }
+        → HasRoomFor trade sites provider now (entry_by (screened_cause found (trade.cause provider sender path message)) now sender path message)
+        → played trade luck sites (Submit provider now sender path message found)
+        ≡ appended luck.fails sites provider (entry_by (screened_cause found (trade.cause provider sender path message)) now sender path message)
+        (Submits (told_by (screened_cause found (trade.cause provider sender path message)) (id_of provider (messages_at trade sites provider)))) }
 {}
 
 /// A clock call is refused for the first of these causes: the provider is down, the moment is before the greatest of its

@@ -1,4 +1,4 @@
-ghost use Rattle.std.specs.Prelude.{◌≡◌, ℕ, ◌<◌, ◌≤◌, List, [], ◌∷◌, Contains, IsTrue, length, Some};
+ghost use Rattle.std.specs.Prelude.{◌≡◌, ℕ, ◌<◌, ◌≤◌, Bool, List, [], ◌∷◌, Contains, IsTrue, length, Some};
 ghost use Rattle.pec_types.specs.Bytes.{Bytes, Path};
 ghost use Rattle.pec_types.specs.declared.messages.TheConstants.{MESSAGES};
 ghost use Rattle.pec_types.specs.declared.moments.TheConstants.{END_OF_TIME};
@@ -12,7 +12,7 @@ ghost use Rattle.pec_ledger.specs.Pairs.{Pair};
 ghost use Rattle.pec_ledger.specs.Steps.{half, moment_of};
 ghost use Rattle.pec_ledger.specs.Trade.{Trade};
 ghost use Rattle.pec_ledger.specs.TradeLaws.{IsTrade};
-ghost use Rattle.pec_plays.specs.Commands.{entry_by};
+ghost use Rattle.pec_plays.specs.Commands.{entry_by, screened_cause};
 ghost use Rattle.pec_plays.specs.Decisions.{decide, undecided};
 ghost use Rattle.pec_plays.specs.Reception.{arrive};
 ghost use Rattle.pec_plays.specs.Steps.{journal_after};
@@ -28,11 +28,11 @@ pub fn what_a_provider_does_is_its_own()
     ensures decisions { (trade : Trade) (provider now : ℕ) (journal : List Entry) (pair : Pair) → Contains (undecided trade provider journal) pair
         → (entry : Entry) → (decide trade provider now journal pair).entry ≡ Some entry
         → Own trade provider (half trade provider journal) entry × (moment_of entry ≡ now) }
-    ensures submissions { (trade : Trade) → IsTrade trade → (provider now : ℕ) (journal : List Entry) (sender : Bytes) (path : Path) (message : Bytes)
+    ensures submissions { (trade : Trade) → IsTrade trade → (provider now : ℕ) (journal : List Entry) (sender : Bytes) (path : Path) (message : Bytes) (found : Bool)
         → IsTrue (trade.is_account provider sender) → length (half trade provider journal).messages < MESSAGES
         → 0 < length path → length path ≤ most_addresses
-        → Own trade provider (half trade provider journal) (entry_by (trade.cause provider sender path message) now sender path message)
-        × (moment_of (entry_by (trade.cause provider sender path message) now sender path message) ≡ now) }
+        → Own trade provider (half trade provider journal) (entry_by (screened_cause found (trade.cause provider sender path message)) now sender path message)
+        × (moment_of (entry_by (screened_cause found (trade.cause provider sender path message)) now sender path message) ≡ now) }
     ensures clock_calls { (trade : Trade) (provider now : ℕ) (journal : List Entry)
         → Own trade provider (half trade provider journal) (entries.Ticked now) × (moment_of (entries.Ticked now) ≡ now) }
 {}
@@ -52,10 +52,10 @@ pub fn what_a_provider_does_may_follow()
         → Meets trade journals provider (half trade provider journal) entry }
     ensures submissions { (trade : Trade) → IsTrade trade → (journals : Journals)
         → (provider now : ℕ) (journal : List Entry) → (half trade provider journal).last ≤ now → now < END_OF_TIME
-        → (sender : Bytes) (path : Path) (message : Bytes)
+        → (sender : Bytes) (path : Path) (message : Bytes) (found : Bool)
         → IsTrue (trade.is_account provider sender) → length (half trade provider journal).messages < MESSAGES
         → 0 < length path → length path ≤ most_addresses
-        → Meets trade journals provider (half trade provider journal) (entry_by (trade.cause provider sender path message) now sender path message) }
+        → Meets trade journals provider (half trade provider journal) (entry_by (screened_cause found (trade.cause provider sender path message)) now sender path message) }
     ensures clock_calls { (trade : Trade) (journals : Journals)
         → (provider now : ℕ) (journal : List Entry) → (half trade provider journal).last ≤ now → now < END_OF_TIME
         → Meets trade journals provider (half trade provider journal) (entries.Ticked now) }

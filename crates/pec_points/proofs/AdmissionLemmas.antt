@@ -9,13 +9,13 @@ use Rattle.std.specs.Str.{bytes_eq}
 use Rattle.pec_types.specs.declared.messages.Facts.{Facts}
 use Rattle.pec_types.specs.declared.messages.Recipient.{Recipient}
 use Rattle.pec_types.specs.declared.messages.Cause.{Cause}
-use Rattle.pec_types.specs.declared.messages.Cause.TheVariants.{Head, From, To, ReversePath, ForwardPath, Bcc, Size}
+use Rattle.pec_types.specs.declared.messages.Cause.TheVariants.{Head, From, To, ReversePath, ForwardPath, Bcc, Size, Virus}
 use Rattle.pec_types.specs.Tables.{NoneApplies, first_is, first_again, one_first, none_is, none_again}
 use Rattle.pec_heads.specs.Heads.{HasHeadFault, IsHead, joined_values}
 use Rattle.pec_heads.specs.Lists.{HasList}
 use Rattle.pec_heads.specs.FactsReading.{facts_of, listed, sender_of}
 use Rattle.pec_types.specs.Bytes.{Bytes, Path}
-use Rattle.pec_points.specs.Case.{Case}
+use Rattle.pec_points.specs.Case.{Case, unscreened}
 use Rattle.pec_points.specs.Admission.{Applies, Fields, IsAccepted, IsCause, IsForwardPath, IsFrom, IsTooLarge, has_blind_copies, rows}
 use Rattle.pec_points.specs.AdmissionReading.{admission_by, admission_of, admission_with, admitted, applies, differs, has_other_path, has_other_sender, has_recipient, head_in, is_path_of, is_too_large, lacks_from, lacks_to, outgrows, recipients_in, strays}
 use Rattle.pec_points.specs.declared.admission.Admission.{Admission}
@@ -25,7 +25,7 @@ use Rattle.pec_points.proofs.HeadLemmas.{some_is, no_some, recipients_there, rec
 use Rattle.pec_points.proofs.SetLemmas.{path_is_set, set_is_path}
 
 -- What the answer says of the case.
-abbrev Says : Case → Admission → Type 0
+abbrev pub Says : Case → Admission → Type 0
 Says case (Accepted facts) = IsAccepted case facts
 Says case (Not cause) = IsCause case cause
 
@@ -33,14 +33,14 @@ Says case (Not cause) = IsCause case cause
 
 pub with_facts : (case : Case) (head : Fields) (from : Bytes) (to : Path) (facts : Facts) → sender_of head ≡ Some from → listed (codes "To") head ≡ Some to
     → bytes_eq from case.sender ≡ true → facts_of head ≡ Some facts
-    → admission_by case.limit case.path (length case.message) head facts ≡ admission_with case (Some head)
+    → admission_by case.limit case.path (length case.message) head facts ≡ admission_with (unscreened case) (Some head)
 unfolding admission_with
 with_facts case head from to facts s t same f =
     let r : recipients_in head ≡ Some facts.recipients = recipients_there head from s ∙ ap (λ (o : Option Facts). option_map (λ (g : Facts). g.recipients) o) f
     in rw (r, s, t, f, same) refl
 
 pub with_no_facts : (case : Case) (head : Fields) (from : Bytes) (to : Path) → sender_of head ≡ Some from → listed (codes "To") head ≡ Some to
-    → bytes_eq from case.sender ≡ true → facts_of head ≡ None → Not ForwardPath ≡ admission_with case (Some head)
+    → bytes_eq from case.sender ≡ true → facts_of head ≡ None → Not ForwardPath ≡ admission_with (unscreened case) (Some head)
 unfolding admission_with
 with_no_facts case head from to s t same f =
     let r : recipients_in head ≡ None = recipients_there head from s ∙ ap (λ (o : Option Facts). option_map (λ (g : Facts). g.recipients) o) f
@@ -88,7 +88,7 @@ module _ (ties : Ties) where
         in set_is_path path recipients (λ x. h.same x ∙ sym (ap (λ (rs : List Recipient). has_recipient rs x) same ∙ recipients_set ties h.to h.copies x)),
   )
 
-  size_row : (case : Case) (head : Fields) (facts : Option Facts) → facts_of head ≡ facts → Decides (outgrows case facts) (IsTooLarge case head)
+  size_row : (case : Case) (head : Fields) (facts : Option Facts) → facts_of head ≡ facts → Decides (outgrows case facts) (IsTooLarge case.limit case.message head)
   size_row case head None e = (λ t. absurd cc, λ h. absurd (no_some (facts_of head) h.facts e ((ties.facts head (Some h.facts)).1 h.facts_are)))
   size_row case head (Some facts) e = (
     λ t. record {
@@ -101,7 +101,7 @@ module _ (ties : Ties) where
         in lt-ltb case.limit (length case.message * length facts.recipients) (rw same at h.over),
   )
 
-  each_row : (case : Case) (cause : Cause) → Decides (applies case cause) (Applies case cause)
+  pub each_row : (case : Case) (cause : Cause) → Decides (applies case cause) (Applies case cause)
   each_row case Head = head_row case (head_in case.message) refl
   each_row case From = with_head ties case.message lacks_from _ (λ head. from_row head (sender_of head) refl) (head_in case.message) refl
   each_row case To = with_head ties case.message lacks_to _ (λ head. to_row head (listed (codes "To") head) refl) (head_in case.message) refl
@@ -111,7 +111,7 @@ module _ (ties : Ties) where
       with_head ties case.message (has_other_path case) _ (λ head. path_row case.path head (recipients_in head) refl) (head_in case.message) refl
   each_row case Bcc = with_head ties case.message has_blind_copies _ (λ head. (λ t. t, λ h. h)) (head_in case.message) refl
   each_row case Size = with_head ties case.message (is_too_large case) _ (λ head. size_row case head (facts_of head) refl) (head_in case.message) refl
-  each_row case cause = (λ t. absurd cc, λ h. absurd h)
+  each_row case Virus = (λ t. t, λ h. h)
 
   -- ---- where no row applies
 
@@ -129,12 +129,12 @@ module _ (ties : Ties) where
   with_sender case head place h none (Some from) e false s = facts_by case.path (recipients_in head) (facts_of head) (recipients_there head from e) s
 
   -- The facts of an accepted message.
-  record Admitted (case : Case) : Type 0 where
-    facts : Facts
-    facts_are : option_and_then facts_of (head_in case.message) ≡ Some facts
-    accepted : IsAccepted case facts
+  pub record Admitted (case : Case) : Type 0 where
+    pub facts : Facts
+    pub facts_are : option_and_then facts_of (head_in case.message) ≡ Some facts
+    pub accepted : IsAccepted case facts
 
-  with_some_head : (case : Case) → NoneApplies (Applies case) rows → (found : Option Fields) → head_in case.message ≡ found → Admitted case
+  pub with_some_head : (case : Case) → NoneApplies (Applies case) rows → (found : Option Fields) → head_in case.message ≡ found → Admitted case
   with_some_head case none None e = absurd (none.0 (head_lost ties case.message e))
   with_some_head case none (Some head) e =
       let h = head_found ties case.message head e
@@ -157,7 +157,7 @@ module _ (ties : Ties) where
       let there = with_some_head case (none_is (applies case) (Applies case) (each_row case) rows e) (head_in case.message) refl
       in subst (λ (o : Option Facts). Says case (admitted None o)) (sym there.facts_are ∙ f) there.accepted
 
-  admission_says : (case : Case) → Says case (admission_of case)
+  pub admission_says : (case : Case) → Says case (admission_of case)
   unfolding admission_of admission_with
   admission_says case = says_by case (find (applies case) rows) (option_and_then facts_of (head_in case.message)) refl refl
 

@@ -2,5 +2,6 @@ pub mod Ties
 pub mod SetLemmas
 pub mod HeadLemmas
 pub mod AdmissionLemmas
+pub mod ScreenLemmas
 pub mod ReceptionLemmas
 pub mod DecisionLemmas

@@ -1,16 +1,17 @@
 -- The admission table: for which cause a message isn't accepted at the access point (RFC 6109, section 3.1.1, within
 -- this project's profile). Each row says when it applies; the cause is that of the first row that does. `IsCause` and
--- `IsAccepted`, at the end.
-use Rattle.std.specs.Prelude.{◌≡◌, ℕ, ◌*◌, ◌<◌, Bool, true, not, List, [], ◌∷◌, ◌++◌, length, codes}
+-- `IsAccepted`, at the end, and `ReachesScreens`: a message that screens look at.
+use Rattle.std.specs.Prelude.{◌≡◌, ℕ, ◌*◌, ◌<◌, Bool, true, not, List, [], ◌∷◌, ◌++◌, length, map, codes}
 use Rattle.std.specs.List.{list_any}
 use Rattle.pec_types.specs.Tables.{IsFirst, NoneApplies}
 use Rattle.pec_types.specs.declared.messages.Facts.{Facts}
 use Rattle.pec_types.specs.declared.messages.Cause.{Cause}
-use Rattle.pec_types.specs.declared.messages.Cause.TheVariants.{Head, From, To, ReversePath, ForwardPath, Bcc, Size}
+use Rattle.pec_types.specs.declared.messages.Cause.TheVariants.{Head, From, To, ReversePath, ForwardPath, Bcc, Size, Virus}
 use Rattle.pec_heads.specs.Heads.{NamedValue, IsHead, HasHeadFault, values_of, joined_values}
 use Rattle.pec_heads.specs.Lists.{IsList, HasList, is_all_blank}
 use Rattle.pec_heads.specs.FactsOfHeads.{AreCopies, IsFacts, has_address}
 use Rattle.pec_types.specs.Bytes.{Bytes, Path}
+use Rattle.pec_screen.specs.Verdicts.{counted}
 use Rattle.pec_points.specs.Case.{Case}
 
 -- ---- words on a head
@@ -48,18 +49,22 @@ unfoldable pub has_blind_copies : Fields → Bool
 has_blind_copies head = list_any (λ value. not (is_all_blank value)) (values_of (codes "Bcc") head)
 
 -- The bytes of the message times the number of different recipients are over the limit.
-pub record IsTooLarge (case : Case) (head : Fields) : Type 0 where
+pub record IsTooLarge (limit : ℕ) (message : Bytes) (head : Fields) : Type 0 where
   pub facts : Facts
   pub facts_are : IsFacts head facts
-  pub over : case.limit < length case.message * length facts.recipients
+  pub over : limit < length message * length facts.recipients
 
 -- ---- the table
 
--- The rows in their order, each named by its cause.
-abbrev pub rows : List Cause
-rows = Head ∷ From ∷ To ∷ ReversePath ∷ ForwardPath ∷ Bcc ∷ Size ∷ []
+-- The rows before that of the screens in their order, each named by its cause.
+abbrev pub earlier_rows : List Cause
+earlier_rows = Head ∷ From ∷ To ∷ ReversePath ∷ ForwardPath ∷ Bcc ∷ Size ∷ []
 
--- When the row of a cause applies to a case. A cause that has no row never does.
+-- All rows in their order.
+abbrev pub rows : List Cause
+rows = earlier_rows ++ Virus ∷ []
+
+-- When the row of a cause applies to a case.
 abbrev pub Applies : Case → Cause → Type 0
 Applies case Head = HasHeadFault case.message
 Applies case From = WithHead case.message (λ head. (address : Bytes) → IsFrom head address → ⊥)
@@ -67,8 +72,18 @@ Applies case To = WithHead case.message (λ head. HasList (joined_values (codes 
 Applies case ReversePath = WithHead case.message (λ head. IsFrom head case.sender → ⊥)
 Applies case ForwardPath = WithHead case.message (λ head. IsForwardPath case.path head → ⊥)
 Applies case Bcc = WithHead case.message (λ head. has_blind_copies head ≡ true)
-Applies case Size = WithHead case.message (λ head. IsTooLarge case head)
-Applies case _ = ⊥
+Applies case Size = WithHead case.message (λ head. IsTooLarge case.limit case.message head)
+Applies case Virus = case.found ≡ true
+
+-- No row before that of the screens applies.
+abbrev pub ReachesScreens : Case → Type 0
+ReachesScreens case = NoneApplies (Applies case) earlier_rows
+
+-- Each screen looked once where the message reaches them, and none did where it doesn't. So often each had looked before,
+-- and has now.
+pub record Looked (case : Case) (before after : List ℕ) : Type 0 where
+  pub once : ReachesScreens case → after ≡ map counted before
+  pub never : (ReachesScreens case → ⊥) → after ≡ before
 
 -- The message isn't accepted, for this cause: its row is the first that applies.
 abbrev pub IsCause : Case → Cause → Type 0

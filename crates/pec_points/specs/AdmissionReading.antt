@@ -1,6 +1,6 @@
 -- Admission as a function of the case: the rows by tests, and the first that applies. `Admission` says what the rows
 -- mean.
-use Rattle.std.specs.Prelude.{ℕ, ◌*◌, nat_lt, List, Bool, true, false, not, ◌&&◌, if◌then◌else◌, length, codes, Option, Some, None}
+use Rattle.std.specs.Prelude.{ℕ, ◌*◌, nat_lt, List, Bool, true, false, not, ◌&&◌, if◌then◌else◌, length, map, codes, Option, Some, None}
 use Rattle.std.specs.List.{find, list_all, list_any}
 use Rattle.std.specs.Option.{is_none, option_and_then, option_map}
 use Rattle.std.specs.Result.{result_ok}
@@ -8,10 +8,11 @@ use Rattle.std.specs.Str.{bytes_eq}
 use Rattle.pec_types.specs.declared.messages.Facts.{Facts}
 use Rattle.pec_types.specs.declared.messages.Recipient.{Recipient}
 use Rattle.pec_types.specs.declared.messages.Cause.{Cause}
-use Rattle.pec_types.specs.declared.messages.Cause.TheVariants.{Head, From, To, ReversePath, ForwardPath, Bcc, Size}
+use Rattle.pec_types.specs.declared.messages.Cause.TheVariants.{Head, From, To, ReversePath, ForwardPath, Bcc, Size, Virus}
 use Rattle.pec_heads.specs.FactsOfHeads.{has_address, recipients_of}
 use Rattle.pec_heads.specs.FactsReading.{copies_of, facts_of, listed, sender_of}
 use Rattle.pec_heads.specs.HeadReading.{read_of}
+use Rattle.pec_screen.specs.Verdicts.{counted}
 use Rattle.pec_types.specs.Bytes.{Bytes, Path}
 use Rattle.pec_points.specs.Case.{Case}
 use Rattle.pec_points.specs.Admission.{Fields, has_blind_copies, rows}
@@ -79,7 +80,7 @@ applies_with case head ReversePath = in_head (has_other_sender case) head
 applies_with case head ForwardPath = in_head (has_other_path case) head
 applies_with case head Bcc = in_head has_blind_copies head
 applies_with case head Size = in_head (is_too_large case) head
-applies_with case head _ = false
+applies_with case head Virus = case.found
 
 -- Whether the row of a cause applies.
 abbrev pub applies : Case → Cause → Bool
@@ -106,6 +107,17 @@ admission_by limit path bytes head facts = admitted (
     if not (is_path_of path facts.recipients) then Some ForwardPath else (
     if has_blind_copies head then Some Bcc else (
     if nat_lt limit (bytes * length facts.recipients) then Some Size else None))) (Some facts)
+
+-- The answer of the rows before that of the screens, and what the screens then say.
+abbrev pub screened : Bool → Admission → Admission
+screened found (Not cause) = Not cause
+screened true (Accepted facts) = Not Virus
+screened false (Accepted facts) = Accepted facts
+
+-- How often each screen has looked, where the rows before answer so: once more where these accept the message.
+abbrev pub seen_behind : Admission → List ℕ → List ℕ
+seen_behind (Accepted facts) seen = map counted seen
+seen_behind (Not cause) seen = seen
 
 -- What the access point answers.
 unfoldable pub admission_of : Case → Admission

@@ -1,4 +1,4 @@
-ghost use Rattle.std.specs.Prelude.{◌≡◌, ◌*◌, ◌<◌, ◌↔◌, ◌⊎◌, length, nat_lt, IfOk};
+ghost use Rattle.std.specs.Prelude.{◌≡◌, ◌*◌, ◌<◌, ◌↔◌, ◌⊎◌, false, length, nat_lt, IfOk, OnErr, OnOk};
 ghost use Rattle.std.specs.List.{list_all, list_any};
 ghost use Rattle.std.specs.Option.{option_map};
 ghost use Rattle.pec_directory.specs.Directory.{providers_of};
@@ -6,9 +6,10 @@ ghost use Rattle.pec_heads.specs.FactsOfHeads.{has_address};
 ghost use Rattle.pec_heads.specs.FactsReading.{listed, sender_of};
 ghost use Rattle.pec_types.specs.declared.messages.Cause.{Cause as CauseShown};
 ghost use Rattle.pec_types.specs.declared.messages.Facts.{Facts as FactsShown};
-ghost use Rattle.pec_points.specs.Admission.{IsAccepted, IsCause, has_blind_copies};
-ghost use Rattle.pec_points.specs.AdmissionReading.{admission_by, admission_of, admission_with, has_recipient, head_in, is_path_of};
-ghost use Rattle.pec_points.specs.Case.{Case, case_at, limit_of};
+ghost use Rattle.pec_screen.specs.VerdictReading.{finds};
+ghost use Rattle.pec_points.specs.Admission.{IsAccepted, IsCause, Looked, ReachesScreens, has_blind_copies};
+ghost use Rattle.pec_points.specs.AdmissionReading.{admission_by, admission_of, admission_with, has_recipient, head_in, is_path_of, screened, seen_behind};
+ghost use Rattle.pec_points.specs.Case.{Case, case_at, limit_of, unscreened};
 ghost use Rattle.pec_points.specs.declared.admission.Admission.TheVariants as answers;
 
 use pec_directory::Directory;
@@ -16,6 +17,7 @@ use pec_heads::{
     Head, HeadFault, ListFault, a_head_has_one_account, a_list_has_one_reading,
     a_text_has_one_reading, facts_are_bounded,
 };
+use pec_screen::Judge;
 use pec_types::{Address, Cause, Facts, NoMemory, Recipient};
 use std::alloc::Global;
 
@@ -43,6 +45,12 @@ pub fn a_message_has_one_answer()
         → (admission_of case ≡ answers.Not cause) ↔ IsCause case cause }
     ensures accepted { (case : Case) (facts : FactsShown)
         → (admission_of case ≡ answers.Accepted facts) ↔ IsAccepted case facts }
+    // The screens speak last, of a message that no row before theirs refuses.
+    ensures screened { (case : Case) → admission_of case ≡ screened case.found (admission_of (unscreened case)) }
+    ensures reached { (case : Case) (facts : FactsShown)
+        → admission_of (unscreened case) ≡ answers.Accepted facts → ReachesScreens case }
+    ensures unreached { (case : Case) (cause : CauseShown)
+        → admission_of (unscreened case) ≡ answers.Not cause → ReachesScreens case → ⊥ }
 {
     a_text_has_one_reading();
     a_list_has_one_reading();
@@ -51,31 +59,60 @@ pub fn a_message_has_one_answer()
 }
 
 /// The admission of a message that an account submits for a forward path, at the provider of a number of the directory,
-/// from 0 (RFC 6109, section 3.1.1). The limit is the one that the directory gives this provider, in bytes.
-pub fn admit(
+/// from 0 (RFC 6109, section 3.1.1). The limit is the one that the directory gives this provider, in bytes. The screens
+/// are the provider's; they look at the message where no row before theirs refuses it. They look last, so want of memory
+/// comes before any of them does.
+pub fn admit<J: Judge>(
     alloc: Global,
     directory: &Directory,
     provider: u32,
     sender: &Address,
     path: &[Address],
     message: &[u8],
+    screens: &mut J,
 ) -> Result<Admission, NoMemory>
     requires { provider < length directory.now }
     // The cause is exactly that of the first row of the table that applies.
     ensures refused { (cause : CauseShown) → IfOk result (λ admission.
         (admission ≡ answers.Not cause)
-        ↔ IsCause (case_at (providers_of directory.now) provider sender.now path.now message.now) cause) }
+        ↔ IsCause (case_at (providers_of directory.now) provider sender.now path.now message.now
+        (finds (J.patterns screens.old) message.now)) cause) }
     // The message is accepted exactly where no row applies, with the facts of its head.
     ensures accepted { (facts : FactsShown) → IfOk result (λ admission.
         (admission ≡ answers.Accepted facts)
-        ↔ IsAccepted (case_at (providers_of directory.now) provider sender.now path.now message.now) facts) }
+        ↔ IsAccepted (case_at (providers_of directory.now) provider sender.now path.now message.now
+        (finds (J.patterns screens.old) message.now)) facts) }
     // The same answer as a function, for definitions that build on it.
     ensures exact { IfOk result (λ admission.
-        admission ≡ admission_of (case_at (providers_of directory.now) provider sender.now path.now message.now)) }
+        admission ≡ admission_of (case_at (providers_of directory.now) provider sender.now path.now message.now
+        (finds (J.patterns screens.old) message.now))) }
+    // Every screen has looked once exactly where no row before theirs applies.
+    ensures looked { OnOk result (Looked (case_at (providers_of directory.now) provider sender.now path.now message.now
+        (finds (J.patterns screens.old) message.now))
+        (J.seen screens.old) (J.seen screens.new)) }
+    ensures no_memory { OnErr result (screens.new ≡ screens.old) }
+    ensures patterns { J.patterns screens.new ≡ J.patterns screens.old }
 {
     a_message_has_one_answer();
     let limit = limit_of(directory, provider);
-    admit_message(alloc, limit, sender, path, message)
+    let admission = admit_message(alloc, limit, sender, path, message)?;
+    Ok(by_screens(admission, message, screens))
+}
+
+/// The answer of the rows before that of the screens, and what these then say.
+#[tactic(auto, unfolding(pec_screen::specs::VerdictReading::finds))]
+fn by_screens<J: Judge>(admission: Admission, message: &[u8], screens: &mut J) -> Admission
+    ensures answer { result ≡ screened (finds (J.patterns screens.old) message.now) admission }
+    ensures seen { J.seen screens.new ≡ seen_behind admission (J.seen screens.old) }
+    ensures patterns { J.patterns screens.new ≡ J.patterns screens.old }
+{
+    let Admission::Accepted(_) = &admission else {
+        return admission;
+    };
+    if screens.judge(message).is_some() {
+        return Admission::Not(Cause::Virus);
+    }
+    admission
 }
 
 /// The limit of a provider, in bytes.
@@ -99,7 +136,8 @@ fn admit_message(
 ) -> Result<Admission, NoMemory>
     ensures { IfOk result (λ admission.
         admission
-        ≡ admission_of (record { limit = limit; sender = sender.now; path = path.now; message = message.now })) }
+        ≡ admission_of (record { limit = limit; sender = sender.now; path = path.now; message = message.now;
+        found = false })) }
 {
     let Some(head) = read_head(alloc, message)? else {
         return Ok(Admission::Not(Cause::Head));
@@ -131,7 +169,7 @@ fn admit_head(
     head: &Head,
 ) -> Result<Admission, NoMemory>
     ensures { IfOk result (λ admission. admission ≡ admission_with
-        (record { limit = limit; sender = sender.now; path = path.now; message = message.now }) (Some head.now)) }
+        (record { limit = limit; sender = sender.now; path = path.now; message = message.now; found = false }) (Some head.now)) }
 {
     let Some(from) = from_address(alloc, head)? else {
         return Ok(Admission::Not(Cause::From));

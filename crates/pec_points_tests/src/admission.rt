@@ -2,6 +2,7 @@
 
 use pec_directory::Directory;
 use pec_points::{Admission, admit};
+use pec_screen::{Judge, NoScreens};
 use pec_types::{Address, Cause, Class, Facts, Recipient};
 use std::alloc::Global;
 use std::test::Fail;
@@ -14,7 +15,7 @@ key = \"000102030405060708090a0b0c0d0e0f\"\nzone = \"CET-1CEST,M3.5.0,M10.5.0/3\
 key = \"101112131415161718191a1b1c1d1e1f\"\nzone = \"UTC0\"\n";
 
 /// The limit of the first provider, a path and a message, and the cause for which it isn't accepted.
-type Row = (&'static str, &'static str, &'static str, Option<Cause>);
+pub(crate) type Row = (&'static str, &'static str, &'static str, Option<Cause>);
 
 const CAUSES: [Row; 16] = [
     // A first line without a colon; no empty line.
@@ -246,15 +247,26 @@ fn first_wrong(alloc: Global, provider: u32, rows: &[Row]) -> Result<Option<usiz
 }
 
 /// The cause for which a message isn't accepted, if there is one.
-fn cause_of(admission: &Admission) -> Option<Cause> {
+pub(crate) fn cause_of(admission: &Admission) -> Option<Cause> {
     match admission {
         Admission::Accepted(_) => None,
         Admission::Not(cause) => Some(*cause),
     }
 }
 
-/// What the provider of a number answers on the message of a row, whose lines end with `|`.
+/// What the provider of a number answers on the message of a row, whose lines end with `|`, without screens.
 fn answer(alloc: Global, provider: u32, row: &Row) -> Result<Admission, Fail> {
+    let mut none = NoScreens;
+    answer_under(alloc, provider, row, &mut none)
+}
+
+/// The same under screens.
+pub(crate) fn answer_under<J: Judge>(
+    alloc: Global,
+    provider: u32,
+    row: &Row,
+    screens: &mut J,
+) -> Result<Admission, Fail> {
     let (limit, path, message, _) = *row;
     let directory = directory_of(alloc, limit)?;
     let path = path_of(alloc, path)?;
@@ -265,22 +277,24 @@ fn answer(alloc: Global, provider: u32, row: &Row) -> Result<Admission, Fail> {
         provider,
         path.as_slice(),
         message.as_bytes(),
+        screens,
     )
 }
 
 /// What it answers on a message of the account a@a.
-fn admitted(
+fn admitted<J: Judge>(
     alloc: Global,
     directory: &Directory,
     provider: u32,
     path: &[Address],
     message: &[u8],
+    screens: &mut J,
 ) -> Result<Admission, Fail> {
     if provider >= directory.count() {
         return Err("no such provider".into());
     }
     let sender = Address::read(alloc, b"A@a")?;
-    let admission = admit(alloc, directory, provider, &sender, path, message)?;
+    let admission = admit(alloc, directory, provider, &sender, path, message, screens)?;
     Ok(admission)
 }
 

@@ -9,3 +9,5 @@ mod decision;
 mod limits;
 #[cfg(test)]
 mod reception;
+#[cfg(test)]
+mod screens;

@@ -1,5 +1,6 @@
 mod AppendLemmas
 mod FollowLemmas
+mod LookLemmas
 mod PlayLemmas
 mod RunLemmas
 mod ShowLemmas

@@ -15,7 +15,7 @@ use Rattle.pec_ledger.specs.Pairs.{id_of}
 use Rattle.pec_ledger.specs.Steps.{half, marks_by}
 use Rattle.pec_ledger.specs.Trade.{Trade}
 use Rattle.pec_plays.specs.Commands.{Answer, Luck, Marks, Played, Refuses, Submit, Submits, Tick, answers, append}
-use Rattle.pec_plays.specs.Commands.{appended, at_work, entry_by, messages_at, played, told_by, told_mark, with_entry}
+use Rattle.pec_plays.specs.Commands.{appended, at_work, entry_by, messages_at, played, screened_cause, told_by, told_mark, with_entry}
 use Rattle.pec_plays.specs.Commands.{with_site}
 use Rattle.pec_plays.specs.Steps.{has_no_room}
 use Rattle.pec_plays.specs.Turns.{broken as broken_site, last_of}
@@ -241,14 +241,14 @@ module _ (X : Type 0) (trade : Trade) (me now : ℕ) (desk : Desk) where
 
   -- ---- submissions
 
-  module _ (sender : Bytes) (path : Path) (message : Bytes) where
+  module _ (sender : Bytes) (path : Path) (message : Bytes) (found : Bool) where
     abbrev submission : Luck → List Site → Played
-    submission luck sites = played trade luck sites (Submit me now sender path message)
+    submission luck sites = played trade luck sites (Submit me now sender path message found)
 
     abbrev numbered : Luck → List Site → Played
     numbered luck sites =
-        append trade luck sites me (entry_by (trade.cause me sender path message) now sender path message)
-        (Submits (told_by (trade.cause me sender path message) (id_of me (messages_at trade sites me))))
+        append trade luck sites me (entry_by (screened_cause found (trade.cause me sender path message)) now sender path message)
+        (Submits (told_by (screened_cause found (trade.cause me sender path message)) (id_of me (messages_at trade sites me))))
 
     abbrev counted : Luck → List Site → Played
     counted luck sites =
@@ -293,8 +293,8 @@ module _ (X : Type 0) (trade : Trade) (me now : ℕ) (desk : Desk) where
 
     pub comes_to : trade.is_account me sender ≡ true → IsAtWork trade me now desk
         → length (half trade me desk.journal).messages < MESSAGES
-        → ComesTo submission trade me desk (entry_by (trade.cause me sender path message) now sender path message)
-        (Submits (told_by (trade.cause me sender path message)
+        → ComesTo submission trade me desk (entry_by (screened_cause found (trade.cause me sender path message)) now sender path message)
+        (Submits (told_by (screened_cause found (trade.cause me sender path message))
         (id_of me (length (half trade me desk.journal).messages))))
     comes_to account works few = λ sites waiting is luck.
         from_account account luck sites
@@ -303,9 +303,9 @@ module _ (X : Type 0) (trade : Trade) (me now : ℕ) (desk : Desk) where
         (answers sites (Refuses faults.Full))
         (ap (λ (n : ℕ). nat_lt n MESSAGES) (count_at sites waiting is)
         ∙ is_early (length (half trade me desk.journal).messages) MESSAGES few)
-        ∙ ap (λ (n : ℕ). append trade luck sites me (entry_by (trade.cause me sender path message) now sender path
+        ∙ ap (λ (n : ℕ). append trade luck sites me (entry_by (screened_cause found (trade.cause me sender path message)) now sender path
         message)
-        (Submits (told_by (trade.cause me sender path message) (id_of me n)))) (count_at sites waiting is)))
+        (Submits (told_by (screened_cause found (trade.cause me sender path message)) (id_of me n)))) (count_at sites waiting is)))
 
 -- a clock call appends its entry
 pub tick_comes : (trade : Trade) (me now : ℕ) (desk : Desk) → IsAtWork trade me now desk
@@ -319,12 +319,12 @@ tick_comes trade me now desk works = λ sites waiting is luck.
     ∙ ap (λ (s : Site). append trade luck sites me (entries.Ticked now)
     (Marks (map told_mark (marks_by trade me (half trade me s.journal) (entries.Ticked now))))) is
 
-pub admits_handed : (trade : Trade) (me now : ℕ) (desk : Desk) (sender : Bytes) (path : Path) (message : Bytes)
+pub admits_handed : (trade : Trade) (me now : ℕ) (desk : Desk) (sender : Bytes) (path : Path) (message : Bytes) (found : Bool)
     → trade.is_account me sender ≡ true → (fault : ProviderFault) (result : Result (Entry × Submitted) ProviderFault)
     → IsErrAnd result (λ f. f ≡ fault) → WorksAt {X = Entry × Submitted} trade me now desk (Err fault)
-    → Admits trade me now sender path message desk result
-admits_handed trade me now desk sender path message account fault result is works =
+    → Admits trade me now sender path message found desk result
+admits_handed trade me now desk sender path message found account fault result is works =
     let p = err_from_is_err_and result is in
-    subst (λ (r : Result (Entry × Submitted) ProviderFault). Admits trade me now sender path message desk r) (sym p.1)
-    (subst (λ (f : ProviderFault). Admits trade me now sender path message desk (Err f)) (sym p.2)
-    (submission_refused (Entry × Submitted) trade me now desk sender path message account fault works))
+    subst (λ (r : Result (Entry × Submitted) ProviderFault). Admits trade me now sender path message found desk r) (sym p.1)
+    (subst (λ (f : ProviderFault). Admits trade me now sender path message found desk (Err f)) (sym p.2)
+    (submission_refused (Entry × Submitted) trade me now desk sender path message found account fault works))

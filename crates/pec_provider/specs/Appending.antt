@@ -1,6 +1,6 @@
 -- What the parts of a provider's calls do: whether it is at work, what it makes of a submission, and what the append of
 -- an entry leaves. This project's profile.
-use Rattle.std.specs.Prelude.{◌≡◌, ℕ, ◌<◌, true, false, List, ◌∷◌, [], ◌++◌, Result, Ok, Err}
+use Rattle.std.specs.Prelude.{◌≡◌, ℕ, ◌<◌, Bool, true, false, List, ◌∷◌, [], ◌++◌, Result, Ok, Err}
 use Rattle.pec_types.specs.Bytes.{Bytes, Path}
 use Rattle.pec_types.specs.declared.turns.ProviderFault.{ProviderFault}
 use Rattle.pec_types.specs.declared.turns.ProviderFault.TheVariants as faults
@@ -67,9 +67,9 @@ IsRefused play me desk fault =
     → play (luck_of false) sites ≡ answers sites (Refuses fault)
 
 -- What is made of a submission: an entry and its answer, or a refusal.
-abbrev pub Admits : Trade → ℕ → ℕ → Bytes → Path → Bytes → Desk → Result (Entry × Submitted) ProviderFault → Type 0
-Admits trade me moment sender path message desk (Ok made) =
-    ComesTo (λ luck sites. played trade luck sites (Submit me moment sender path message)) trade me desk made.0
+abbrev pub Admits : Trade → ℕ → ℕ → Bytes → Path → Bytes → Bool → Desk → Result (Entry × Submitted) ProviderFault → Type 0
+Admits trade me moment sender path message found desk (Ok made) =
+    ComesTo (λ luck sites. played trade luck sites (Submit me moment sender path message found)) trade me desk made.0
     (Submits made.1)
-Admits trade me moment sender path message desk (Err fault) =
-    IsRefused (λ luck sites. played trade luck sites (Submit me moment sender path message)) me desk fault
+Admits trade me moment sender path message found desk (Err fault) =
+    IsRefused (λ luck sites. played trade luck sites (Submit me moment sender path message found)) me desk fault

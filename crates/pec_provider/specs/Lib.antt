@@ -1,6 +1,7 @@
 pub mod Appending
 pub mod Doing
 pub mod Following
+pub mod Looking
 pub mod Playing
 pub mod Provider
 pub mod Working

@@ -1,4 +1,4 @@
-ghost use Rattle.std.specs.Prelude.{◌≡◌, ℕ, ◌<◌, ◌≤◌, List, length, false, IsErrOf, IfOk, OnOk};
+ghost use Rattle.std.specs.Prelude.{◌≡◌, ℕ, ◌<◌, ◌≤◌, List, length, false, IsErrOf, IfOk, OnErr, OnOk};
 ghost use Rattle.pec_types.specs.declared.turns.ProviderFault.TheVariants as faults;
 ghost use Rattle.pec_outside.specs.Flow.{HasRisen};
 ghost use Rattle.pec_directory.specs.Directory.{providers_of};
@@ -6,11 +6,15 @@ ghost use Rattle.pec_letters.specs.Fitting.{Fits};
 ghost use Rattle.pec_records.specs.Entry.{IsWithinLimits, longest_message, most_addresses};
 ghost use Rattle.pec_ledger.specs.Ledger.{Journals, Meets};
 ghost use Rattle.pec_ledger.specs.Steps.{half};
-ghost use Rattle.pec_plays.specs.Commands.{Marks, Submit, Submits, Tick, entry_by, played, told_by};
-ghost use Rattle.pec_trade.specs.TradeOf.{cause_at, trade_of};
+ghost use Rattle.pec_plays.specs.Commands.{Marks, Submit, Submits, Tick, entry_by, played, screened_cause, told_by};
+ghost use Rattle.pec_points.specs.Admission.{Looked};
+ghost use Rattle.pec_points.specs.Case.{case_at};
+ghost use Rattle.pec_screen.specs.VerdictReading.{finds};
+ghost use Rattle.pec_trade.specs.TradeOf.{cause_at, cause_in, trade_of};
 ghost use Rattle.pec_chronicle.specs.Carrying.{CarriesOn};
 ghost use Rattle.pec_provider.specs.Appending.{Admits};
 ghost use Rattle.pec_provider.specs.Following.{MayFollow};
+ghost use Rattle.pec_provider.specs.Looking.{Looks};
 ghost use Rattle.pec_provider.specs.Playing.{Plays};
 ghost use Rattle.pec_provider.specs.Provider.{Runs, desk_of};
 
@@ -18,8 +22,9 @@ use crate::house::{House, a_house_is_a_trade};
 use crate::provider::Provider;
 use pec_outside::Disk;
 use pec_plays::what_a_provider_does_may_follow;
-use pec_points::{Admission, admit};
+use pec_points::{Admission, a_message_has_one_answer, admit};
 use pec_records::Entry;
+use pec_screen::Judge;
 use pec_seal::Sealer;
 use pec_stock::stands_still;
 use pec_types::{
@@ -31,8 +36,9 @@ impl<D: Disk> Provider<D> {
     /// Takes in a message that an account submits for a forward path (RFC 6109, section 3.1), in bytes as it was handed
     /// in. The receipt of acceptance, or the notice that it wasn't accepted, is then an item of the account's mailbox.
     /// The first of these refusals that applies is answered: `NoAccount`, `Down`, `ClockBack`, `Full`, `NoMemory`,
-    /// `JournalFull`, `DiskFault`.
-    pub fn submit<S: Sealer>(
+    /// `JournalFull`, `DiskFault`. The screens are this provider's; they look where none of the first four applies and
+    /// no row of the admission table before theirs does.
+    pub fn submit<S: Sealer, J: Judge>(
         &mut self,
         alloc: Global,
         house: &House<'_, S>,
@@ -40,6 +46,7 @@ impl<D: Disk> Provider<D> {
         sender: &Address,
         path: &[Address],
         message: &[u8],
+        screens: &mut J,
     ) -> Result<Submitted, ProviderFault>
         requires runs { Runs house.now.directory.now house.now.me self.old }
         requires fits { Fits (S.seals house.now.sealer.now) (providers_of house.now.directory.now) }
@@ -49,8 +56,12 @@ impl<D: Disk> Provider<D> {
         // It is played as the command.
         ensures plays { Plays Submits (λ luck sites.
             played (trade_of house.now.directory.now (S.seals house.now.sealer.now)) luck sites
-            (Submit house.now.me moment sender.now path.now message.now)) house.now.me (desk_of self.old)
-            (desk_of self.new) result }
+            (Submit house.now.me moment sender.now path.now message.now (finds (J.patterns screens.old) message.now)))
+            house.now.me (desk_of self.old) (desk_of self.new) result }
+        // Each screen has looked once exactly where the message came to the screens, also where it is refused then.
+        ensures looked { Looks (case_at (providers_of house.now.directory.now) house.now.me sender.now path.now
+            message.now (finds (J.patterns screens.old) message.now)) (J.seen screens.old) (J.seen screens.new) result }
+        ensures patterns { J.patterns screens.new ≡ J.patterns screens.old }
         ensures owed { self.new.owed ≡ self.old.owed }
         ensures runs { Runs house.now.directory.now house.now.me self.new }
 
@@ -65,7 +76,7 @@ impl<D: Disk> Provider<D> {
     {
         a_house_is_a_trade(house);
         stands_still(&self.chronicle);
-        let (entry, answer) = self.admitted(alloc, house, moment, sender, path, message)?;
+        let (entry, answer) = self.admitted(alloc, house, moment, sender, path, message, screens)?;
         self.append(alloc, house, &entry)?;
         Ok(answer)
     }
@@ -103,7 +114,7 @@ impl<D: Disk> Provider<D> {
 
 impl<D> Provider<D> {
     /// The entry that a submission comes to, and what is then answered.
-    fn admitted<S: Sealer>(
+    fn admitted<S: Sealer, J: Judge>(
         &self,
         alloc: Global,
         house: &House<'_, S>,
@@ -111,14 +122,17 @@ impl<D> Provider<D> {
         sender: &Address,
         path: &[Address],
         message: &[u8],
+        screens: &mut J,
     ) -> Result<(Entry, Submitted), ProviderFault>
         requires runs { Runs house.now.directory.now house.now.me self.now }
         requires fits { Fits (S.seals house.now.sealer.now) (providers_of house.now.directory.now) }
         requires path { (0 < length path.now) × (length path.now ≤ most_addresses) }
         requires message { length message.now ≤ longest_message }
         ensures admits { Admits (trade_of house.now.directory.now (S.seals house.now.sealer.now)) house.now.me moment
-            sender.now path.now
-            message.now (desk_of self.now) result }
+            sender.now path.now message.now (finds (J.patterns screens.old) message.now) (desk_of self.now) result }
+        ensures looked { Looks (case_at (providers_of house.now.directory.now) house.now.me sender.now path.now
+            message.now (finds (J.patterns screens.old) message.now)) (J.seen screens.old) (J.seen screens.new) result }
+        ensures patterns { J.patterns screens.new ≡ J.patterns screens.old }
         ensures up { OnOk result (self.now.chronicle.down ≡ false) }
         ensures limits { IfOk result (λ made. IsWithinLimits made.0) }
         ensures follows { (journals : Journals) → IfOk result (λ made.
@@ -135,28 +149,48 @@ impl<D> Provider<D> {
         let Some(id) = self.shelf.next_id() else {
             return Err(ProviderFault::Full);
         };
-        let cause = cause_at(alloc, house, sender, path, message)?;
+        let cause = cause_at(alloc, house, sender, path, message, screens)?;
         let entry = entry_by(alloc, cause, moment, sender, path, message)?;
         Ok((entry, told_by(cause, id)))
     }
 }
 
 /// Why the message isn't accepted, if so.
-#[tactic(auto, unfolding(pec_trade::specs::TradeOf::cause_at))]
-fn cause_at<S>(
+fn cause_at<S, J: Judge>(
     alloc: Global,
     house: &House<'_, S>,
     sender: &Address,
     path: &[Address],
     message: &[u8],
+    screens: &mut J,
 ) -> Result<Option<Cause>, NoMemory>
     requires { house.now.me < length house.now.directory.now }
-    ensures { IfOk result (λ cause. cause
-        ≡ cause_at (providers_of house.now.directory.now) house.now.me sender.now path.now message.now) }
+    ensures cause { IfOk result (λ cause. cause ≡ screened_cause (finds (J.patterns screens.old) message.now)
+        (cause_at (providers_of house.now.directory.now) house.now.me sender.now path.now message.now)) }
+    ensures looked { OnOk result (Looked (case_at (providers_of house.now.directory.now) house.now.me sender.now path.now
+        message.now (finds (J.patterns screens.old) message.now)) (J.seen screens.old) (J.seen screens.new)) }
+    ensures no_memory { OnErr result (J.seen screens.new ≡ J.seen screens.old) }
+    ensures patterns { J.patterns screens.new ≡ J.patterns screens.old }
 {
-    match admit(alloc, house.directory, house.me, sender, path, message)? {
-        Admission::Accepted(_) => Ok(None),
-        Admission::Not(cause) => Ok(Some(cause)),
+    a_message_has_one_answer();
+    let admission = admit(
+        alloc,
+        house.directory,
+        house.me,
+        sender,
+        path,
+        message,
+        screens,
+    )?;
+    Ok(cause_in(admission))
+}
+
+fn cause_in(admission: Admission) -> Option<Cause>
+    ensures { result ≡ cause_in admission }
+{
+    match admission {
+        Admission::Accepted(_) => None,
+        Admission::Not(cause) => Some(cause),
     }
 }
 

@@ -11,6 +11,7 @@ use pec_outside::MemDisk;
 use pec_provider::{
     CreateFault, Event, House, Mark, Provider, ProviderFault, ReopenFault, Submitted,
 };
+use pec_screen::NoScreens;
 use pec_seal::{HmacSealer, Sealer};
 use pec_types::{Address, BookLine, Frame, ItemLine, Moment, NoMemory};
 use std::alloc::Global;
@@ -166,8 +167,8 @@ impl Desk {
             sealer: &home.sealer,
             me: self.me,
         };
-        self.provider
-            .submit(self.alloc, &house, moment, sender, path, message)
+        let mut none = NoScreens;
+        self.provider.submit(self.alloc, &house, moment, sender, path, message, &mut none)
     }
 
     pub fn tick(&mut self, moment: Moment) -> Result<Vec<Mark>, ProviderFault> {

@@ -20,5 +20,5 @@ pub use laws::{
 };
 pub use pec_brief::brief;
 pub use pec_types::Kind;
-pub use reading::{ReceiptView, a_text_is_one_receipt, read};
+pub use reading::{ReceiptView, a_text_is_one_receipt, read, receipt_in};
 pub use receipts::Receipt;

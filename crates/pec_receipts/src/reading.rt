@@ -1,4 +1,4 @@
-ghost use Rattle.std.specs.Prelude.{◌≡◌, ◌++◌, List, codes, IfOk, option_map};
+ghost use Rattle.std.specs.Prelude.{◌≡◌, ◌++◌, List, Ok, codes, IfOk, option_map};
 ghost use Rattle.pec_types.specs.Answers.{OrNoMemory, ReadsExactly, TellsExactly};
 ghost use Rattle.pec_types.specs.AddressReading.{address_of};
 ghost use Rattle.pec_types.specs.Bytes.{Bytes, after_front};
@@ -6,9 +6,11 @@ ghost use Rattle.pec_types.specs.declared.disputes.LetterFault.TheVariants as fa
 ghost use Rattle.pec_types.specs.declared.disputes.Disputed.TheVariants as disputed;
 ghost use Rattle.pec_directory.specs.Directory.{Provider, providers_of};
 ghost use Rattle.pec_letter_parts.specs.Asking.{readable};
+ghost use Rattle.pec_letter_parts.specs.LettersReading.{headed_of};
 ghost use Rattle.pec_letter_parts.specs.Views.{headed_shown, letter_shown};
 ghost use Rattle.pec_receipts.specs.Seen.{IsSeen, IsUnseen, acknowledged, moment_acknowledged, name_acknowledged, seen_of, unangled};
 ghost use Rattle.pec_receipts.specs.SeenReading.{seen_in, view};
+ghost use Rattle.pec_seal.specs.Seals.{Seals};
 
 use crate::asking::{are_recipients, is_sealed, is_wished, kind_of};
 use crate::kinds::row_of;
@@ -74,6 +76,19 @@ fn see<S: Sealer>(
     let read = Headed::read(alloc, sealer, message)?;
     let seen = see_in(alloc, directory, read)?;
     Ok(seen)
+}
+
+/// What `read` sees of a text, where its seal was opened and its head read already.
+pub fn receipt_in(
+    alloc: Global,
+    directory: &Directory,
+    headed: Headed<'_>,
+) -> Result<ReceiptView, LetterFault>
+    // Whatever text was read so, and whoever seals: it is what that text is seen as.
+    ensures exact { (seals : Seals) (text : Bytes) → headed_of seals text ≡ Ok (headed_shown headed.entry)
+        → OrNoMemory faults.NoMemory result (view seals (providers_of directory.now) text) }
+{
+    see_in(alloc, directory, headed)
 }
 
 /// What is seen behind a head.

@@ -7,5 +7,6 @@ pub mod NextLemmas
 pub mod OtherLemmas
 pub mod PairLemmas
 pub mod PathLemmas
+pub mod SeenLemmas
 pub mod SightLemmas
 pub mod TableLemmas

@@ -9,25 +9,25 @@ use Rattle.pec_script.specs.LinesReading.{command_of}
 use Rattle.pec_script.specs.declared.commands.Command.{Command as Written}
 use Rattle.pec_script.specs.declared.faults.LineFault.{LineFault}
 use Rattle.pec_input.specs.Lines.{content_of}
-use Rattle.pec_runs.specs.ScriptLines.{Line, PassedOver, Says, SaysNone, TooLong, TooMany, command_in, is_passed_over, line_by, longest_line, most_lines, said_by}
+use Rattle.pec_runs.specs.ScriptLines.{Finds, Line, PassedOver, Says, SaysNone, TooLong, TooMany, command_in, is_passed_over, line_by, longest_line, most_lines, said_by}
 use Rattle.pec_runs.proofs.LineLemmas.{ReadsSo}
 
-module _ (reads : ReadsSo) (providers : List Provider) (number : ℕ) (line : Bytes) where
+module _ (reads : ReadsSo) (finds : Finds) (providers : List Provider) (number : ℕ) (line : Bytes) where
   abbrev content : Bytes
   content = content_of line
 
   abbrev said_so : Bool → Bool → Bool → Result Written LineFault → Line
   said_so many long over told =
-      if many then TooMany else (if long then TooLong else (if over then PassedOver else line_by told))
+      if many then TooMany else (if long then TooLong else (if over then PassedOver else line_by finds told))
 
-  pub too_many : most_lines < number → said_by providers number line ≡ TooMany
+  pub too_many : most_lines < number → said_by finds providers number line ≡ TooMany
   unfolding said_by
   too_many many =
       ap (λ (b : Bool). said_so b (nat_lt longest_line (length content)) (is_passed_over content)
       (command_of providers content))
       (lt-ltb most_lines number many)
 
-  pub too_long : number ≤ most_lines → longest_line < length content → said_by providers number line ≡ TooLong
+  pub too_long : number ≤ most_lines → longest_line < length content → said_by finds providers number line ≡ TooLong
   unfolding said_by
   too_long few long =
       ap (λ (b : Bool). said_so b (nat_lt longest_line (length content)) (is_passed_over content)
@@ -37,7 +37,7 @@ module _ (reads : ReadsSo) (providers : List Provider) (number : ℕ) (line : By
       (lt-ltb longest_line (length content) long)
 
   within : number ≤ most_lines → length content ≤ longest_line
-      → said_by providers number line ≡ said_so false false (is_passed_over content) (command_of providers content)
+      → said_by finds providers number line ≡ said_so false false (is_passed_over content) (command_of providers content)
   unfolding said_by
   within few short =
       ap (λ (b : Bool). said_so b (nat_lt longest_line (length content)) (is_passed_over content)
@@ -47,12 +47,12 @@ module _ (reads : ReadsSo) (providers : List Provider) (number : ℕ) (line : By
       (le-ltb longest_line (length content) short)
 
   pub passed_over : number ≤ most_lines → length content ≤ longest_line → is_passed_over content ≡ true
-      → said_by providers number line ≡ PassedOver
+      → said_by finds providers number line ≡ PassedOver
   passed_over few short over =
       within few short ∙ ap (λ (b : Bool). said_so false false b (command_of providers content)) over
 
   pub says : (written : Written) → number ≤ most_lines → length content ≤ longest_line → is_passed_over content ≡ false
-      → IsCommand providers content written → said_by providers number line ≡ Says (command_in written)
+      → IsCommand providers content written → said_by finds providers number line ≡ Says (command_in finds written)
   says written few short over is =
       within few short
       ∙ (ap (λ (b : Bool). said_so false false b (command_of providers content)) over
@@ -61,7 +61,7 @@ module _ (reads : ReadsSo) (providers : List Provider) (number : ℕ) (line : By
 
   pub says_none : (fault : LineFault) → number ≤ most_lines → length content ≤ longest_line
       → is_passed_over content ≡ false
-      → IsLineFault providers content fault → said_by providers number line ≡ SaysNone fault
+      → IsLineFault providers content fault → said_by finds providers number line ≡ SaysNone fault
   says_none fault few short over is =
       within few short
       ∙ (ap (λ (b : Bool). said_so false false b (command_of providers content)) over

@@ -11,7 +11,7 @@ use Rattle.pec_chronicle.specs.Chronicle.{IsJournalOf}
 use Rattle.pec_ledger.specs.Network.{Site, chosen, interrupted_at, journal_at}
 use Rattle.pec_ledger.specs.Trade.{Trade}
 use Rattle.pec_plays.specs.Commands.{Command, Luck}
-use Rattle.pec_runs.specs.Happened.{Begun, Happened, Stage, by_next, outcome_at, outcome_of, stage_of}
+use Rattle.pec_runs.specs.Happened.{Asked, Begun, Happened, Stage, by_next, outcome_at, outcome_of, stage_of}
 use Rattle.pec_runs.specs.Openings.{Disks, Form, IsLeft, Next, NoMore, Holds, Unfits, Fails, Stops, next_of, opened_all}
 use Rattle.pec_runs.specs.Plays.{Rest}
 use Rattle.pec_runs.specs.Ran.{Behind, Counts, HasBegun, LeavesOff, Ran, Within, command_in_hand, world}
@@ -77,13 +77,13 @@ as_opened trade journals p journal bytes there is =
 
 -- ---- a run
 
-module _ (words : List Bytes) (status : Status) (unread before after : Option Bytes) (tells : Type 0)
+module _ (asked : Asked) (status : Status) (unread before after : Option Bytes) (tells : Type 0)
     (old_disks new_disks : Disks)
-    (old new : Counts) (ran : Ran words status unread before after tells old_disks new_disks old new) (form : Form)
+    (old new : Counts) (ran : Ran asked status unread before after tells old_disks new_disks old new) (form : Form)
     (script : Script)
-    (begun : stage_of words ran.happened.early ran.happened.parts ≡ Begun form script) where
-  abbrev is : HasBegun tells old_disks new_disks old new ran.happened status words form script
-  is = has_begun words status unread before after tells old_disks new_disks old new ran form script begun
+    (begun : stage_of asked ran.happened.early ran.happened.parts ≡ Begun form script) where
+  abbrev is : HasBegun tells old_disks new_disks old new ran.happened status asked form script
+  is = has_begun asked status unread before after tells old_disks new_disks old new ran form script begun
 
   reads_left : (p : ℕ) (bytes : Bytes) → p < next_of ran.happened.opening → (new_disks.reads p bytes)
       ⊎ (new_disks.may_leave p bytes)
@@ -92,20 +92,20 @@ module _ (words : List Bytes) (status : Status) (unread before after : Option By
   reads_left p bytes l (inr image) = is.disks.crash p l bytes image
 
   left_is : (status ≡ statuses.NoMemory → ran.happened.opening.next ≡ NoMore → ⊥)
-      → is.left ≡ (outcome_of words ran.happened).after
+      → is.left ≡ (outcome_of asked ran.happened).after
   left_is not_both =
-      leaves_behind (world ran.happened) (outcome_of words ran.happened).after is.left
+      leaves_behind (world ran.happened) (outcome_of asked ran.happened).after is.left
       (command_in_hand status ran.happened.opening.next ran.happened.rest ran.happened.lucks script)
       (no_hand status ran.happened.opening.next ran.happened.rest ran.happened.lucks script not_both) is.leaves_off
 
   pub leaves_journals : (status ≡ statuses.NoMemory → ran.happened.opening.next ≡ NoMore → ⊥) → (p : ℕ) (bytes : Bytes)
       → p < next_of ran.happened.opening → (new_disks.reads p bytes) ⊎ (new_disks.may_leave p bytes)
-      → IsLeft (outcome_of words ran.happened).after p bytes
+      → IsLeft (outcome_of asked ran.happened).after p bytes
   leaves_journals not_both p bytes l found =
       subst (λ (s : List Site). IsLeft s p bytes) (left_is not_both) (reads_left p bytes l found)
 
   after_opened : (ran.happened.opening.next ≡ NoMore → ⊥)
-      → (outcome_of words ran.happened).after ≡ opened_all (world ran.happened) ran.happened.opening.journals
+      → (outcome_of asked ran.happened).after ≡ opened_all (world ran.happened) ran.happened.opening.journals
   unfolding outcome_of
   after_opened not_all =
       ap (λ (stage : Stage). (outcome_at ran.happened stage).after) begun

@@ -23,11 +23,11 @@ use Rattle.pec_plays.specs.Scripts.{AllUnforged, IsUnforged}
 use Rattle.pec_runs.specs.Endings.{End}
 use Rattle.pec_runs.specs.Headline.{AllHonest, CanBeSaid, IsHonest}
 use Rattle.pec_input.specs.Lines.{content_of}
-use Rattle.pec_runs.specs.ScriptLines.{Line, PassedOver, Says, SaysNone, TooLong, TooMany, behind_line, command_in, is_passed_over, line_by, longest_line, most_lines, said_by, script_of}
+use Rattle.pec_runs.specs.ScriptLines.{Finds, Line, PassedOver, Says, SaysNone, TooLong, TooMany, behind_line, command_in, is_passed_over, line_by, longest_line, most_lines, said_by, script_of}
 
 -- ---- arguments
 
-module _ (providers : List Provider) where
+module _ (finds : Finds) (providers : List Provider) where
   path_bounds : (text : Bytes) (along : Path) → IsPath text along → (0 < length along) × (length along ≤ most_addresses)
   path_bounds text along is =
       let size : length along ≡ length is.parts = ap (λ l. length l) is.are.path_is ∙ length-map is.parts lowered
@@ -35,7 +35,7 @@ module _ (providers : List Provider) where
 
   submit_can : (texts : List Bytes) (said : Said (kinds_of verbs.Submit))
       → AllSay providers (kinds_of verbs.Submit) texts said
-      → CanBeSaid (command_in (made verbs.Submit said))
+      → CanBeSaid (command_in finds (made verbs.Submit said))
   submit_can [] said all = absurd all
   submit_can (a ∷ []) said all = absurd all.1
   submit_can (a ∷ b ∷ []) said all = absurd all.1.1
@@ -46,20 +46,20 @@ module _ (providers : List Provider) where
 
   tick_can : (texts : List Bytes) (said : Said (kinds_of verbs.Tick))
       → AllSay providers (kinds_of verbs.Tick) texts said
-      → CanBeSaid (command_in (made verbs.Tick said))
+      → CanBeSaid (command_in finds (made verbs.Tick said))
   tick_can [] said all = absurd all
   tick_can (a ∷ []) said all = absurd all.1
   tick_can (a ∷ b ∷ rest) said all = all.1.0.1
 
   round_can : (texts : List Bytes) (said : Said (kinds_of verbs.Round))
       → AllSay providers (kinds_of verbs.Round) texts said
-      → CanBeSaid (command_in (made verbs.Round said))
+      → CanBeSaid (command_in finds (made verbs.Round said))
   round_can [] said all = absurd all
   round_can (a ∷ rest) said all = all.0.1
 
   made_can : (verb : Verb) (texts : List Bytes) (said : Said (kinds_of verb))
       → AllSay providers (kinds_of verb) texts said
-      → CanBeSaid (command_in (made verb said))
+      → CanBeSaid (command_in finds (made verb said))
   made_can verbs.Submit texts said all = submit_can texts said all
   made_can verbs.Tick texts said all = tick_can texts said all
   made_can verbs.Round texts said all = round_can texts said all
@@ -88,20 +88,20 @@ LineCan (SaysNone fault) = Unit {0}
 LineCan TooLong = Unit {0}
 LineCan TooMany = Unit {0}
 
-module _ (reads : ReadsSo) (providers : List Provider) where
+module _ (reads : ReadsSo) (finds : Finds) (providers : List Provider) where
   read_can : (content : Bytes) (told : Result Written LineFault) → command_of providers content ≡ told
-      → LineCan (line_by told)
+      → LineCan (line_by finds told)
   read_can content (Err fault) e = tt
   read_can content (Ok written) e =
       let is = ((reads providers content).value written).0 e
-      in subst (λ (w : Written). CanBeSaid (command_in w)) (sym is.command_is)
-      (made_can providers is.verb is.arguments is.said is.arguments_say)
+      in subst (λ (w : Written). CanBeSaid (command_in finds w)) (sym is.command_is)
+      (made_can finds providers is.verb is.arguments is.said is.arguments_say)
 
   by_test : (b : Bool) (x y : Line) → LineCan x → LineCan y → LineCan (if b then x else y)
   by_test true x y a b = a
   by_test false x y a b = b
 
-  pub line_can : (number : ℕ) (line : Bytes) → LineCan (said_by providers number line)
+  pub line_can : (number : ℕ) (line : Bytes) → LineCan (said_by finds providers number line)
   unfolding said_by
   line_can number line =
       by_test (nat_lt most_lines number) _ _ tt
@@ -119,18 +119,18 @@ module _ (reads : ReadsSo) (providers : List Provider) where
   behind_can number TooMany commands end can all = tt
 
   pub script_can : (number : ℕ) (lines : List Bytes)
-      → AllByRecursion CanBeSaid (script_of providers number lines).commands
+      → AllByRecursion CanBeSaid (script_of finds providers number lines).commands
   script_can number [] = tt
   script_can number (line ∷ lines) =
-      behind_can number (said_by providers number line) (script_of providers (number + 1) lines).commands
-      (script_of providers (number + 1) lines).end (line_can number line) (script_can (number + 1) lines)
+      behind_can number (said_by finds providers number line) (script_of finds providers (number + 1) lines).commands
+      (script_of finds providers (number + 1) lines).end (line_can number line) (script_can (number + 1) lines)
 
 -- ---- no forged frame
 
 pub one_unforged : (trade : Trade) (sites : List Site) (command : Command) → CanBeSaid command
     → IsHonest trade sites command
     → IsUnforged trade sites command
-one_unforged trade sites (Submit p now sender along message) can honest = can
+one_unforged trade sites (Submit p now sender along message found) can honest = can
 one_unforged trade sites (Tick p now) can honest = can
 one_unforged trade sites (Round now) can honest = can
 one_unforged trade sites (Lose from to at) can honest = tt

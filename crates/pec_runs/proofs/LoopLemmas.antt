@@ -16,7 +16,7 @@ use Rattle.pec_runs.specs.Endings.{Done, End}
 use Rattle.pec_input.specs.Lines.{raw_lines}
 use Rattle.pec_runs.specs.Plays.{Ends, HasMemory, MayPlay, MayStray, Outcome, RoseBy, Stopped, Stops, Strayed, Strays}
 use Rattle.pec_runs.specs.Plays.{ToTheEnd, faults_by, finish_text, onto_outcome, outcome_from, outcome_text}
-use Rattle.pec_runs.specs.ScriptLines.{Line, PassedOver, Says, Script, behind_line, nothing_but, said_by, script_of}
+use Rattle.pec_runs.specs.ScriptLines.{Finds, Line, PassedOver, Says, Script, behind_line, nothing_but, said_by, script_of}
 use Rattle.pec_runs.proofs.ClimbLemmas.{outcome_on, plays_astray, plays_none, plays_on, plays_over}
 
 -- ---- what is written
@@ -58,12 +58,12 @@ lines_on (Some text) line behind lines read tells left =
     in let here : lines ≡ raw_lines on.0 = subst (λ (b : Option Bytes). AreLinesLeft b lines) on.1 left
     in ap (λ (l : List Bytes). line ∷ l) here ∙ sym same
 
-module _ (trade : Trade) (providers : List Provider) (tells : Type 0) where
+module _ (trade : Trade) (finds : Finds) (providers : List Provider) (tells : Type 0) where
   -- a script whose first line is known
-  script_here : (number : ℕ) (line : Bytes) (lines : List Bytes) (what : Line) → said_by providers number line ≡ what
-      → script_of providers number (line ∷ lines) ≡ behind_line number what (script_of providers (number + 1) lines)
+  script_here : (number : ℕ) (line : Bytes) (lines : List Bytes) (what : Line) → said_by finds providers number line ≡ what
+      → script_of finds providers number (line ∷ lines) ≡ behind_line number what (script_of finds providers (number + 1) lines)
   script_here number line lines what e = ap
-      (λ (w : Line). behind_line number w (script_of providers (number + 1) lines)) e
+      (λ (w : Line). behind_line number w (script_of finds providers (number + 1) lines)) e
 
   abbrev next_place : Place → List Site → Option Bytes → (ℕ → ℕ) → Place
   next_place here sites behind counts = record {
@@ -77,10 +77,10 @@ module _ (trade : Trade) (providers : List Provider) (tells : Type 0) where
   -- ---- steps
 
   pub comes_passed : (here : Place) (line : Bytes) (behind : Option Bytes) (upto : ℕ → ℕ) (outcome : Outcome)
-      → said_by providers here.number line ≡ PassedOver → IsLineRead here.unread line behind
+      → said_by finds providers here.number line ≡ PassedOver → IsLineRead here.unread line behind
       → TellsOn here.unread behind
-      → Comes trade providers tells (next_place here here.sites behind here.counts) upto outcome
-      → Comes trade providers tells here upto outcome
+      → Comes trade finds providers tells (next_place here here.sites behind here.counts) upto outcome
+      → Comes trade finds providers tells here upto outcome
   comes_passed here line behind upto outcome said read on comes =
       let same = script_here here.number line comes.lines PassedOver said
       in record {
@@ -95,16 +95,16 @@ module _ (trade : Trade) (providers : List Provider) (tells : Type 0) where
 
   pub comes_played : (here : Place) (line : Bytes) (command : Command) (luck : Luck) (behind : Option Bytes)
       (mid upto : ℕ → ℕ) (outcome : Outcome)
-      → said_by providers here.number line ≡ Says command → IsLineRead here.unread line behind
+      → said_by finds providers here.number line ≡ Says command → IsLineRead here.unread line behind
       → TellsOn here.unread behind
       → MayMeet trade luck here.sites command → HasMemory (played trade luck here.sites command).answer
       → ((p : ℕ) → RoseBy (faults_by p command (played trade luck here.sites command).answer) (here.counts p) (mid p))
-      → Comes trade providers tells (next_place here
+      → Comes trade finds providers tells (next_place here
       (played trade luck here.sites command).after behind mid) upto outcome
-      → Comes trade providers tells here upto (onto_outcome (played trade luck here.sites command).answer outcome)
+      → Comes trade finds providers tells here upto (onto_outcome (played trade luck here.sites command).answer outcome)
   comes_played here line command luck behind mid upto outcome said read on meets has rose comes =
       let same = script_here here.number line comes.lines (Says command) said
-      in let later = script_of providers (here.number + 1) comes.lines
+      in let later = script_of finds providers (here.number + 1) comes.lines
       in record {
         lines = line ∷ comes.lines;
         lucks = luck ∷ comes.lucks;
@@ -126,7 +126,7 @@ module _ (trade : Trade) (providers : List Provider) (tells : Type 0) where
 
   pub comes_over : (here : Place) (upto : ℕ → ℕ) → IfSome here.unread (λ text. text ≡ [])
       → ((p : ℕ) → here.counts p ≤ upto p)
-      → Comes trade providers tells here upto (record { answers = []; after = here.sites; finish = Ends Done })
+      → Comes trade finds providers tells here upto (record { answers = []; after = here.sites; finish = Ends Done })
   comes_over here upto over later = record {
     lines = [];
     lucks = [];
@@ -142,9 +142,9 @@ module _ (trade : Trade) (providers : List Provider) (tells : Type 0) where
 
   -- a line at which the script ends, whatever is behind it
   pub comes_ended : (here : Place) (line : Bytes) (lines : List Bytes) (end : End) (upto : ℕ → ℕ)
-      → script_of providers here.number (line ∷ lines) ≡ nothing_but end → AreLinesLeft here.unread (line ∷ lines)
+      → script_of finds providers here.number (line ∷ lines) ≡ nothing_but end → AreLinesLeft here.unread (line ∷ lines)
       → ((p : ℕ) → here.counts p ≤ upto p)
-      → Comes trade providers tells here upto (record { answers = []; after = here.sites; finish = Ends end })
+      → Comes trade finds providers tells here upto (record { answers = []; after = here.sites; finish = Ends end })
   comes_ended here line lines end upto ends left later = record {
     lines = line ∷ lines;
     lucks = [];
@@ -157,20 +157,20 @@ module _ (trade : Trade) (providers : List Provider) (tells : Type 0) where
 
   pub comes_stopped : (here : Place) (lines : List Bytes) (upto : ℕ → ℕ) → AreLinesLeft here.unread lines
       → ((p : ℕ) → here.counts p ≤ upto p)
-      → Comes trade providers tells here upto (record { answers = []; after = here.sites; finish = Stops })
+      → Comes trade finds providers tells here upto (record { answers = []; after = here.sites; finish = Stops })
   comes_stopped here lines upto left later = record {
     lines = lines;
     lucks = [];
     rest = Stopped;
     left = left;
-    may = plays_none trade tells here.sites here.counts upto (script_of providers here.number lines) later;
+    may = plays_none trade tells here.sites here.counts upto (script_of finds providers here.number lines) later;
     is = refl;
   }
 
   pub comes_strayed : (here : Place) (line : Bytes) (lines : List Bytes) (command : Command) (upto : ℕ → ℕ)
-      → said_by providers here.number line ≡ Says command → AreLinesLeft here.unread (line ∷ lines)
+      → said_by finds providers here.number line ≡ Says command → AreLinesLeft here.unread (line ∷ lines)
       → MayStray tells here.sites (Some command) → ((p : ℕ) → here.counts p ≤ upto p)
-      → Comes trade providers tells here upto (record { answers = []; after = here.sites; finish = Strays })
+      → Comes trade finds providers tells here upto (record { answers = []; after = here.sites; finish = Strays })
   comes_strayed here line lines command upto said left may later =
       let same = script_here here.number line lines (Says command) said
       in record {
@@ -179,14 +179,14 @@ module _ (trade : Trade) (providers : List Provider) (tells : Type 0) where
         rest = Strayed;
         left = left;
         may = subst (λ (s : Script). MayPlay trade tells here.sites here.counts upto s [] Strayed) (sym same)
-            (plays_astray trade tells here.sites here.counts upto command (script_of providers (here.number + 1) lines)
+            (plays_astray trade tells here.sites here.counts upto command (script_of finds providers (here.number + 1) lines)
             later may);
         is = refl;
       }
 
   -- ---- the loop
 
-  pub goes_start : (first : Place) (before : Option Bytes) → Goes trade providers tells first first before before
+  pub goes_start : (first : Place) (before : Option Bytes) → Goes trade finds providers tells first first before before
   goes_start first before = record {
     answers = [];
     held = followed_nothing before;
@@ -194,10 +194,10 @@ module _ (trade : Trade) (providers : List Provider) (tells : Type 0) where
   }
 
   pub goes_passed : (first here : Place) (before after : Option Bytes) (line : Bytes) (behind : Option Bytes)
-      → said_by providers here.number line ≡ PassedOver → IsLineRead here.unread line behind
+      → said_by finds providers here.number line ≡ PassedOver → IsLineRead here.unread line behind
       → TellsOn here.unread behind
-      → Goes trade providers tells first here before after
-      → Goes trade providers tells first (next_place here here.sites behind here.counts) before after
+      → Goes trade finds providers tells first here before after
+      → Goes trade finds providers tells first (next_place here here.sites behind here.counts) before after
   goes_passed first here before after line behind said read on goes = record {
     answers = goes.answers;
     held = goes.held;
@@ -207,13 +207,13 @@ module _ (trade : Trade) (providers : List Provider) (tells : Type 0) where
   pub goes_played : (first here : Place) (before after later : Option Bytes) (line : Bytes) (command : Command)
       (luck : Luck)
       (behind : Option Bytes) (mid : ℕ → ℕ)
-      → said_by providers here.number line ≡ Says command → IsLineRead here.unread line behind
+      → said_by finds providers here.number line ≡ Says command → IsLineRead here.unread line behind
       → TellsOn here.unread behind
       → MayMeet trade luck here.sites command → HasMemory (played trade luck here.sites command).answer
       → ((p : ℕ) → RoseBy (faults_by p command (played trade luck here.sites command).answer) (here.counts p) (mid p))
       → later ≡ followed_by after (answer_text providers (played trade luck here.sites command).answer)
-      → Goes trade providers tells first here before after
-      → Goes trade providers tells first
+      → Goes trade finds providers tells first here before after
+      → Goes trade finds providers tells first
       (next_place here (played trade luck here.sites command).after behind mid) before later
   goes_played first here before after later line command luck behind mid said read on meets has rose wrote goes =
       let answer = (played trade luck here.sites command).answer
@@ -224,7 +224,7 @@ module _ (trade : Trade) (providers : List Provider) (tells : Type 0) where
             ∙ (followed_twice before (answers_text providers goes.answers) (answer_text providers answer)
             ∙ ap (followed_by before) (sym (answers_one providers goes.answers answer))));
         goes = λ outcome upto comes.
-            subst (λ (answers : List Answer). Comes trade providers tells first upto
+            subst (λ (answers : List Answer). Comes trade finds providers tells first upto
             (record { answers = answers; after = outcome.after; finish = outcome.finish }))
             (sym (append_assoc goes.answers (answer ∷ []) outcome.answers))
             (goes.goes (onto_outcome answer outcome) upto

@@ -100,10 +100,10 @@ module _ (trade : Trade) (sites : List Site) (luck : Luck) where
       (answers sites (Refuses (faults.ClockBack (last_of trade p (journal_at sites p))))) x y (inr refl) a)
       (inr refl)
 
-  submitted_alike : (p now : ℕ) (sender : Bytes) (along : Path) (message : Bytes)
-      → Alike (submitted trade luck sites p now sender along message)
-      (submitted trade calm_luck sites p now sender along message)
-  submitted_alike p now sender along message =
+  submitted_alike : (p now : ℕ) (sender : Bytes) (along : Path) (message : Bytes) (found : Bool)
+      → Alike (submitted trade luck sites p now sender along message found)
+      (submitted trade calm_luck sites p now sender along message found)
+  submitted_alike p now sender along message found =
       alike_if (trade.is_account p sender) _ _ (answers sites (Refuses faults.NoAccount))
       (answers sites (Refuses faults.NoAccount))
       (work_alike p now _ _
@@ -307,11 +307,11 @@ module _ (trade : Trade) (sites : List Site) (luck : Luck) where
 
   pub twin : (command : Command) → MayMeet trade luck sites command → ToldWell command → Twin command
   unfolding played
-  twin (Submit p now sender along message) may well = (
+  twin (Submit p now sender along message found) may well = (
     tt,
-    no_fault p (submitted trade luck sites p now sender along message)
-        (submitted trade calm_luck sites p now sender along message)
-        (submitted_alike p now sender along message) (well.1 p),
+    no_fault p (submitted trade luck sites p now sender along message found)
+        (submitted trade calm_luck sites p now sender along message found)
+        (submitted_alike p now sender along message found) (well.1 p),
   )
   twin (Tick p now) may well = (
     tt,
@@ -371,9 +371,9 @@ module _ (trade : Trade) (sites : List Site) (luck : Luck) (quiet : IsQuiet luck
       (answers sites (Refuses (faults.ClockBack (last_of trade p (journal_at sites p))))) done (tt, λ k. refl) a)
       (tt, λ k. refl)
 
-  submitted_well : (p now : ℕ) (sender : Bytes) (along : Path) (message : Bytes)
-      → Well p (submitted trade luck sites p now sender along message)
-  submitted_well p now sender along message =
+  submitted_well : (p now : ℕ) (sender : Bytes) (along : Path) (message : Bytes) (found : Bool)
+      → Well p (submitted trade luck sites p now sender along message found)
+  submitted_well p now sender along message found =
       well_if p (trade.is_account p sender) _ (answers sites (Refuses faults.NoAccount))
       (work_well p p now _
       (well_if p (nat_lt (messages_at trade sites p) MESSAGES) _ (answers sites (Refuses faults.Full))
@@ -491,7 +491,7 @@ module _ (trade : Trade) (sites : List Site) (luck : Luck) (quiet : IsQuiet luck
 
   pub quiet_well : (command : Command) → ToldWell trade sites luck command
   unfolding played
-  quiet_well (Submit p now sender along message) = submitted_well p now sender along message
+  quiet_well (Submit p now sender along message found) = submitted_well p now sender along message found
   quiet_well (Tick p now) = ticked_well p now
   quiet_well (Round now) = rounded_well now
   quiet_well (Lose from to place) =

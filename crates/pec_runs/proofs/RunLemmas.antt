@@ -12,7 +12,7 @@ use Rattle.pec_ledger.specs.Trade.{Trade}
 use Rattle.pec_ledger.specs.TradeLaws.{IsTrade}
 use Rattle.pec_plays.specs.Commands.{Command, Luck, played}
 use Rattle.pec_plays.specs.Scripts.{AllUnforged, IsUnforged, script}
-use Rattle.pec_runs.specs.Happened.{Begun, Happened, Stage, by_next, outcome_at, outcome_of, stage_of}
+use Rattle.pec_runs.specs.Happened.{Asked, Begun, Happened, Stage, by_next, outcome_at, outcome_of, stage_of}
 use Rattle.pec_runs.specs.Headline.{AllHonest, CanBeSaid, IsHonest}
 use Rattle.pec_runs.specs.Openings.{AreLeft, Disks, Form, IsLeft, IsNext, IsOpening, Next, NoMore, Opening, Resume, Run, next_of, opened_all}
 use Rattle.pec_runs.specs.Resuming.{IsFoundSo}
@@ -76,11 +76,11 @@ hand_can statuses.NotFit rest lucks script command all e = absurd (none-some com
 hand_can statuses.InputTooLong rest lucks script command all e = absurd (none-some command e)
 
 -- what is played by a run that has its journals
-pub outcome_is : (words : List Bytes) (happened : Happened) (form : Form) (script : Script)
-    → stage_of words happened.early happened.parts ≡ Begun form script → happened.opening.next ≡ NoMore
-    → outcome_of words happened ≡ outcome_from (world happened) happened.lucks happened.rest (beginning happened) script
+pub outcome_is : (asked : Asked) (happened : Happened) (form : Form) (script : Script)
+    → stage_of asked happened.early happened.parts ≡ Begun form script → happened.opening.next ≡ NoMore
+    → outcome_of asked happened ≡ outcome_from (world happened) happened.lucks happened.rest (beginning happened) script
 unfolding outcome_of
-outcome_is words happened form script begun at_hand =
+outcome_is asked happened form script begun at_hand =
     ap (outcome_at happened) begun
     ∙ ap (by_next (world happened) happened.opening happened.lucks happened.rest script) at_hand
 
@@ -95,16 +95,16 @@ pub record StaysSound (trade : Trade) : Type 0 where
 
 -- ---- a run
 
-module _ (words : List Bytes) (status : Status) (unread before after : Option Bytes) (tells : Type 0)
+module _ (asked : Asked) (status : Status) (unread before after : Option Bytes) (tells : Type 0)
     (old_disks new_disks : Disks)
-    (old new : Counts) (ran : Ran words status unread before after tells old_disks new_disks old new) (form : Form)
+    (old new : Counts) (ran : Ran asked status unread before after tells old_disks new_disks old new) (form : Form)
     (script : Script)
-    (begun : stage_of words ran.happened.early ran.happened.parts ≡ Begun form script) where
-  abbrev all : HasAll words ran.happened.early ran.happened.parts form script
-  all = has_all words ran.happened.early ran.happened.parts form script begun
+    (begun : stage_of asked ran.happened.early ran.happened.parts ≡ Begun form script) where
+  abbrev all : HasAll asked ran.happened.early ran.happened.parts form script
+  all = has_all asked ran.happened.early ran.happened.parts form script begun
 
-  pub has_begun : HasBegun tells old_disks new_disks old new ran.happened status words form script
-  has_begun = subst (λ (s : Stage). IsAt tells old_disks new_disks old new ran.happened status words s) begun ran.is_at
+  pub has_begun : HasBegun tells old_disks new_disks old new ran.happened status asked form script
+  has_begun = subst (λ (s : Stage). IsAt tells old_disks new_disks old new ran.happened status asked s) begun ran.is_at
 
   pub is_world : IsTrade (world ran.happened)
   is_world = (ran.setting form script begun all.providers all.directory).world
@@ -112,7 +112,7 @@ module _ (words : List Bytes) (status : Status) (unread before after : Option By
   pub commands_can : ReadsSo → AllByRecursion CanBeSaid script.commands
   commands_can reads =
       subst (λ (s : Script). AllByRecursion CanBeSaid s.commands) (sym all.script_is)
-      (script_can reads all.providers 1 all.lines)
+      (script_can reads asked.finds all.providers 1 all.lines)
 
   -- what it leaves fits
   pub fits_left : JointStays (world ran.happened) → StaysSound (world ran.happened)
@@ -122,14 +122,14 @@ module _ (words : List Bytes) (status : Status) (unread before after : Option By
       → AllHonest (world ran.happened) ran.happened.lucks (beginning ran.happened) script.commands
       → ((command : Command) → command_in_hand status ran.happened.opening.next ran.happened.rest ran.happened.lucks script
       ≡ Some command
-      → IsHonest (world ran.happened) (outcome_of words ran.happened).after command)
+      → IsHonest (world ran.happened) (outcome_of asked ran.happened).after command)
       → FitsAnyWay (world ran.happened) has_begun.left
   fits_left stays plays start reads at_hand fit honest hand =
       let trade = world ran.happened
-      in let after = (outcome_of words ran.happened).after
+      in let after = (outcome_of asked ran.happened).after
       in let can = commands_can reads
       in let end : Sound trade after =
-      subst (λ (o : Outcome). Sound trade o.after) (sym (outcome_is words ran.happened form script begun at_hand))
+      subst (λ (o : Outcome). Sound trade o.after) (sym (outcome_is asked ran.happened form script begun at_hand))
       (plays.ends ran.happened.lucks (beginning ran.happened) script.commands
       (sound_beginning trade old_disks form ran.happened.opening stays start has_begun.opening at_hand fit)
       (all_unforged trade ran.happened.lucks (beginning ran.happened) script.commands can honest))

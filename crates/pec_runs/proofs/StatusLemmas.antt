@@ -16,13 +16,13 @@ use Rattle.pec_runs.specs.Endings.{End, end_text}
 use Rattle.pec_runs.specs.Endings as ends
 use Rattle.pec_input.specs.Directory.{directory_in}
 use Rattle.pec_input.specs.declared.opening.TheConstants.{LONGEST_DIRECTORY}
-use Rattle.pec_runs.specs.Happened.{Begun, Halted, Happened, Over, Stage, by_directory, by_form, by_next, by_script, outcome_at, outcome_of, providers_in, stage_of}
+use Rattle.pec_runs.specs.Happened.{Asked, Begun, Halted, Happened, Over, Stage, by_directory, by_form, by_next, by_script, outcome_at, outcome_of, providers_in, stage_of}
 use Rattle.pec_input.specs.Parts.{Parts}
 use Rattle.pec_runs.specs.Openings.{Disks, Form, Next, NoMore, Holds, Unfits, Fails, Stops, form_in}
 use Rattle.pec_runs.specs.Plays.{Finish, MayPlay, Outcome, Rest, Stopped, Strayed, ToTheEnd, at_end, finish_of, finish_text, outcome_from, outcome_text}
 use Rattle.pec_runs.specs.Plays as plays
 use Rattle.pec_runs.specs.Ran.{Counts, IsAt, PlaysOn, Ran, Tells, TellsAs, beginning, status_at, world}
-use Rattle.pec_runs.specs.ScriptLines.{Line, PassedOver, Says, SaysNone, TooLong, TooMany, Script, behind_line, said_by, script_of}
+use Rattle.pec_runs.specs.ScriptLines.{Finds, Line, PassedOver, Says, SaysNone, TooLong, TooMany, Script, behind_line, said_by, script_of}
 use Rattle.pec_runs.specs.Statuses.{Status, status_of}
 use Rattle.pec_runs.specs.Statuses as statuses
 use Rattle.pec_runs.specs.Writing.{HasEnded, IsDone, IsOfEnd, WroteAnswers}
@@ -57,7 +57,7 @@ answers_count trade (luck ∷ lucks) sites (c ∷ commands) l =
 
 -- ---- runs that don't stray
 
-module _ (tells : Type 0) (old_disks new_disks : Disks) (old new : Counts) (status : Status) (words : List Bytes)
+module _ (tells : Type 0) (old_disks new_disks : Disks) (old new : Counts) (status : Status) (asked : Asked)
     (happened : Happened)
     (told : tells) where
   rest_strays : (written : Script) (rest : Rest) → (rest ≡ Strayed → ⊥)
@@ -83,7 +83,7 @@ module _ (tells : Type 0) (old_disks new_disks : Disks) (old new : Counts) (stat
   next_strays written Fails may e = cc
   next_strays written Stops may e = cc
 
-  pub no_stray : (stage : Stage) → IsAt tells old_disks new_disks old new happened status words stage
+  pub no_stray : (stage : Stage) → IsAt tells old_disks new_disks old new happened status asked stage
       → (outcome_at happened stage).finish ≡ plays.Strays → ⊥
   no_stray (Over end) at e = cc
   no_stray Halted at e = cc
@@ -161,7 +161,7 @@ start_fails plays.Strays e = cc
 
 -- ---- done
 
-module _ (words : List Bytes) (happened : Happened) where
+module _ (asked : Asked) (happened : Happened) where
   -- a script never ends so that the words are at fault, or the directory, or a disk
   abbrev IsOfScript : End → Type 0
   IsOfScript ends.Done = Unit {0}
@@ -178,12 +178,12 @@ module _ (words : List Bytes) (happened : Happened) where
   line_ends number TooLong written is = tt
   line_ends number TooMany written is = tt
 
-  pub script_ends : (providers : List Provider) (number : ℕ) (lines : List Bytes)
-      → IsOfScript (script_of providers number lines).end
-  script_ends providers number [] = tt
-  script_ends providers number (line ∷ lines) =
-      line_ends number (said_by providers number line) (script_of providers (number + 1) lines)
-      (script_ends providers (number + 1) lines)
+  pub script_ends : (finds : Finds) (providers : List Provider) (number : ℕ) (lines : List Bytes)
+      → IsOfScript (script_of finds providers number lines).end
+  script_ends finds providers number [] = tt
+  script_ends finds providers number (line ∷ lines) =
+      line_ends number (said_by finds providers number line) (script_of finds providers (number + 1) lines)
+      (script_ends finds providers (number + 1) lines)
 
   -- ---- how a stage ends
 
@@ -213,47 +213,47 @@ module _ (words : List Bytes) (happened : Happened) where
 
   -- before a script there is no end that is done
   not_done_by : (form : Form) (lines : List Bytes) (told : Result (List Provider) DirectoryFault)
-      → EndsSo (by_directory form lines told) ends.Done
-      → DoneAt (by_directory form lines told)
+      → EndsSo (by_directory asked.finds form lines told) ends.Done
+      → DoneAt (by_directory asked.finds form lines told)
   not_done_by form lines (Err fault) e = cc
-  not_done_by form lines (Ok providers) e = next_done form (script_of providers 1 lines) happened.opening.next refl e
+  not_done_by form lines (Ok providers) e = next_done form (script_of asked.finds providers 1 lines) happened.opening.next refl e
 
   done_lines : (form : Form) (directory : Bytes) (found : Option (List Bytes))
-      → EndsSo (by_script form directory found) ends.Done
-      → DoneAt (by_script form directory found)
+      → EndsSo (by_script asked.finds form directory found) ends.Done
+      → DoneAt (by_script asked.finds form directory found)
   done_lines form directory None e = cc
   done_lines form directory (Some lines) e = not_done_by form lines (directory_in directory) e
 
   done_long : (parts : Parts) (form : Form) (long : Bool)
-      → EndsSo (if long then Over ends.LongDirectory else by_script form parts.directory parts.script) ends.Done
-      → DoneAt (if long then Over ends.LongDirectory else by_script form parts.directory parts.script)
+      → EndsSo (if long then Over ends.LongDirectory else by_script asked.finds form parts.directory parts.script) ends.Done
+      → DoneAt (if long then Over ends.LongDirectory else by_script asked.finds form parts.directory parts.script)
   done_long parts form true e = cc
   done_long parts form false e = done_lines form parts.directory parts.script e
 
-  done_form : (early : Bool) (parts : Parts) (found : Option Form) → EndsSo (by_form early parts found) ends.Done
-      → DoneAt (by_form early parts found)
+  done_form : (early : Bool) (parts : Parts) (found : Option Form) → EndsSo (by_form asked.finds early parts found) ends.Done
+      → DoneAt (by_form asked.finds early parts found)
   done_form true parts None e = cc
   done_form false parts None e = cc
   done_form true parts (Some form) e = cc
   done_form false parts (Some form) e = done_long parts form (nat_lt LONGEST_DIRECTORY (length parts.directory)) e
 
   no_form : (early : Bool) (parts : Parts) (found : Option Form) → found ≡ None
-      → by_form early parts found ≡ Over ends.Usage
+      → by_form asked.finds early parts found ≡ Over ends.Usage
   no_form true parts None e = refl
   no_form false parts None e = refl
   no_form true parts (Some form) e = absurd (none-some form (sym e))
   no_form false parts (Some form) e = absurd (none-some form (sym e))
 
   -- other words are at fault
-  pub other_words : form_in words ≡ None → (outcome_of words happened).finish ≡ plays.Ends ends.Usage
+  pub other_words : form_in asked.words ≡ None → (outcome_of asked happened).finish ≡ plays.Ends ends.Usage
   unfolding outcome_of stage_of
   other_words e = ap (λ (stage : Stage). (outcome_at happened stage).finish)
-      (no_form happened.early happened.parts (form_in words) e)
+      (no_form happened.early happened.parts (form_in asked.words) e)
 
-  pub is_done : (outcome_of words happened).finish ≡ plays.Ends ends.Done → IsDone words happened
+  pub is_done : (outcome_of asked happened).finish ≡ plays.Ends ends.Done → IsDone asked happened
   unfolding outcome_of stage_of
   is_done e =
-      let all = done_form happened.early happened.parts (form_in words) e
+      let all = done_form happened.early happened.parts (form_in asked.words) e
       in record { form = all.0; script = all.1; begun = all.2; at_hand = all.3; all = all.4; done = all.5 }
 
 done_end : (end : End) → status_of end ≡ statuses.Done → end ≡ ends.Done
@@ -270,11 +270,11 @@ done_end (ends.LineRefused number fault) e = cc
 
 -- ---- runs
 
-module _ (words : List Bytes) (status : Status) (unread before after : Option Bytes) (tells : Type 0)
+module _ (asked : Asked) (status : Status) (unread before after : Option Bytes) (tells : Type 0)
     (old_disks new_disks : Disks)
-    (old new : Counts) (ran : Ran words status unread before after tells old_disks new_disks old new) where
+    (old new : Counts) (ran : Ran asked status unread before after tells old_disks new_disks old new) where
   abbrev outcome : Outcome
-  outcome = outcome_of words ran.happened
+  outcome = outcome_of asked ran.happened
 
   abbrev providers : List Provider
   providers = providers_in ran.happened.setting
@@ -283,8 +283,8 @@ module _ (words : List Bytes) (status : Status) (unread before after : Option By
   straight : tells → outcome.finish ≡ plays.Strays → ⊥
   unfolding outcome_of
   straight told e =
-      no_stray tells old_disks new_disks old new status words ran.happened told
-      (stage_of words ran.happened.early ran.happened.parts) ran.is_at e
+      no_stray tells old_disks new_disks old new status asked ran.happened told
+      (stage_of asked ran.happened.early ran.happened.parts) ran.is_at e
 
   by_told : tells → Tells providers status before after outcome
       → TellsAs status before after (outcome_text providers outcome) outcome.finish
@@ -295,13 +295,13 @@ module _ (words : List Bytes) (status : Status) (unread before after : Option By
   tells_as told = by_told told ran.told
 
   pub answers_alone : outcome.finish ≡ plays.Stops → after ≡ followed_by before (outcome_text providers outcome)
-      → WroteAnswers words ran.happened before after
+      → WroteAnswers asked ran.happened before after
   answers_alone stops held =
       held ∙ ap (followed_by before) (no_last_line providers outcome (ap (finish_text providers) stops))
 
   no_answers : outcome.finish ≡ plays.Fails → outcome.answers ≡ []
   unfolding outcome_of
-  no_answers e = fails_early ran.happened (stage_of words ran.happened.early ran.happened.parts) e
+  no_answers e = fails_early ran.happened (stage_of asked ran.happened.early ran.happened.parts) e
 
   pub nothing_written : outcome.finish ≡ plays.Fails → after ≡ followed_by before (outcome_text providers outcome)
       → after ≡ followed_by before []
@@ -310,7 +310,7 @@ module _ (words : List Bytes) (status : Status) (unread before after : Option By
       (no_last_line providers outcome (ap (finish_text providers) fails)
       ∙ ap (answers_text providers) (no_answers fails))
 
-  pub has_ended : tells → IsOfEnd status → HasEnded words ran.happened status before after
+  pub has_ended : tells → IsOfEnd status → HasEnded asked ran.happened status before after
   has_ended told of =
       let so = ends_so status of before after (outcome_text providers outcome) outcome.finish (tells_as told)
       in record {
@@ -321,7 +321,7 @@ module _ (words : List Bytes) (status : Status) (unread before after : Option By
             (answers_text providers outcome.answers ++ finish_text providers f)) so.0.1;
       }
 
-  pub done_run : (ended : HasEnded words ran.happened status before after) → status ≡ statuses.Done
-      → IsDone words ran.happened
+  pub done_run : (ended : HasEnded asked ran.happened status before after) → status ≡ statuses.Done
+      → IsDone asked ran.happened
   done_run ended is =
-      is_done words ran.happened (ended.finish ∙ ap plays.Ends (done_end ended.end (ended.status_is ∙ is)))
+      is_done asked ran.happened (ended.finish ∙ ap plays.Ends (done_end ended.end (ended.status_is ∙ is)))

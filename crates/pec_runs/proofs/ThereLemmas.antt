@@ -11,7 +11,7 @@ use Rattle.pec_plays.specs.Possible.{quiet_lucks}
 use Rattle.pec_runs.specs.Endings.{End}
 use Rattle.pec_runs.specs.Endings as ends
 use Rattle.pec_input.specs.Directory.{directory_in}
-use Rattle.pec_runs.specs.Happened.{Begun, Happened, IsSetting, Setting, Stage, outcome_at, outcome_of}
+use Rattle.pec_runs.specs.Happened.{Asked, Begun, Happened, IsSetting, Setting, Stage, outcome_at, outcome_of}
 use Rattle.pec_runs.specs.Happened.{providers_in, stage_of, trade_in}
 use Rattle.pec_input.specs.Lines.{raw_lines}
 use Rattle.pec_input.specs.Parts.{parts_of}
@@ -51,10 +51,10 @@ blames_none (ends.LineRefused number fault) old new = tt
 none_fell : (counts : Counts) → NoneFell counts counts
 none_fell counts = record { source = omega arith; sink = omega arith; depot = omega arith; disks = λ p. omega arith }
 
-module _ (there : QuietThere) (tells : Type 0) (old_disks new_disks : Disks) (counts : Counts) (words : List Bytes)
+module _ (there : QuietThere) (tells : Type 0) (old_disks new_disks : Disks) (counts : Counts) (asked : Asked)
     (text : Bytes)
     (setting : Setting) (form : Form) (written : Script) (journals : List (List Entry)) (before : Option Bytes)
-    (begun : stage_of words false (parts_of (raw_lines text)) ≡ Begun form written)
+    (begun : stage_of asked false (parts_of (raw_lines text)) ≡ Begun form written)
     (is_setting : (providers : List Provider) → directory_in (parts_of (raw_lines text)).directory ≡ Ok providers
     → IsSetting providers setting)
     (opens : IsOpening (trade_in setting) old_disks form (record { journals = journals; next = NoMore })) where
@@ -80,7 +80,7 @@ module _ (there : QuietThere) (tells : Type 0) (old_disks new_disks : Disks) (co
     rest = ToTheEnd;
   }
 
-  played_so : outcome_of words happened ≡ outcome
+  played_so : outcome_of asked happened ≡ outcome
   unfolding outcome_of
   played_so = ap (outcome_at happened) begun
 
@@ -88,7 +88,7 @@ module _ (there : QuietThere) (tells : Type 0) (old_disks new_disks : Disks) (co
   finish_is = at_end_all lucks written.commands written.end (there trade start written.commands).1
 
   pub quiet_ran : AreLeft old_disks new_disks form (record { journals = journals; next = NoMore }) outcome.after
-      → Ran words (status_of written.end) (Some text) before
+      → Ran asked (status_of written.end) (Some text) before
       (followed_by before (outcome_text (providers_in setting) outcome)) tells
       old_disks new_disks counts counts
   quiet_ran left = record {
@@ -106,7 +106,7 @@ module _ (there : QuietThere) (tells : Type 0) (old_disks new_disks : Disks) (co
     blame = blames_none written.end counts counts;
     counts = none_fell counts;
     is_at = subst (λ (stage : Stage). IsAt tells old_disks new_disks counts counts happened (status_of written.end)
-        words stage) (sym begun)
+        asked stage) (sym begun)
         (record {
           opening = opens;
           plays = quiet_plays there trade tells start counts.disks written;

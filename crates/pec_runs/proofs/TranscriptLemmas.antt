@@ -11,7 +11,7 @@ use Rattle.pec_plays.specs.Possible.{AllQuiet, NoneInterrupted, quiet_lucks}
 use Rattle.pec_plays.specs.Scripts.{Told, script}
 use Rattle.pec_runs.specs.AnswerLines.{answers_text}
 use Rattle.pec_runs.specs.Endings.{End}
-use Rattle.pec_runs.specs.Happened.{Begun, Halted, Happened, Over, Stage, by_form, by_next, outcome_at, outcome_of, providers_in, stage_of}
+use Rattle.pec_runs.specs.Happened.{Asked, Begun, Halted, Happened, Over, Stage, by_form, by_next, outcome_at, outcome_of, providers_in, stage_of}
 use Rattle.pec_input.specs.Parts.{Parts}
 use Rattle.pec_runs.specs.Openings.{Disks, Form, Next, NoMore, Holds, Unfits, Fails, Stops, form_in}
 use Rattle.pec_runs.specs.Plays.{AllMeet, Finish, HasMemory, MayPlay, Outcome, Rest, RoseBy, Stopped, Strayed, ToTheEnd, at_end, faults_told, finish_of, finish_text, outcome_from, outcome_text}
@@ -62,7 +62,7 @@ told_as told finish = record { answers = told.answers; after = told.after; finis
 
 module _ (one : OneWay) (there : QuietThere) (tells : Type 0) (old_disks new_disks : Disks) (old new : Counts)
     (status : Status)
-    (words : List Bytes) (happened : Happened) (none : NoFaults old new) (end : End) where
+    (asked : Asked) (happened : Happened) (none : NoFaults old new) (end : End) where
   quiet : Script → List Luck
   quiet written = quiet_lucks (world happened) (beginning happened) written.commands
 
@@ -99,61 +99,61 @@ module _ (one : OneWay) (there : QuietThere) (tells : Type 0) (old_disks new_dis
   next_same written Fails may e = refl
   next_same written Stops may e = refl
 
-  same_at : (stage : Stage) → IsAt tells old_disks new_disks old new happened status words stage
+  same_at : (stage : Stage) → IsAt tells old_disks new_disks old new happened status asked stage
       → (outcome_at happened stage).finish ≡ plays.Ends end → outcome_at happened stage ≡ transcript_at happened stage
   same_at (Over other) at e = refl
   same_at Halted at e = refl
   same_at (Begun form written) at e = next_same written happened.opening.next at.plays e
 
   late_by : (early : Bool) (parts : Parts) (found : Option Form)
-      → (outcome_at happened (by_form early parts found)).finish ≡ plays.Ends end
-      → by_form early parts found ≡ by_form false parts found
+      → (outcome_at happened (by_form asked.finds early parts found)).finish ≡ plays.Ends end
+      → by_form asked.finds early parts found ≡ by_form asked.finds false parts found
   late_by true parts None e = refl
   late_by true parts (Some form) e = cc
   late_by false parts found e = refl
 
-  pub ended_same : IsAt tells old_disks new_disks old new happened status words
-      (stage_of words happened.early happened.parts)
-      → (outcome_of words happened).finish ≡ plays.Ends end → outcome_of words happened ≡ transcript words happened
+  pub ended_same : IsAt tells old_disks new_disks old new happened status asked
+      (stage_of asked happened.early happened.parts)
+      → (outcome_of asked happened).finish ≡ plays.Ends end → outcome_of asked happened ≡ transcript asked happened
   unfolding outcome_of transcript stage_of
   ended_same at e =
-      same_at (by_form happened.early happened.parts (form_in words)) at e
-      ∙ ap (transcript_at happened) (late_by happened.early happened.parts (form_in words) e)
+      same_at (by_form asked.finds happened.early happened.parts (form_in asked.words)) at e
+      ∙ ap (transcript_at happened) (late_by happened.early happened.parts (form_in asked.words) e)
 
 -- ---- a run
 
-module _ (one : OneWay) (there : QuietThere) (words : List Bytes) (status : Status)
+module _ (one : OneWay) (there : QuietThere) (asked : Asked) (status : Status)
     (unread before after : Option Bytes) (tells : Type 0)
     (old_disks new_disks : Disks) (old new : Counts)
-    (ran : Ran words status unread before after tells old_disks new_disks old new)
+    (ran : Ran asked status unread before after tells old_disks new_disks old new)
     (told : tells) (none : NoFaults old new) where
   abbrev providers : List Provider
   providers = providers_in ran.happened.setting
 
-  tells_transcript : HasEnded words ran.happened status before after
-      → TellsTranscript words ran.happened status before after
+  tells_transcript : HasEnded asked ran.happened status before after
+      → TellsTranscript asked ran.happened status before after
   tells_transcript ended =
-      let same = ended_same one there tells old_disks new_disks old new status words ran.happened none
+      let same = ended_same one there tells old_disks new_disks old new status asked ran.happened none
       ended.end ran.is_at ended.finish
-      in let finish : (transcript words ran.happened).finish
+      in let finish : (transcript asked ran.happened).finish
       ≡ plays.Ends ended.end = ap (λ (o : Outcome). o.finish) (sym same) ∙ ended.finish
       in record {
         status_is = ap status_at finish ∙ ap (λ (s : Status). Some s) ended.status_is;
         written = ended.written
             ∙ ap (λ (f : Finish). followed_by before
-            (answers_text providers (outcome_of words ran.happened).answers ++ finish_text providers f))
+            (answers_text providers (outcome_of asked ran.happened).answers ++ finish_text providers f))
             (sym ended.finish)
             ∙ ap (λ (o : Outcome). followed_by before (outcome_text providers o)) same;
       }
 
-  blamed : (asked : Status) → status ≡ asked → Blames asked old new
-  blamed asked e = subst (λ (s : Status). Blames s old new) e ran.blame
+  blamed : (wanted : Status) → status ≡ wanted → Blames wanted old new
+  blamed wanted e = subst (λ (s : Status). Blames s old new) e ran.blame
 
   start_blamed : (HasRisen old.depot new.depot) ⊎ ((p : ℕ) × HasRisen (old.disks p) (new.disks p)) → ⊥
   start_blamed (inl risen) = not_risen old.depot new.depot risen none.depot
   start_blamed (inr risen) = not_risen (old.disks risen.0) (new.disks risen.0) risen.1 (none.disks risen.0)
 
-  by_status : (asked : Status) → status ≡ asked → (status ≡ statuses.NoMemory) ⊎ IsOfEnd status
+  by_status : (wanted : Status) → status ≡ wanted → (status ≡ statuses.NoMemory) ⊎ IsOfEnd status
   by_status statuses.Done e = inr (subst IsOfEnd (sym e) tt)
   by_status statuses.Usage e = inr (subst IsOfEnd (sym e) tt)
   by_status statuses.Refused e = inr (subst IsOfEnd (sym e) tt)
@@ -166,12 +166,12 @@ module _ (one : OneWay) (there : QuietThere) (words : List Bytes) (status : Stat
   by_status statuses.InputTooLong e = inr (subst IsOfEnd (sym e) tt)
 
   by_kind : (status ≡ statuses.NoMemory) ⊎ IsOfEnd status
-      → (status ≡ statuses.NoMemory) ⊎ TellsTranscript words ran.happened status before after
+      → (status ≡ statuses.NoMemory) ⊎ TellsTranscript asked ran.happened status before after
   by_kind (inl e) = inl e
   by_kind (inr of) = inr (tells_transcript
-      (has_ended words status unread before after tells old_disks new_disks old new ran told of))
+      (has_ended asked status unread before after tells old_disks new_disks old new ran told of))
 
-  pub has_one_transcript : (status ≡ statuses.NoMemory) ⊎ TellsTranscript words ran.happened status before after
+  pub has_one_transcript : (status ≡ statuses.NoMemory) ⊎ TellsTranscript asked ran.happened status before after
   has_one_transcript = by_kind (by_status status refl)
 
 -- ---- there is such a run

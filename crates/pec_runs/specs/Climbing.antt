@@ -11,7 +11,7 @@ use Rattle.pec_plays.specs.Commands.{Answer, Luck}
 use Rattle.pec_runs.specs.AnswerLines.{answers_text}
 use Rattle.pec_input.specs.Lines.{raw_lines}
 use Rattle.pec_runs.specs.Plays.{MayPlay, Outcome, Rest, outcome_from}
-use Rattle.pec_runs.specs.ScriptLines.{script_of}
+use Rattle.pec_runs.specs.ScriptLines.{Finds, script_of}
 
 -- the lines that are left to read, where that is told
 abbrev pub AreLinesLeft : Option Bytes → List Bytes → Type 0
@@ -38,15 +38,15 @@ pub record Place : Type 0 where
   pub unread : Option Bytes
   pub counts : ℕ → ℕ
 
-module _ (trade : Trade) (providers : List Provider) (tells : Type 0) where
+module _ (trade : Trade) (finds : Finds) (providers : List Provider) (tells : Type 0) where
   -- The outcome is possible from this place on, while the counts of disks' faults rise to these.
   pub record Comes (place : Place) (upto : ℕ → ℕ) (outcome : Outcome) : Type 0 where
     pub lines : List Bytes
     pub lucks : List Luck
     pub rest : Rest
     pub left : AreLinesLeft place.unread lines
-    pub may : MayPlay trade tells place.sites place.counts upto (script_of providers place.number lines) lucks rest
-    pub is : outcome ≡ outcome_from trade lucks rest place.sites (script_of providers place.number lines)
+    pub may : MayPlay trade tells place.sites place.counts upto (script_of finds providers place.number lines) lucks rest
+    pub is : outcome ≡ outcome_from trade lucks rest place.sites (script_of finds providers place.number lines)
 
   -- From the first place the loop came here: the lines of these answers were written, and whatever comes from here
   -- comes from there, behind them.

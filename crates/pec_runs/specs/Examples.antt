@@ -1,6 +1,6 @@
 -- Worked examples: inputs and their parts, lines and what they say, lines that are written, and runs in the small
 -- world of the ledger. Its providers are alfa, the number 0, and beta, the number 1.
-use Rattle.std.specs.Prelude.{List, [], ◌∷◌, codes, replicate, None}
+use Rattle.std.specs.Prelude.{List, [], ◌∷◌, codes, false, replicate, None}
 use Rattle.pec_types.specs.Bytes.{Bytes}
 use Rattle.pec_directory.specs.Directory.{Provider}
 use Rattle.pec_ledger.specs.Network.{Site}
@@ -11,7 +11,7 @@ use Rattle.pec_types.specs.declared.turns.Event.TheVariants as events
 use Rattle.pec_types.specs.declared.turns.ProviderFault.TheVariants as faults
 use Rattle.pec_runs.specs.Endings.{Done}
 use Rattle.pec_runs.specs.Openings.{opened}
-use Rattle.pec_runs.specs.ScriptLines.{Script}
+use Rattle.pec_runs.specs.ScriptLines.{Finds, Script}
 
 -- ---- a directory of two providers
 
@@ -45,6 +45,10 @@ abbrev pub six_lines : List Bytes
 six_lines =
     codes "# remark\n" ∷ codes "\r\n" ∷ codes "crash beta\n" ∷ codes "restart beta\r\n" ∷ codes "crash gamma\n"
     ∷ codes "crash alfa\n" ∷ []
+
+-- no screen finds anything
+abbrev pub none_finds : Finds
+none_finds provider message = false
 
 -- ---- lines that are written
 

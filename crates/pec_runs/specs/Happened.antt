@@ -20,7 +20,7 @@ use Rattle.pec_runs.specs.Endings as ends
 use Rattle.pec_runs.specs.Openings.{Form, Next, NoMore, Holds, Unfits, Fails, Stops, Opening, form_in, next_of, opened_all}
 use Rattle.pec_runs.specs.Plays.{Finish, Outcome, Rest, outcome_from}
 use Rattle.pec_runs.specs.Plays as plays
-use Rattle.pec_runs.specs.ScriptLines.{Script, script_of}
+use Rattle.pec_runs.specs.ScriptLines.{Finds, Script, script_of}
 
 -- ---- the setting
 
@@ -46,6 +46,11 @@ pub record IsSetting (providers : List Provider) (setting : Setting) : Type 0 wh
 
 -- ---- what happened
 
+-- What a run is asked beside its input: its words; and what the screens of its providers find.
+pub record Asked : Type 0 where
+  pub words : List Bytes
+  pub finds : Finds
+
 pub record Happened : Type 0 where
   pub parts : Parts
   pub early : Bool  -- it was stopped before a disk was asked for
@@ -60,24 +65,24 @@ pub data Stage : Type 0 where
   Halted : Stage
   Begun : (form : Form) (script : Script) → Stage
 
-abbrev pub by_directory : Form → List Bytes → Result (List Provider) DirectoryFault → Stage
-by_directory form lines (Err fault) = Over (ends.DirectoryRefused fault)
-by_directory form lines (Ok providers) = Begun form (script_of providers 1 lines)
+abbrev pub by_directory : Finds → Form → List Bytes → Result (List Provider) DirectoryFault → Stage
+by_directory finds form lines (Err fault) = Over (ends.DirectoryRefused fault)
+by_directory finds form lines (Ok providers) = Begun form (script_of finds providers 1 lines)
 
-abbrev pub by_script : Form → Bytes → Option (List Bytes) → Stage
-by_script form directory None = Over ends.NoScript
-by_script form directory (Some lines) = by_directory form lines (directory_in directory)
+abbrev pub by_script : Finds → Form → Bytes → Option (List Bytes) → Stage
+by_script finds form directory None = Over ends.NoScript
+by_script finds form directory (Some lines) = by_directory finds form lines (directory_in directory)
 
-abbrev pub by_form : Bool → Parts → Option Form → Stage
-by_form early parts None = Over ends.Usage
-by_form true parts (Some form) = Halted
-by_form false parts (Some form) =
+abbrev pub by_form : Finds → Bool → Parts → Option Form → Stage
+by_form finds early parts None = Over ends.Usage
+by_form finds true parts (Some form) = Halted
+by_form finds false parts (Some form) =
     if nat_lt LONGEST_DIRECTORY (length parts.directory) then Over ends.LongDirectory
-    else by_script form parts.directory parts.script
+    else by_script finds form parts.directory parts.script
 
 -- The words first, then the directory's length, the script's mark, and the directory itself.
-unfoldable pub stage_of : List Bytes → Bool → Parts → Stage
-stage_of words early parts = by_form early parts (form_in words)
+unfoldable pub stage_of : Asked → Bool → Parts → Stage
+stage_of asked early parts = by_form asked.finds early parts (form_in asked.words)
 
 -- an outcome without a command
 abbrev pub nothing_played : Trade → Opening → Finish → Outcome
@@ -101,5 +106,5 @@ outcome_at happened (Begun form script) =
     by_next (trade_in happened.setting) happened.opening happened.lucks happened.rest script happened.opening.next
 
 -- What a run comes to.
-unfoldable pub outcome_of : List Bytes → Happened → Outcome
-outcome_of words happened = outcome_at happened (stage_of words happened.early happened.parts)
+unfoldable pub outcome_of : Asked → Happened → Outcome
+outcome_of asked happened = outcome_at happened (stage_of asked happened.early happened.parts)

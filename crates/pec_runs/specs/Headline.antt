@@ -30,7 +30,7 @@ use Rattle.pec_runs.specs.Reaching.{IsReached}
 
 -- A command can stand in a script: its moment is one that a clock tells, and its path has 1 to 1,000 addresses.
 abbrev pub CanBeSaid : Command → Type 0
-CanBeSaid (Submit provider moment sender path message) =
+CanBeSaid (Submit provider moment sender path message found) =
     (0 < length path) × (length path ≤ most_addresses) × (moment < END_OF_TIME)
 CanBeSaid (Tick provider moment) = moment < END_OF_TIME
 CanBeSaid (Round moment) = moment < END_OF_TIME

@@ -92,7 +92,7 @@ faults_at provider asked _ = 0
 
 -- How many faults of a provider's disk an answer tells.
 abbrev pub faults_by : ℕ → Command → Answer → ℕ
-faults_by provider (Submit asked moment sender path message) answer = faults_at provider asked answer
+faults_by provider (Submit asked moment sender path message found) answer = faults_at provider asked answer
 faults_by provider (Tick asked moment) answer = faults_at provider asked answer
 faults_by provider (Restart asked) answer = faults_at provider asked answer
 faults_by provider (Round moment) (Turns turns) = faults_in provider turns

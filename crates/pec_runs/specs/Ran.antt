@@ -11,7 +11,7 @@ use Rattle.pec_ledger.specs.Network.{Site, interrupted_at, journal_at}
 use Rattle.pec_ledger.specs.Trade.{Trade}
 use Rattle.pec_plays.specs.Commands.{Command, Luck, played}
 use Rattle.pec_input.specs.Directory.{directory_in}
-use Rattle.pec_runs.specs.Happened.{Happened, IsSetting, Stage, Over, Halted, Begun, outcome_of, providers_in, stage_of, trade_in}
+use Rattle.pec_runs.specs.Happened.{Asked, Happened, IsSetting, Stage, Over, Halted, Begun, outcome_of, providers_in, stage_of, trade_in}
 use Rattle.pec_input.specs.Opening.{parts_left}
 use Rattle.pec_input.specs.Parts.{Parts}
 use Rattle.pec_runs.specs.Openings.{disks_at, AreLeft, AreUntouched, Disks, Form, IsOpening, Next, NoMore, opened_all}
@@ -113,39 +113,39 @@ module _ (tells : Type 0) (old_disks new_disks : Disks) (old new : Counts) (happ
   PlaysOn script _ = Unit {0}
 
   -- A run that begins: it has its journals, plays its script where it has all, and leaves the disks so.
-  pub record HasBegun (status : Status) (words : List Bytes) (form : Form) (script : Script) : Type 0 where
+  pub record HasBegun (status : Status) (asked : Asked) (form : Form) (script : Script) : Type 0 where
     pub opening : IsOpening (world happened) old_disks form happened.opening
     pub plays : PlaysOn script happened.opening.next
     pub left : List Site
-    pub leaves_off : LeavesOff (world happened) (outcome_of words happened).after
+    pub leaves_off : LeavesOff (world happened) (outcome_of asked happened).after
         (command_in_hand status happened.opening.next happened.rest happened.lucks script) left
     pub disks : AreLeft old_disks new_disks form happened.opening left
 
   -- What is true of a run at its stage.
-  abbrev pub IsAt : Status → List Bytes → Stage → Type 0
-  IsAt status words (Over end) = AreUntouched old_disks new_disks
-  IsAt status words Halted = AreUntouched old_disks new_disks
-  IsAt status words (Begun form script) = HasBegun status words form script
+  abbrev pub IsAt : Status → Asked → Stage → Type 0
+  IsAt status asked (Over end) = AreUntouched old_disks new_disks
+  IsAt status asked Halted = AreUntouched old_disks new_disks
+  IsAt status asked (Begun form script) = HasBegun status asked form script
 
 -- The program ran on these words, with this status: from what the input held, what the output held, the disks at home
 -- and the counts of faults as it began, to the output, the disks and the counts as it ended. `tells` says that disks
 -- tell what they hold; input and output tell it where they are Some.
-pub record Ran (words : List Bytes) (status : Status) (unread before after : Option Bytes) (tells : Type 0)
+pub record Ran (asked : Asked) (status : Status) (unread before after : Option Bytes) (tells : Type 0)
     (old_disks new_disks : Disks) (old new : Counts) : Type 0 where
   pub happened : Happened
   pub input : IsInput unread happened.parts
   -- of a run that begins
-  pub setting : (form : Form) (script : Script) → stage_of words happened.early happened.parts ≡ Begun form script
+  pub setting : (form : Form) (script : Script) → stage_of asked happened.early happened.parts ≡ Begun form script
       → (providers : List Provider) → directory_in happened.parts.directory ≡ Ok providers
       → IsSetting providers happened.setting
-  pub told : Tells (providers_in happened.setting) status before after (outcome_of words happened)
+  pub told : Tells (providers_in happened.setting) status before after (outcome_of asked happened)
   pub blame : Blames status old new
   pub counts : NoneFell old new
-  pub is_at : IsAt tells old_disks new_disks old new happened status words
-      (stage_of words happened.early happened.parts)
+  pub is_at : IsAt tells old_disks new_disks old new happened status asked
+      (stage_of asked happened.early happened.parts)
 
 -- The same over a depot that had these disks at home, by provider, and has those.
-abbrev pub RanOver : {D : Type 0} → Type 0 → (D → Sight) → List Bytes → Status → (unread before after : Option Bytes)
+abbrev pub RanOver : {D : Type 0} → Type 0 → (D → Sight) → Asked → Status → (unread before after : Option Bytes)
     → (home left : ℕ → Option D) → (old new : Counts) → Type 0
-RanOver tells sight words status unread before after home left old new =
-    Ran words status unread before after tells (disks_at tells sight home) (disks_at tells sight left) old new
+RanOver tells sight asked status unread before after home left old new =
+    Ran asked status unread before after tells (disks_at tells sight home) (disks_at tells sight left) old new

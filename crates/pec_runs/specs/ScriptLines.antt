@@ -1,9 +1,11 @@
 -- The lines of a script, in a directory: what each says (`said_by`), and the commands that they come to, with the end
 -- to which the last of them leads (`script_of`). This project's profile.
-use Rattle.std.specs.Prelude.{ℕ, ◌+◌, ◌==◌, nat_lt, Bool, true, List, [], ◌∷◌, length, Result, Ok, Err, if◌then◌else◌}
+use Rattle.std.specs.Prelude.{ℕ, ◌+◌, ◌==◌, nat_lt, Bool, false, true, List, [], ◌∷◌, length, slice_get, Option, Some, None, Result, Ok, Err, if◌then◌else◌}
 use Rattle.pec_types.specs.Bytes.{Bytes}
 use Rattle.pec_directory.specs.Directory.{Provider}
 use Rattle.pec_plays.specs.Commands.{Command, Submit, Tick, Round, Lose, Repeat, Swap, Inject, Crash, Restart, Book, Mailbox, Show}
+use Rattle.pec_screen.specs.VerdictReading.{finds}
+use Rattle.pec_screen.specs.Verdicts.{Patterns}
 use Rattle.pec_script.specs.LinesReading.{command_of}
 use Rattle.pec_script.specs.declared.commands.Command.{Command as Written}
 use Rattle.pec_script.specs.declared.commands.Command.TheVariants as written
@@ -19,20 +21,35 @@ most_lines = 1000000
 abbrev pub longest_line : ℕ
 longest_line = 67108864
 
--- a command as the network plays it
-abbrev pub command_in : Written → Command
-command_in (written.Submit provider moment sender path message) = Submit provider moment sender path message
-command_in (written.Tick provider moment) = Tick provider moment
-command_in (written.Round moment) = Round moment
-command_in (written.Lose from to place) = Lose from to place
-command_in (written.Repeat from to place) = Repeat from to place
-command_in (written.Swap from to place) = Swap from to place
-command_in (written.Inject from to frame) = Inject from to frame
-command_in (written.Crash provider) = Crash provider
-command_in (written.Restart provider) = Restart provider
-command_in (written.Book address) = Book address
-command_in (written.Mailbox address) = Mailbox address
-command_in (written.Show address place) = Show address place
+-- Whether some screen of a provider finds a rule in a message. It is the same in all of a run: screens keep what they look
+-- for.
+abbrev pub Finds : Type 0
+Finds = ℕ → Bytes → Bool
+
+abbrev pub finds_by : Option (List Patterns) → Bytes → Bool
+finds_by None message = false
+finds_by (Some boxes) message = finds boxes message
+
+-- What screens find whose boxes have these patterns, a list for each provider from 0 on. A provider without a list has no
+-- screens.
+unfoldable pub finds_in : List (List Patterns) → Finds
+finds_in screens provider message = finds_by (slice_get screens provider) message
+
+-- a command as the network plays it, where screens find this
+abbrev pub command_in : Finds → Written → Command
+command_in finds (written.Submit provider moment sender path message) =
+    Submit provider moment sender path message (finds provider message)
+command_in finds (written.Tick provider moment) = Tick provider moment
+command_in finds (written.Round moment) = Round moment
+command_in finds (written.Lose from to place) = Lose from to place
+command_in finds (written.Repeat from to place) = Repeat from to place
+command_in finds (written.Swap from to place) = Swap from to place
+command_in finds (written.Inject from to frame) = Inject from to frame
+command_in finds (written.Crash provider) = Crash provider
+command_in finds (written.Restart provider) = Restart provider
+command_in finds (written.Book address) = Book address
+command_in finds (written.Mailbox address) = Mailbox address
+command_in finds (written.Show address place) = Show address place
 
 -- What a line of a script is: one that is passed over, a command, a line that says none, or one past a limit.
 pub data Line : Type 0 where
@@ -47,16 +64,16 @@ abbrev pub is_passed_over : Bytes → Bool
 is_passed_over [] = true
 is_passed_over (b ∷ bs) = b == 35
 
-abbrev pub line_by : Result Written LineFault → Line
-line_by (Ok command) = Says (command_in command)
-line_by (Err fault) = SaysNone fault
+abbrev pub line_by : Finds → Result Written LineFault → Line
+line_by finds (Ok command) = Says (command_in finds command)
+line_by finds (Err fault) = SaysNone fault
 
 -- What the line of a number, from 1, is.
-unfoldable pub said_by : List Provider → ℕ → Bytes → Line
-said_by providers number line =
+unfoldable pub said_by : Finds → List Provider → ℕ → Bytes → Line
+said_by finds providers number line =
     if nat_lt most_lines number then TooMany
     else (if nat_lt longest_line (length (content_of line)) then TooLong
-    else (if is_passed_over (content_of line) then PassedOver else line_by (command_of providers (content_of line))))
+    else (if is_passed_over (content_of line) then PassedOver else line_by finds (command_of providers (content_of line))))
 
 -- The commands of a script in order, and the end to which it comes behind them.
 pub record Script : Type 0 where
@@ -79,7 +96,7 @@ behind_line number TooLong script = nothing_but (ends.LongLine number)
 behind_line number TooMany script = nothing_but ends.LongScript
 
 -- The script of these lines, the first of which has this number.
-abbrev pub script_of : List Provider → ℕ → List Bytes → Script
-script_of providers number [] = nothing_but ends.Done
-script_of providers number (line ∷ lines) =
-    behind_line number (said_by providers number line) (script_of providers (number + 1) lines)
+abbrev pub script_of : Finds → List Provider → ℕ → List Bytes → Script
+script_of finds providers number [] = nothing_but ends.Done
+script_of finds providers number (line ∷ lines) =
+    behind_line number (said_by finds providers number line) (script_of finds providers (number + 1) lines)

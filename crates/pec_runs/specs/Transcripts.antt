@@ -6,7 +6,7 @@ use Rattle.pec_outside.specs.Flow.{followed_by}
 use Rattle.pec_records.specs.declared.entries.Entry.{Entry}
 use Rattle.pec_plays.specs.Commands.{Luck}
 use Rattle.pec_plays.specs.Possible.{quiet_lucks}
-use Rattle.pec_runs.specs.Happened.{Begun, Happened, Setting, Stage, outcome_at, providers_in, stage_of, trade_in}
+use Rattle.pec_runs.specs.Happened.{Asked, Begun, Happened, Setting, Stage, outcome_at, providers_in, stage_of, trade_in}
 use Rattle.pec_runs.specs.Openings.{opened_all}
 use Rattle.pec_runs.specs.Plays.{Outcome, ToTheEnd, outcome_from, outcome_text}
 use Rattle.pec_runs.specs.Ran.{Counts, beginning, status_at, world}
@@ -40,11 +40,11 @@ abbrev pub transcript_at : Happened → Stage → Outcome
 transcript_at happened stage = outcome_at (record happened { lucks = quiet_at happened stage; rest = ToTheEnd }) stage
 
 -- What a run comes to where nothing fails, and memory is there.
-unfoldable pub transcript : List Bytes → Happened → Outcome
-transcript words happened = transcript_at happened (stage_of words false happened.parts)
+unfoldable pub transcript : Asked → Happened → Outcome
+transcript asked happened = transcript_at happened (stage_of asked false happened.parts)
 
 -- All of the transcript was written, and the status is that of its end.
-pub record TellsTranscript (words : List Bytes) (happened : Happened) (status : Status) (before after : Option Bytes)
+pub record TellsTranscript (asked : Asked) (happened : Happened) (status : Status) (before after : Option Bytes)
     : Type 0 where
-  pub status_is : status_at (transcript words happened).finish ≡ Some status
-  pub written : after ≡ followed_by before (outcome_text (providers_in happened.setting) (transcript words happened))
+  pub status_is : status_at (transcript asked happened).finish ≡ Some status
+  pub written : after ≡ followed_by before (outcome_text (providers_in happened.setting) (transcript asked happened))

@@ -12,7 +12,7 @@ ghost use Rattle.pec_runs.specs.Endings.{Done, End};
 ghost use Rattle.pec_runs.specs.Plays.{Ends, HasMemory, MayPlay, MayStray, Outcome, Rest, RoseBy, Stopped, Stops};
 ghost use Rattle.pec_runs.specs.Plays.{Strayed, Strays, ToTheEnd, faults_by, onto_outcome, outcome_from, outcome_text};
 ghost use Rattle.pec_runs.specs.ScriptLines.{PassedOver, Says, Script, behind_line, nothing_but, onto_script, said_by};
-ghost use Rattle.pec_runs.specs.ScriptLines.{script_of};
+ghost use Rattle.pec_runs.specs.ScriptLines.{Finds, script_of};
 
 use pec_outside::Depot;
 
@@ -21,52 +21,52 @@ use pec_outside::Depot;
 /// the whole script comes to: at the end of the input it is done, at a line that says no command it ends so, and it
 /// may be stopped anywhere. `tells` is that disks tell what they hold; counts are those of disks' faults.
 pub fn a_run_is_climbed<P: Depot>()
-    ensures start { (trade : Trade) (providers : List Provider) (first : Place) (before : Option Bytes)
-        → Goes trade providers (P.tells × P.D.tells) first first before before }
-    ensures passed { (trade : Trade) (providers : List Provider) (first here : Place) (before after : Option Bytes)
+    ensures start { (trade : Trade) (finds : Finds) (providers : List Provider) (first : Place) (before : Option Bytes)
+        → Goes trade finds providers (P.tells × P.D.tells) first first before before }
+    ensures passed { (trade : Trade) (finds : Finds) (providers : List Provider) (first here : Place) (before after : Option Bytes)
         (line : Bytes)
-        (behind : Option Bytes) → said_by providers here.number line ≡ PassedOver
+        (behind : Option Bytes) → said_by finds providers here.number line ≡ PassedOver
         → IsLineRead here.unread line behind → TellsOn here.unread behind
-        → Goes trade providers (P.tells × P.D.tells) first here before after
-        → Goes trade providers (P.tells × P.D.tells) first
+        → Goes trade finds providers (P.tells × P.D.tells) first here before after
+        → Goes trade finds providers (P.tells × P.D.tells) first
         (record { sites = here.sites; number = here.number + 1; unread = behind; counts = here.counts }) before after }
-    ensures played { (trade : Trade) (providers : List Provider) (first here : Place)
+    ensures played { (trade : Trade) (finds : Finds) (providers : List Provider) (first here : Place)
         (before after later : Option Bytes) (line : Bytes)
         (command : Command) (luck : Luck) (behind : Option Bytes) (mid : ℕ → ℕ)
-        → said_by providers here.number line ≡ Says command
+        → said_by finds providers here.number line ≡ Says command
         → IsLineRead here.unread line behind → TellsOn here.unread behind
         → MayMeet trade luck here.sites command → HasMemory (played trade luck here.sites command).answer
         → ((provider : ℕ) → RoseBy (faults_by provider command (played trade luck here.sites command).answer)
         (here.counts provider) (mid provider))
         → later ≡ followed_by after (answer_text providers (played trade luck here.sites command).answer)
-        → Goes trade providers (P.tells × P.D.tells) first here before after
-        → Goes trade providers (P.tells × P.D.tells) first (record {
+        → Goes trade finds providers (P.tells × P.D.tells) first here before after
+        → Goes trade finds providers (P.tells × P.D.tells) first (record {
           sites = (played trade luck here.sites command).after;
           number = here.number + 1;
           unread = behind;
           counts = mid;
         }) before later }
-    ensures over { (trade : Trade) (providers : List Provider) (here : Place) (upto : ℕ → ℕ)
+    ensures over { (trade : Trade) (finds : Finds) (providers : List Provider) (here : Place) (upto : ℕ → ℕ)
         → IfSome here.unread (λ text. text ≡ [])
         → ((provider : ℕ) → here.counts provider ≤ upto provider)
-        → Comes trade providers (P.tells × P.D.tells) here upto
+        → Comes trade finds providers (P.tells × P.D.tells) here upto
         (record { answers = []; after = here.sites; finish = Ends Done }) }
-    ensures ended { (trade : Trade) (providers : List Provider) (here : Place) (line : Bytes) (lines : List Bytes)
+    ensures ended { (trade : Trade) (finds : Finds) (providers : List Provider) (here : Place) (line : Bytes) (lines : List Bytes)
         (end : End)
-        (upto : ℕ → ℕ) → script_of providers here.number (line ∷ lines) ≡ nothing_but end
+        (upto : ℕ → ℕ) → script_of finds providers here.number (line ∷ lines) ≡ nothing_but end
         → AreLinesLeft here.unread (line ∷ lines)
         → ((provider : ℕ) → here.counts provider ≤ upto provider)
-        → Comes trade providers (P.tells × P.D.tells) here upto
+        → Comes trade finds providers (P.tells × P.D.tells) here upto
         (record { answers = []; after = here.sites; finish = Ends end }) }
-    ensures stopped { (trade : Trade) (providers : List Provider) (here : Place) (lines : List Bytes) (upto : ℕ → ℕ)
+    ensures stopped { (trade : Trade) (finds : Finds) (providers : List Provider) (here : Place) (lines : List Bytes) (upto : ℕ → ℕ)
         → AreLinesLeft here.unread lines → ((provider : ℕ) → here.counts provider ≤ upto provider)
-        → Comes trade providers (P.tells × P.D.tells) here upto
+        → Comes trade finds providers (P.tells × P.D.tells) here upto
         (record { answers = []; after = here.sites; finish = Stops }) }
-    ensures strayed { (trade : Trade) (providers : List Provider) (here : Place) (line : Bytes) (lines : List Bytes)
-        (command : Command) (upto : ℕ → ℕ) → said_by providers here.number line ≡ Says command
+    ensures strayed { (trade : Trade) (finds : Finds) (providers : List Provider) (here : Place) (line : Bytes) (lines : List Bytes)
+        (command : Command) (upto : ℕ → ℕ) → said_by finds providers here.number line ≡ Says command
         → AreLinesLeft here.unread (line ∷ lines) → MayStray (P.tells × P.D.tells) here.sites (Some command)
         → ((provider : ℕ) → here.counts provider ≤ upto provider)
-        → Comes trade providers (P.tells × P.D.tells) here upto
+        → Comes trade finds providers (P.tells × P.D.tells) here upto
         (record { answers = []; after = here.sites; finish = Strays }) }
     // What was written on the way stands before the rest.
     ensures text { (providers : List Provider) (answers : List Answer) (outcome : Outcome)
@@ -77,10 +77,10 @@ pub fn a_run_is_climbed<P: Depot>()
 /// How a run is climbed: its script is read line by line, the first of which has a number, from 1; and what is played
 /// behind a command is played from the state before it. The counts of faults of disks only rise on the way.
 pub fn a_script_is_played_line_by_line<P: Depot>()
-    ensures no_line { (providers : List Provider) (number : ℕ) → script_of providers number [] ≡ nothing_but Done }
-    ensures lines { (providers : List Provider) (number : ℕ) (line : Bytes) (lines : List Bytes)
-        → script_of providers number (line ∷ lines)
-        ≡ behind_line number (said_by providers number line) (script_of providers (number + 1) lines) }
+    ensures no_line { (finds : Finds) (providers : List Provider) (number : ℕ) → script_of finds providers number [] ≡ nothing_but Done }
+    ensures lines { (finds : Finds) (providers : List Provider) (number : ℕ) (line : Bytes) (lines : List Bytes)
+        → script_of finds providers number (line ∷ lines)
+        ≡ behind_line number (said_by finds providers number line) (script_of finds providers (number + 1) lines) }
     // At the end of its script a run is done, and what is written behind it is the last line.
     ensures over { (trade : Trade) (sites : List Site) (from upto : ℕ → ℕ) (end : End)
         → ((provider : ℕ) → from provider ≤ upto provider)

@@ -9,7 +9,7 @@ ghost use Rattle.pec_plays.specs.Commands.{Crash, IsUp, NoFrame, Repeat, Restart
 ghost use Rattle.pec_plays.specs.Examples.{calm, calmly, left_by, to_the_end};
 ghost use Rattle.pec_runs.specs.AnswerLines.{answers_text};
 ghost use Rattle.pec_runs.specs.Endings as ends;
-ghost use Rattle.pec_runs.specs.Examples.{faulty_lucks, faulty_script, full_link, six_lines, some_answers, twice_marked, two, unmarked};
+ghost use Rattle.pec_runs.specs.Examples.{faulty_lucks, faulty_script, full_link, none_finds, six_lines, some_answers, twice_marked, two, unmarked};
 ghost use Rattle.pec_runs.specs.Headline.{Headline};
 ghost use Rattle.pec_input.specs.Lines.{raw_lines};
 ghost use Rattle.pec_input.specs.Parts.{parts_of};
@@ -32,11 +32,11 @@ pub fn texts_of_the_examples()
         ≡ record { directory = codes "name\n"; script = Some (codes "# remark\n" ∷ codes "%%\n" ∷ codes "last" ∷ []) } }
     ensures not_marked { parts_of (raw_lines unmarked) ≡ record { directory = unmarked; script = None } }
     // A remark and an empty line are passed over but counted, and nothing behind a refused line is played.
-    ensures script { script_of two 1 six_lines ≡ record {
+    ensures script { script_of none_finds two 1 six_lines ≡ record {
       commands = Crash 1 ∷ Restart 1 ∷ [];
       end = ends.LineRefused 5 (line_faults.UnknownProvider 1);
     } }
-    ensures too_many { said_by two 1000001 (codes "crash alfa\n") ≡ TooMany }
+    ensures too_many { said_by none_finds two 1000001 (codes "crash alfa\n") ≡ TooMany }
     ensures answers { answers_text two some_answers
         ≡ codes "lost\nno-frame\nlink-full\nfault disk\nclock-back 7\nalfa dropped\nalfa sent beta 3\nround\n" }
     ensures ends { ends.end_text two ends.Done ++ ends.end_text two ends.Usage ++ ends.end_text two ends.LongDirectory

@@ -2,7 +2,7 @@ ghost use Rattle.std.specs.Prelude.{◌≡◌, ◌≢◌, ◌<◌, ◌⊎◌, �
 ghost use Rattle.pec_types.specs.Bytes.{Bytes};
 ghost use Rattle.pec_records.specs.declared.entries.Entry.{Entry};
 ghost use Rattle.pec_chronicle.specs.Chronicle.{IsJournalOf};
-ghost use Rattle.pec_runs.specs.Happened.{Begun, outcome_of, stage_of};
+ghost use Rattle.pec_runs.specs.Happened.{Asked, Begun, outcome_of, stage_of};
 ghost use Rattle.pec_runs.specs.Openings.{disks_at, Form, IsLeft, NoMore, next_of};
 ghost use Rattle.pec_runs.specs.Ran.{Counts, RanOver};
 ghost use Rattle.pec_runs.specs.ScriptLines.{Script};
@@ -15,21 +15,21 @@ use pec_outside::Depot;
 /// journals of the state behind its last answer, each with its interrupted entry or without it, unless memory ran out;
 /// and, where not all journals were had, no entry beyond those with which a journal was made or opened.
 pub fn a_run_leaves_its_journals<P: Depot>()
-    ensures journals { (words : List Bytes) (status : Status) (unread before after : Option Bytes) (depot left : P)
+    ensures journals { (asked : Asked) (status : Status) (unread before after : Option Bytes) (depot left : P)
         (old new : Counts)
-        (ran : RanOver (P.tells × P.D.tells) P.D.sight words status unread before after (P.home depot) (P.home left)
+        (ran : RanOver (P.tells × P.D.tells) P.D.sight asked status unread before after (P.home depot) (P.home left)
         old new)
-        (form : Form) (script : Script) → stage_of words ran.happened.early ran.happened.parts ≡ Begun form script
+        (form : Form) (script : Script) → stage_of asked ran.happened.early ran.happened.parts ≡ Begun form script
         → status ≢ statuses.NoMemory
         → (provider : ℕ) (bytes : Bytes) → provider < next_of ran.happened.opening
         → (disks_at (P.tells × P.D.tells) P.D.sight (P.home left)).reads provider bytes
         ⊎ (disks_at (P.tells × P.D.tells) P.D.sight (P.home left)).may_leave provider bytes
-        → IsLeft (outcome_of words ran.happened).after provider bytes }
-    ensures no_further_entry { (words : List Bytes) (status : Status) (unread before after : Option Bytes)
+        → IsLeft (outcome_of asked ran.happened).after provider bytes }
+    ensures no_further_entry { (asked : Asked) (status : Status) (unread before after : Option Bytes)
         (depot left : P) (old new : Counts)
-        (ran : RanOver (P.tells × P.D.tells) P.D.sight words status unread before after (P.home depot) (P.home left)
+        (ran : RanOver (P.tells × P.D.tells) P.D.sight asked status unread before after (P.home depot) (P.home left)
         old new)
-        (form : Form) (script : Script) → stage_of words ran.happened.early ran.happened.parts ≡ Begun form script
+        (form : Form) (script : Script) → stage_of asked ran.happened.early ran.happened.parts ≡ Begun form script
         → ran.happened.opening.next ≢ NoMore
         → (provider : ℕ) (journal : List Entry) (bytes : Bytes)
         → slice_get ran.happened.opening.journals provider ≡ Some journal

@@ -9,7 +9,7 @@ ghost use Rattle.pec_plays.specs.Commands.{Command, Luck};
 ghost use Rattle.pec_plays.specs.Possible.{NoneInterrupted, quiet_lucks};
 ghost use Rattle.pec_plays.specs.Scripts.{script};
 ghost use Rattle.pec_input.specs.Directory.{directory_in};
-ghost use Rattle.pec_runs.specs.Happened.{Begun, IsSetting, Setting, providers_in, stage_of, trade_in};
+ghost use Rattle.pec_runs.specs.Happened.{Asked, Begun, IsSetting, Setting, providers_in, stage_of, trade_in};
 ghost use Rattle.pec_input.specs.Lines.{raw_lines};
 ghost use Rattle.pec_input.specs.Parts.{parts_of};
 ghost use Rattle.pec_runs.specs.Openings.{AreLeft, disks_at, Form, IsOpening, NoMore};
@@ -39,13 +39,13 @@ pub fn a_script_without_faults_is_one()
 /// A run without faults has one transcript, and wrote all of it, with the status of its end, unless memory ran out. And
 /// from every state a script may be played to its end without a fault, whatever happened before.
 pub fn a_run_without_faults_has_one_transcript<P: Depot>()
-    ensures one { (words : List Bytes) (status : Status) (unread before after : Option Bytes) (depot left : P)
+    ensures one { (asked : Asked) (status : Status) (unread before after : Option Bytes) (depot left : P)
         (old new : Counts)
         → P.tells × P.D.tells
-        → (ran : RanOver (P.tells × P.D.tells) P.D.sight words status unread before after (P.home depot)
+        → (ran : RanOver (P.tells × P.D.tells) P.D.sight asked status unread before after (P.home depot)
         (P.home left) old new)
         → NoFaults old new
-        → (status ≡ statuses.NoMemory) ⊎ TellsTranscript words ran.happened status before after }
+        → (status ≡ statuses.NoMemory) ⊎ TellsTranscript asked ran.happened status before after }
     ensures goes_on { (trade : Trade) (sites : List Site) (counts : ℕ → ℕ) (written : Script)
         → MayPlay trade (P.tells × P.D.tells) sites counts counts written
         (quiet_lucks trade sites written.commands) ToTheEnd
@@ -59,9 +59,9 @@ pub fn a_run_without_faults_has_one_transcript<P: Depot>()
 /// There are such runs: what a script would come to without a fault, from the journals that are at hand, is a run of
 /// the program, where the disks are left so.
 pub fn a_run_without_faults_is_there<P: Depot>()
-    ensures { (words : List Bytes) (text : Bytes) (setting : Setting) (form : Form) (written : Script)
+    ensures { (asked : Asked) (text : Bytes) (setting : Setting) (form : Form) (written : Script)
         (journals : List (List Entry)) (before : Option Bytes) (depot left : P) (counts : Counts)
-        → stage_of words false (parts_of (raw_lines text)) ≡ Begun form written
+        → stage_of asked false (parts_of (raw_lines text)) ≡ Begun form written
         → ((providers : List Provider) → directory_in (parts_of (raw_lines text)).directory ≡ Ok providers
         → IsSetting providers setting)
         → IsOpening (trade_in setting) (disks_at (P.tells × P.D.tells) P.D.sight (P.home depot)) form
@@ -69,7 +69,7 @@ pub fn a_run_without_faults_is_there<P: Depot>()
         → AreLeft (disks_at (P.tells × P.D.tells) P.D.sight (P.home depot))
         (disks_at (P.tells × P.D.tells) P.D.sight (P.home left)) form (record { journals = journals; next = NoMore })
         (quiet_outcome setting journals written).after
-        → RanOver (P.tells × P.D.tells) P.D.sight words (status_of written.end) (Some text) before
+        → RanOver (P.tells × P.D.tells) P.D.sight asked (status_of written.end) (Some text) before
         (followed_by before (outcome_text (providers_in setting) (quiet_outcome setting journals written)))
         (P.home depot) (P.home left) counts counts }
 {

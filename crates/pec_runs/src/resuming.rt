@@ -6,7 +6,7 @@ ghost use Rattle.pec_ledger.specs.Network.{Site, journals_in};
 ghost use Rattle.pec_ledger.specs.Trade.{Trade};
 ghost use Rattle.pec_plays.specs.Commands.{Command, Luck};
 ghost use Rattle.pec_plays.specs.Scripts.{script};
-ghost use Rattle.pec_runs.specs.Happened.{Begun, outcome_of, stage_of};
+ghost use Rattle.pec_runs.specs.Happened.{Asked, Begun, outcome_of, stage_of};
 ghost use Rattle.pec_runs.specs.Headline.{AllHonest, IsBook, IsHonest};
 ghost use Rattle.pec_runs.specs.Openings.{disks_at, Form, NoMore, Resume};
 ghost use Rattle.pec_runs.specs.Ran.{Counts, RanOver, beginning, command_in_hand, world};
@@ -47,15 +47,15 @@ pub fn a_script_may_be_cut()
 /// that fit, however the other ended, where no forged frame was injected: each is the journal of the state that it
 /// left, with its interrupted entry or without it.
 pub fn a_resumed_run_begins_where_the_last_left<P: Depot>()
-    ensures { (words others : List Bytes) (status other : Status)
+    ensures { (asked others : Asked) (status other : Status)
         (unread before after other_unread other_before other_after : Option Bytes)
         (depot left found last : P) (old between behind new : Counts) → P.tells × P.D.tells
-        → (ran : RanOver (P.tells × P.D.tells) P.D.sight words status unread before after (P.home depot)
+        → (ran : RanOver (P.tells × P.D.tells) P.D.sight asked status unread before after (P.home depot)
         (P.home left) old between)
         (again : RanOver (P.tells × P.D.tells) P.D.sight others other other_unread other_before other_after
         (P.home found) (P.home last) behind new)
         (form : Form) (script rest : Script)
-        → stage_of words ran.happened.early ran.happened.parts ≡ Begun form script → ran.happened.opening.next ≡ NoMore
+        → stage_of asked ran.happened.early ran.happened.parts ≡ Begun form script → ran.happened.opening.next ≡ NoMore
         → stage_of others again.happened.early again.happened.parts ≡ Begun Resume rest
         → again.happened.opening.next ≡ NoMore
         → again.happened.setting ≡ ran.happened.setting
@@ -66,7 +66,7 @@ pub fn a_resumed_run_begins_where_the_last_left<P: Depot>()
         → AllHonest (world ran.happened) ran.happened.lucks (beginning ran.happened) script.commands
         → ((command : Command) → command_in_hand status ran.happened.opening.next ran.happened.rest ran.happened.lucks script
         ≡ Some command
-        → IsHonest (world ran.happened) (outcome_of words ran.happened).after command)
+        → IsHonest (world ran.happened) (outcome_of asked ran.happened).after command)
         → Fit (world again.happened) (journals_in again.happened.opening.journals) }
 {
     a_disk_holds_one_list();

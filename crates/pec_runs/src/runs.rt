@@ -2,7 +2,7 @@ ghost use Rattle.std.specs.Prelude.{◌≡◌, ℕ, List, Option};
 ghost use Rattle.pec_types.specs.Bytes.{Bytes};
 ghost use Rattle.pec_ledger.specs.Ledger.{Fit};
 ghost use Rattle.pec_ledger.specs.Network.{journals_in};
-ghost use Rattle.pec_runs.specs.Happened.{Begun, stage_of};
+ghost use Rattle.pec_runs.specs.Happened.{Asked, Begun, stage_of};
 ghost use Rattle.pec_runs.specs.Headline.{AllHonest, Headline};
 ghost use Rattle.pec_runs.specs.Openings.{Form, NoMore, Resume};
 ghost use Rattle.pec_runs.specs.Ran.{Counts, RanOver, beginning, world};
@@ -17,11 +17,11 @@ use pec_script::a_line_has_one_reading;
 /// The headline, of a run: for every directory and script, whatever devices do, where no forged frame is injected,
 /// and, for a run that resumed, where the journals as opened fit together.
 pub fn a_runs_books_belong_to_the_ledger<P: Depot>()
-    ensures { (words : List Bytes) (status : Status) (unread before after : Option Bytes) (depot left : P)
+    ensures { (asked : Asked) (status : Status) (unread before after : Option Bytes) (depot left : P)
         (old new : Counts)
-        (ran : RanOver (P.tells × P.D.tells) P.D.sight words status unread before after (P.home depot)
+        (ran : RanOver (P.tells × P.D.tells) P.D.sight asked status unread before after (P.home depot)
         (P.home left) old new)
-        (form : Form) (script : Script) → stage_of words ran.happened.early ran.happened.parts ≡ Begun form script
+        (form : Form) (script : Script) → stage_of asked ran.happened.early ran.happened.parts ≡ Begun form script
         → ran.happened.opening.next ≡ NoMore
         → (form ≡ Resume → Fit (world ran.happened) (journals_in ran.happened.opening.journals))
         → AllHonest (world ran.happened) ran.happened.lucks (beginning ran.happened) script.commands

@@ -9,7 +9,7 @@ ghost use Rattle.pec_plays.specs.Scripts.{script};
 ghost use Rattle.pec_runs.specs.AnswerLines.{AreLines, answers_text};
 ghost use Rattle.pec_runs.specs.Endings.{End, end_text};
 ghost use Rattle.pec_runs.specs.Endings as ends;
-ghost use Rattle.pec_runs.specs.Happened.{Happened, outcome_of, providers_in};
+ghost use Rattle.pec_runs.specs.Happened.{Asked, Happened, outcome_of, providers_in};
 ghost use Rattle.pec_runs.specs.Openings.{form_in};
 ghost use Rattle.pec_runs.specs.Plays.{Ends, outcome_text};
 ghost use Rattle.pec_runs.specs.Ran.{Counts, RanOver};
@@ -33,39 +33,39 @@ pub fn answers_are_whole_lines()
 /// outcome; one whose disks failed while journals were made or opened nothing. Any other wrote the lines of its
 /// answers, and the last line of its end, which has its status.
 pub fn a_status_says_what_was_written<P: Depot>()
-    ensures read_fault { (words : List Bytes) (unread before after : Option Bytes) (depot left : P) (old new : Counts)
+    ensures read_fault { (asked : Asked) (unread before after : Option Bytes) (depot left : P) (old new : Counts)
         → P.tells × P.D.tells
-        → (ran : RanOver (P.tells × P.D.tells) P.D.sight words statuses.ReadFault unread before after (P.home depot)
+        → (ran : RanOver (P.tells × P.D.tells) P.D.sight asked statuses.ReadFault unread before after (P.home depot)
         (P.home left) old new)
-        → WroteAnswers words ran.happened before after }
-    ensures no_memory { (words : List Bytes) (unread before after : Option Bytes) (depot left : P) (old new : Counts)
+        → WroteAnswers asked ran.happened before after }
+    ensures no_memory { (asked : Asked) (unread before after : Option Bytes) (depot left : P) (old new : Counts)
         → P.tells × P.D.tells
-        → (ran : RanOver (P.tells × P.D.tells) P.D.sight words statuses.NoMemory unread before after (P.home depot)
+        → (ran : RanOver (P.tells × P.D.tells) P.D.sight asked statuses.NoMemory unread before after (P.home depot)
         (P.home left) old new)
-        → WroteAnswers words ran.happened before after }
-    ensures write_fault { (words : List Bytes) (unread before after : Option Bytes) (depot left : P) (old new : Counts)
+        → WroteAnswers asked ran.happened before after }
+    ensures write_fault { (asked : Asked) (unread before after : Option Bytes) (depot left : P) (old new : Counts)
         → P.tells × P.D.tells
-        → (ran : RanOver (P.tells × P.D.tells) P.D.sight words statuses.WriteFault unread before after (P.home depot)
+        → (ran : RanOver (P.tells × P.D.tells) P.D.sight asked statuses.WriteFault unread before after (P.home depot)
         (P.home left) old new)
-        → WrotePart before after (outcome_text (providers_in ran.happened.setting) (outcome_of words ran.happened)) }
-    ensures start_fault { (words : List Bytes) (unread before after : Option Bytes) (depot left : P) (old new : Counts)
+        → WrotePart before after (outcome_text (providers_in ran.happened.setting) (outcome_of asked ran.happened)) }
+    ensures start_fault { (asked : Asked) (unread before after : Option Bytes) (depot left : P) (old new : Counts)
         → P.tells × P.D.tells
-        → (ran : RanOver (P.tells × P.D.tells) P.D.sight words statuses.StartFault unread before after (P.home depot)
+        → (ran : RanOver (P.tells × P.D.tells) P.D.sight asked statuses.StartFault unread before after (P.home depot)
         (P.home left) old new)
         → after ≡ followed_by before [] }
-    ensures ended { (words : List Bytes) (status : Status) (unread before after : Option Bytes) (depot left : P)
+    ensures ended { (asked : Asked) (status : Status) (unread before after : Option Bytes) (depot left : P)
         (old new : Counts)
         → P.tells × P.D.tells → IsOfEnd status
-        → (ran : RanOver (P.tells × P.D.tells) P.D.sight words status unread before after (P.home depot)
+        → (ran : RanOver (P.tells × P.D.tells) P.D.sight asked status unread before after (P.home depot)
         (P.home left) old new)
-        → HasEnded words ran.happened status before after }
+        → HasEnded asked ran.happened status before after }
     // Words that are no form are at fault, and nothing else is looked at.
-    ensures usage { (words : List Bytes) (happened : Happened) → form_in words ≡ None
-        → (outcome_of words happened).finish ≡ Ends ends.Usage }
+    ensures usage { (asked : Asked) (happened : Happened) → form_in asked.words ≡ None
+        → (outcome_of asked happened).finish ≡ Ends ends.Usage }
     // Status 0: the script was played to its end.
-    ensures done { (words : List Bytes) (unread before after : Option Bytes) (depot left : P) (old new : Counts)
+    ensures done { (asked : Asked) (unread before after : Option Bytes) (depot left : P) (old new : Counts)
         → P.tells × P.D.tells
-        → (ran : RanOver (P.tells × P.D.tells) P.D.sight words statuses.Done unread before after (P.home depot)
+        → (ran : RanOver (P.tells × P.D.tells) P.D.sight asked statuses.Done unread before after (P.home depot)
         (P.home left) old new)
-        → IsDone words ran.happened }
+        → IsDone asked ran.happened }
 {}

@@ -16,6 +16,11 @@ maps_agree f g (x ∷ xs) [] same each = absurd (omega (arith, same))
 maps_agree f g (x ∷ xs) (y ∷ ys) same each =
     rw (each 0 x (omega arith), maps_agree f g xs ys (omega (arith, same)) (λ k d lt. each (suc k) d (omega (arith, lt)))) refl
 
+-- what is made of what is made of each
+pub map_twice : {X Y Z : Type 0} (f : Y → Z) (g : X → Y) (xs : List X) → map f (map g xs) ≡ map (λ x. f (g x)) xs
+map_twice f g [] = refl
+map_twice f g (x ∷ xs) = ap (λ rest. f (g x) ∷ rest) (map_twice f g xs)
+
 -- the first box that finds a rule gives the verdict
 first_gives : {X : Type 0} (patterns : X → Patterns) (message : Bytes) (boxes : List X) (place rule : ℕ) → place < length boxes
     → ((d : X) → rule_in (patterns (get_or boxes place d)) message ≡ Some rule)

@@ -1,5 +1,6 @@
--- The functions that the code follows: `rule_in` is the rule of `IsRule`, and `verdict` the answer of `IsVerdict`.
-use Rattle.std.specs.Prelude.{ℕ, suc, List, [], ◌∷◌, Option, Some, None, option_map, position}
+-- The functions that the code follows: `rule_in` is the rule of `IsRule`, and `verdict` the answer of `IsVerdict`;
+-- `finds` is whether there is one.
+use Rattle.std.specs.Prelude.{ℕ, suc, Bool, List, [], ◌∷◌, Option, Some, None, is_some, option_map, position}
 use Rattle.pec_types.specs.Bytes.{Bytes}
 use Rattle.pec_screen.specs.Occurrence.{occurs}
 use Rattle.pec_screen.specs.Verdicts.{Patterns}
@@ -17,3 +18,7 @@ first_verdict None others = option_map (λ found. (suc found.0, found.1)) others
 abbrev pub verdict : List Patterns → Bytes → Option (ℕ × ℕ)
 verdict [] message = None
 verdict (patterns ∷ boxes) message = first_verdict (rule_in patterns message) (verdict boxes message)
+
+-- whether some box with these patterns finds a rule in the message
+unfoldable pub finds : List Patterns → Bytes → Bool
+finds boxes message = is_some (verdict boxes message)

@@ -2,10 +2,13 @@
 //! is boxed, so that a provider takes any of them and changes them one by one.
 #![tactic(auto)]
 
+mod judging;
 mod looking;
 mod patterns;
 mod screens;
 
+
+pub use judging::{Judge, NoScreens};
 pub use looking::Screen;
 pub use patterns::{PatternScreen, a_rule_is_the_least_pattern};
 pub use screens::{ReplaceFault, Screens, a_verdict_is_of_the_first_box};

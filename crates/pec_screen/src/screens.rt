@@ -1,6 +1,6 @@
-ghost use Rattle.std.specs.Prelude.{◌≡◌, ◌↔◌, ℕ, ◌+◌, ◌<◌, ◌^◌, List, length, map, IfSome, IfErr, IsOk, OnOk, OnErr, Some, None, slice_set, slice_index_or};
+ghost use Rattle.std.specs.Prelude.{◌≡◌, ◌↔◌, ℕ, ◌+◌, ◌<◌, ◌^◌, List, length, map, IfSome, IfErr, IsOk, OnOk, OnErr, Some, None, false, slice_set, slice_index_or};
 ghost use Rattle.pec_types.specs.Bytes.{Bytes};
-ghost use Rattle.pec_screen.specs.VerdictReading.{rule_in, verdict};
+ghost use Rattle.pec_screen.specs.VerdictReading.{finds, rule_in, verdict};
 ghost use Rattle.pec_screen.specs.Verdicts.{AllFindNone, IsVerdict, Patterns, counted};
 
 use crate::looking::Screen;
@@ -91,4 +91,7 @@ pub fn a_verdict_is_of_the_first_box()
         (verdict boxes message ≡ Some (place, rule)) ↔ IsVerdict boxes message place rule }
     ensures none { (boxes : List Patterns) (message : Bytes) →
         (verdict boxes message ≡ None) ↔ AllFindNone boxes message }
+    // Whether one is found says the same, as a test.
+    ensures clean { (boxes : List Patterns) (message : Bytes) →
+        (finds boxes message ≡ false) ↔ AllFindNone boxes message }
 {}

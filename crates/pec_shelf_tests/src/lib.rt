@@ -8,7 +8,11 @@ mod directories;
 #[cfg(test)]
 mod lines;
 #[cfg(test)]
+mod plain;
+#[cfg(test)]
 mod playing;
+#[cfg(test)]
+mod random;
 #[cfg(test)]
 mod reading;
 #[cfg(test)]

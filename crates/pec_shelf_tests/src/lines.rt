@@ -138,20 +138,20 @@ fn add_id(
     Ok(())
 }
 
-fn add_number(alloc: Global, log: &mut Vec<u8>, number: u64) -> Result<(), AllocError> {
+pub(crate) fn add_number(alloc: Global, log: &mut Vec<u8>, number: u64) -> Result<(), AllocError> {
     let digits = number.to_string(alloc)?;
     add(log, digits.as_bytes())
 }
 
 /// Adds a word, and the space behind it.
-fn add(log: &mut Vec<u8>, word: &[u8]) -> Result<(), AllocError> {
+pub(crate) fn add(log: &mut Vec<u8>, word: &[u8]) -> Result<(), AllocError> {
     log.extend_from_slice(word)?;
     log.push(b' ')?;
     Ok(())
 }
 
 /// Ends a line, in place of the space behind its last word.
-fn end(log: &mut Vec<u8>) -> Result<(), AllocError> {
+pub(crate) fn end(log: &mut Vec<u8>) -> Result<(), AllocError> {
     let _space = log.pop();
     log.push(b'\n')?;
     Ok(())

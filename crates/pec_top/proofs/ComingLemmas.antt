@@ -22,7 +22,7 @@ use Rattle.pec_runs.specs.Plays.{Ends, HasMemory, MayStray, Outcome, Rest, RoseB
 use Rattle.pec_runs.specs.Plays.{ToTheEnd}
 use Rattle.pec_runs.specs.Plays.{MayPlay, faults_by, onto_outcome, outcome_from, outcome_text}
 use Rattle.pec_runs.specs.Ran.{Behind, LeavesOff, TellsAs, command_in_hand}
-use Rattle.pec_runs.specs.ScriptLines.{Line, PassedOver, Says, Script, behind_line, onto_script, said_by, script_of}
+use Rattle.pec_runs.specs.ScriptLines.{Finds, Line, PassedOver, Says, Script, behind_line, onto_script, said_by, script_of}
 use Rattle.pec_runs.specs.Statuses.{Status, status_of}
 use Rattle.pec_runs.specs.Statuses as statuses
 use Rattle.pec_top.specs.LoopLaws.{LoopLaws}
@@ -78,21 +78,21 @@ part_behind before mid after done piece more held part =
     wrote_part before mid after (done ++ (piece ++ more)) (piece ++ more) piece more
     (record { done = done; held = held; text = refl }) part refl
 
-module _ (tells : Type 0) (trade : Trade) (providers : List Provider) (laws : LoopLaws tells trade providers) where
+module _ (tells : Type 0) (trade : Trade) (finds : Finds) (providers : List Provider) (laws : LoopLaws tells trade finds providers) where
   abbrev From : Place → (ℕ → ℕ) → Outcome → Type 0
-  From place upto outcome = FromPlace tells trade providers place upto outcome
+  From place upto outcome = FromPlace tells trade finds providers place upto outcome
 
   abbrev On : Place → Place → Option Bytes → Option Bytes → Type 0
-  On first here before after = GoesOn tells trade providers first here before after
+  On first here before after = GoesOn tells trade finds providers first here before after
 
   abbrev Off : Place → (ℕ → ℕ) → Option Bytes → Option Bytes → Type 0
-  Off first counts before after = Astray tells trade providers first counts before after
+  Off first counts before after = Astray tells trade finds providers first counts before after
 
   abbrev Here : Place → Place → Option Bytes → Option Bytes → Type 0
-  Here first here before after = IsHere tells trade providers first here before after
+  Here first here before after = IsHere tells trade finds providers first here before after
 
   abbrev next : Place → List Site → Option Bytes → (ℕ → ℕ) → Place
-  next here sites behind counts = next_place tells trade providers here sites behind counts
+  next here sites behind counts = next_place tells trade finds providers here sites behind counts
 
   -- ---- the same run, said of another outcome, of other counts
 
@@ -128,7 +128,7 @@ module _ (tells : Type 0) (trade : Trade) (providers : List Provider) (laws : Lo
   -- it strays at this line, before which all is as told
   pub strays_here : (first here : Place) (before mid after : Option Bytes) (text line : Bytes) (lines : List Bytes)
       (command : Command)
-      (now : ℕ → ℕ) → said_by providers here.number line ≡ Says command → AreLinesLeft here.unread (line ∷ lines)
+      (now : ℕ → ℕ) → said_by finds providers here.number line ≡ Says command → AreLinesLeft here.unread (line ∷ lines)
       → MayStray tells here.sites (Some command) → ((p : ℕ) → here.counts p ≤ now p) → after ≡ followed_by mid text
       → On first here before mid → Off first now before after
   strays_here first here before mid after text line lines command now said left may later wrote on =
@@ -153,10 +153,10 @@ module _ (tells : Type 0) (trade : Trade) (providers : List Provider) (laws : Lo
   -- ---- steps
 
   -- the script at a line whose meaning is known
-  script_here : (number : ℕ) (line : Bytes) (lines : List Bytes) (what : Line) → said_by providers number line ≡ what
-      → script_of providers number (line ∷ lines) ≡ behind_line number what (script_of providers (number + 1) lines)
+  script_here : (number : ℕ) (line : Bytes) (lines : List Bytes) (what : Line) → said_by finds providers number line ≡ what
+      → script_of finds providers number (line ∷ lines) ≡ behind_line number what (script_of finds providers (number + 1) lines)
   script_here number line lines what e =
-      ap (λ (w : Line). behind_line number w (script_of providers (number + 1) lines)) e
+      ap (λ (w : Line). behind_line number w (script_of finds providers (number + 1) lines)) e
 
   may_here : (here : Place) (upto : ℕ → ℕ) (script other : Script) (lucks : List Luck) (rest : Rest) → script ≡ other
       → MayPlay trade tells here.sites here.counts upto other lucks rest
@@ -165,7 +165,7 @@ module _ (tells : Type 0) (trade : Trade) (providers : List Provider) (laws : Lo
       subst (λ (s : Script). MayPlay trade tells here.sites here.counts upto s lucks rest) (sym same) may
 
   abbrev come_passed : (here : Place) (line : Bytes) (behind : Option Bytes) (now upto : ℕ → ℕ) (outcome : Outcome)
-      → said_by providers here.number line ≡ PassedOver → IsLineRead here.unread line behind
+      → said_by finds providers here.number line ≡ PassedOver → IsLineRead here.unread line behind
       → TellsOn here.unread behind → ((p : ℕ) → here.counts p ≤ now p)
       → From (next here here.sites behind now) upto outcome → From here upto outcome
   come_passed here line behind now upto outcome said read on later comes = record {
@@ -173,10 +173,10 @@ module _ (tells : Type 0) (trade : Trade) (providers : List Provider) (laws : Lo
     lucks = comes.lucks;
     rest = comes.rest;
     left = lines_on here.unread line behind comes.lines read on comes.left;
-    may = may_here here upto (script_of providers here.number (line ∷ comes.lines))
-        (script_of providers (here.number + 1) comes.lines) comes.lucks comes.rest
+    may = may_here here upto (script_of finds providers here.number (line ∷ comes.lines))
+        (script_of finds providers (here.number + 1) comes.lines) comes.lucks comes.rest
         (script_here here.number line comes.lines PassedOver said)
-        (laws.since here.sites here.counts now upto (script_of providers (here.number + 1) comes.lines)
+        (laws.since here.sites here.counts now upto (script_of finds providers (here.number + 1) comes.lines)
         comes.lucks comes.rest later comes.may);
     is = comes.is ∙ ap (outcome_from trade comes.lucks comes.rest here.sites)
         (sym (script_here here.number line comes.lines PassedOver said));
@@ -184,7 +184,7 @@ module _ (tells : Type 0) (trade : Trade) (providers : List Provider) (laws : Lo
 
   abbrev come_played : (here : Place) (line : Bytes) (command : Command) (luck : Luck) (behind : Option Bytes)
       (now upto : ℕ → ℕ) (outcome : Outcome)
-      → said_by providers here.number line ≡ Says command → IsLineRead here.unread line behind
+      → said_by finds providers here.number line ≡ Says command → IsLineRead here.unread line behind
       → TellsOn here.unread behind
       → MayMeet trade luck here.sites command → HasMemory (played trade luck here.sites command).answer
       → ((p : ℕ) → RoseBy (faults_by p command (played trade luck here.sites command).answer) (here.counts p) (now p))
@@ -195,14 +195,14 @@ module _ (tells : Type 0) (trade : Trade) (providers : List Provider) (laws : Lo
     lucks = luck ∷ comes.lucks;
     rest = comes.rest;
     left = lines_on here.unread line behind comes.lines read on comes.left;
-    may = may_here here upto (script_of providers here.number (line ∷ comes.lines))
-        (onto_script command (script_of providers (here.number + 1) comes.lines)) (luck ∷ comes.lucks) comes.rest
+    may = may_here here upto (script_of finds providers here.number (line ∷ comes.lines))
+        (onto_script command (script_of finds providers (here.number + 1) comes.lines)) (luck ∷ comes.lucks) comes.rest
         (script_here here.number line comes.lines (Says command) said)
         (laws.command here.sites here.counts now upto command luck
-        (script_of providers (here.number + 1) comes.lines) comes.lucks comes.rest meets has rose comes.may).0;
+        (script_of finds providers (here.number + 1) comes.lines) comes.lucks comes.rest meets has rose comes.may).0;
     is = ap (onto_outcome (played trade luck here.sites command).answer) comes.is
         ∙ (sym (laws.command here.sites here.counts now upto command luck
-        (script_of providers (here.number + 1) comes.lines) comes.lucks comes.rest meets has rose comes.may).1
+        (script_of finds providers (here.number + 1) comes.lines) comes.lucks comes.rest meets has rose comes.may).1
         ∙ ap (outcome_from trade (luck ∷ comes.lucks) comes.rest here.sites)
         (sym (script_here here.number line comes.lines (Says command) said)));
   }
@@ -215,13 +215,13 @@ module _ (tells : Type 0) (trade : Trade) (providers : List Provider) (laws : Lo
     lucks = [];
     rest = Stopped;
     left = left;
-    may = (laws.stopped here.sites here.counts upto (script_of providers here.number lines) later).0;
+    may = (laws.stopped here.sites here.counts upto (script_of finds providers here.number lines) later).0;
     is = refl;
   }
 
   pub passes : (first here : Place) (before mid after : Option Bytes) (line : Bytes) (behind : Option Bytes)
       (now : ℕ → ℕ)
-      → said_by providers here.number line ≡ PassedOver → IsLineRead here.unread line behind
+      → said_by finds providers here.number line ≡ PassedOver → IsLineRead here.unread line behind
       → TellsOn here.unread behind
       → ((p : ℕ) → here.counts p ≤ now p) → after ≡ followed_by mid [] → Here first here before mid
       → Here first (next here here.sites behind now) before after
@@ -237,13 +237,13 @@ module _ (tells : Type 0) (trade : Trade) (providers : List Provider) (laws : Lo
           there.0,
           there.1
               ∙ ap (λ (w : Line). command_in_hand statuses.NoMemory NoMore comes.rest comes.lucks
-              (behind_line here.number w (script_of providers (here.number + 1) comes.lines))) said,
+              (behind_line here.number w (script_of finds providers (here.number + 1) comes.lines))) said,
         );
   })
 
   pub plays : (first here : Place) (before mid after : Option Bytes) (line text : Bytes) (command : Command)
       (behind : Option Bytes)
-      (now : ℕ → ℕ) (sites : List Site) → said_by providers here.number line ≡ Says command
+      (now : ℕ → ℕ) (sites : List Site) → said_by finds providers here.number line ≡ Says command
       → IsLineRead here.unread line behind → TellsOn here.unread behind
       → IsPlayedSo trade providers here.sites here.counts now command text sites
       → after ≡ followed_by mid text → On first here before mid
@@ -258,7 +258,7 @@ module _ (tells : Type 0) (trade : Trade) (providers : List Provider) (laws : Lo
             ∙ (ap (λ (h : Option Bytes). followed_by h (answer_text providers answer)) on.held
             ∙ (followed_by-append before (answers_text providers on.answers) (answer_text providers answer)
             ∙ ap (followed_by before) (sym (answers_one providers on.answers answer)))));
-        goes = subst (λ (s : List Site). HandsOn tells trade providers first (next here s behind now) (on.answers ++
+        goes = subst (λ (s : List Site). HandsOn tells trade finds providers first (next here s behind now) (on.answers ++
             answer ∷ []))
             (sym so.state)
             (λ outcome upto comes.
@@ -272,8 +272,8 @@ module _ (tells : Type 0) (trade : Trade) (providers : List Provider) (laws : Lo
                   (append_assoc on.answers (answer ∷ []) outcome.answers)) there.0,
               there.1
                   ∙ (ap (λ (w : Line). command_in_hand statuses.NoMemory NoMore comes.rest (so.luck ∷ comes.lucks)
-                  (behind_line here.number w (script_of providers (here.number + 1) comes.lines))) said
-                  ∙ hand_on comes.rest so.luck comes.lucks command (script_of providers (here.number + 1)
+                  (behind_line here.number w (script_of finds providers (here.number + 1) comes.lines))) said
+                  ∙ hand_on comes.rest so.luck comes.lucks command (script_of finds providers (here.number + 1)
                   comes.lines)),
             ));
       }
@@ -286,7 +286,7 @@ module _ (tells : Type 0) (trade : Trade) (providers : List Provider) (laws : Lo
   -- the run strayed, whatever stops it
   pub strayed_ran : (first : Place) (counts upto : ℕ → ℕ) (status : Status) (before after : Option Bytes)
       (state : List Site) → ((p : ℕ) → counts p ≤ upto p) → Off first counts before after
-      → ScriptRan tells trade providers first upto status before after state
+      → ScriptRan tells trade finds providers first upto status before after state
   strayed_ran first counts upto status before after state later off = record {
     outcome = off.outcome;
     comes = off.comes upto later;
@@ -302,7 +302,7 @@ module _ (tells : Type 0) (trade : Trade) (providers : List Provider) (laws : Lo
       (state : List Site) → AreLinesLeft here.unread lines → ((p : ℕ) → here.counts p ≤ upto p)
       → ((text : Bytes) → after ≡ followed_by before text → TellsAs status before after text Stops)
       → state ≡ here.sites → On first here before after
-      → ScriptRan tells trade providers first upto status before after state
+      → ScriptRan tells trade finds providers first upto status before after state
   stops_with first here upto status before after lines state left later tells_so same on =
       let outcome : Outcome = record { answers = []; after = here.sites; finish = Stops }
       in let there = on.goes outcome upto (come_stopped here lines upto left later)
@@ -318,7 +318,7 @@ module _ (tells : Type 0) (trade : Trade) (providers : List Provider) (laws : Lo
         is_left = λ told. sym same;
       }
 
-  halt_tells : (status : Status) → IsHalt tells trade providers status → (before after : Option Bytes) (text : Bytes)
+  halt_tells : (status : Status) → IsHalt tells trade finds providers status → (before after : Option Bytes) (text : Bytes)
       → after ≡ followed_by before text → TellsAs status before after text Stops
   halt_tells status (ByInput e) before after text held =
       subst (λ (s : Status). TellsAs s before after text Stops) (sym e) (refl, held)
@@ -327,9 +327,9 @@ module _ (tells : Type 0) (trade : Trade) (providers : List Provider) (laws : Lo
 
   pub halts : (first here : Place) (upto : ℕ → ℕ) (status : Status) (before after : Option Bytes) (lines : List Bytes)
       (state : List Site)
-      → IsHalt tells trade providers status → AreLinesLeft here.unread lines → ((p : ℕ) → here.counts p ≤ upto p) →
+      → IsHalt tells trade finds providers status → AreLinesLeft here.unread lines → ((p : ℕ) → here.counts p ≤ upto p) →
       state ≡ here.sites
-      → Here first here before after → ScriptRan tells trade providers first upto status before after state
+      → Here first here before after → ScriptRan tells trade finds providers first upto status before after state
   halts first here upto status before after lines state halt left later same (OffWay off) =
       strayed_ran first here.counts upto status before after state later off
   halts first here upto status before after lines state halt left later same (OnWay on) =
@@ -339,19 +339,19 @@ module _ (tells : Type 0) (trade : Trade) (providers : List Provider) (laws : Lo
   -- Memory ran out in the command of the next line.
   pub halts_amid : (first here : Place) (upto : ℕ → ℕ) (before after : Option Bytes) (line : Bytes)
       (lines : List Bytes)
-      (command : Command) (state : List Site) → said_by providers here.number line ≡ Says command
+      (command : Command) (state : List Site) → said_by finds providers here.number line ≡ Says command
       → AreLinesLeft here.unread (line ∷ lines) → ((p : ℕ) → here.counts p ≤ upto p)
       → LeavesOff trade here.sites (Some command) state → On first here before after
-      → ScriptRan tells trade providers first upto statuses.NoMemory before after state
+      → ScriptRan tells trade finds providers first upto statuses.NoMemory before after state
   halts_amid first here upto before after line lines command state said left later off on =
       let outcome : Outcome = record { answers = []; after = here.sites; finish = Stops }
       in let there = on.goes outcome upto (come_stopped here (line ∷ lines) upto left later)
       in let whole : outcome_text providers (behind_answers on.answers outcome) ≡ answers_text providers on.answers
       = laws.text on.answers outcome ∙ append-nil (answers_text providers on.answers)
-      in let hand : hand_of tells trade providers here upto outcome statuses.NoMemory
+      in let hand : hand_of tells trade finds providers here upto outcome statuses.NoMemory
       (come_stopped here (line ∷ lines) upto left later) ≡ Some command
       = ap (λ (w : Line). command_in_hand statuses.NoMemory NoMore Stopped []
-      (behind_line here.number w (script_of providers (here.number + 1) lines))) said
+      (behind_line here.number w (script_of finds providers (here.number + 1) lines))) said
       in record {
         outcome = behind_answers on.answers outcome;
         comes = there.0;
@@ -366,7 +366,7 @@ module _ (tells : Type 0) (trade : Trade) (providers : List Provider) (laws : Lo
   pub part_ran : (first : Place) (counts upto : ℕ → ℕ) (before mid after : Option Bytes) (piece : Bytes)
       (state : List Site)
       → ((p : ℕ) → counts p ≤ upto p) → WrotePart mid after piece → Off first counts before mid
-      → ScriptRan tells trade providers first upto statuses.WriteFault before after state
+      → ScriptRan tells trade finds providers first upto statuses.WriteFault before after state
   part_ran first counts upto before mid after piece state later part off =
       strayed_ran first counts upto statuses.WriteFault before after state later
       (astray_on first counts counts before mid after part.wrote.done (λ p. omega arith) part.wrote.held off)
@@ -378,7 +378,7 @@ module _ (tells : Type 0) (trade : Trade) (providers : List Provider) (laws : Lo
       (state : List Site) → status ≡ status_of end
       → From here upto (record { answers = []; after = here.sites; finish = Ends end })
       → ((p : ℕ) → here.counts p ≤ upto p) → after ≡ followed_by mid (end_text providers end) → state ≡ here.sites
-      → Here first here before mid → ScriptRan tells trade providers first upto status before after state
+      → Here first here before mid → ScriptRan tells trade finds providers first upto status before after state
   ends_whole first here upto status end before mid after state is comes later wrote same (OffWay off) =
       strayed_ran first here.counts upto status before after state later
       (astray_on first here.counts here.counts before mid after (end_text providers end) (λ p. omega arith) wrote off)
@@ -405,7 +405,7 @@ module _ (tells : Type 0) (trade : Trade) (providers : List Provider) (laws : Lo
       → From here upto (record { answers = []; after = here.sites; finish = Ends end })
       → ((p : ℕ) → here.counts p ≤ upto p) → WrotePart mid after (end_text providers end) → state ≡ here.sites
       → Here first here before mid
-      → ScriptRan tells trade providers first upto statuses.WriteFault before after state
+      → ScriptRan tells trade finds providers first upto statuses.WriteFault before after state
   ends_in_part first here upto end before mid after state comes later part same (OffWay off) =
       part_ran first here.counts upto before mid after (end_text providers end) state later part off
   ends_in_part first here upto end before mid after state comes later part same (OnWay on) =
@@ -427,12 +427,12 @@ module _ (tells : Type 0) (trade : Trade) (providers : List Provider) (laws : Lo
   -- A command was played, and of its lines a front was written.
   pub plays_in_part : (first here : Place) (upto now : ℕ → ℕ) (before mid after : Option Bytes) (line text : Bytes)
       (command : Command) (behind : Option Bytes) (sites : List Site)
-      → said_by providers here.number line ≡ Says command
+      → said_by finds providers here.number line ≡ Says command
       → IsLineRead here.unread line behind → TellsOn here.unread behind
       → IsPlayedSo trade providers here.sites here.counts now command text sites → ((p : ℕ) → now p ≤ upto p)
       → (lines : List Bytes) → AreLinesLeft behind lines
       → WrotePart mid after text → On first here before mid
-      → ScriptRan tells trade providers first upto statuses.WriteFault before after sites
+      → ScriptRan tells trade finds providers first upto statuses.WriteFault before after sites
   unfolding plays stops_with
   plays_in_part first here upto now before mid after line text command behind sites said read tells_more so later
       lines

@@ -3,6 +3,7 @@
 use Rattle.std.proofs.Common.{◌≡◌, ℕ, ◌+◌, ◌≤◌, List, [], ◌++◌, refl, sym, Option}
 use Rattle.pec_types.specs.Bytes.{Bytes}
 use Rattle.pec_outside.specs.Flow.{followed_by}
+use Rattle.pec_runs.specs.ScriptLines.{Finds}
 use Rattle.pec_top.proofs.FlowLemmas.{followed_by-nil}
 use Rattle.pec_directory.specs.Directory.{Provider}
 use Rattle.pec_ledger.specs.Network.{Site}
@@ -16,9 +17,9 @@ use Rattle.pec_runs.specs.Statuses.{Status, status_of}
 use Rattle.pec_runs.specs.Statuses as statuses
 use Rattle.pec_top.specs.Scripts.{hand_of}
 
-module _ (tells : Type 0) (trade : Trade) (providers : List Provider) where
+module _ (tells : Type 0) (trade : Trade) (finds : Finds) (providers : List Provider) where
   abbrev pub FromPlace : Place → (ℕ → ℕ) → Outcome → Type 0
-  FromPlace place upto outcome = Comes trade providers tells place upto outcome
+  FromPlace place upto outcome = Comes trade finds providers tells place upto outcome
 
   -- ---- from place to place
 
@@ -26,8 +27,8 @@ module _ (tells : Type 0) (trade : Trade) (providers : List Provider) where
   HandsOn first here answers =
       (outcome : Outcome) (upto : ℕ → ℕ) (comes : FromPlace here upto outcome)
       → (there : FromPlace first upto (behind_answers answers outcome))
-      × (hand_of tells trade providers first upto (behind_answers answers outcome) statuses.NoMemory there
-      ≡ hand_of tells trade providers here upto outcome statuses.NoMemory comes)
+      × (hand_of tells trade finds providers first upto (behind_answers answers outcome) statuses.NoMemory there
+      ≡ hand_of tells trade finds providers here upto outcome statuses.NoMemory comes)
 
   -- From the first place the loop came here: the lines of these answers were written, whatever comes from here comes
   -- from there, behind them, and so does the command in hand.

@@ -19,7 +19,7 @@ use Rattle.pec_trade.specs.TradeOf.{trade_of}
 use Rattle.pec_network.specs.Beginning.{IsAbout, IsRefused, journals_had}
 use Rattle.pec_network.specs.declared.faults.StartFault.{StartFault}
 use Rattle.pec_network.specs.declared.faults.StartFault.TheVariants as faults
-use Rattle.pec_runs.specs.Happened.{Happened, IsSetting, Setting, by_next}
+use Rattle.pec_runs.specs.Happened.{Asked, Happened, IsSetting, Setting, by_next}
 use Rattle.pec_runs.specs.Openings.{Disks, Next, NoMore, Holds, Unfits, Fails, Stops, disks_at, form_in, opened_all}
 use Rattle.pec_runs.specs.Plays.{Stopped, finish_text}
 use Rattle.pec_runs.specs.Ran.{Behind, Counts, LeavesOff, PlaysOn, Tells, TellsAs, command_in_hand}
@@ -93,16 +93,16 @@ pub ran_refused : {D : Type 0} (home_tells reads : Type 0) (sight : D → Sight)
     (of : IsOf kept (trade_of kept seals)) (home new : ℕ → Option D) (form : Form) (fault : StartFault)
     (refused : IsRefused home_tells reads sight kept (way_of form) home new fault)
     (reads_so : reads → (disk : D) → (sight disk).may_leave (sight disk).seen)
-    (words : List Bytes) → form_in words ≡ Some (form_shown form) → (bytes : Bytes)
+    (asked : Asked) → form_in asked.words ≡ Some (form_shown form) → (bytes : Bytes)
     → length bytes ≤ LONGEST_DIRECTORY
     → directory_in bytes ≡ Ok (providers_of kept)
     → IsSetting (providers_of kept) (record { kept = kept; seals = seals })
     → (status : Status) (unread behind before after : Option Bytes) (from upto : ℕ → ℕ)
     → parts_left unread ≡ parts_behind bytes behind
     → EndsSo (providers_of kept) fault status before after
-    → RanSo words status unread before after (home_tells × reads) (disks_at (home_tells × reads) sight home)
+    → RanSo asked status unread before after (home_tells × reads) (disks_at (home_tells × reads) sight home)
     (disks_at (home_tells × reads) sight new) from upto
-ran_refused home_tells reads sight kept seals of home new form fault refused reads_so words is bytes short opens
+ran_refused home_tells reads sight kept seals of home new form fault refused reads_so asked is bytes short opens
     is_setting status unread behind before after from upto input ends =
     let trade = trade_of kept seals
     in let providers = providers_of kept
@@ -124,17 +124,17 @@ ran_refused home_tells reads sight kept seals of home new form fault refused rea
     p.chronicle.entries)
     in let named : provider_named (length refused.providers) fault ≡ length journals
     = names_next form (length refused.providers) fault refused.about ∙ sym size
-    in ran_begun words (form_shown form) is bytes short setting opens is_setting lines.0
+    in ran_begun asked (form_shown form) is bytes short setting opens is_setting lines.0
     (record { journals = journals; next = ends.next }) [] Stopped status unread behind before after
     (home_tells × reads)
     (disks_at (home_tells × reads) sight home) (disks_at (home_tells × reads) sight new) from upto
     (opened_all trade journals) input lines.1 opening
     (plays_next (home_tells × reads) (disks_at (home_tells × reads) sight home)
     (disks_at (home_tells × reads) sight new) (disk_counts from) (disk_counts upto) happened
-    (script_of providers 1 lines.0) ends.next some)
-    (leaves_next trade providers journals (script_of providers 1 lines.0) status ends.next some)
+    (script_of asked.finds providers 1 lines.0) ends.next some)
+    (leaves_next trade providers journals (script_of asked.finds providers 1 lines.0) status ends.next some)
     (left_part home_tells reads sight kept seals of home form new fault refused reads_so ends.next ends.is_next)
-    (tells_next trade providers journals (script_of providers 1 lines.0) status before after ends.next some
+    (tells_next trade providers journals (script_of asked.finds providers 1 lines.0) status before after ends.next some
     (subst (λ (n : ℕ). TellsAs status before after (finish_text providers (finish_at n ends.next))
     (finish_at n ends.next)) named (ends.told (length refused.providers))))
 

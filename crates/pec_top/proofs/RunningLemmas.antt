@@ -19,7 +19,7 @@ use Rattle.pec_seal.specs.Hmac.{hmac_seals}
 use Rattle.pec_runs.specs.Climbing.{AreLinesLeft}
 use Rattle.pec_runs.specs.Endings.{End, end_text}
 use Rattle.pec_runs.specs.Endings as ends
-use Rattle.pec_runs.specs.Happened.{Begun, Halted, Happened, IsSetting, Over, Setting, Stage, by_directory, by_form}
+use Rattle.pec_runs.specs.Happened.{Asked, Begun, Halted, Happened, IsSetting, Over, Setting, Stage, by_directory, by_form}
 use Rattle.pec_runs.specs.Happened.{by_next, by_script, outcome_at, outcome_of, providers_in, stage_of, trade_in}
 use Rattle.pec_runs.specs.Openings.{AreLeft, AreUntouched, Disks, Form, IsOpening, Next, NoMore, Holds, Unfits, Fails}
 use Rattle.pec_runs.specs.Openings.{Stops, Opening, disks_at, form_in}
@@ -67,13 +67,13 @@ over_not_begun end form script e = cc
 halted_not_begun : (form : Form) (script : Script) → Halted ≡ Begun form script → ⊥
 halted_not_begun form script e = cc
 
-module _ (words : List Bytes) (unread before after : Option Bytes) (tells : Type 0) (old new : Disks)
+module _ (asked : Asked) (unread before after : Option Bytes) (tells : Type 0) (old new : Disks)
     (from upto : ℕ → ℕ) (untouched_ : AreUntouched old new) where
   -- It is over.
   pub ran_over : (parts : Parts) (early : Bool) (end : End) (status : Status)
-      → stage_of words early parts ≡ Over end → IsInput unread parts
+      → stage_of asked early parts ≡ Over end → IsInput unread parts
       → TellsAs status before after (end_text [] end) (plays.Ends end)
-      → RanSo words status unread before after tells old new from upto
+      → RanSo asked status unread before after tells old new from upto
   unfolding outcome_of
   ran_over parts early end status stage input told = record {
     happened = nothing parts early;
@@ -84,18 +84,18 @@ module _ (words : List Bytes) (unread before after : Option Bytes) (tells : Type
         (outcome_at (nothing parts early) s).finish) (sym stage) told);
     is_at = subst (λ (s : Stage). IsAt tells old new (disk_counts from) (disk_counts upto) (nothing parts early)
         status
-        words s) (sym stage) untouched_;
+        asked s) (sym stage) untouched_;
   }
 
   -- It was halted before a disk was asked for, and nothing was written.
-  pub ran_halted : (form : Form) (status : Status) → form_in words ≡ Some form
+  pub ran_halted : (form : Form) (status : Status) → form_in asked.words ≡ Some form
       → ((text : Bytes) → after ≡ followed_by before text → TellsAs status before after text plays.Stops)
       → after ≡ before
-      → RanSo words status unread before after tells old new from upto
+      → RanSo asked status unread before after tells old new from upto
   unfolding outcome_of stage_of
   ran_halted form status is tells_so same =
       let parts = parts_there unread
-      in let stage : stage_of words true parts.0 ≡ Halted = ap (by_form true parts.0) is
+      in let stage : stage_of asked true parts.0 ≡ Halted = ap (by_form asked.finds true parts.0) is
       in record {
         happened = nothing parts.0 true;
         input = parts.1;
@@ -105,42 +105,42 @@ module _ (words : List Bytes) (unread before after : Option Bytes) (tells : Type
             (outcome_at (nothing parts.0 true) s).finish) (sym stage)
             (tells_so [] (same ∙ sym (followed_by-nil before))));
         is_at = subst (λ (s : Stage). IsAt tells old new (disk_counts from) (disk_counts upto)
-            (nothing parts.0 true) status words s) (sym stage) untouched_;
+            (nothing parts.0 true) status asked s) (sym stage) untouched_;
       }
 
 -- ---- stages
 
-pub stage_usage : (words : List Bytes) (early : Bool) (parts : Parts) → form_in words ≡ None
-    → stage_of words early parts ≡ Over ends.Usage
+pub stage_usage : (asked : Asked) (early : Bool) (parts : Parts) → form_in asked.words ≡ None
+    → stage_of asked early parts ≡ Over ends.Usage
 unfolding stage_of
-stage_usage words false parts is = ap (by_form false parts) is
-stage_usage words true parts is = ap (by_form true parts) is
+stage_usage asked false parts is = ap (by_form asked.finds false parts) is
+stage_usage asked true parts is = ap (by_form asked.finds true parts) is
 
-module _ (words : List Bytes) (form : Form) (parts : Parts) (is : form_in words ≡ Some form) where
-  pub stage_long : LONGEST_DIRECTORY < length parts.directory → stage_of words false parts ≡ Over ends.LongDirectory
+module _ (asked : Asked) (form : Form) (parts : Parts) (is : form_in asked.words ≡ Some form) where
+  pub stage_long : LONGEST_DIRECTORY < length parts.directory → stage_of asked false parts ≡ Over ends.LongDirectory
   unfolding stage_of
   stage_long long =
-      ap (by_form false parts) is
-      ∙ ap (λ (t : Bool). if t then Over ends.LongDirectory else by_script form parts.directory parts.script)
+      ap (by_form asked.finds false parts) is
+      ∙ ap (λ (t : Bool). if t then Over ends.LongDirectory else by_script asked.finds form parts.directory parts.script)
       (lt-ltb LONGEST_DIRECTORY (length parts.directory) long)
 
   stage_short : length parts.directory ≤ LONGEST_DIRECTORY
-      → stage_of words false parts ≡ by_script form parts.directory parts.script
+      → stage_of asked false parts ≡ by_script asked.finds form parts.directory parts.script
   unfolding stage_of
   stage_short short =
-      ap (by_form false parts) is
-      ∙ ap (λ (t : Bool). if t then Over ends.LongDirectory else by_script form parts.directory parts.script)
+      ap (by_form asked.finds false parts) is
+      ∙ ap (λ (t : Bool). if t then Over ends.LongDirectory else by_script asked.finds form parts.directory parts.script)
       (le-ltb LONGEST_DIRECTORY (length parts.directory) short)
 
   pub stage_unmarked : length parts.directory ≤ LONGEST_DIRECTORY → parts.script ≡ None
-      → stage_of words false parts ≡ Over ends.NoScript
-  stage_unmarked short none = stage_short short ∙ ap (by_script form parts.directory) none
+      → stage_of asked false parts ≡ Over ends.NoScript
+  stage_unmarked short none = stage_short short ∙ ap (by_script asked.finds form parts.directory) none
 
   pub stage_read : length parts.directory ≤ LONGEST_DIRECTORY → (lines : List Bytes) → parts.script ≡ Some lines
       → (told : Result (List Provider) DirectoryFault) → directory_in parts.directory ≡ told
-      → stage_of words false parts ≡ by_directory form lines told
+      → stage_of asked false parts ≡ by_directory asked.finds form lines told
   stage_read short lines some told reads =
-      stage_short short ∙ (ap (by_script form parts.directory) some ∙ ap (by_directory form lines) reads)
+      stage_short short ∙ (ap (by_script asked.finds form parts.directory) some ∙ ap (by_directory asked.finds form lines) reads)
 
 -- the parts of an input whose directory was read
 pub parts_are : (unread behind : Option Bytes) (bytes : Bytes) (lines : List Bytes)
@@ -163,7 +163,7 @@ same_ok told a b e f = cc
 
 -- ---- a run that begins
 
-module _ (words : List Bytes) (form : Form) (is : form_in words ≡ Some form) (bytes : Bytes)
+module _ (asked : Asked) (form : Form) (is : form_in asked.words ≡ Some form) (bytes : Bytes)
     (short : length bytes ≤ LONGEST_DIRECTORY) (setting : Setting)
     (reads : directory_in bytes ≡ Ok (providers_in setting)) (is_setting : IsSetting (providers_in setting) setting)
     (lines : List Bytes) (opening : Opening) (lucks : List Luck) (rest : Rest) where
@@ -175,15 +175,15 @@ module _ (words : List Bytes) (form : Form) (is : form_in words ≡ Some form) (
       record { parts = parts_had; early = false; setting = setting; opening = opening; lucks = lucks; rest = rest }
 
   abbrev script_had : Script
-  script_had = script_of (providers_in setting) 1 lines
+  script_had = script_of asked.finds (providers_in setting) 1 lines
 
   abbrev outcome_had : Outcome
   outcome_had = by_next (trade_in setting) opening lucks rest script_had opening.next
 
-  begun_so : stage_of words false parts_had ≡ Begun form script_had
-  begun_so = stage_read words form parts_had is short lines refl (Ok (providers_in setting)) reads
+  begun_so : stage_of asked false parts_had ≡ Begun form script_had
+  begun_so = stage_read asked form parts_had is short lines refl (Ok (providers_in setting)) reads
 
-  outcome_so : outcome_of words happened_so ≡ outcome_had
+  outcome_so : outcome_of asked happened_so ≡ outcome_had
   unfolding outcome_of
   outcome_so = ap (outcome_at happened_so) begun_so
 
@@ -195,7 +195,7 @@ module _ (words : List Bytes) (form : Form) (is : form_in words ≡ Some form) (
       → LeavesOff (trade_in setting) outcome_had.after (command_in_hand status opening.next rest lucks script_had)
       left
       → AreLeft old new form opening left → Tells (providers_in setting) status before after outcome_had
-      → RanSo words status unread before after tells old new from upto
+      → RanSo asked status unread before after tells old new from upto
   ran_begun status unread behind before after tells old new from upto left input lines_left opens plays leaves disks
       told = record {
         happened = happened_so;
@@ -205,7 +205,7 @@ module _ (words : List Bytes) (form : Form) (is : form_in words ≡ Some form) (
             in subst (λ (p : List Provider). IsSetting p setting) same is_setting;
         told = subst (Tells (providers_in setting) status before after) (sym outcome_so) told;
         is_at = subst (λ (s : Stage). IsAt tells old new (disk_counts from) (disk_counts upto) happened_so status
-            words
+            asked
             s) (sym begun_so) (record {
               opening = opens;
               plays = plays;
@@ -219,24 +219,24 @@ module _ (words : List Bytes) (form : Form) (is : form_in words ≡ Some form) (
 
 -- ---- the whole run
 
-pub ran_whole : (words : List Bytes) (status : Status) (unread before after : Option Bytes) (tells : Type 0)
+pub ran_whole : (asked : Asked) (status : Status) (unread before after : Option Bytes) (tells : Type 0)
     (old_disks new_disks : Disks) (old new : Counts) → Blames status old new → NoneFell old new
-    → RanSo words status unread before after tells old_disks new_disks old.disks new.disks
-    → Ran words status unread before after tells old_disks new_disks old new
-ran_whole words status unread before after tells old_disks new_disks old new blames fell so = record {
+    → RanSo asked status unread before after tells old_disks new_disks old.disks new.disks
+    → Ran asked status unread before after tells old_disks new_disks old new
+ran_whole asked status unread before after tells old_disks new_disks old new blames fell so = record {
   happened = so.happened;
   input = so.input;
   setting = so.setting;
   told = so.told;
   blame = blames;
   counts = fell;
-  is_at = at_stage (stage_of words so.happened.early so.happened.parts) so.is_at;
+  is_at = at_stage (stage_of asked so.happened.early so.happened.parts) so.is_at;
 }
   where
     at_stage : (stage : Stage)
-        → IsAt tells old_disks new_disks (disk_counts old.disks) (disk_counts new.disks) so.happened status words
+        → IsAt tells old_disks new_disks (disk_counts old.disks) (disk_counts new.disks) so.happened status asked
         stage
-        → IsAt tells old_disks new_disks old new so.happened status words stage
+        → IsAt tells old_disks new_disks old new so.happened status asked stage
     at_stage (Over end) is = is
     at_stage Halted is = is
     at_stage (Begun form script) is = record {

@@ -16,7 +16,7 @@ use Rattle.pec_script.specs.declared.answers.Unfit.{Unfit}
 use Rattle.pec_script.specs.declared.faults.LineFault.{LineFault}
 use Rattle.pec_runs.specs.Endings.{End, end_text}
 use Rattle.pec_runs.specs.Endings as ends
-use Rattle.pec_runs.specs.ScriptLines.{Line, PassedOver, TooLong, TooMany, Script, behind_line, is_passed_over}
+use Rattle.pec_runs.specs.ScriptLines.{Finds, Line, PassedOver, TooLong, TooMany, Script, behind_line, is_passed_over}
 use Rattle.pec_runs.specs.ScriptLines.{line_by, longest_line, most_lines, nothing_but, said_by, script_of}
 use Rattle.pec_runs.specs.Statuses.{status_of}
 use Rattle.pec_top.specs.Shown.{end_shown}
@@ -25,59 +25,59 @@ use Rattle.pec_top.specs.declared.taking.Taken.{Taken}
 
 -- ---- lines
 
-module _ (providers : List Provider) (number : ℕ) (line : Bytes) where
+module _ (finds : Finds) (providers : List Provider) (number : ℕ) (line : Bytes) where
   abbrev short_line : Line
   short_line =
-      if is_passed_over (content_of line) then PassedOver else line_by (command_of providers (content_of line))
+      if is_passed_over (content_of line) then PassedOver else line_by finds (command_of providers (content_of line))
 
   abbrev numbered_line : Line
   numbered_line = if nat_lt longest_line (length (content_of line)) then TooLong else short_line
 
-  pub said_many : most_lines < number → said_by providers number line ≡ TooMany
+  pub said_many : most_lines < number → said_by finds providers number line ≡ TooMany
   unfolding said_by
   said_many many = ap (λ (t : Bool). if t then TooMany else numbered_line) (lt-ltb most_lines number many)
 
-  said_few : number ≤ most_lines → said_by providers number line ≡ numbered_line
+  said_few : number ≤ most_lines → said_by finds providers number line ≡ numbered_line
   unfolding said_by
   said_few few = ap (λ (t : Bool). if t then TooMany else numbered_line) (le-ltb most_lines number few)
 
   pub said_long : number ≤ most_lines → longest_line < length (content_of line)
-      → said_by providers number line ≡ TooLong
+      → said_by finds providers number line ≡ TooLong
   said_long few long =
       said_few few ∙ ap (λ (t : Bool). if t then TooLong else short_line)
       (lt-ltb longest_line (length (content_of line)) long)
 
   said_short : number ≤ most_lines → length (content_of line) ≤ longest_line
-      → said_by providers number line ≡ short_line
+      → said_by finds providers number line ≡ short_line
   said_short few short =
       said_few few ∙ ap (λ (t : Bool). if t then TooLong else short_line)
       (le-ltb longest_line (length (content_of line)) short)
 
   pub said_over : number ≤ most_lines → length (content_of line) ≤ longest_line
-      → is_passed_over (content_of line) ≡ true → said_by providers number line ≡ PassedOver
+      → is_passed_over (content_of line) ≡ true → said_by finds providers number line ≡ PassedOver
   said_over few short over =
       said_short few short
-      ∙ ap (λ (t : Bool). if t then PassedOver else line_by (command_of providers (content_of line))) over
+      ∙ ap (λ (t : Bool). if t then PassedOver else line_by finds (command_of providers (content_of line))) over
 
   pub said_command : (said : Bytes) → content_of line ≡ said → number ≤ most_lines → length said ≤ longest_line
-      → is_passed_over said ≡ false → said_by providers number line ≡ line_by (command_of providers said)
+      → is_passed_over said ≡ false → said_by finds providers number line ≡ line_by finds (command_of providers said)
   said_command said is few short some =
       said_short few (let size = ap (λ (b : Bytes). length b) is in omega (arith, size, short))
-      ∙ (ap (λ (t : Bool). if t then PassedOver else line_by (command_of providers (content_of line)))
-      (ap is_passed_over is ∙ some) ∙ ap (λ (b : Bytes). line_by (command_of providers b)) is)
+      ∙ (ap (λ (t : Bool). if t then PassedOver else line_by finds (command_of providers (content_of line)))
+      (ap is_passed_over is ∙ some) ∙ ap (λ (b : Bytes). line_by finds (command_of providers b)) is)
 
 -- a script that ends at a line
-pub ends_so : (providers : List Provider) (state : List Site) (number : ℕ) (counts : ℕ → ℕ) (line : Bytes)
+pub ends_so : (finds : Finds) (providers : List Provider) (state : List Site) (number : ℕ) (counts : ℕ → ℕ) (line : Bytes)
     (taken : Taken)
-    (end : End) (what : Line) → said_by providers number line ≡ what
+    (end : End) (what : Line) → said_by finds providers number line ≡ what
     → ((script : Script) → behind_line number what script ≡ nothing_but end)
     → taken.text.items ≡ end_text providers end
     → option_map end_shown taken.end ≡ Some (status_of end)
-    → EndsAt providers state number counts counts line taken state
-ends_so providers state number counts line taken end what said ends text shown = record {
+    → EndsAt finds providers state number counts counts line taken state
+ends_so finds providers state number counts line taken end what said ends text shown = record {
   end = end;
-  script = λ lines. ap (λ (w : Line). behind_line number w (script_of providers (number + 1) lines)) said
-      ∙ ends (script_of providers (number + 1) lines);
+  script = λ lines. ap (λ (w : Line). behind_line number w (script_of finds providers (number + 1) lines)) said
+      ∙ ends (script_of finds providers (number + 1) lines);
   text = text;
   shown = shown;
   same = refl;

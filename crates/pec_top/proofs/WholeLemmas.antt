@@ -20,11 +20,11 @@ use Rattle.pec_provider.specs.Provider.{ProviderState, desk_of, site_of}
 use Rattle.pec_plays.specs.Commands.{Luck}
 use Rattle.pec_posts.specs.Arrivals.{Waiting, waiting_for}
 use Rattle.pec_runs.specs.Climbing.{Comes, Place}
-use Rattle.pec_runs.specs.Happened.{IsSetting, Setting, providers_in, trade_in}
+use Rattle.pec_runs.specs.Happened.{Asked, IsSetting, Setting, providers_in, trade_in}
 use Rattle.pec_runs.specs.Openings.{AreLeft, Disks, Form, IsLeft, IsOpening, NoMore, disks_at, form_in, opened_all}
 use Rattle.pec_runs.specs.Plays.{MayPlay, Outcome, Rest}
 use Rattle.pec_runs.specs.Ran.{LeavesOff, Tells, command_in_hand}
-use Rattle.pec_runs.specs.ScriptLines.{Script, script_of}
+use Rattle.pec_runs.specs.ScriptLines.{Finds, Script, script_of}
 use Rattle.pec_runs.specs.Statuses.{Status}
 use Rattle.pec_top.specs.Running.{RanSo, parts_behind}
 use Rattle.pec_top.specs.Scripts.{AreKept, ScriptRan}
@@ -36,10 +36,10 @@ there : {X : Type 0} (xs : List X) (k : ℕ) → k < length xs → X
 there [] k l = absurd (omega (arith, l))
 there (x ∷ xs) k l = x
 
-abbrev further : (tells : Type 0) (trade : Trade) (providers : List Provider) (place : Place) (upto later : ℕ → ℕ)
-    (outcome : Outcome) → ((p : ℕ) → upto p ≤ later p) → Comes trade providers tells place upto outcome
-    → Comes trade providers tells place later outcome
-further tells trade providers place upto later outcome on comes = record {
+abbrev further : (tells : Type 0) (trade : Trade) (finds : Finds) (providers : List Provider) (place : Place) (upto later : ℕ → ℕ)
+    (outcome : Outcome) → ((p : ℕ) → upto p ≤ later p) → Comes trade finds providers tells place upto outcome
+    → Comes trade finds providers tells place later outcome
+further tells trade finds providers place upto later outcome on comes = record {
   lines = comes.lines;
   lucks = comes.lucks;
   rest = comes.rest;
@@ -55,13 +55,13 @@ further tells trade providers place upto later outcome on comes = record {
 }
 
 -- The script may be said of later counts.
-pub ran_later : (tells : Type 0) (trade : Trade) (providers : List Provider) (first : Place) (upto later : ℕ → ℕ)
+pub ran_later : (tells : Type 0) (trade : Trade) (finds : Finds) (providers : List Provider) (first : Place) (upto later : ℕ → ℕ)
     (status : Status) (before after : Option Bytes) (state : List Site) → ((k : ℕ) → upto k ≤ later k)
-    → ScriptRan tells trade providers first upto status before after state
-    → ScriptRan tells trade providers first later status before after state
-ran_later tells trade providers first upto later status before after state on ran = record {
+    → ScriptRan tells trade finds providers first upto status before after state
+    → ScriptRan tells trade finds providers first later status before after state
+ran_later tells trade finds providers first upto later status before after state on ran = record {
   outcome = ran.outcome;
-  comes = further tells trade providers first upto later ran.outcome on ran.comes;
+  comes = further tells trade finds providers first upto later ran.outcome on ran.comes;
   told = ran.told;
   left = ran.left;
   leaves_off = ran.leaves_off;
@@ -168,7 +168,7 @@ MaySince tells trade =
     → ((p : ℕ) → earlier p ≤ from p) → MayPlay trade tells sites from upto written lucks rest
     → MayPlay trade tells sites earlier upto written lucks rest
 
-pub ran_script : (words : List Bytes) (form : Form) → form_in words ≡ Some form → (bytes : Bytes)
+pub ran_script : (asked : Asked) (form : Form) → form_in asked.words ≡ Some form → (bytes : Bytes)
     → length bytes ≤ LONGEST_DIRECTORY
     → (setting : Setting) → directory_in bytes ≡ Ok (providers_in setting)
     → IsSetting (providers_in setting) setting
@@ -179,19 +179,19 @@ pub ran_script : (words : List Bytes) (form : Form) → form_in words ≡ Some f
     → IsOpening (trade_in setting) old form (record { journals = journals; next = NoMore })
     → ((left : List Site) → (tells → left ≡ state)
     → AreLeft old new form (record { journals = journals; next = NoMore }) left)
-    → ScriptRan tells (trade_in setting) (providers_in setting)
+    → ScriptRan tells (trade_in setting) asked.finds (providers_in setting)
     (record { sites = start; number = 1; unread = behind; counts = counts }) upto status before after state
-    → RanSo words status unread before after tells old new from upto
-ran_script words form is bytes short setting reads is_setting journals status unread behind before after tells old new
+    → RanSo asked status unread before after tells old new from upto
+ran_script asked form is bytes short setting reads is_setting journals status unread behind before after tells old new
     from counts upto start state may_since begins since input opens leaves ran_from =
     let trade = trade_in setting
     in let providers = providers_in setting
-    in let ran = subst (λ (s : List Site). ScriptRan tells trade providers
+    in let ran = subst (λ (s : List Site). ScriptRan tells trade asked.finds providers
     (record { sites = s; number = 1; unread = behind; counts = counts }) upto status before after state) begins
     ran_from
     in let comes = ran.comes
-    in let script = script_of providers 1 comes.lines
-    in ran_begun words form is bytes short setting reads is_setting comes.lines
+    in let script = script_of asked.finds providers 1 comes.lines
+    in ran_begun asked form is bytes short setting reads is_setting comes.lines
     (record { journals = journals; next = NoMore }) comes.lucks comes.rest status unread behind before after tells
     old new from upto ran.left input comes.left opens
     (may_since (opened_all trade journals) from counts upto script comes.lucks comes.rest since

@@ -13,21 +13,21 @@ use Rattle.pec_runs.specs.Climbing.{AreLinesLeft, Comes, Place, behind_answers}
 use Rattle.pec_runs.specs.Endings.{Done, End}
 use Rattle.pec_runs.specs.Plays.{Ends, HasMemory, MayPlay, MayStray, Outcome, Rest, RoseBy, Stopped, Stops, Strays}
 use Rattle.pec_runs.specs.Plays.{faults_by, onto_outcome, outcome_from, outcome_text}
-use Rattle.pec_runs.specs.ScriptLines.{Says, Script, nothing_but, onto_script, said_by, script_of}
+use Rattle.pec_runs.specs.ScriptLines.{Finds, Says, Script, nothing_but, onto_script, said_by, script_of}
 
-pub record LoopLaws (tells : Type 0) (trade : Trade) (providers : List Provider) : Type 0 where
+pub record LoopLaws (tells : Type 0) (trade : Trade) (finds : Finds) (providers : List Provider) : Type 0 where
   -- what comes at the end of the input, at a line at which the script ends, and where the run strays
   pub over : (here : Place) (upto : ℕ → ℕ) → IfSome here.unread (λ text. text ≡ [])
       → ((p : ℕ) → here.counts p ≤ upto p)
-      → Comes trade providers tells here upto (record { answers = []; after = here.sites; finish = Ends Done })
+      → Comes trade finds providers tells here upto (record { answers = []; after = here.sites; finish = Ends Done })
   pub ended : (here : Place) (line : Bytes) (lines : List Bytes) (end : End) (upto : ℕ → ℕ)
-      → script_of providers here.number (line ∷ lines) ≡ nothing_but end → AreLinesLeft here.unread (line ∷ lines)
+      → script_of finds providers here.number (line ∷ lines) ≡ nothing_but end → AreLinesLeft here.unread (line ∷ lines)
       → ((p : ℕ) → here.counts p ≤ upto p)
-      → Comes trade providers tells here upto (record { answers = []; after = here.sites; finish = Ends end })
+      → Comes trade finds providers tells here upto (record { answers = []; after = here.sites; finish = Ends end })
   pub strayed : (here : Place) (line : Bytes) (lines : List Bytes) (command : Command) (upto : ℕ → ℕ)
-      → said_by providers here.number line ≡ Says command → AreLinesLeft here.unread (line ∷ lines)
+      → said_by finds providers here.number line ≡ Says command → AreLinesLeft here.unread (line ∷ lines)
       → MayStray tells here.sites (Some command) → ((p : ℕ) → here.counts p ≤ upto p)
-      → Comes trade providers tells here upto (record { answers = []; after = here.sites; finish = Strays })
+      → Comes trade finds providers tells here upto (record { answers = []; after = here.sites; finish = Strays })
   -- how scripts are played
   pub stopped : (sites : List Site) (from upto : ℕ → ℕ) (written : Script) → ((p : ℕ) → from p ≤ upto p)
       → MayPlay trade tells sites from upto written [] Stopped

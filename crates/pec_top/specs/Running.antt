@@ -5,7 +5,7 @@ use Rattle.pec_directory.specs.Directory.{Provider}
 use Rattle.pec_input.specs.Directory.{directory_in}
 use Rattle.pec_input.specs.Lines.{raw_lines}
 use Rattle.pec_input.specs.Parts.{Parts}
-use Rattle.pec_runs.specs.Happened.{Begun, Happened, IsSetting, outcome_of, providers_in, stage_of}
+use Rattle.pec_runs.specs.Happened.{Asked, Begun, Happened, IsSetting, outcome_of, providers_in, stage_of}
 use Rattle.pec_runs.specs.Openings.{Disks, Form}
 use Rattle.pec_runs.specs.Ran.{Counts, IsAt, IsInput, Tells}
 use Rattle.pec_runs.specs.ScriptLines.{Script}
@@ -21,17 +21,17 @@ parts_behind directory unread =
     option_map (λ rest. record { directory = directory; script = Some (raw_lines rest) }) unread
 
 -- The program ran so: `Ran` of pec_runs, but for the counts of faults of input, output and depot.
-pub record RanSo (words : List Bytes) (status : Status) (unread before after : Option Bytes) (tells : Type 0)
+pub record RanSo (asked : Asked) (status : Status) (unread before after : Option Bytes) (tells : Type 0)
     (old_disks new_disks : Disks) (from upto : ℕ → ℕ) : Type 0 where
   pub happened : Happened
   pub input : IsInput unread happened.parts
   pub setting : (form : Form) (script : Script)
-      → stage_of words happened.early happened.parts ≡ Begun form script
+      → stage_of asked happened.early happened.parts ≡ Begun form script
       → (providers : List Provider) → directory_in happened.parts.directory ≡ Ok providers
       → IsSetting providers happened.setting
-  pub told : Tells (providers_in happened.setting) status before after (outcome_of words happened)
-  pub is_at : IsAt tells old_disks new_disks (disk_counts from) (disk_counts upto) happened status words
-      (stage_of words happened.early happened.parts)
+  pub told : Tells (providers_in happened.setting) status before after (outcome_of asked happened)
+  pub is_at : IsAt tells old_disks new_disks (disk_counts from) (disk_counts upto) happened status asked
+      (stage_of asked happened.early happened.parts)
 
 -- Each disk that was at home is at home again.
 abbrev pub AreHomeAgain : {D : Type 0} → (old new : ℕ → Option D) → Type 0

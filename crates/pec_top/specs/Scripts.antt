@@ -13,7 +13,7 @@ use Rattle.pec_runs.specs.Climbing.{Comes, Place}
 use Rattle.pec_runs.specs.Openings.{IsLeft, NoMore}
 use Rattle.pec_runs.specs.Plays.{Outcome}
 use Rattle.pec_runs.specs.Ran.{LeavesOff, Tells, command_in_hand}
-use Rattle.pec_runs.specs.ScriptLines.{script_of}
+use Rattle.pec_runs.specs.ScriptLines.{Finds, script_of}
 use Rattle.pec_runs.specs.Statuses.{Status}
 
 -- Where a script stands: before the line of a number, over a network, with this left to read. Past the providers, the
@@ -26,19 +26,19 @@ place_at faults network elsewhere number unread = record {
   counts = counts_in faults network.providers elsewhere;
 }
 
-module _ (tells : Type 0) (trade : Trade) (providers : List Provider) where
+module _ (tells : Type 0) (trade : Trade) (finds : Finds) (providers : List Provider) where
   -- the command in hand of a run with this status that came so from a place
   abbrev pub hand_of : (place : Place) (upto : ℕ → ℕ) (outcome : Outcome) → Status
-      → Comes trade providers tells place upto outcome → Option Command
+      → Comes trade finds providers tells place upto outcome → Option Command
   hand_of place upto outcome status comes =
-      command_in_hand status NoMore comes.rest comes.lucks (script_of providers place.number comes.lines)
+      command_in_hand status NoMore comes.rest comes.lucks (script_of finds providers place.number comes.lines)
 
   -- The script ran from a place to an outcome of which this was written, with this status, and left this state, where
   -- disks tell what they hold.
   pub record ScriptRan (first : Place) (upto : ℕ → ℕ) (status : Status) (before after : Option Bytes)
       (state : List Site) : Type 0 where
     pub outcome : Outcome
-    pub comes : Comes trade providers tells first upto outcome
+    pub comes : Comes trade finds providers tells first upto outcome
     pub told : Tells providers status before after outcome
     pub left : List Site
     pub leaves_off : LeavesOff trade outcome.after (hand_of first upto outcome status comes) left

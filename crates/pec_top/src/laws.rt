@@ -3,6 +3,7 @@ ghost use Rattle.pec_directory.specs.Directory.{Provider, providers_of};
 ghost use Rattle.pec_directory.specs.Lawful.{IsLawful};
 ghost use Rattle.pec_ledger.specs.Trade.{Trade};
 ghost use Rattle.pec_network.specs.Network.{IsOfDirectory};
+ghost use Rattle.pec_runs.specs.ScriptLines.{Finds};
 ghost use Rattle.pec_top.specs.LoopLaws.{LoopLaws};
 
 use pec_directory::Directory;
@@ -32,7 +33,8 @@ pub(crate) fn a_disk_reads_as_an_image<D: Disk>()
 
 /// What is said of a loop over the lines of a script, in every world.
 pub(crate) fn a_loop_climbs<P: Depot>()
-    ensures { (trade : Trade) (providers : List Provider) → LoopLaws (P.tells × P.D.tells) trade providers }
+    ensures { (trade : Trade) (finds : Finds) (providers : List Provider)
+        → LoopLaws (P.tells × P.D.tells) trade finds providers }
 {
     lines_are_the_text();
     a_run_is_climbed::<P>();

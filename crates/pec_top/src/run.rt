@@ -13,6 +13,7 @@ ghost use Rattle.pec_input.specs.declared.opening.TheConstants.{LONGEST_DIRECTOR
 ghost use Rattle.pec_network.specs.Carrying.{AllStand};
 ghost use Rattle.pec_network.specs.Beginning.{NoneFell};
 ghost use Rattle.pec_runs.specs.Openings.{disks_at, form_in};
+ghost use Rattle.pec_runs.specs.ScriptLines.{finds_in};
 ghost use Rattle.pec_top.specs.Blaming.{BlamesDevices, BlamesDisks};
 ghost use Rattle.pec_top.specs.Running.{AreHomeAgain, RanSo, parts_behind};
 ghost use Rattle.pec_top.specs.Scripts.{AreKept, ScriptRan, place_at};
@@ -30,19 +31,23 @@ use pec_house::sealer_of;
 use pec_input::{Buffer, Opened, Opening, open_directory, read_directory, refused_directory_text};
 use pec_network::Network;
 use pec_outside::{Depot, Disk, Sink, Source, write_all};
+use pec_screen::Judge;
 use pec_seal::{HmacSealer, Sealer};
 use pec_trade::{a_trade_says_what_its_parts_say, the_texts_are_a_trade};
 use std::alloc::Global;
 
 /// Runs the program on its words, its input and the disks of a depot.
-pub(crate) fn run_words<S: Source, W: Sink, P: Depot>(
+pub(crate) fn run_words<S: Source, W: Sink, P: Depot, J: Judge>(
     alloc: Global,
     words: &[String],
     input: &mut S,
     out: &mut W,
     depot: &mut P,
+    screens: &mut [J],
 ) -> Result<End, Stop>
-    ensures ran { RanSo (map string_bytes words.now) (result_shown result) (S.left input.old)
+    ensures ran { RanSo
+        (record { words = map string_bytes words.now; finds = finds_in (map J.patterns screens.old) })
+        (result_shown result) (S.left input.old)
         (W.held out.old) (W.held out.new) (P.tells × P.D.tells)
         (disks_at (P.tells × P.D.tells) P.D.sight (P.home depot.old))
         (disks_at (P.tells × P.D.tells) P.D.sight (P.home depot.new)) (P.last depot.old) (P.last depot.new) }
@@ -61,21 +66,23 @@ pub(crate) fn run_words<S: Source, W: Sink, P: Depot>(
         return Ok(end);
     };
     let mut buffer = Buffer::new(alloc);
-    let end = run_input(alloc, form, input, &mut buffer, out, depot)?;
+    let end = run_input(alloc, form, input, &mut buffer, out, depot, screens)?;
     Ok(end)
 }
 
 /// Reads the directory, and plays the script behind it.
-fn run_input<S: Source, W: Sink, P: Depot>(
+fn run_input<S: Source, W: Sink, P: Depot, J: Judge>(
     alloc: Global,
     form: Form,
     source: &mut S,
     buffer: &mut Buffer,
     out: &mut W,
     depot: &mut P,
+    screens: &mut [J],
 ) -> Result<End, Stop>
     ensures ran { (words : List Bytes) → form_in words ≡ Some (form_shown form)
-        → RanSo words (result_shown result) (behind buffer.old (S.left source.old))
+        → RanSo (record { words = words; finds = finds_in (map J.patterns screens.old) })
+        (result_shown result) (behind buffer.old (S.left source.old))
         (W.held out.old) (W.held out.new) (P.tells × P.D.tells)
         (disks_at (P.tells × P.D.tells) P.D.sight (P.home depot.old))
         (disks_at (P.tells × P.D.tells) P.D.sight (P.home depot.new)) (P.last depot.old) (P.last depot.new) }
@@ -98,14 +105,14 @@ fn run_input<S: Source, W: Sink, P: Depot>(
             Ok(end)
         }
         Opening::Script(bytes) => {
-            let end = run_directory(alloc, form, &bytes, source, buffer, out, depot)?;
+            let end = run_directory(alloc, form, &bytes, source, buffer, out, depot, screens)?;
             Ok(end)
         }
     }
 }
 
 /// Takes the directory, and plays the script that is left.
-fn run_directory<S: Source, W: Sink, P: Depot>(
+fn run_directory<S: Source, W: Sink, P: Depot, J: Judge>(
     alloc: Global,
     form: Form,
     bytes: &[u8],
@@ -113,11 +120,13 @@ fn run_directory<S: Source, W: Sink, P: Depot>(
     buffer: &mut Buffer,
     out: &mut W,
     depot: &mut P,
+    screens: &mut [J],
 ) -> Result<End, Stop>
     requires size { length bytes.now ≤ LONGEST_DIRECTORY }
     ensures ran { (words : List Bytes) (unread : Option Bytes) → form_in words ≡ Some (form_shown form)
         → parts_left unread ≡ parts_behind bytes.now (behind buffer.old (S.left source.old))
-        → RanSo words (result_shown result) unread
+        → RanSo (record { words = words; finds = finds_in (map J.patterns screens.old) })
+        (result_shown result) unread
         (W.held out.old) (W.held out.new) (P.tells × P.D.tells)
         (disks_at (P.tells × P.D.tells) P.D.sight (P.home depot.old))
         (disks_at (P.tells × P.D.tells) P.D.sight (P.home depot.new)) (P.last depot.old) (P.last depot.new) }
@@ -137,14 +146,14 @@ fn run_directory<S: Source, W: Sink, P: Depot>(
             Ok(end)
         }
         Opened::Opens(directory) => {
-            let end = run_opened(alloc, form, directory, source, buffer, out, depot)?;
+            let end = run_opened(alloc, form, directory, source, buffer, out, depot, screens)?;
             Ok(end)
         }
     }
 }
 
 /// Begins the network of a directory, and plays the script that is left.
-fn run_opened<S: Source, W: Sink, P: Depot>(
+fn run_opened<S: Source, W: Sink, P: Depot, J: Judge>(
     alloc: Global,
     form: Form,
     directory: Directory,
@@ -152,12 +161,14 @@ fn run_opened<S: Source, W: Sink, P: Depot>(
     buffer: &mut Buffer,
     out: &mut W,
     depot: &mut P,
+    screens: &mut [J],
 ) -> Result<End, Stop>
     ensures ran { (words : List Bytes) (bytes : Bytes) (unread : Option Bytes)
         → form_in words ≡ Some (form_shown form)
         → length bytes ≤ LONGEST_DIRECTORY → directory_in bytes ≡ Ok (providers_of directory)
         → parts_left unread ≡ parts_behind bytes (behind buffer.old (S.left source.old))
-        → RanSo words (result_shown result) unread
+        → RanSo (record { words = words; finds = finds_in (map J.patterns screens.old) })
+        (result_shown result) unread
         (W.held out.old) (W.held out.new) (P.tells × P.D.tells)
         (disks_at (P.tells × P.D.tells) P.D.sight (P.home depot.old))
         (disks_at (P.tells × P.D.tells) P.D.sight (P.home depot.new)) (P.last depot.old) (P.last depot.new) }
@@ -179,7 +190,7 @@ fn run_opened<S: Source, W: Sink, P: Depot>(
     match begin(alloc, form, directory, sealer, depot) {
         Ok(network) => {
             a_network_is_whole(&network);
-            let end = play_all(alloc, network, depot, source, buffer, out)?;
+            let end = play_all(alloc, network, depot, screens, source, buffer, out)?;
             Ok(end)
         }
         Err(refused) => {
@@ -190,10 +201,11 @@ fn run_opened<S: Source, W: Sink, P: Depot>(
 }
 
 /// Plays the script that is left over a network, and then keeps its disks in the depot again.
-fn play_all<D: Disk, H: Sealer + Drop, P: Depot<D = D>, S: Source, W: Sink>(
+fn play_all<D: Disk, H: Sealer + Drop, P: Depot<D = D>, J: Judge, S: Source, W: Sink>(
     alloc: Global,
     mut network: Network<D, H>,
     depot: &mut P,
+    screens: &mut [J],
     source: &mut S,
     buffer: &mut Buffer,
     out: &mut W,
@@ -201,7 +213,7 @@ fn play_all<D: Disk, H: Sealer + Drop, P: Depot<D = D>, S: Source, W: Sink>(
     requires fits { Fits (H.seals network.sealer) (providers_of network.kept) }
     ensures ran { (P.tells × D.tells → AllStand D.sight network.providers) → (state : List Site)
         × (ScriptRan (P.tells × D.tells) (trade_of network.kept (H.seals network.sealer))
-        (providers_of network.kept)
+        (finds_in (map J.patterns screens.old)) (providers_of network.kept)
         (place_at D.faults network (P.last depot.old) 1 (behind buffer.old (S.left source.old)))
         (P.last depot.new) (result_shown result) (W.held out.old) (W.held out.new) state
         × AreKept (P.tells × D.tells) D.sight (length network.kept) state (P.home depot.old) (P.home depot.new)) }
@@ -216,7 +228,7 @@ fn play_all<D: Disk, H: Sealer + Drop, P: Depot<D = D>, S: Source, W: Sink>(
     ensures begun { IsErrOf result Stop.StartFault → ⊥ }
     ensures all_read { IfOk result (λ end. end ≡ End.Done → IsAtEnd (behind buffer.new (S.left source.new))) }
 {
-    let result = play_script(alloc, &mut network, depot, source, buffer, out);
+    let result = play_script(alloc, &mut network, depot, screens, source, buffer, out);
     a_network_is_whole(&network);
     network.close(depot);
     result

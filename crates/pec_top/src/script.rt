@@ -1,4 +1,4 @@
-ghost use Rattle.std.specs.Prelude.{◌≡◌, ℕ, ◌≤◌, IfOk, IsErrOf};
+ghost use Rattle.std.specs.Prelude.{◌≡◌, ℕ, ◌≤◌, map, IfOk, IsErrOf};
 ghost use Rattle.pec_outside.specs.Depots.{Alike};
 ghost use Rattle.pec_outside.specs.Flow.{behind};
 ghost use Rattle.pec_directory.specs.Directory.{providers_of};
@@ -8,6 +8,7 @@ ghost use Rattle.pec_input.specs.Finding.{IsAtEnd};
 ghost use Rattle.pec_network.specs.Carrying.{AllStand};
 ghost use Rattle.pec_network.specs.Network.{sites};
 ghost use Rattle.pec_playing.specs.Playing.{counts_in};
+ghost use Rattle.pec_runs.specs.ScriptLines.{finds_in};
 ghost use Rattle.pec_top.specs.Blaming.{BlamesDevices};
 ghost use Rattle.pec_top.specs.Scripts.{ScriptRan, place_at};
 ghost use Rattle.pec_top.specs.Shown.{result_shown};
@@ -18,14 +19,16 @@ use crate::taking::{LONGEST_LINE, take_found};
 use pec_input::{Buffer, next_line};
 use pec_network::Network;
 use pec_outside::{Depot, Disk, Sink, Source, write_all};
+use pec_screen::Judge;
 use pec_seal::Sealer;
 use std::alloc::Global;
 
 /// Plays the lines that are left over a network. The lines of each answer are written before the next line is read.
-pub(crate) fn play_script<D: Disk, H: Sealer, P: Depot<D = D>, S: Source, W: Sink>(
+pub(crate) fn play_script<D: Disk, H: Sealer, P: Depot<D = D>, J: Judge, S: Source, W: Sink>(
     alloc: Global,
     network: &mut Network<D, H>,
     depot: &mut P,
+    screens: &mut [J],
     source: &mut S,
     buffer: &mut Buffer,
     out: &mut W,
@@ -33,7 +36,7 @@ pub(crate) fn play_script<D: Disk, H: Sealer, P: Depot<D = D>, S: Source, W: Sin
     requires fits { Fits (H.seals network.old.sealer) (providers_of network.old.kept) }
     ensures ran { (P.tells × D.tells → AllStand D.sight network.old.providers) → (elsewhere : ℕ → ℕ)
         → ScriptRan (P.tells × D.tells) (trade_of network.old.kept (H.seals network.old.sealer))
-        (providers_of network.old.kept)
+        (finds_in (map J.patterns screens.old)) (providers_of network.old.kept)
         (place_at D.faults network.old elsewhere 1 (behind buffer.old (S.left source.old)))
         (counts_in D.faults network.new.providers elsewhere) (result_shown result)
         (W.held out.old) (W.held out.new) (sites network.new) }
@@ -55,7 +58,7 @@ pub(crate) fn play_script<D: Disk, H: Sealer, P: Depot<D = D>, S: Source, W: Sin
     'lines: loop {
         line.clear();
         let found = next_line(source, buffer, &mut line, LONGEST_LINE)?;
-        let taken = take_found(alloc, network, depot, number, found, &line)?;
+        let taken = take_found(alloc, network, depot, screens, number, found, &line)?;
         write_all(out, &taken.text)?;
         if let Some(end) = taken.end {
             return Ok(end);

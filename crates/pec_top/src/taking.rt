@@ -1,4 +1,4 @@
-ghost use Rattle.std.specs.Prelude.{◌≡◌, ◌≢◌, ℕ, ◌≤◌, ◌<◌, false, List, length, None, Some, IfOk, OnErr};
+ghost use Rattle.std.specs.Prelude.{◌≡◌, ◌≢◌, ℕ, ◌≤◌, ◌<◌, false, List, length, map, None, Some, IfOk, OnErr};
 ghost use Rattle.pec_outside.specs.Depots.{Alike};
 ghost use Rattle.pec_directory.specs.Directory.{providers_of};
 ghost use Rattle.pec_letters.specs.Fitting.{Fits};
@@ -10,7 +10,7 @@ ghost use Rattle.pec_network.specs.Carrying.{AllStand};
 ghost use Rattle.pec_network.specs.Network.{sites};
 ghost use Rattle.pec_playing.specs.Playing.{counts_in};
 ghost use Rattle.pec_script.specs.Texts.{refused_text};
-ghost use Rattle.pec_runs.specs.ScriptLines.{is_passed_over, longest_line, most_lines};
+ghost use Rattle.pec_runs.specs.ScriptLines.{Finds, finds_in, is_passed_over, longest_line, most_lines};
 ghost use Rattle.pec_top.specs.Taking.{EndsAt, IsFoundTaken, IsTaken, StopsAt, StopsAtFound};
 
 use crate::ending::End;
@@ -21,6 +21,7 @@ use pec_network::Network;
 use pec_outside::{Depot, Disk};
 use pec_playing::{play, what_a_line_says_can_be_played};
 use pec_script::{Command, LineFault, refused_text};
+use pec_screen::Judge;
 use pec_seal::Sealer;
 use pec_types::NoMemory;
 use std::alloc::Global;
@@ -39,10 +40,11 @@ pub(crate) struct Taken {
 }
 
 /// Takes what was found at a line, which is given with its end. Lines are numbered from 1.
-pub(crate) fn take_found<D: Disk, H: Sealer, P: Depot<D = D>>(
+pub(crate) fn take_found<D: Disk, H: Sealer, P: Depot<D = D>, J: Judge>(
     alloc: Global,
     network: &mut Network<D, H>,
     depot: &mut P,
+    screens: &mut [J],
     number: u64,
     found: Found,
     line: &[u8],
@@ -51,12 +53,14 @@ pub(crate) fn take_found<D: Disk, H: Sealer, P: Depot<D = D>>(
     requires short { found ≡ Found.Line → length (content_of line.now) ≤ longest_line }
     ensures takes { (P.tells × D.tells → AllStand D.sight network.old.providers) → (elsewhere : ℕ → ℕ)
         → IfOk result (λ taken. IsFoundTaken (P.tells × D.tells)
-        (trade_of network.old.kept (H.seals network.old.sealer)) (providers_of network.old.kept) (sites network.old)
+        (trade_of network.old.kept (H.seals network.old.sealer)) (finds_in (map J.patterns screens.old))
+        (providers_of network.old.kept) (sites network.old)
         number (counts_in D.faults network.old.providers elsewhere) (counts_in D.faults network.new.providers elsewhere)
         found line.now taken (sites network.new)) }
     ensures stops { (P.tells × D.tells → AllStand D.sight network.old.providers) → OnErr result
         (StopsAtFound (P.tells × D.tells) (trade_of network.old.kept (H.seals network.old.sealer))
-        (providers_of network.old.kept) (sites network.old) number found line.now (sites network.new)) }
+        (finds_in (map J.patterns screens.old)) (providers_of network.old.kept) (sites network.old) number found line.now
+        (sites network.new)) }
     ensures bound { IfOk result (λ taken. taken.end ≡ None → number ≤ most_lines) }
     ensures done { IfOk result (λ taken. taken.end ≡ Some End.Done → found ≡ Found.End) }
     ensures same { (network.new.kept ≡ network.old.kept) × (network.new.sealer ≡ network.old.sealer) }
@@ -66,6 +70,7 @@ pub(crate) fn take_found<D: Disk, H: Sealer, P: Depot<D = D>>(
     ensures home { P.tells → Alike (P.home depot.old) (P.home depot.new) }
     ensures last { Alike (P.last depot.old) (P.last depot.new) }
     ensures depot_later { P.faults depot.old ≤ P.faults depot.new }
+    ensures patterns { map J.patterns screens.new ≡ map J.patterns screens.old }
 {
     match found {
         Found::End => Ok(Taken {
@@ -73,7 +78,7 @@ pub(crate) fn take_found<D: Disk, H: Sealer, P: Depot<D = D>>(
             end: Some(End::Done),
         }),
         Found::Line => {
-            let taken = take_line(alloc, network, depot, number, content(line))?;
+            let taken = take_line(alloc, network, depot, screens, number, content(line))?;
             Ok(taken)
         }
         Found::Long => {
@@ -89,10 +94,13 @@ fn take_long<D: Disk, H: Sealer>(
     network: &Network<D, H>,
     number: u64,
 ) -> Result<Taken, NoMemory>
-    ensures long { (state : List Site) (counts : ℕ → ℕ) (line : Bytes) → longest_line < length (content_of line)
-        → IfOk result (λ taken. EndsAt (providers_of network.now.kept) state number counts counts line taken state) }
-    ensures many { (state : List Site) (counts : ℕ → ℕ) (line : Bytes) → most_lines < number
-        → IfOk result (λ taken. EndsAt (providers_of network.now.kept) state number counts counts line taken state) }
+    ensures long { (finds : Finds) (state : List Site) (counts : ℕ → ℕ) (line : Bytes)
+        → longest_line < length (content_of line)
+        → IfOk result (λ taken.
+        EndsAt finds (providers_of network.now.kept) state number counts counts line taken state) }
+    ensures many { (finds : Finds) (state : List Site) (counts : ℕ → ℕ) (line : Bytes) → most_lines < number
+        → IfOk result (λ taken.
+        EndsAt finds (providers_of network.now.kept) state number counts counts line taken state) }
     ensures ends { IfOk result (λ taken. taken.end ≡ Some End.TooLong) }
 {
     if number > MOST_LINES {
@@ -110,10 +118,11 @@ fn take_long<D: Disk, H: Sealer>(
 }
 
 /// Takes a line of a script, by what it says.
-fn take_line<D: Disk, H: Sealer, P: Depot<D = D>>(
+fn take_line<D: Disk, H: Sealer, P: Depot<D = D>, J: Judge>(
     alloc: Global,
     network: &mut Network<D, H>,
     depot: &mut P,
+    screens: &mut [J],
     number: u64,
     said: &[u8],
 ) -> Result<Taken, NoMemory>
@@ -122,13 +131,15 @@ fn take_line<D: Disk, H: Sealer, P: Depot<D = D>>(
     ensures takes { (P.tells × D.tells → AllStand D.sight network.old.providers) → (elsewhere : ℕ → ℕ) (line : Bytes)
         → content_of line ≡ said.now
         → IfOk result (λ taken. IsTaken (P.tells × D.tells)
-        (trade_of network.old.kept (H.seals network.old.sealer)) (providers_of network.old.kept) (sites network.old)
+        (trade_of network.old.kept (H.seals network.old.sealer)) (finds_in (map J.patterns screens.old))
+        (providers_of network.old.kept) (sites network.old)
         number (counts_in D.faults network.old.providers elsewhere) (counts_in D.faults network.new.providers elsewhere)
         line taken (sites network.new)) }
     ensures stops { (P.tells × D.tells → AllStand D.sight network.old.providers) → (line : Bytes)
         → content_of line ≡ said.now → OnErr result
         (StopsAt (P.tells × D.tells) (trade_of network.old.kept (H.seals network.old.sealer))
-        (providers_of network.old.kept) (sites network.old) number line (sites network.new)) }
+        (finds_in (map J.patterns screens.old)) (providers_of network.old.kept) (sites network.old) number line
+        (sites network.new)) }
     ensures bound { IfOk result (λ taken. taken.end ≡ None → number ≤ most_lines) }
     ensures not_done { IfOk result (λ taken. taken.end ≡ Some End.Done → ⊥) }
     ensures same { (network.new.kept ≡ network.old.kept) × (network.new.sealer ≡ network.old.sealer) }
@@ -138,6 +149,7 @@ fn take_line<D: Disk, H: Sealer, P: Depot<D = D>>(
     ensures home { P.tells → Alike (P.home depot.old) (P.home depot.new) }
     ensures last { Alike (P.last depot.old) (P.last depot.new) }
     ensures depot_later { P.faults depot.old ≤ P.faults depot.new }
+    ensures patterns { map J.patterns screens.new ≡ map J.patterns screens.old }
 {
     if number > MOST_LINES {
         let taken = take_long(alloc, network, number)?;
@@ -149,15 +161,16 @@ fn take_line<D: Disk, H: Sealer, P: Depot<D = D>>(
             end: None,
         });
     }
-    let taken = take_command(alloc, network, depot, number, said)?;
+    let taken = take_command(alloc, network, depot, screens, number, said)?;
     Ok(taken)
 }
 
 /// Plays the command that a line says; a line that says none is refused.
-fn take_command<D: Disk, H: Sealer, P: Depot<D = D>>(
+fn take_command<D: Disk, H: Sealer, P: Depot<D = D>, J: Judge>(
     alloc: Global,
     network: &mut Network<D, H>,
     depot: &mut P,
+    screens: &mut [J],
     number: u64,
     said: &[u8],
 ) -> Result<Taken, NoMemory>
@@ -168,13 +181,15 @@ fn take_command<D: Disk, H: Sealer, P: Depot<D = D>>(
     ensures takes { (P.tells × D.tells → AllStand D.sight network.old.providers) → (elsewhere : ℕ → ℕ) (line : Bytes)
         → content_of line ≡ said.now
         → IfOk result (λ taken. IsTaken (P.tells × D.tells)
-        (trade_of network.old.kept (H.seals network.old.sealer)) (providers_of network.old.kept) (sites network.old)
+        (trade_of network.old.kept (H.seals network.old.sealer)) (finds_in (map J.patterns screens.old))
+        (providers_of network.old.kept) (sites network.old)
         number (counts_in D.faults network.old.providers elsewhere) (counts_in D.faults network.new.providers elsewhere)
         line taken (sites network.new)) }
     ensures stops { (P.tells × D.tells → AllStand D.sight network.old.providers) → (line : Bytes)
         → content_of line ≡ said.now → OnErr result
         (StopsAt (P.tells × D.tells) (trade_of network.old.kept (H.seals network.old.sealer))
-        (providers_of network.old.kept) (sites network.old) number line (sites network.new)) }
+        (finds_in (map J.patterns screens.old)) (providers_of network.old.kept) (sites network.old) number line
+        (sites network.new)) }
     ensures not_done { IfOk result (λ taken. taken.end ≡ Some End.Done → ⊥) }
     ensures same { (network.new.kept ≡ network.old.kept) × (network.new.sealer ≡ network.old.sealer) }
     ensures stands { D.tells → AllStand D.sight network.old.providers → AllStand D.sight network.new.providers }
@@ -183,6 +198,7 @@ fn take_command<D: Disk, H: Sealer, P: Depot<D = D>>(
     ensures home { P.tells → Alike (P.home depot.old) (P.home depot.new) }
     ensures last { Alike (P.last depot.old) (P.last depot.new) }
     ensures depot_later { P.faults depot.old ≤ P.faults depot.new }
+    ensures patterns { map J.patterns screens.new ≡ map J.patterns screens.old }
 {
     what_a_line_says_can_be_played();
     let command = match Command::read(alloc, said, network.directory()) {
@@ -193,7 +209,7 @@ fn take_command<D: Disk, H: Sealer, P: Depot<D = D>>(
         }
     };
     a_network_is_whole(network);
-    let played = play(alloc, network, depot, command);
+    let played = play(alloc, network, depot, screens, command);
     a_network_is_whole(network);
     let text = played?;
     Ok(Taken { text, end: None })

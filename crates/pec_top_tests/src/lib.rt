@@ -18,6 +18,8 @@ mod refusals;
 #[cfg(test)]
 mod running;
 #[cfg(test)]
+mod screens;
+#[cfg(test)]
 mod shown;
 #[cfg(test)]
 mod three;

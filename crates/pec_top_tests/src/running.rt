@@ -5,6 +5,7 @@ ghost use Rattle.std.specs.Prelude.{◌<◌};
 use crate::directories::message;
 use base64::engine::general_purpose::STANDARD;
 use pec_outside::{MemDepot, MemSink, MemSource};
+use pec_screen::{Judge, NoScreens};
 use pec_top::{Status, run_pec};
 use std::alloc::{AllocError, Global};
 
@@ -116,6 +117,23 @@ pub(crate) fn run_over(
 ) -> Result<Ran, AllocError>
     requires { 0 < piece }
 {
+    let none: Vec<NoScreens> = Vec::new(alloc);
+    run_under(alloc, depot, words, input, piece, reads, writes, none)
+}
+
+/// The same with screens, a list for each provider.
+pub(crate) fn run_under<J: Judge>(
+    alloc: Global,
+    depot: &mut MemDepot,
+    words: &[&str],
+    input: &[u8],
+    piece: usize,
+    reads: &[u64],
+    writes: &[u64],
+    screens: Vec<J>,
+) -> Result<Ran, AllocError>
+    requires { 0 < piece }
+{
     let mut given = Vec::new(alloc);
     for word in words {
         given.push(String::from_str(alloc, word)?)?;
@@ -123,7 +141,7 @@ pub(crate) fn run_over(
     let bytes = Vec::from_slice(alloc, input)?;
     let mut source = MemSource::new(alloc, bytes, piece, Vec::from_slice(alloc, reads)?);
     let mut sink = MemSink::new(alloc, Vec::from_slice(alloc, writes)?);
-    let status = run_pec(alloc, &given, &mut source, &mut sink, depot);
+    let status = run_pec(alloc, &given, &mut source, &mut sink, depot, screens);
     let text = Vec::from_slice(alloc, sink.bytes())?;
     Ok(Ran { text, status })
 }

@@ -63,9 +63,9 @@ module _ (heads : Heads) (admits : Admits) where
       }
 
   pub taken_at : (providers : List Provider) (provider : ℕ) (sender : Bytes) (path : Path) (message : Bytes)
-      → cause_at providers provider sender path message ≡ None → Taken (case_at providers provider sender path message)
+      → cause_at providers provider sender path message ≡ None → Taken (case_at providers provider sender path message false)
   unfolding cause_at
-  taken_at providers provider sender path message e = taken (case_at providers provider sender path message) e
+  taken_at providers provider sender path message e = taken (case_at providers provider sender path message false) e
 
   -- the sender is the account
   sender_by : (case : Case) (t : Taken case) (same : Bool) → bytes_eq t.facts.sender case.sender ≡ same → t.facts.sender ≡ case.sender
@@ -105,7 +105,7 @@ module _ (heads : Heads) (admits : Admits) where
   }))
 
   -- along its own recipients the message is accepted too
-  again : (case : Case) (t : Taken case) → IsAccepted (record { limit = case.limit; sender = case.sender; path = addresses_of t.facts; message = case.message }) t.facts
+  again : (case : Case) (t : Taken case) → IsAccepted (record case { path = addresses_of t.facts }) t.facts
   again case t =
       let none = t.accepted.none
       in record {
@@ -137,7 +137,7 @@ module _ (heads : Heads) (admits : Admits) where
                         head_is = h.head_is;
                         holds = record { facts = h.holds.facts; facts_are = h.holds.facts_are; over = h.holds.over };
                       }),
-                      tt,
+                      none.1.1.1.1.1.1.1,
                     ),
                   ),
                 ),
@@ -160,12 +160,12 @@ module _ (heads : Heads) (admits : Admits) where
       → cause_at providers provider sender path message ≡ None → IsAdmitted providers provider sender path message
   unfolding cause_at
   admitted providers provider sender path message e =
-      let case = case_at providers provider sender path message
+      let case = case_at providers provider sender path message false
       in let t = taken case e
       in record {
         facts = t.facts;
         are = facts_again heads message t.facts t.has;
         sender_is = sender_by case t (bytes_eq t.facts.sender sender) refl;
-        own = ap cause_in ((admits (case_at providers provider sender (addresses_of t.facts) message) t.facts).1 (again case t));
+        own = ap cause_in ((admits (case_at providers provider sender (addresses_of t.facts) message false) t.facts).1 (again case t));
         no_more = few case t;
       }

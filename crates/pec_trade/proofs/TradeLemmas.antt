@@ -1,5 +1,5 @@
 -- The world of a directory and a sealer meets all that the ledger asks.
-use Rattle.std.proofs.Common.{◌≡◌, ◌↔◌, ℕ, ◌<◌, List, length, None, Some, refl, ap, sym, subst}
+use Rattle.std.proofs.Common.{◌≡◌, ◌↔◌, ℕ, ◌<◌, List, false, length, None, Some, refl, ap, sym, subst}
 use Rattle.std.proofs.lemmas.Option.{none-some, same_Some}
 use Rattle.pec_types.specs.Bytes.{Bytes, Path}
 use Rattle.pec_types.specs.Message.{Id}
@@ -86,17 +86,17 @@ accepted_is (Not cause) e = absurd (none-some cause (sym e))
 
 pub refused_so : ((case : Case) (cause : Cause) → (admission_of case ≡ Not cause) ↔ IsCause case cause)
     → (providers : List Provider) (provider : ℕ) (account : Bytes) (path : Path) (message : Bytes) (cause : Cause)
-    → (cause_at providers provider account path message ≡ Some cause) ↔ IsCause (case_at providers provider account path message) cause
+    → (cause_at providers provider account path message ≡ Some cause) ↔ IsCause (case_at providers provider account path message false) cause
 unfolding cause_at
 refused_so law providers provider account path message cause =
-    let case = case_at providers provider account path message
+    let case = case_at providers provider account path message false
     in ((λ e. (law case cause).0 (not_is (admission_of case) cause e)), (λ is. ap cause_in ((law case cause).1 is)))
 
 pub accepted_so : Admits → (providers : List Provider) (provider : ℕ) (account : Bytes) (path : Path) (message : Bytes)
-    → (cause_at providers provider account path message ≡ None) ↔ ((facts : Facts) × IsAccepted (case_at providers provider account path message) facts)
+    → (cause_at providers provider account path message ≡ None) ↔ ((facts : Facts) × IsAccepted (case_at providers provider account path message false) facts)
 unfolding cause_at
 accepted_so law providers provider account path message =
-    let case = case_at providers provider account path message
+    let case = case_at providers provider account path message false
     in (
       (λ e. let found = accepted_is (admission_of case) e in (found.0, (law case found.0).0 found.1)),
       (λ is. ap cause_in ((law case is.0).1 is.1)),

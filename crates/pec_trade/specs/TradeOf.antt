@@ -1,6 +1,6 @@
 -- The world of the ledger as this project has it: `trade_of`, of a directory and a sealer. RFC 6109, within this
 -- project's profile.
-use Rattle.std.specs.Prelude.{ℕ, List, [], Option, None, Some, length, is_some, unwrap_or}
+use Rattle.std.specs.Prelude.{ℕ, false, List, [], Option, None, Some, length, is_some, unwrap_or}
 use Rattle.std.specs.Result.{result_ok}
 use Rattle.pec_types.specs.Bytes.{Bytes, Path}
 use Rattle.pec_types.specs.declared.messages.Cause.{Cause}
@@ -22,10 +22,10 @@ abbrev pub cause_in : Admission → Option Cause
 cause_in (Accepted facts) = None
 cause_in (Not cause) = Some cause
 
--- why the access point of a provider doesn't take a message
+-- why the access point of a provider doesn't take a message in which no screen finds a rule
 unfoldable pub cause_at : List Provider → ℕ → Bytes → Path → Bytes → Option Cause
 cause_at providers provider account path message =
-    cause_in (admission_of (case_at providers provider account path message))
+    cause_in (admission_of (case_at providers provider account path message false))
 
 -- The world of a directory and of those who seal for its providers.
 abbrev pub trade_of : List Kept → Seals → Trade

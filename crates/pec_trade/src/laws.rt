@@ -1,4 +1,4 @@
-ghost use Rattle.std.specs.Prelude.{◌≡◌, ◌↔◌, ◌<◌, ◌≤◌, ◌^◌, ℕ, List, [], None, Some, length, true, Ok};
+ghost use Rattle.std.specs.Prelude.{◌≡◌, ◌↔◌, ◌<◌, ◌≤◌, ◌^◌, ℕ, List, [], None, Some, length, false, true, Ok};
 ghost use Rattle.std.specs.List.{AllByRecursion};
 ghost use Rattle.pec_types.specs.Address.{IsLowerAddress};
 ghost use Rattle.pec_types.specs.Bytes.{Bytes, Path};
@@ -153,16 +153,16 @@ pub fn an_envelope_is_seen_with_its_facts<S: Sealer>()
 pub fn a_trade_says_what_its_parts_say()
     // Of providers, addresses and heads it says what the directory and the heads say.
     ensures directory { (kept : List Kept) (seals : Seals) → IsOf kept (trade_of kept seals) }
-    // A cause is that of the first row of the admission table that applies, and there is none exactly where the
-    // message is accepted.
+    // A cause is that of the first row of the admission table that applies, where no screen finds a rule, and there is
+    // none exactly where the message is then accepted.
     ensures refused { (kept : List Kept) (seals : Seals) (provider : ℕ) (account : Bytes)
         (path : Path) (message : Bytes) (cause : SomeCause)
         → ((trade_of kept seals).cause provider account path message ≡ Some cause)
-        ↔ IsCause (case_at (providers_of kept) provider account path message) cause }
+        ↔ IsCause (case_at (providers_of kept) provider account path message false) cause }
     ensures accepted { (kept : List Kept) (seals : Seals) (provider : ℕ) (account : Bytes)
         (path : Path) (message : Bytes)
         → ((trade_of kept seals).cause provider account path message ≡ None)
-        ↔ ((facts : SomeFacts) × IsAccepted (case_at (providers_of kept) provider account path message) facts) }
+        ↔ ((facts : SomeFacts) × IsAccepted (case_at (providers_of kept) provider account path message false) facts) }
     // A frame is made exactly where it can be.
     ensures frames { (kept : List Kept) (seals : Seals) (path : Path) (message frame : Bytes)
         → ((trade_of kept seals).framed path message ≡ Some frame)

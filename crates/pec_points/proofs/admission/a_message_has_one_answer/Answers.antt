@@ -1,6 +1,7 @@
 -- The law of admission, from the lemmas, over the laws of pec_heads.
 use Rattle.pec_points.proofs.Ties.{Ties}
 use Rattle.pec_points.proofs.AdmissionLemmas.{some_answer, never_both, one_cause, one_account, refused_says, accepted_says}
+use Rattle.pec_points.proofs.ScreenLemmas.{reaches, screens_last}
 use Rattle.pec_points.proofs.admission.a_message_has_one_answer.Goals as goal
 
 pub returns : goal.returns
@@ -18,4 +19,7 @@ returns c =
       facts = one_account ties;
       refused = refused_says ties;
       accepted = accepted_says ties;
+      screened = screens_last ties;
+      reached = λ case facts e. reaches ties case _ e;
+      unreached = λ case cause e. reaches ties case _ e;
     }

@@ -1,5 +1,5 @@
 -- With a sender and a list in `To`, the rows from ForwardPath on are left.
-use Rattle.std.proofs.Common.{◌≡◌, true, Option, Some, codes, ap, sym, ◌∙◌, rules, tests}
+use Rattle.std.proofs.Common.{◌≡◌, true, false, Option, Some, codes, ap, sym, ◌∙◌, rules, tests}
 use Rattle.std.specs.Option.{option_map}
 use Rattle.std.specs.Str.{bytes_eq}
 use Rattle.pec_types.specs.Bytes.{Bytes, Path}
@@ -15,7 +15,7 @@ listed_so {V} items name head found list l n f = ap (λ (bytes : Bytes). listed 
 
 pub returns : goal.returns
 returns c =
-    let case : Case = record { limit = c.args.limit; sender = c.args.sender.now; path = c.args.path.now; message = c.args.message.now } in
+    let case : Case = record { limit = c.args.limit; sender = c.args.sender.now; path = c.args.path.now; message = c.args.message.now; found = false } in
     let from : sender_of c.args.head.now ≡ Some c.in-Some.from = cc (c.in_ok-from.ensures) in
     let same : bytes_eq c.in-Some.from c.args.sender.now ≡ true = search (rules, tests) in
     c.admit_facts-admission.ensures
@@ -24,7 +24,7 @@ returns c =
 
 pub returns-in_default-3 : goal.returns-in_default-3
 returns-in_default-3 c =
-    let case : Case = record { limit = c.args.limit; sender = c.args.sender.now; path = c.args.path.now; message = c.args.message.now } in
+    let case : Case = record { limit = c.args.limit; sender = c.args.sender.now; path = c.args.path.now; message = c.args.message.now; found = false } in
     let from : sender_of c.args.head.now ≡ Some c.in-Some.from = cc (c.in_ok-from.ensures) in
     let same : bytes_eq c.in-Some.from c.args.sender.now ≡ true = search (rules, tests) in
     with_no_facts case c.args.head.now c.in-Some.from c.in-Some-2.field-0.items from

@@ -4,18 +4,18 @@ use Rattle.pec_runs.proofs.climbing.a_run_is_climbed.Goals as goal
 
 pub returns : goal.returns
 returns g c = record {
-  start = λ trade providers first before. goes_start trade providers _ first before;
-  passed = λ trade providers first here before after line behind said read on goes.
-      goes_passed trade providers _ first here before after line behind said read on goes;
-  played = λ trade providers first here before after later line command luck behind mid said read on meets has rose wrote
+  start = λ trade finds providers first before. goes_start trade finds providers _ first before;
+  passed = λ trade finds providers first here before after line behind said read on goes.
+      goes_passed trade finds providers _ first here before after line behind said read on goes;
+  played = λ trade finds providers first here before after later line command luck behind mid said read on meets has rose wrote
       goes.
-      goes_played trade providers _ first here before after later line command luck behind mid said read on meets has
+      goes_played trade finds providers _ first here before after later line command luck behind mid said read on meets has
       rose wrote goes;
-  over = λ trade providers here upto done later. comes_over trade providers _ here upto done later;
-  ended = λ trade providers here line lines end upto ends left later.
-      comes_ended trade providers _ here line lines end upto ends left later;
-  stopped = λ trade providers here lines upto left later. comes_stopped trade providers _ here lines upto left later;
-  strayed = λ trade providers here line lines command upto said left may later.
-      comes_strayed trade providers _ here line lines command upto said left may later;
+  over = λ trade finds providers here upto done later. comes_over trade finds providers _ here upto done later;
+  ended = λ trade finds providers here line lines end upto ends left later.
+      comes_ended trade finds providers _ here line lines end upto ends left later;
+  stopped = λ trade finds providers here lines upto left later. comes_stopped trade finds providers _ here lines upto left later;
+  strayed = λ trade finds providers here line lines command upto said left may later.
+      comes_strayed trade finds providers _ here line lines command upto said left may later;
   text = text_behind;
 }

@@ -5,8 +5,8 @@ use Rattle.pec_runs.proofs.climbing.a_script_is_played_line_by_line.Goals as goa
 
 pub returns : goal.returns
 returns g c = record {
-  no_line = λ providers number. refl;
-  lines = λ providers number line lines. refl;
+  no_line = λ finds providers number. refl;
+  lines = λ finds providers number line lines. refl;
   over = λ trade sites from upto end later. (plays_over trade _ sites from upto end later, refl);
   stopped = λ trade sites from upto written later. (plays_none trade _ sites from upto written later, refl);
   strayed = λ trade sites from upto command written later may.

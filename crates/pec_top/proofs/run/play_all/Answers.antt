@@ -1,10 +1,11 @@
 -- The script ran, and the disks are at home again.
-use Rattle.std.proofs.Common.{◌∙◌, ap, arith, List, length}
+use Rattle.std.proofs.Common.{◌∙◌, ap, arith, List, length, map}
 use Rattle.pec_outside.specs.Flow.{behind}
 use Rattle.pec_directory.specs.Directory.{Kept, providers_of}
 use Rattle.pec_trade.specs.TradeOf.{trade_of}
 use Rattle.pec_network.specs.Network.{sites}
 use Rattle.pec_playing.specs.Playing.{counts_in}
+use Rattle.pec_runs.specs.ScriptLines.{finds_in}
 use Rattle.pec_top.specs.Scripts.{place_at}
 use Rattle.pec_top.specs.Shown.{result_shown}
 use Rattle.pec_top.proofs.CountLemmas.{closed_so, fell_so}
@@ -25,7 +26,8 @@ returns-clause-ran g c = λ stand.
     let same = ap (λ (kept : List Kept). length kept) c.play_script-result.ensures.same.0 in (
       sites network,
       (
-        ran_later tells (trade_of old.kept (g.H.Sealer.seals old.sealer)) (providers_of old.kept)
+        ran_later tells (trade_of old.kept (g.H.Sealer.seals old.sealer))
+            (finds_in (map g.J.Judge.patterns c.args.screens.now)) (providers_of old.kept)
             (place_at faults old last 1 (behind c.args.buffer.now (g.S.Stream.left c.args.source.now))) counts
             (g.P.Depot.last c.close.new.depot)
             (result_shown c.play_script-result.result) (g.W.Stream.held c.args.out.now) (g.W.Stream.held

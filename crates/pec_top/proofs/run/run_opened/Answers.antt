@@ -1,5 +1,5 @@
 -- All journals are had, and the script is played; or not all are.
-use Rattle.std.proofs.Common.{◌≡◌, ◌∙◌, inl, inr, ap, arith, refl, sym, subst, List, length}
+use Rattle.std.proofs.Common.{map, ◌≡◌, ◌∙◌, inl, inr, ap, arith, refl, sym, subst, List, length}
 use Rattle.std.proofs.lemmas.Bool.{cases_lt}
 use Rattle.std.proofs.lemmas.List.{length-map}
 use Rattle.std.proofs.lemmas.Result.{err_from_is_err_and}
@@ -11,9 +11,10 @@ use Rattle.pec_network.specs.declared.faults.StartFault.{StartFault}
 use Rattle.pec_network.specs.Carrying.{AllStand}
 use Rattle.pec_network.specs.Network.{sites}
 use Rattle.pec_playing.specs.Playing.{counts_in}
-use Rattle.pec_runs.specs.Happened.{IsSetting, Setting, trade_in}
+use Rattle.pec_runs.specs.Happened.{Asked, IsSetting, Setting, trade_in}
 use Rattle.pec_runs.specs.Openings.{disks_at}
 use Rattle.pec_runs.specs.Statuses as statuses
+use Rattle.pec_runs.specs.ScriptLines.{finds_in}
 use Rattle.pec_top.specs.Shown.{end_shown, form_shown, stop_shown}
 use Rattle.pec_top.proofs.CountLemmas.{fell_so}
 use Rattle.pec_top.proofs.HadLemmas.{begins_so, opening_whole}
@@ -24,13 +25,14 @@ use Rattle.pec_top.proofs.run.run_opened.Goals as goal
 
 pub returns-in_err-sealer-clause-ran : goal.returns-in_err-sealer-clause-ran
 returns-in_err-sealer-clause-ran g c = λ words bytes unread is short opens input.
+    let asked : Asked = record { words = words; finds = finds_in (map g.J.Judge.patterns c.args.screens.now) } in
     let tells = g.P.Depot.tells × g.P.D.Disk.tells in
     let home = g.P.Depot.home c.args.depot.now in
     let disks = disks_at tells g.P.D.Disk.sight home in
     let last = g.P.Depot.last c.args.depot.now in
     let before = g.W.Stream.held c.args.out.now in
     let p = err_from_is_err_and c.from_residual.result c.from_residual.ensures.1 in
-    rw (p.1, p.2) (ran_halted words unread before before tells disks disks last last (untouched tells
+    rw (p.1, p.2) (ran_halted asked unread before before tells disks disks last last (untouched tells
     g.P.D.Disk.sight home) (form_shown c.args.form) statuses.NoMemory is
     (λ text held. (refl, held)) refl)
 
@@ -42,6 +44,7 @@ returns-in_err-sealer-clause-last_later g c = λ k. omega arith
 
 pub returns-in_err-end-in-Ok-clause-ran : goal.returns-in_err-end-in-Ok-clause-ran
 returns-in_err-end-in-Ok-clause-ran g c = λ words bytes unread is short opens input.
+    let asked : Asked = record { words = words; finds = finds_in (map g.J.Judge.patterns c.args.screens.now) } in
     let tells = g.P.Depot.tells × g.P.D.Disk.tells in
     let kept = c.args.directory in
     let seals = hmac_seals c.in_ok-sealer.sealer.names.items c.in_ok-sealer.sealer.keys.items in
@@ -78,12 +81,12 @@ returns-in_err-end-in-Ok-clause-ran g c = λ words bytes unread is short opens i
     let opening = opening_whole g.P.Depot.tells g.P.D.Disk.tells g.P.D.Disk.sight kept seals of old c.args.form
     network.providers count begun in
     let p = err_from_is_err_and c.from_residual-in_err-end-in-Ok.result c.from_residual-in_err-end-in-Ok.ensures.1 in
-    rw (p.1, p.2) (ran_script words (form_shown c.args.form) is bytes short setting opens is_setting journals
+    rw (p.1, p.2) (ran_script asked (form_shown c.args.form) is bytes short setting opens is_setting journals
     (stop_shown c.in_err-end-in-Ok.field-0.0) unread unread_now
     before (g.W.Stream.held c.play_all.new.out) tells (disks_at tells g.P.D.Disk.sight old) (disks_at tells
     g.P.D.Disk.sight new)
     from (counts_in faults network.providers mid_last) (g.P.Depot.last c.play_all.new.depot) (sites network) ran.0
-    (c.a_loop_climbs.ensures (trade_in setting) (providers_of kept)).since
+    (c.a_loop_climbs.ensures (trade_in setting) asked.finds (providers_of kept)).since
     (begins_so (trade_in setting) journals (sites network) (size ∙ sym many) c.in-Ok.ensures.rests)
     (λ k. let l = fell_so faults mid_last network.providers fell k in let e = c.in-Ok.ensures.last k in omega (
       arith,
@@ -117,6 +120,7 @@ returns-in_err-end-in-Ok-clause-last_later g c = λ k.
 
 pub returns-in_ok-end-in-Ok-clause-ran : goal.returns-in_ok-end-in-Ok-clause-ran
 returns-in_ok-end-in-Ok-clause-ran g c = λ words bytes unread is short opens input.
+    let asked : Asked = record { words = words; finds = finds_in (map g.J.Judge.patterns c.args.screens.now) } in
     let tells = g.P.Depot.tells × g.P.D.Disk.tells in
     let kept = c.args.directory in
     let seals = hmac_seals c.in_ok-sealer.sealer.names.items c.in_ok-sealer.sealer.keys.items in
@@ -152,12 +156,12 @@ returns-in_ok-end-in-Ok-clause-ran g c = λ words bytes unread is short opens in
     let ran = rw (same, c.in-Ok.ensures.same.1) at c.in_ok-end-in-Ok.ensures.ran stand in
     let opening = opening_whole g.P.Depot.tells g.P.D.Disk.tells g.P.D.Disk.sight kept seals of old c.args.form
     network.providers count begun in
-    (ran_script words (form_shown c.args.form) is bytes short setting opens is_setting journals (end_shown
+    (ran_script asked (form_shown c.args.form) is bytes short setting opens is_setting journals (end_shown
     c.in_ok-end-in-Ok.end) unread unread_now
     before (g.W.Stream.held c.play_all.new.out) tells (disks_at tells g.P.D.Disk.sight old) (disks_at tells
     g.P.D.Disk.sight new)
     from (counts_in faults network.providers mid_last) (g.P.Depot.last c.play_all.new.depot) (sites network) ran.0
-    (c.a_loop_climbs.ensures (trade_in setting) (providers_of kept)).since
+    (c.a_loop_climbs.ensures (trade_in setting) asked.finds (providers_of kept)).since
     (begins_so (trade_in setting) journals (sites network) (size ∙ sym many) c.in-Ok.ensures.rests)
     (λ k. let l = fell_so faults mid_last network.providers fell k in let e = c.in-Ok.ensures.last k in omega (
       arith,
@@ -191,6 +195,7 @@ returns-in_ok-end-in-Ok-clause-last_later g c = λ k.
 
 pub returns-in_err-end-in-Err-clause-ran : goal.returns-in_err-end-in-Err-clause-ran
 returns-in_err-end-in-Err-clause-ran g c = λ words bytes unread is short opens input.
+    let asked : Asked = record { words = words; finds = finds_in (map g.J.Judge.patterns c.args.screens.now) } in
     let tells = g.P.Depot.tells × g.P.D.Disk.tells in
     let kept = c.args.directory in
     let seals = hmac_seals c.in_ok-sealer.sealer.names.items c.in_ok-sealer.sealer.keys.items in
@@ -212,7 +217,7 @@ returns-in_err-end-in-Err-clause-ran g c = λ words bytes unread is short opens 
     in
     rw (p.1, p.2) (ran_refused g.P.Depot.tells g.P.D.Disk.tells g.P.D.Disk.sight kept seals of old new c.args.form
     c.in-Err.refused.0 c.in-Err.ensures.refused
-    c.a_disk_reads_as_an_image.ensures words is bytes short opens is_setting (stop_shown
+    c.a_disk_reads_as_an_image.ensures asked is bytes short opens is_setting (stop_shown
     c.in_err-end-in-Err.field-0.0) unread unread_now
     before (g.W.Stream.held c.end_at_start.new.out) from (g.P.Depot.last c.begin.new.depot) input (rw (←
     c.in-Err.ensures.given_back) c.in_err-end-in-Err.ensures.ends))
@@ -228,6 +233,7 @@ returns-in_err-end-in-Err-clause-last_later g c = c.in-Err.ensures.last_err
 
 pub returns-in_ok-end-in-Err-clause-ran : goal.returns-in_ok-end-in-Err-clause-ran
 returns-in_ok-end-in-Err-clause-ran g c = λ words bytes unread is short opens input.
+    let asked : Asked = record { words = words; finds = finds_in (map g.J.Judge.patterns c.args.screens.now) } in
     let tells = g.P.Depot.tells × g.P.D.Disk.tells in
     let kept = c.args.directory in
     let seals = hmac_seals c.in_ok-sealer.sealer.names.items c.in_ok-sealer.sealer.keys.items in
@@ -247,7 +253,7 @@ returns-in_ok-end-in-Err-clause-ran g c = λ words bytes unread is short opens i
     let new = g.P.Depot.home c.begin.new.depot in
     (ran_refused g.P.Depot.tells g.P.D.Disk.tells g.P.D.Disk.sight kept seals of old new c.args.form
     c.in-Err.refused.0 c.in-Err.ensures.refused
-    c.a_disk_reads_as_an_image.ensures words is bytes short opens is_setting (end_shown c.in_ok-end-in-Err.end)
+    c.a_disk_reads_as_an_image.ensures asked is bytes short opens is_setting (end_shown c.in_ok-end-in-Err.end)
     unread unread_now
     before (g.W.Stream.held c.end_at_start.new.out) from (g.P.Depot.last c.begin.new.depot) input (rw (←
     c.in-Err.ensures.given_back) c.in_ok-end-in-Err.ensures.ends))

@@ -7,6 +7,8 @@ use Rattle.pec_outside.specs.Flow.{WrotePart, followed_by}
 use Rattle.pec_runs.specs.Endings as ends
 use Rattle.pec_runs.specs.Openings.{disks_at}
 use Rattle.pec_runs.specs.Statuses as statuses
+use Rattle.pec_runs.specs.ScriptLines.{finds_in}
+use Rattle.pec_runs.specs.Happened.{Asked}
 use Rattle.pec_top.proofs.InputLemmas.{at_end_behind, behind_nothing}
 use Rattle.pec_top.proofs.RunningLemmas.{parts_there, ran_over, stage_usage, untouched}
 use Rattle.pec_top.proofs.SaidLemmas.{usage_text}
@@ -15,6 +17,7 @@ use Rattle.pec_top.proofs.run.run_words.Goals as goal
 pub returns-in_err-end-clause-ran : goal.returns-in_err-end-clause-ran
 returns-in_err-end-clause-ran g c =
     let words : List Bytes = map string_bytes c.args.words.now in
+    let asked : Asked = record { words = words; finds = finds_in (map g.J.Judge.patterns c.args.screens.now) } in
     let tells = g.P.Depot.tells × g.P.D.Disk.tells in
     let disks = disks_at tells g.P.D.Disk.sight (g.P.Depot.home c.args.depot.now) in
     let unread = g.S.Stream.left c.args.input.now in
@@ -23,15 +26,16 @@ returns-in_err-end-clause-ran g c =
     let parts = parts_there unread in
     let p = err_from_is_err_and c.from_residual.result c.from_residual.ensures.1 in
     rw (p.1, p.2, c.in_err-end.ensures.stop)
-    (ran_over words unread before after tells disks disks (g.P.Depot.last c.args.depot.now) (g.P.Depot.last
+    (ran_over asked unread before after tells disks disks (g.P.Depot.last c.args.depot.now) (g.P.Depot.last
     c.args.depot.now)
     (untouched tells g.P.D.Disk.sight (g.P.Depot.home c.args.depot.now)) parts.0 true ends.Usage statuses.WriteFault
-    (stage_usage words true parts.0 (sym c.in_default.ensures)) parts.1
+    (stage_usage asked true parts.0 (sym c.in_default.ensures)) parts.1
     (subst (WrotePart before after) (sym (usage_text _)) c.in_err-end.ensures.err))
 
 pub returns-in_default-clause-ran : goal.returns-in_default-clause-ran
 returns-in_default-clause-ran g c =
     let words : List Bytes = map string_bytes c.args.words.now in
+    let asked : Asked = record { words = words; finds = finds_in (map g.J.Judge.patterns c.args.screens.now) } in
     let tells = g.P.Depot.tells × g.P.D.Disk.tells in
     let disks = disks_at tells g.P.D.Disk.sight (g.P.Depot.home c.args.depot.now) in
     let unread = g.S.Stream.left c.args.input.now in
@@ -39,10 +43,10 @@ returns-in_default-clause-ran g c =
     let after = g.W.Stream.held c.write_last.new.out in
     let parts = parts_there unread in
     rw c.in_ok-end.ensures.ok.0
-    (ran_over words unread before after tells disks disks (g.P.Depot.last c.args.depot.now) (g.P.Depot.last
+    (ran_over asked unread before after tells disks disks (g.P.Depot.last c.args.depot.now) (g.P.Depot.last
     c.args.depot.now)
     (untouched tells g.P.D.Disk.sight (g.P.Depot.home c.args.depot.now)) parts.0 true ends.Usage statuses.Usage
-    (stage_usage words true parts.0 (sym c.in_default.ensures)) parts.1
+    (stage_usage asked true parts.0 (sym c.in_default.ensures)) parts.1
     (refl, c.in_ok-end.ensures.ok.1 ∙ ap (followed_by before) (sym (usage_text _))))
 
 pub returns-in_err-end-2-clause-ran : goal.returns-in_err-end-2-clause-ran

@@ -1,5 +1,5 @@
 -- From line to line, and to each exit.
-use Rattle.std.proofs.Common.{◌≡◌, ◌∙◌, ap, arith, refl, Some, None}
+use Rattle.std.proofs.Common.{◌≡◌, ◌∙◌, ap, arith, map, refl, Some, None}
 use Rattle.std.proofs.lemmas.Result.{err_from_is_err_and}
 use Rattle.pec_outside.specs.Flow.{behind, followed_by}
 use Rattle.pec_directory.specs.Directory.{providers_of}
@@ -9,6 +9,7 @@ use Rattle.pec_input.specs.declared.buffers.InputFault.TheVariants as faults
 use Rattle.pec_network.specs.Carrying.{AllStand}
 use Rattle.pec_network.specs.Network.{sites}
 use Rattle.pec_playing.specs.Playing.{counts_in}
+use Rattle.pec_runs.specs.ScriptLines.{finds_in}
 use Rattle.pec_top.specs.Scripts.{place_at}
 use Rattle.pec_top.specs.Shown.{stop_of, stop_shown}
 use Rattle.pec_top.proofs.ComingLemmas.{halts}
@@ -17,10 +18,10 @@ use Rattle.pec_top.proofs.LineReadLemmas.{lines_there}
 use Rattle.pec_top.proofs.StepLemmas.{found_ends, found_in_part, found_on, memory_at}
 use Rattle.pec_top.proofs.script.play_script.Goals as goal
 
-halt_of : (tells : Type 0) (trade : _) (providers : _) (fault : InputFault) → IsHalt tells trade providers
+halt_of : (tells : Type 0) (trade : _) (finds : _) (providers : _) (fault : InputFault) → IsHalt tells trade finds providers
     (stop_shown (stop_of fault))
-halt_of tells trade providers faults.NoMemory = ByMemory refl
-halt_of tells trade providers faults.ReadFault = ByInput refl
+halt_of tells trade finds providers faults.NoMemory = ByMemory refl
+halt_of tells trade finds providers faults.ReadFault = ByInput refl
 
 pub lines-init : goal.lines-init
 lines-init g c = record {
@@ -32,6 +33,7 @@ lines-init g c = record {
   home = λ told k. refl;
   last = λ k. refl;
   depot_later = omega arith;
+  patterns = refl;
   source_later = omega arith;
   sink_later = omega arith;
 }
@@ -45,7 +47,8 @@ returns-in_err-found-clause-ran g c = λ stand elsewhere.
     let tells = g.P.Depot.tells × g.D.Disk.tells in
     let trade = trade_of c.args.network.now.kept (g.H.Sealer.seals c.args.network.now.sealer) in
     let providers = providers_of c.args.network.now.kept in
-    let laws = c.a_loop_climbs.ensures trade providers in
+    let finds = finds_in (map g.J.Judge.patterns c.args.screens.now) in
+    let laws = c.a_loop_climbs.ensures trade finds providers in
     let first = place_at g.D.Counted.faults c.args.network.now elsewhere 1 (behind c.args.buffer.now (g.S.Stream.left
     c.args.source.now)) in
     let here = place_at g.D.Counted.faults c.lines.network elsewhere c.lines.number (behind c.lines.buffer
@@ -53,9 +56,9 @@ returns-in_err-found-clause-ran g c = λ stand elsewhere.
     let came = c.lines.invariant.came stand elsewhere in
     let p = err_from_is_err_and c.from_residual.result c.from_residual.ensures.1 in
     let lines = lines_there here.unread in
-    rw (p.1, p.2) (halts tells trade providers laws first here (counts_in g.D.Counted.faults
+    rw (p.1, p.2) (halts tells trade finds providers laws first here (counts_in g.D.Counted.faults
     c.lines.network.providers elsewhere) _ (g.W.Stream.held c.args.out.now) (g.W.Stream.held c.lines.out)
-    lines.0 (sites c.lines.network) (halt_of tells trade providers c.in_err-found.field-0.0) lines.1 (λ q. omega
+    lines.0 (sites c.lines.network) (halt_of tells trade finds providers c.in_err-found.field-0.0) lines.1 (λ q. omega
     arith) refl came)
 
 pub returns-in_err-taken-clause-ran : goal.returns-in_err-taken-clause-ran
@@ -63,7 +66,8 @@ returns-in_err-taken-clause-ran g c = λ stand elsewhere.
     let tells = g.P.Depot.tells × g.D.Disk.tells in
     let trade = trade_of c.args.network.now.kept (g.H.Sealer.seals c.args.network.now.sealer) in
     let providers = providers_of c.args.network.now.kept in
-    let laws = c.a_loop_climbs.ensures trade providers in
+    let finds = finds_in (map g.J.Judge.patterns c.args.screens.now) in
+    let laws = c.a_loop_climbs.ensures trade finds providers in
     let first = place_at g.D.Counted.faults c.args.network.now elsewhere 1 (behind c.args.buffer.now (g.S.Stream.left
     c.args.source.now)) in
     let here = place_at g.D.Counted.faults c.lines.network elsewhere c.lines.number (behind c.lines.buffer
@@ -75,10 +79,10 @@ returns-in_err-taken-clause-ran g c = λ stand elsewhere.
     let now = sites c.take_found.new.network in
     let stand_here : tells → AllStand g.D.Disk.sight c.lines.network.providers = λ told. c.lines.invariant.stands
     told.1 (stand told) in
-    let stopped = rw (c.deref.ensures.value, c.lines.invariant.same.0, c.lines.invariant.same.1) at
+    let stopped = rw (c.deref.ensures.value, c.lines.invariant.same.0, c.lines.invariant.same.1, c.lines.invariant.patterns) at
     c.in_err-taken.ensures.stops stand_here in
     let p = err_from_is_err_and c.from_residual-in_err-taken.result c.from_residual-in_err-taken.ensures.1 in
-    rw (p.1, p.2) (memory_at tells trade providers laws first here upto line unread now (g.W.Stream.held
+    rw (p.1, p.2) (memory_at tells trade finds providers laws first here upto line unread now (g.W.Stream.held
     c.args.out.now) (g.W.Stream.held c.lines.out)
     (c.take_found.ensures.later elsewhere) c.in_ok-found.found stopped c.in_ok-found.ensures.found came)
 
@@ -87,7 +91,8 @@ returns-in_err-write_all-clause-ran g c = λ stand elsewhere.
     let tells = g.P.Depot.tells × g.D.Disk.tells in
     let trade = trade_of c.args.network.now.kept (g.H.Sealer.seals c.args.network.now.sealer) in
     let providers = providers_of c.args.network.now.kept in
-    let laws = c.a_loop_climbs.ensures trade providers in
+    let finds = finds_in (map g.J.Judge.patterns c.args.screens.now) in
+    let laws = c.a_loop_climbs.ensures trade finds providers in
     let first = place_at g.D.Counted.faults c.args.network.now elsewhere 1 (behind c.args.buffer.now (g.S.Stream.left
     c.args.source.now)) in
     let here = place_at g.D.Counted.faults c.lines.network elsewhere c.lines.number (behind c.lines.buffer
@@ -99,11 +104,11 @@ returns-in_err-write_all-clause-ran g c = λ stand elsewhere.
     let now = sites c.take_found.new.network in
     let stand_here : tells → AllStand g.D.Disk.sight c.lines.network.providers = λ told. c.lines.invariant.stands
     told.1 (stand told) in
-    let takes = rw (c.deref.ensures.value, c.lines.invariant.same.0, c.lines.invariant.same.1) at
+    let takes = rw (c.deref.ensures.value, c.lines.invariant.same.0, c.lines.invariant.same.1, c.lines.invariant.patterns) at
     c.in_ok-taken.ensures.takes stand_here elsewhere in
     let part = rw c.deref-in-lines.ensures.value at c.in_err-write_all.ensures.err in
     let p = err_from_is_err_and c.from_residual-in_err-write_all.result c.from_residual-in_err-write_all.ensures.1 in
-    rw (p.1, p.2) (found_in_part tells trade providers laws first here upto line unread c.in_ok-taken.taken now
+    rw (p.1, p.2) (found_in_part tells trade finds providers laws first here upto line unread c.in_ok-taken.taken now
     (g.W.Stream.held c.args.out.now) (g.W.Stream.held c.lines.out)
     c.in_ok-found.found (g.W.Stream.held c.write_all.new.out) takes c.in_ok-found.ensures.found part came)
 
@@ -112,7 +117,8 @@ returns-in-Some-clause-ran g c = λ stand elsewhere.
     let tells = g.P.Depot.tells × g.D.Disk.tells in
     let trade = trade_of c.args.network.now.kept (g.H.Sealer.seals c.args.network.now.sealer) in
     let providers = providers_of c.args.network.now.kept in
-    let laws = c.a_loop_climbs.ensures trade providers in
+    let finds = finds_in (map g.J.Judge.patterns c.args.screens.now) in
+    let laws = c.a_loop_climbs.ensures trade finds providers in
     let first = place_at g.D.Counted.faults c.args.network.now elsewhere 1 (behind c.args.buffer.now (g.S.Stream.left
     c.args.source.now)) in
     let here = place_at g.D.Counted.faults c.lines.network elsewhere c.lines.number (behind c.lines.buffer
@@ -124,10 +130,10 @@ returns-in-Some-clause-ran g c = λ stand elsewhere.
     let now = sites c.take_found.new.network in
     let stand_here : tells → AllStand g.D.Disk.sight c.lines.network.providers = λ told. c.lines.invariant.stands
     told.1 (stand told) in
-    let takes = rw (c.deref.ensures.value, c.lines.invariant.same.0, c.lines.invariant.same.1) at
+    let takes = rw (c.deref.ensures.value, c.lines.invariant.same.0, c.lines.invariant.same.1, c.lines.invariant.patterns) at
     c.in_ok-taken.ensures.takes stand_here elsewhere in
     let ended : c.in_ok-taken.taken.end ≡ Some c.in-Some.end = c.in-Some.is in
-    found_ends tells trade providers laws first here upto line unread c.in_ok-taken.taken now (g.W.Stream.held
+    found_ends tells trade finds providers laws first here upto line unread c.in_ok-taken.taken now (g.W.Stream.held
     c.args.out.now) (g.W.Stream.held c.lines.out)
     c.in_ok-found.found (g.W.Stream.held c.write_all.new.out) c.in-Some.end takes c.in_ok-found.ensures.found ended
     (c.in_ok-write_all.ensures.ok ∙ ap (followed_by (g.W.Stream.held c.lines.out)) c.deref-in-lines.ensures.value) came
@@ -140,7 +146,8 @@ lines-preserved g c =
           let tells = g.P.Depot.tells × g.D.Disk.tells in
           let trade = trade_of c.args.network.now.kept (g.H.Sealer.seals c.args.network.now.sealer) in
           let providers = providers_of c.args.network.now.kept in
-          let laws = c.a_loop_climbs.ensures trade providers in
+          let finds = finds_in (map g.J.Judge.patterns c.args.screens.now) in
+          let laws = c.a_loop_climbs.ensures trade finds providers in
           let first = place_at g.D.Counted.faults c.args.network.now elsewhere 1 (behind c.args.buffer.now
           (g.S.Stream.left c.args.source.now)) in
           let here = place_at g.D.Counted.faults c.lines.network elsewhere c.lines.number (behind c.lines.buffer
@@ -152,9 +159,9 @@ lines-preserved g c =
           let now = sites c.take_found.new.network in
           let stand_here : tells → AllStand g.D.Disk.sight c.lines.network.providers = λ told.
           c.lines.invariant.stands told.1 (stand told) in
-          let takes = rw (c.deref.ensures.value, c.lines.invariant.same.0, c.lines.invariant.same.1) at
+          let takes = rw (c.deref.ensures.value, c.lines.invariant.same.0, c.lines.invariant.same.1, c.lines.invariant.patterns) at
           c.in_ok-taken.ensures.takes stand_here elsewhere in
-          found_on tells trade providers laws first here upto line unread c.in_ok-taken.taken now (g.W.Stream.held
+          found_on tells trade finds providers laws first here upto line unread c.in_ok-taken.taken now (g.W.Stream.held
           c.args.out.now) (g.W.Stream.held c.lines.out)
           c.in_ok-found.found (g.W.Stream.held c.write_all.new.out) takes c.in_ok-found.ensures.found goes_on
           (c.in_ok-write_all.ensures.ok ∙ ap (followed_by (g.W.Stream.held c.lines.out))
@@ -172,6 +179,7 @@ lines-preserved g c =
       last = λ k. c.take_found.ensures.last k ∙ c.lines.invariant.last k;
       depot_later = let l = c.lines.invariant.depot_later in let k = c.take_found.ensures.depot_later in omega
           (arith, l, k);
+      patterns = c.take_found.ensures.patterns ∙ c.lines.invariant.patterns;
       source_later = let l = c.lines.invariant.source_later in let k = c.next_line.ensures.later in omega (
         arith,
         l,

@@ -1,12 +1,12 @@
 -- The loop came so far; the network is that of the same directory, and no count fell.
-use Rattle.std.proofs.Common.{◌≡◌, ℕ, ◌+◌, ◌-◌, ◌≤◌}
+use Rattle.std.proofs.Common.{◌≡◌, ℕ, ◌+◌, ◌-◌, ◌≤◌, map}
 use Rattle.pec_outside.specs.Depots.{Alike}
 use Rattle.pec_outside.specs.Flow.{behind}
 use Rattle.pec_directory.specs.Directory.{providers_of}
 use Rattle.pec_trade.specs.TradeOf.{trade_of}
 use Rattle.pec_network.specs.Carrying.{AllStand}
 use Rattle.pec_playing.specs.Playing.{counts_in}
-use Rattle.pec_runs.specs.ScriptLines.{most_lines}
+use Rattle.pec_runs.specs.ScriptLines.{finds_in, most_lines}
 use Rattle.pec_top.specs.Scripts.{place_at}
 use Rattle.pec_top.proofs.LoopPlaces.{IsHere}
 use Rattle.pec_top.proofs.script.play_script.Given as goal
@@ -21,7 +21,7 @@ invariant-lines g l =
     record {
       came : (depot.tells × disk.tells → AllStand disk.sight l.fn.network.providers) → (elsewhere : ℕ → ℕ)
           → IsHere (depot.tells × disk.tells) (trade_of l.fn.network.kept (g.H.Sealer.seals l.fn.network.sealer))
-          (providers_of l.fn.network.kept)
+          (finds_in (map g.J.Judge.patterns l.fn.screens)) (providers_of l.fn.network.kept)
           (place_at faults l.fn.network elsewhere 1 (behind l.fn.buffer (port.left l.fn.source))) (place_at faults
           l.network elsewhere l.number (behind l.buffer (port.left l.source)))
           (sink.held l.fn.out) (sink.held l.out);
@@ -33,6 +33,7 @@ invariant-lines g l =
       home : depot.tells → Alike (depot.home l.fn.depot) (depot.home l.depot);
       last : Alike (depot.last l.fn.depot) (depot.last l.depot);
       depot_later : g.P.Counted.faults l.fn.depot ≤ g.P.Counted.faults l.depot;
+      patterns : map g.J.Judge.patterns l.screens ≡ map g.J.Judge.patterns l.fn.screens;
       source_later : g.S.Counted.faults l.fn.source ≤ g.S.Counted.faults l.source;
       sink_later : g.W.Counted.faults l.fn.out ≤ g.W.Counted.faults l.out;
     }

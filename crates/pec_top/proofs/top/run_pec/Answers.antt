@@ -2,6 +2,7 @@
 use Rattle.std.specs.Prelude.{map, string_bytes}
 use Rattle.pec_runs.specs.Openings.{disks_at}
 use Rattle.pec_runs.specs.Ran.{Counts}
+use Rattle.pec_runs.specs.ScriptLines.{finds_in}
 use Rattle.pec_top.specs.Shown.{stop_shown}
 use Rattle.pec_top.proofs.RunningLemmas.{ran_whole}
 use Rattle.pec_top.proofs.TopLemmas.{blames_stop}
@@ -26,7 +27,7 @@ returns-in-Err-clause-ran g c =
           c.run_words.new.depot;
     } in
     let devices = c.in-Err.ensures.blame in
-    rw c.stop_status.ensures (ran_whole (map string_bytes c.args.words.now) (stop_shown c.in-Err.stop)
+    rw c.stop_status.ensures (ran_whole (record { words = map string_bytes c.args.words.now; finds = finds_in (map g.J.Judge.patterns c.args.screens.items) }) (stop_shown c.in-Err.stop)
     (g.S.Stream.left c.args.input.now) (g.W.Stream.held c.args.out.now)
     (g.W.Stream.held c.run_words.new.out) tells (disks_at tells g.P.D.Disk.sight (g.P.Depot.home c.args.depot.now))
     (disks_at tells g.P.D.Disk.sight (g.P.Depot.home c.run_words.new.depot))

@@ -1,6 +1,7 @@
 use Rattle.std.proofs.Common.{◌∙◌, arith, subst, sym}
 use Rattle.pec_types.specs.declared.turns.Submitted.{Submitted}
 use Rattle.pec_plays.specs.Commands.{Submit, Submits, played}
+use Rattle.pec_screen.specs.VerdictReading.{finds}
 use Rattle.pec_trade.specs.TradeOf.{trade_of}
 use Rattle.pec_directory.specs.Directory.{providers_of}
 use Rattle.pec_letters.specs.Fitting.{Fits}
@@ -42,7 +43,7 @@ returns-clause-plays g c =
     let within = number_within _ c.args.self.now c.self.view_is c.self.invariant c.args.provider c.requires.provider in
     rw (← c.self.view_is)
     (plays_from c.self.inside.providers.items c.args.provider c.index_mut.result.now c.submit.new.self within c.index_mut.ensures.value
-    (λ (told : Submitted). Submits told) (λ luck sites. played (trade_of c.self.inside.directory (g.S.Sealer.seals c.self.inside.sealer)) luck sites (Submit c.args.provider c.args.moment c.args.sender.now c.args.path.now c.args.message.now))
+    (λ (told : Submitted). Submits told) (λ luck sites. played (trade_of c.self.inside.directory (g.S.Sealer.seals c.self.inside.sealer)) luck sites (Submit c.args.provider c.args.moment c.args.sender.now c.args.path.now c.args.message.now (finds (g.J.Judge.patterns c.args.screens.now) c.args.message.now)))
     c.self.inside.arrivals.items (c.self.invariant.links ∙ sym c.self.invariant.count) c.submit.result c.submit.ensures.plays)
 
 pub returns-clause-others : goal.returns-clause-others
@@ -76,3 +77,6 @@ returns-clause-later g c =
     rw (← c.self.view_is)
     (falls_from c.self.inside.providers.items c.args.provider c.index_mut.result.now c.submit.new.self within c.index_mut.ensures.value
     g.D.Counted.faults c.submit.ensures.later)
+
+pub returns-clause-looked : goal.returns-clause-looked
+returns-clause-looked g c = rw (← c.self.view_is) c.submit.ensures.looked

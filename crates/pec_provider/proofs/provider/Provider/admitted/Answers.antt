@@ -1,11 +1,18 @@
-use Rattle.std.proofs.Common.{◌≡◌, ◌<◌, ◌≤◌, ℕ, length, ap, sym, subst, ◌∙◌}
+use Rattle.std.proofs.Common.{◌≡◌, ◌<◌, ◌≤◌, ℕ, Result, length, ap, refl, sym, subst, ◌∙◌}
 use Rattle.pec_types.specs.declared.messages.TheConstants.{MESSAGES}
+use Rattle.pec_types.specs.declared.turns.ProviderFault.{ProviderFault}
 use Rattle.pec_types.specs.declared.turns.Submitted.{Submitted}
+use Rattle.pec_directory.specs.Directory.{providers_of}
+use Rattle.pec_records.specs.Entry.{IsWithinLimits}
+use Rattle.pec_points.specs.Case.{case_at}
+use Rattle.pec_provider.specs.Looking.{Looks}
+use Rattle.pec_provider.proofs.LookLemmas.{handed, still, within_limits}
 use Rattle.pec_records.specs.declared.entries.Entry.{Entry}
 use Rattle.pec_ledger.specs.Ledger.{Meets}
 use Rattle.pec_ledger.specs.Pairs.{id_of}
 use Rattle.pec_ledger.specs.Steps.{half}
-use Rattle.pec_plays.specs.Commands.{Submit, Submits, entry_by, played, told_by}
+use Rattle.pec_plays.specs.Commands.{Submit, Submits, entry_by, played, screened_cause, told_by}
+use Rattle.pec_screen.specs.VerdictReading.{finds}
 use Rattle.pec_trade.specs.TradeOf.{trade_of}
 use Rattle.pec_provider.specs.Appending.{ComesTo}
 use Rattle.pec_provider.specs.Provider.{desk_of}
@@ -18,6 +25,7 @@ returns-then-not-is_account_of-clause-admits g c =
     no_account (Entry × Submitted) (trade_of c.args.house.now.directory.now
     (g.S.Sealer.seals c.args.house.now.sealer.now)) c.args.house.now.me
     c.args.moment (desk_of c.args.self.now) c.args.sender.now c.args.path.now c.args.message.now
+    (finds (g.J.Judge.patterns c.args.screens.now) c.args.message.now)
     (sym c.is_account_of.ensures.value ∙ c.if-not-is_account_of.true)
 
 pub returns-in_err-at_work-clause-admits : goal.returns-in_err-at_work-clause-admits
@@ -25,7 +33,9 @@ returns-in_err-at_work-clause-admits g c =
     let kept = c.args.house.now.directory.now in
     let me = c.args.house.now.me in
     let trade = trade_of kept (g.S.Sealer.seals c.args.house.now.sealer.now) in
+    let found = finds (g.J.Judge.patterns c.args.screens.now) c.args.message.now in
     admits_handed trade me c.args.moment (desk_of c.args.self.now) c.args.sender.now c.args.path.now c.args.message.now
+    found
     (sym c.is_account_of.ensures.value ∙ c.if-not-is_account_of.false)
     c.in_err-at_work.field-0.0 c.from_residual.result c.from_residual.ensures.1
     (c.in_err-at_work.ensures.works kept me trade c.requires.runs c.a_house_is_a_trade.ensures.of)
@@ -35,9 +45,10 @@ returns-in_default-clause-admits g c =
     let kept = c.args.house.now.directory.now in
     let me = c.args.house.now.me in
     let trade = trade_of kept (g.S.Sealer.seals c.args.house.now.sealer.now) in
+    let found = finds (g.J.Judge.patterns c.args.screens.now) c.args.message.now in
     let of = c.a_house_is_a_trade.ensures.of in
     no_number (Entry × Submitted) trade me c.args.moment (desk_of c.args.self.now) c.args.sender.now c.args.path.now
-    c.args.message.now
+    c.args.message.now found
     (sym c.is_account_of.ensures.value ∙ c.if-not-is_account_of.false)
     (c.in_ok-at_work.ensures.works kept me trade c.requires.runs of)
     (subst (λ (n : ℕ). MESSAGES ≤ n) (count_runs kept me _ c.args.self.now c.self.view_is trade c.requires.runs of)
@@ -48,6 +59,7 @@ returns-clause-admits g c =
     let kept = c.args.house.now.directory.now in
     let me = c.args.house.now.me in
     let trade = trade_of kept (g.S.Sealer.seals c.args.house.now.sealer.now) in
+    let found = finds (g.J.Judge.patterns c.args.screens.now) c.args.message.now in
     let of = c.a_house_is_a_trade.ensures.of in
     let count = count_runs kept me _ c.args.self.now c.self.view_is trade c.requires.runs of in
     let id : c.in-Some.id ≡ id_of me (length (half trade me c.args.self.now.chronicle.entries).messages) =
@@ -55,27 +67,27 @@ returns-clause-admits g c =
     ∙ (ap (λ (n : ℕ). id_of n (length c.self.inside.shelf.half.messages))
     (me_runs kept me _ c.args.self.now c.self.view_is c.requires.runs)
     ∙ ap (λ (n : ℕ). id_of me n) count) in
-    let submitted : c.told_by.result ≡ told_by (trade.cause me c.args.sender.now c.args.path.now c.args.message.now)
+    let submitted : c.told_by.result ≡ told_by (screened_cause found (trade.cause me c.args.sender.now c.args.path.now c.args.message.now))
     (id_of me (length (half trade me c.args.self.now.chronicle.entries).messages)) =
-    c.told_by.ensures ∙ (ap (λ cause. told_by cause c.in-Some.id) c.in_ok-cause.ensures
-    ∙ ap (λ i. told_by (trade.cause me c.args.sender.now c.args.path.now c.args.message.now) i) id) in
-    let entry : c.in_ok-entry.entry ≡ entry_by (trade.cause me c.args.sender.now c.args.path.now c.args.message.now)
+    c.told_by.ensures ∙ (ap (λ cause. told_by cause c.in-Some.id) c.in_ok-cause.ensures.cause
+    ∙ ap (λ i. told_by (screened_cause found (trade.cause me c.args.sender.now c.args.path.now c.args.message.now)) i) id) in
+    let entry : c.in_ok-entry.entry ≡ entry_by (screened_cause found (trade.cause me c.args.sender.now c.args.path.now c.args.message.now))
     c.args.moment
     c.args.sender.now c.args.path.now c.args.message.now =
     c.in_ok-entry.ensures
     ∙ ap (λ cause. entry_by cause c.args.moment c.args.sender.now c.args.path.now c.args.message.now)
-    c.in_ok-cause.ensures in
+    c.in_ok-cause.ensures.cause in
     subst (λ (e : Entry). ComesTo (λ luck sites. played trade luck sites
-    (Submit me c.args.moment c.args.sender.now c.args.path.now c.args.message.now))
+    (Submit me c.args.moment c.args.sender.now c.args.path.now c.args.message.now found))
     trade me (desk_of c.args.self.now) e (Submits c.told_by.result)) (sym entry)
     (subst (λ (s : Submitted). ComesTo (λ luck sites. played trade luck sites
-    (Submit me c.args.moment c.args.sender.now c.args.path.now c.args.message.now))
+    (Submit me c.args.moment c.args.sender.now c.args.path.now c.args.message.now found))
     trade me (desk_of c.args.self.now)
-    (entry_by (trade.cause me c.args.sender.now c.args.path.now c.args.message.now) c.args.moment c.args.sender.now
+    (entry_by (screened_cause found (trade.cause me c.args.sender.now c.args.path.now c.args.message.now)) c.args.moment c.args.sender.now
     c.args.path.now c.args.message.now)
     (Submits s)) (sym submitted)
     (comes_to (Entry × Submitted) trade me c.args.moment (desk_of c.args.self.now) c.args.sender.now c.args.path.now
-    c.args.message.now
+    c.args.message.now found
     (sym c.is_account_of.ensures.value ∙ c.if-not-is_account_of.false)
     (c.in_ok-at_work.ensures.works kept me trade c.requires.runs of)
     (subst (λ (n : ℕ). n < MESSAGES) count c.in-Some.ensures.0)))
@@ -85,19 +97,39 @@ returns-clause-follows g c = λ journals.
     let kept = c.args.house.now.directory.now in
     let me = c.args.house.now.me in
     let trade = trade_of kept (g.S.Sealer.seals c.args.house.now.sealer.now) in
+    let found = finds (g.J.Judge.patterns c.args.screens.now) c.args.message.now in
     let of = c.a_house_is_a_trade.ensures.of in
     let count = count_runs kept me _ c.args.self.now c.self.view_is trade c.requires.runs of in
-    let entry : c.in_ok-entry.entry ≡ entry_by (trade.cause me c.args.sender.now c.args.path.now c.args.message.now)
+    let entry : c.in_ok-entry.entry ≡ entry_by (screened_cause found (trade.cause me c.args.sender.now c.args.path.now c.args.message.now))
     c.args.moment
     c.args.sender.now c.args.path.now c.args.message.now =
     c.in_ok-entry.ensures
     ∙ ap (λ cause. entry_by cause c.args.moment c.args.sender.now c.args.path.now c.args.message.now)
-    c.in_ok-cause.ensures in
+    c.in_ok-cause.ensures.cause in
     subst (λ (e : Entry). Meets trade journals me (half trade me c.args.self.now.chronicle.entries) e) (sym entry)
     (c.what_a_provider_does_may_follow.ensures.submissions trade (c.a_house_is_a_trade.ensures.trade c.requires.fits)
     journals me c.args.moment
     c.args.self.now.chronicle.entries (c.in_ok-at_work.ensures.works kept me trade c.requires.runs of).in_time
     c.at_work.ensures.in_range
-    c.args.sender.now c.args.path.now c.args.message.now
+    c.args.sender.now c.args.path.now c.args.message.now found
     (sym c.is_account_of.ensures.value ∙ c.if-not-is_account_of.false)
     (subst (λ (n : ℕ). n < MESSAGES) count c.in-Some.ensures.0) c.requires.path.0 c.requires.path.1)
+
+pub returns-in_err-at_work-clause-looked : goal.returns-in_err-at_work-clause-looked
+returns-in_err-at_work-clause-looked g c =
+    let kept = c.args.house.now.directory.now in
+    let me = c.args.house.now.me in
+    let trade = trade_of kept (g.S.Sealer.seals c.args.house.now.sealer.now) in
+    let found = finds (g.J.Judge.patterns c.args.screens.now) c.args.message.now in
+    let case = case_at (providers_of kept) me c.args.sender.now c.args.path.now c.args.message.now found in
+    let seen = g.J.Judge.seen c.args.screens.now in
+    handed (λ (r : Result (Entry × Submitted) ProviderFault). Looks case seen seen r) c.in_err-at_work.field-0.0
+    c.from_residual.result c.from_residual.ensures.1
+    (still (Entry × Submitted) case seen seen trade me c.args.moment (desk_of c.args.self.now) c.in_err-at_work.field-0.0
+    (c.in_err-at_work.ensures.works kept me trade c.requires.runs c.a_house_is_a_trade.ensures.of) refl)
+
+pub returns-clause-limits : goal.returns-clause-limits
+returns-clause-limits g c =
+    subst (λ (e : Entry). IsWithinLimits e) (sym c.in_ok-entry.ensures)
+    (within_limits c.in_ok-cause.cause c.args.moment c.args.sender.now c.args.path.now c.args.message.now c.requires.path.1
+    c.requires.message)

@@ -1,0 +1,87 @@
+use Rattle.std.proofs.Common.{◌∙◌, ◌<◌, List, length, Err, ap, arith}
+use Rattle.pec_directory.specs.Directory.{Kept, providers_of}
+use Rattle.pec_plays.specs.Commands.{Submit, Submits}
+use Rattle.pec_script.specs.Texts.{submitted_text}
+use Rattle.pec_screen.specs.VerdictReading.{finds}
+use Rattle.pec_trade.specs.TradeOf.{trade_of}
+use Rattle.pec_playing.proofs.AskLemmas.{call_refuses, call_says, call_stops, submitted_told, submit_of}
+use Rattle.pec_playing.proofs.KeptLemmas.{as_many, keeps_others}
+use Rattle.pec_playing.proofs.providers.submit_under.Goals as goal
+
+pub returns-in-Ok-clause-does : goal.returns-in-Ok-clause-does
+returns-in-Ok-clause-does g c =
+    let network = c.args.network.now in
+    let trade = trade_of network.kept (g.S.Sealer.seals network.sealer) in
+    let new = c.submit.new.self in
+    let within : c.args.provider < length network.providers =
+    omega (arith, c.as_many_providers.ensures, c.requires.provider) in
+    let keeps = keeps_others network new c.args.provider c.submit.ensures.others within
+    g.D.Disk.sight g.D.Counted.faults g.D.Disk.tells trade c.submit.ensures.carries c.submit.ensures.later in
+    let many = as_many network new c.args.provider c.submit.ensures.others within in
+    call_says g.D.Disk.sight g.D.Counted.faults g.D.Disk.tells trade
+    (Submit c.args.provider c.args.moment c.args.sender.now c.args.path.now c.args.message.now
+    (finds (g.J.Judge.patterns c.args.screens.now) c.args.message.now)) network new keeps many
+    c.args.provider within
+    (submit_of trade c.args.provider c.args.moment c.args.sender.now c.args.path.now c.args.message.now
+    (finds (g.J.Judge.patterns c.args.screens.now) c.args.message.now)) Submits
+    c.in-Ok.submitted (λ providers. submitted_text providers c.in-Ok.submitted) (submitted_told c.in-Ok.submitted)
+    c.in-Ok.ensures.plays c.in_ok-text-in-Ok.text
+    (c.in_ok-text-in-Ok.ensures
+    ∙ ap (λ (k : List Kept). submitted_text (providers_of k) c.in-Ok.submitted)
+    (c.directory.ensures.value ∙ keeps.directory))
+
+pub returns-in-Err-clause-does : goal.returns-in-Err-clause-does
+returns-in-Err-clause-does g c =
+    let network = c.args.network.now in
+    let trade = trade_of network.kept (g.S.Sealer.seals network.sealer) in
+    let new = c.submit.new.self in
+    let within : c.args.provider < length network.providers =
+    omega (arith, c.as_many_providers.ensures, c.requires.provider) in
+    let keeps = keeps_others network new c.args.provider c.submit.ensures.others within
+    g.D.Disk.sight g.D.Counted.faults g.D.Disk.tells trade c.submit.ensures.carries c.submit.ensures.later in
+    let many = as_many network new c.args.provider c.submit.ensures.others within in
+    call_refuses g.D.Disk.sight g.D.Counted.faults g.D.Disk.tells trade
+    (Submit c.args.provider c.args.moment c.args.sender.now c.args.path.now c.args.message.now
+    (finds (g.J.Judge.patterns c.args.screens.now) c.args.message.now)) network new keeps many
+    c.args.provider within
+    (submit_of trade c.args.provider c.args.moment c.args.sender.now c.args.path.now c.args.message.now
+    (finds (g.J.Judge.patterns c.args.screens.now) c.args.message.now)) Submits
+    c.in-Err.fault (λ e. c.in-Err.ensures.disk_fault (ap Err e)) c.in-Err.ensures.plays
+    c.in_ok-text-in-Err.text c.in_ok-text-in-Err.ensures
+
+pub returns-in_err-text-in-Ok-clause-does : goal.returns-in_err-text-in-Ok-clause-does
+returns-in_err-text-in-Ok-clause-does g c =
+    let network = c.args.network.now in
+    let trade = trade_of network.kept (g.S.Sealer.seals network.sealer) in
+    let new = c.submit.new.self in
+    let within : c.args.provider < length network.providers =
+    omega (arith, c.as_many_providers.ensures, c.requires.provider) in
+    let keeps = keeps_others network new c.args.provider c.submit.ensures.others within
+    g.D.Disk.sight g.D.Counted.faults g.D.Disk.tells trade c.submit.ensures.carries c.submit.ensures.later in
+    let many = as_many network new c.args.provider c.submit.ensures.others within in
+    call_stops g.D.Disk.sight g.D.Counted.faults g.D.Disk.tells trade
+    (Submit c.args.provider c.args.moment c.args.sender.now c.args.path.now c.args.message.now
+    (finds (g.J.Judge.patterns c.args.screens.now) c.args.message.now)) network new keeps many
+    c.args.provider within
+    (submit_of trade c.args.provider c.args.moment c.args.sender.now c.args.path.now c.args.message.now
+    (finds (g.J.Judge.patterns c.args.screens.now) c.args.message.now)) Submits
+    c.submit.result c.submit.ensures.plays c.from_residual.result c.from_residual.ensures.0
+
+pub returns-in_err-text-in-Err-clause-does : goal.returns-in_err-text-in-Err-clause-does
+returns-in_err-text-in-Err-clause-does g c =
+    let network = c.args.network.now in
+    let trade = trade_of network.kept (g.S.Sealer.seals network.sealer) in
+    let new = c.submit.new.self in
+    let within : c.args.provider < length network.providers =
+    omega (arith, c.as_many_providers.ensures, c.requires.provider) in
+    let keeps = keeps_others network new c.args.provider c.submit.ensures.others within
+    g.D.Disk.sight g.D.Counted.faults g.D.Disk.tells trade c.submit.ensures.carries c.submit.ensures.later in
+    let many = as_many network new c.args.provider c.submit.ensures.others within in
+    call_stops g.D.Disk.sight g.D.Counted.faults g.D.Disk.tells trade
+    (Submit c.args.provider c.args.moment c.args.sender.now c.args.path.now c.args.message.now
+    (finds (g.J.Judge.patterns c.args.screens.now) c.args.message.now)) network new keeps many
+    c.args.provider within
+    (submit_of trade c.args.provider c.args.moment c.args.sender.now c.args.path.now c.args.message.now
+    (finds (g.J.Judge.patterns c.args.screens.now) c.args.message.now)) Submits
+    c.submit.result c.submit.ensures.plays c.from_residual-in_err-text-in-Err.result
+    c.from_residual-in_err-text-in-Err.ensures.0
