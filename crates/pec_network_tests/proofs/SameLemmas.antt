@@ -1,5 +1,5 @@
 -- Where nothing but one provider is another, neither the directory nor the sealer is.
-use Rattle.std.proofs.Common.{◌≡◌, ◌×◌, ℕ, ◌<◌, inl, inr, length, ap, arith}
+use Rattle.std.proofs.Common.{◌≡◌, ℕ, ◌<◌, inl, inr, length, ap, arith}
 use Rattle.std.proofs.lemmas.Option.{slice_get_cases}
 use Rattle.pec_provider.specs.Provider.{ProviderState}
 use Rattle.pec_network.specs.Changing.{ChangesOnly}
