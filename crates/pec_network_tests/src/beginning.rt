@@ -1,0 +1,320 @@
+//! Networks that begin on empty disks or over journals, and those that don't: depots that fail at each place, journals
+//! that are missing, and journals of others.
+
+use crate::asking::{Asked, depot_failing};
+use pec_directory::Directory;
+use pec_network::{Form, NotFit, StartFault};
+use pec_outside::{Depot, MemDepot};
+use pec_provider_tests::{TWO, journal_of};
+use std::alloc::Global;
+use std::test::Fail;
+
+/// What lies on the disks of a depot, which disk is out, which calls fail, and what the beginning comes to. The entries
+/// of a journal stand in a line each; `-` is an empty disk.
+#[derive(Clone, Copy)]
+struct Start {
+    why: &'static str,
+    form: Form,
+    first: &'static str,
+    second: &'static str,
+    out: Option<u32>,
+    failing: &'static [(u32, u64)],
+    fault: Option<StartFault>,
+}
+
+static STARTS: [Start; 14] = [
+    Start {
+        why: "journals are made on empty disks",
+        form: Form::Make,
+        first: "-",
+        second: "-",
+        out: None,
+        failing: &[],
+        fault: None,
+    },
+    Start {
+        why: "and not on one that holds a journal",
+        form: Form::Make,
+        first: "start 0",
+        second: "-",
+        out: None,
+        failing: &[],
+        fault: Some(StartFault::NotEmpty(0)),
+    },
+    Start {
+        why: "nor on the second",
+        form: Form::Make,
+        first: "-",
+        second: "start 1",
+        out: None,
+        failing: &[],
+        fault: Some(StartFault::NotEmpty(1)),
+    },
+    Start {
+        why: "journals are opened",
+        form: Form::Open,
+        first: "start 0\naccepted 5 alice@alfa.example to-bob\nticked 6",
+        second: "start 1\nticked 7",
+        out: None,
+        failing: &[],
+        fault: None,
+    },
+    Start {
+        why: "an empty disk isn't opened",
+        form: Form::Open,
+        first: "-",
+        second: "-",
+        out: None,
+        failing: &[],
+        fault: Some(StartFault::NotFit(0, NotFit::Journal(0))),
+    },
+    Start {
+        why: "nor is the second",
+        form: Form::Open,
+        first: "start 0",
+        second: "-",
+        out: None,
+        failing: &[],
+        fault: Some(StartFault::NotFit(1, NotFit::Journal(0))),
+    },
+    Start {
+        why: "nor are journals that were exchanged",
+        form: Form::Open,
+        first: "start 1",
+        second: "start 0",
+        out: None,
+        failing: &[],
+        fault: Some(StartFault::NotFit(0, NotFit::BadEntry(0))),
+    },
+    Start {
+        why: "nor is one with a step too many",
+        form: Form::Open,
+        first: "start 0\nticked 5",
+        second: "start 1\nticked 5\nticked 4",
+        out: None,
+        failing: &[],
+        fault: Some(StartFault::NotFit(1, NotFit::BadEntry(2))),
+    },
+    Start {
+        why: "nor is one with bytes that are no entry",
+        form: Form::Open,
+        first: "start 0\njunk",
+        second: "-",
+        out: None,
+        failing: &[],
+        fault: Some(StartFault::NotFit(0, NotFit::BadEntry(1))),
+    },
+    Start {
+        why: "a depot that doesn't hand out the first disk is told",
+        form: Form::Make,
+        first: "-",
+        second: "-",
+        out: Some(0),
+        failing: &[],
+        fault: Some(StartFault::DiskFault(0)),
+    },
+    Start {
+        why: "and the second",
+        form: Form::Make,
+        first: "-",
+        second: "-",
+        out: Some(1),
+        failing: &[],
+        fault: Some(StartFault::DiskFault(1)),
+    },
+    Start {
+        why: "where journals are opened, too",
+        form: Form::Open,
+        first: "start 0",
+        second: "start 1",
+        out: Some(1),
+        failing: &[],
+        fault: Some(StartFault::DiskFault(1)),
+    },
+    Start {
+        why: "the first disk that comes to nothing is told",
+        form: Form::Open,
+        first: "-",
+        second: "start 1",
+        out: Some(1),
+        failing: &[],
+        fault: Some(StartFault::NotFit(0, NotFit::Journal(0))),
+    },
+    Start {
+        why: "and no other is asked for",
+        form: Form::Make,
+        first: "start 0",
+        second: "-",
+        out: None,
+        failing: &[(1, 0)],
+        fault: Some(StartFault::NotEmpty(0)),
+    },
+];
+
+/// The table, by a function without a clause: the proof of the test is spared its texts.
+fn starts() -> &'static [Start] {
+    &STARTS
+}
+
+/// What a beginning comes to, and how many disks the depot has at home behind it.
+#[derive(Clone, Copy, Debug, PartialEq, Eq)]
+struct Beginning {
+    fault: Option<StartFault>,
+    at_home: u32,
+}
+
+#[test]
+fn a_network_begins_or_tells_which_disk_came_to_nothing(rt: HostRuntime) -> Result<(), Fail> {
+    for start in starts() {
+        let begun = begun_with(rt.alloc(), start)?;
+        let wanted = Beginning {
+            fault: start.fault,
+            at_home: if start.out.is_some() { 1 } else { 2 },
+        };
+        assert_eq!(rt; begun, wanted, "{}", start.why);
+    }
+    Ok(())
+}
+
+fn begun_with(alloc: Global, start: &Start) -> Result<Beginning, Fail> {
+    let mut depot = depot_failing(alloc, start.failing, &[])?;
+    lay(alloc, &mut depot, 0, start.first)?;
+    lay(alloc, &mut depot, 1, start.second)?;
+    if let Some(provider) = start.out {
+        take(&mut depot, provider)?;
+        return begun_over(alloc, start.form, depot);
+    }
+    begun_over(alloc, start.form, depot)
+}
+
+/// Takes a disk out of a depot, and forgets it.
+fn take(depot: &mut MemDepot, provider: u32) -> Result<(), Fail> {
+    if provider > 1 {
+        return Err("no such provider".into());
+    }
+    let _disk = depot.disk(provider)?;
+    Ok(())
+}
+
+/// Puts a journal on a provider's disk.
+fn lay(alloc: Global, depot: &mut MemDepot, provider: u32, entries: &str) -> Result<(), Fail> {
+    if entries == "-" || provider > 1 {
+        return Ok(());
+    }
+    let disk = journal_of(alloc, entries)?;
+    depot.keep(provider, disk);
+    Ok(())
+}
+
+fn begun_over(alloc: Global, form: Form, depot: MemDepot) -> Result<Beginning, Fail> {
+    match Asked::begun(alloc, form, depot)? {
+        Ok(asked) => Ok(Beginning {
+            fault: None,
+            at_home: at_home(asked.closed()),
+        }),
+        Err((fault, depot)) => Ok(Beginning {
+            fault: Some(fault),
+            at_home: at_home(depot),
+        }),
+    }
+}
+
+/// How many of the two disks the depot hands out.
+fn at_home(mut depot: MemDepot) -> u32 {
+    let mut count = 0;
+    for provider in 0..2u32 {
+        if depot.disk(provider).is_ok() {
+            count = if count == 0 { 1 } else { 2 };
+        }
+    }
+    count
+}
+
+/// A journal is made by three calls of its disk, and its Start is appended by four.
+#[test]
+fn a_disk_that_fails_at_any_call_of_the_beginning_is_told(rt: HostRuntime) -> Result<(), Fail> {
+    for provider in 0..2u32 {
+        for call in 0..7u64 {
+            let depot = depot_failing(rt.alloc(), &[(provider, call)], &[])?;
+            let begun = begun_over(rt.alloc(), Form::Make, depot)?;
+            assert_eq!(rt; begun.fault, Some(StartFault::DiskFault(provider)));
+            assert_eq!(rt; begun.at_home, 2);
+        }
+    }
+    Ok(())
+}
+
+/// A network that ends and is resumed over its disks has what it had; a disk that fails as it is opened is told.
+#[test]
+fn a_network_is_resumed_with_what_it_had(rt: HostRuntime) -> Result<(), Fail> {
+    let wrong = wrong_behind(rt.alloc())?;
+    assert!(rt; wrong.is_none(), "{wrong:?}");
+    // The first calls of each disk behind its entries.
+    assert_eq!(rt;
+        refused(rt.alloc(), (0, 11))?,
+        Some(StartFault::DiskFault(0))
+    );
+    assert_eq!(rt;
+        refused(rt.alloc(), (1, 7))?,
+        Some(StartFault::DiskFault(1))
+    );
+    Ok(())
+}
+
+/// The first wrong line of a script that is played in two networks, one over the disks of the other.
+fn wrong_behind(alloc: Global) -> Result<Option<String>, Fail> {
+    let depot = depot_behind(alloc, &[])?;
+    match Asked::begun(alloc, Form::Open, depot)? {
+        Ok(mut asked) => asked.first_wrong(BEHIND),
+        Err(_) => Err("it isn't resumed".into()),
+    }
+}
+
+/// Why the network isn't resumed where a call of a disk fails.
+fn refused(alloc: Global, failing: (u32, u64)) -> Result<Option<StartFault>, Fail> {
+    let depot = depot_behind(alloc, &[failing])?;
+    Ok(begun_over(alloc, Form::Open, depot)?.fault)
+}
+
+/// The disks that a network leaves, of which these calls fail.
+fn depot_behind(alloc: Global, failing: &[(u32, u64)]) -> Result<MemDepot, Fail> {
+    let depot = depot_failing(alloc, failing, &[])?;
+    match Asked::begun(alloc, Form::Make, depot)? {
+        Ok(mut asked) => {
+            if asked.first_wrong(BEFORE)?.is_some() {
+                return Err("a wrong answer before the end".into());
+            }
+            Ok(asked.closed())
+        }
+        Err(_) => Err("it doesn't begin".into()),
+    }
+}
+
+const BEFORE: &str = "
+submit 0 1704186000 alice@alfa.example bob@beta.example to-bob -> accepted 0/0
+round 1704186001 -> 0 sent 1 1, | 1
+";
+
+/// The frame that was on its way is gone, and is put again.
+const BEHIND: &str = "
+lose 0 1 0 -> no-frame
+entries 0 -> 2
+entries 1 -> 1
+book alice@alfa.example -> 0/0 bob@beta.example primary 1704186000 - - - open, 1 rows
+submit 0 1704185999 alice@alfa.example bob@beta.example to-bob -> clock-back 1704186000
+round 1704186002 -> 0 sent 1 1, | 1
+round 1704186003 -> 0 sent 1 1, | 1 took 0/0, decided 0/0 bob@beta.example delivered, sent 0 2,
+";
+
+/// A journal that was made with another directory is told by both digests.
+#[test]
+fn journals_of_another_directory_are_not_resumed(rt: HostRuntime) -> Result<(), Fail> {
+    let given = Directory::read(rt.alloc(), TWO)?.digest(rt.alloc())?;
+    let mut depot = depot_failing(rt.alloc(), &[], &[])?;
+    lay(rt.alloc(), &mut depot, 0, "start 0")?;
+    lay(rt.alloc(), &mut depot, 1, "start-of-another 1")?;
+    let begun = begun_over(rt.alloc(), Form::Open, depot)?;
+    let fault = StartFault::NotFit(1, NotFit::OtherDirectory([7; 32], given));
+    assert_eq!(rt; begun.fault, Some(fault));
+    Ok(())
+}
