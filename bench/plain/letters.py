@@ -167,7 +167,7 @@ def certificate(directory, said):
     """The certification text."""
     kind, facts, house = KINDS[said.kind], said.facts, directory.houses[said.by]
     day, time, offset, _ = stamp(house.zone, said.moment)
-    error = {b"no-mailbox": b"no-dest"}.get(said.detail, kind.error)
+    error = {b"no-mailbox": b"no-dest", b"virus": b"virus"}.get(said.detail, kind.error)
     text = b'<?xml version="1.0" encoding="UTF-8"?>\r\n'
     text += b'<postacert tipo="' + kind.word + b'" errore="' + error + b'">\r\n'
     text += b"<intestazione>\r\n" + element(b"mittente", facts.sender)
@@ -240,6 +240,10 @@ def envelope_fields(directory, said):
     return fields + [b"Subject: " + KINDS["envelope"].prefix + (facts.subject or b"")]
 
 
+def has_virus(said):
+    return said.kind == "non-acceptance" and said.detail == b"virus"
+
+
 def receipt_fields(directory, said):
     """The head of a receipt, a notice or an acknowledgement."""
     facts, house, identity = said.facts, directory.houses[said.by], directory.text(said.identity)
@@ -247,6 +251,8 @@ def receipt_fields(directory, said):
         fields = [b"X-Riscontro: " + identity + b" " + said.recipient]
     else:
         fields = [b"X-Ricevuta: " + KINDS[said.kind].word]
+    if has_virus(said):
+        fields.append(b"X-VerificaSicurezza: errore")
     if said.kind == "delivery":
         fields.append(b"X-TipoRicevuta: " + facts.wish)
     fields += [b"Message-ID: " + message_id(directory, said), b"X-Riferimento-Message-ID: <" + identity + b">"]

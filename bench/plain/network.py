@@ -6,7 +6,7 @@ import letters
 import texts
 
 OUTCOMES = {"delivered": 0, "no-mailbox": 1, "mailbox-full": 2}
-CAUSES = ["head", "from", "to", "reverse-path", "forward-path", "bcc", "size"]
+CAUSES = ["head", "from", "to", "reverse-path", "forward-path", "bcc", "size", "virus"]
 LINK = 64
 MARKS = {"warning": "warned", "notice": "noticed", "late-notice": "noticed-late"}
 

@@ -189,6 +189,8 @@ class Author:
             fields.append(field)
         if self.maybe(0.08):
             body += b"y" * self.chance.randint(1, 2000)
+        if self.maybe(0.06):
+            body += self.one_of((3, b"PEC-VIRUS-DI-PROVA\r\n"), (1, b"PEC-VIRUS-DI-PROV"), (1, b"PEC-VIRUS-DI-\r\nPROVA"))
         if self.maybe(0.12):
             fields = self.wrong_head(fields, sender)
         if self.maybe(0.3):

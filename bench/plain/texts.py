@@ -139,6 +139,10 @@ def facts(fields):
     return Facts(sender[0], to, copies, wish(fields), subject, reference, reply)
 
 
+# What the program's screens look for.
+VIRUS = b"PEC-VIRUS-DI-PROVA"
+
+
 def refused(message, account, path, limit):
     """The cause for which a message isn't accepted, or None."""
     read = head(message)
@@ -158,7 +162,9 @@ def refused(message, account, path, limit):
         return "forward-path"
     if any(values(fields, b"Bcc")):
         return "bcc"
-    return "size" if len(message) * len(set(to + copies)) > limit else None
+    if len(message) * len(set(to + copies)) > limit:
+        return "size"
+    return "virus" if VIRUS in message else None
 
 
 def parameter(value, name):
