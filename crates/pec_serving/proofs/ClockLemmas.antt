@@ -1,22 +1,19 @@
 -- The clock calls and the round behind an answer, one after another.
-use Rattle.std.proofs.Common.{◌≡◌, inl, inr, ℕ, zero, suc, ◌+◌, ◌-◌, ◌<◌, List, [], ◌∷◌, ◌++◌, length, refl, ap, sym, subst, ◌∙◌, arith, Global, Vec, Option, Some, None, Result, Ok, Err}
-use Rattle.std.specs.Prelude.{slice_get}
-use Rattle.std.proofs.lemmas.List.{append-nil, append_assoc}
+use Rattle.std.proofs.Common.{◌≡◌, inl, inr, ℕ, zero, suc, ◌+◌, ◌-◌, ◌<◌, List, [], ◌∷◌, ◌++◌, refl, ap, sym, subst, ◌∙◌, arith, Global, Vec, Option, Some, Result, Ok, Err}
+use Rattle.std.proofs.lemmas.List.{append_assoc}
 use Rattle.pec_types.specs.Bytes.{Bytes}
 use Rattle.pec_types.specs.declared.faults.NoMemory.{NoMemory}
 use Rattle.pec_outside.specs.DiskModel.{Sight}
 use Rattle.pec_outside.specs.Flow.{WrotePart, followed_by}
 use Rattle.pec_directory.specs.Directory.{Provider, providers_of}
-use Rattle.pec_ledger.specs.Network.{Site}
 use Rattle.pec_ledger.specs.Trade.{Trade}
 use Rattle.pec_plays.specs.Commands.{Command, Restart, Round, Tick}
 use Rattle.pec_network.specs.Network.{NetworkState, sites}
 use Rattle.pec_runs.specs.AnswerLines.{answer_text}
 use Rattle.pec_runs.specs.Ran.{LeavesOff}
-use Rattle.pec_playing.specs.Doing.{Does, Strange}
-use Rattle.pec_playing.specs.Playing.{IsPlayedSo}
+use Rattle.pec_playing.specs.Doing.{Does}
 use Rattle.pec_service.specs.Calls.{AreCalls, Call, IsCall, State, answer_of, calls_text, clock_from, commands_of, state_behind}
-use Rattle.pec_serving.specs.Playing.{HasPlayed, IsFront, IsPlayed, NoneFell, PlaysAll, PlaysOne, PlaysSome, state_of}
+use Rattle.pec_serving.specs.Playing.{HasPlayed, IsFront, IsPlayed, NoneFell, PlaysAll, PlaysOne, state_of}
 use Rattle.pec_serving.specs.declared.stops.Stop.{Stop}
 use Rattle.pec_serving.specs.declared.stops.Stop.TheVariants as stops
 use Rattle.pec_serving.proofs.WritingLemmas.{followed_nothing, followed_twice, part_behind}

@@ -1,5 +1,5 @@
 -- How a loop over connections goes on and ends, from the network with which the service began.
-use Rattle.std.proofs.Common.{◌≡◌, ◌+◌, ◌<◌, ◌≤◌, ◌-◌, ◌^◌, ℕ, List, length, refl, arith, inl, inr, Option, Result, Ok, Err, Some}
+use Rattle.std.proofs.Common.{◌≡◌, ◌+◌, ◌<◌, ◌≤◌, ◌-◌, ◌^◌, ℕ, List, length, arith, inl, inr, Option, Result, Ok, Err}
 use Rattle.std.proofs.lemmas.Bool.{cases_lt}
 use Rattle.pec_types.specs.Bytes.{Bytes}
 use Rattle.pec_outside.specs.DiskModel.{Sight}
@@ -22,7 +22,7 @@ use Rattle.pec_serving.specs.declared.serving.Ending.TheVariants as endings
 use Rattle.pec_serving.specs.declared.stops.Stop.{Stop}
 use Rattle.pec_serving.specs.declared.stops.Stop.TheVariants as stops
 use Rattle.pec_serving.proofs.KeepLemmas.{as_begun}
-use Rattle.pec_serving.proofs.ServiceLemmas.{CallLaws, ConnectionLaws, Going, all_served, clock_lacks, clock_stops, goes_on, line_broke, none_met, none_told}
+use Rattle.pec_serving.proofs.ServiceLemmas.{CallLaws, ConnectionLaws, Going, clock_lacks, clock_stops, goes_on, line_broke, none_met, none_told}
 
 module _ {D S : Type 0} (sight : D → Sight) (count : D → ℕ) (disks : Type 0) (seals : S → Seals)
     (start : NetworkState D S) (laws : CallLaws (trade_of start.kept (seals start.sealer)))

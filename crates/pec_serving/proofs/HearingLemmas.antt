@@ -7,7 +7,7 @@ use Rattle.pec_types.specs.declared.turns.ProviderFault.TheVariants as faults
 use Rattle.pec_types.specs.declared.turns.Submitted.{Submitted}
 use Rattle.pec_outside.specs.DiskModel.{Sight}
 use Rattle.pec_outside.specs.Flow.{WrotePart, followed_by}
-use Rattle.pec_directory.specs.Directory.{Kept, account_home, first_domain, providers_of}
+use Rattle.pec_directory.specs.Directory.{first_domain, providers_of}
 use Rattle.pec_seal.specs.Seals.{Seals}
 use Rattle.pec_ledger.specs.Network.{Site}
 use Rattle.pec_ledger.specs.Trade.{Trade}
@@ -16,25 +16,24 @@ use Rattle.pec_provider.specs.Playing.{luck_of}
 use Rattle.pec_provider.specs.Provider.{ProviderState}
 use Rattle.pec_network.specs.Carrying.{NoneFalls}
 use Rattle.pec_network.specs.Changing.{HasRisenAt}
-use Rattle.pec_network.specs.Network.{NetworkState, sites}
+use Rattle.pec_network.specs.Network.{NetworkState}
 use Rattle.pec_network.specs.Playing.{IsPlayed}
 use Rattle.pec_http.specs.Asking.{Asks, Question, See}
 use Rattle.pec_http.specs.Asking as asking
 use Rattle.pec_http.specs.Desks.{Answers}
 use Rattle.pec_http.specs.Input.{IsInput}
-use Rattle.pec_http.specs.Replies.{Reply, memory_reply, reply_text, shown_reply, stop_reply, submitted_reply}
+use Rattle.pec_http.specs.Replies.{Reply, reply_text, submitted_reply}
 use Rattle.pec_http.specs.Serving.{IsAnswer, IsAnswered, RestsUnread, Replies, Sends, Serves, Stays}
 use Rattle.pec_http.specs.Serving as serving
 use Rattle.pec_http.specs.Statuses.{number_of}
 use Rattle.pec_http.specs.declared.serving.Served.{Served}
 use Rattle.pec_http.specs.declared.serving.Served.TheVariants as served
-use Rattle.pec_http.specs.declared.statuses.Status.{Status}
 use Rattle.pec_http.specs.declared.stops.Stop.{Stop}
 use Rattle.pec_runs.specs.Plays.{HasMemory, RoseBy, faults_at}
 use Rattle.pec_desk.specs.Desks.{DeskState, HandsIn, answers_of, domain_at, pass_of, world_of}
 use Rattle.pec_desk.specs.Own.{IsFaultOf, asking_share, reply_to}
 use Rattle.pec_playing.specs.Playing.{counts_in}
-use Rattle.pec_service.specs.Calls.{AreCalls, Call, IsCall, State, answer_of, commands_of, state_behind}
+use Rattle.pec_service.specs.Calls.{AreCalls, Call, IsCall, State, commands_of, state_behind}
 use Rattle.pec_service.specs.Connections.{Answering, AsksSo, Hearing, IsHeardSo, answered_by, handed_by, handed_in, said_in}
 use Rattle.pec_service.specs.Connections as connections
 use Rattle.pec_serving.specs.Hearing.{Hears, IsServed}

@@ -1,5 +1,5 @@
 -- What the desk keeps of a network, whatever was asked of it.
-use Rattle.std.proofs.Common.{◌≡◌, inl, inr, ℕ, ◌<◌, ◌≤◌, List, [], length, refl, ap, sym, subst, ◌∙◌, arith, Option, Result, Ok, Err}
+use Rattle.std.proofs.Common.{◌≡◌, inl, inr, ℕ, ◌<◌, List, [], length, refl, ap, sym, subst, ◌∙◌, arith, Option, Result, Ok, Err}
 use Rattle.std.proofs.lemmas.Option.{slice_get_cases}
 use Rattle.pec_types.specs.Bytes.{Bytes}
 use Rattle.pec_types.specs.declared.turns.ProviderFault.{ProviderFault}
@@ -9,8 +9,6 @@ use Rattle.pec_directory.specs.Directory.{Kept}
 use Rattle.pec_seal.specs.Seals.{Seals}
 use Rattle.pec_ledger.specs.Trade.{Trade}
 use Rattle.pec_trade.specs.TradeOf.{trade_of}
-use Rattle.pec_provider.specs.Provider.{ProviderState}
-use Rattle.pec_network.specs.Carrying.{AllStand, NoneFalls}
 use Rattle.pec_network.specs.Network.{NetworkState}
 use Rattle.pec_http.specs.Asking.{Question, See}
 use Rattle.pec_http.specs.Asking as asking

@@ -1,8 +1,8 @@
 -- The line of a status, in three pieces.
-use Rattle.std.proofs.Common.{◌≡◌, ℕ, List, [], ◌∷◌, ◌++◌, refl, sym, ap, ◌∙◌}
+use Rattle.std.proofs.Common.{◌≡◌, ℕ, [], ◌∷◌, ◌++◌, sym}
 use Rattle.std.specs.Prelude.{codes}
 use Rattle.std.specs.Fmt.{decimal}
-use Rattle.std.proofs.lemmas.List.{append-nil, append_assoc}
+use Rattle.std.proofs.lemmas.List.{append-nil}
 use Rattle.pec_http.specs.declared.serving.Served.TheVariants as served
 use Rattle.pec_script.specs.Texts.{line_of}
 use Rattle.pec_serving.specs.Serving.{served_line}

@@ -1,8 +1,8 @@
 -- The loop over the clock calls of a connection, from the network with which it began.
-use Rattle.std.proofs.Common.{◌≡◌, ◌∙◌, ◌-◌, ◌+◌, ◌<◌, ◌≤◌, [], ◌∷◌, ℕ, List, length, ap, sym, subst, refl, arith, Option, Result, Ok, Err}
+use Rattle.std.proofs.Common.{◌≡◌, ◌-◌, ◌+◌, ◌<◌, [], ◌∷◌, ℕ, List, length, sym, subst, arith, Option, Result, Ok, Err}
 use Rattle.pec_types.specs.Bytes.{Bytes}
 use Rattle.pec_outside.specs.DiskModel.{Sight}
-use Rattle.pec_directory.specs.Directory.{Kept, Provider, providers_of}
+use Rattle.pec_directory.specs.Directory.{Kept, providers_of}
 use Rattle.pec_seal.specs.Seals.{Seals}
 use Rattle.pec_ledger.specs.Trade.{Trade}
 use Rattle.pec_plays.specs.Commands.{Command, Round, Tick}

@@ -1,5 +1,5 @@
 -- The next connection of a service, from what became of it at the desk.
-use Rattle.std.proofs.Common.{◌≡◌, ℕ, ◌<◌, ◌≤◌, true, List, [], ◌∷◌, ◌++◌, length, refl, ap, sym, subst, ◌∙◌, arith, Option, Some, None}
+use Rattle.std.proofs.Common.{◌≡◌, ℕ, ◌<◌, true, List, [], ◌∷◌, ◌++◌, refl, ap, sym, subst, ◌∙◌, arith, Option, Some, None}
 use Rattle.std.specs.Prelude.{IfSome, nat_lt}
 use Rattle.std.proofs.lemmas.Bool.{lt-ltb}
 use Rattle.std.proofs.lemmas.List.{append-nil}
@@ -7,13 +7,13 @@ use Rattle.pec_types.specs.Bytes.{Bytes}
 use Rattle.pec_types.specs.declared.moments.TheConstants.{END_OF_TIME}
 use Rattle.pec_outside.specs.Clocks.{Gives}
 use Rattle.pec_outside.specs.Doors.{Reply as ToldReply, in_front, replied}
-use Rattle.pec_outside.specs.Flow.{HasRisen, WrotePart, followed_by}
+use Rattle.pec_outside.specs.Flow.{HasRisen, followed_by}
 use Rattle.pec_directory.specs.Directory.{Kept}
 use Rattle.pec_ledger.specs.Trade.{Trade}
 use Rattle.pec_http.specs.Replies.{reply_text}
 use Rattle.pec_http.specs.declared.serving.Served.{Served}
 use Rattle.pec_http.specs.declared.serving.Served.TheVariants as served
-use Rattle.pec_service.specs.Calls.{AreCalls, Call, State, state_behind}
+use Rattle.pec_service.specs.Calls.{AreCalls, Call, state_behind}
 use Rattle.pec_service.specs.Connections.{Connection, Hearing, IsConnection, IsReplied, Place, answered_by, outcome_line}
 use Rattle.pec_service.specs.Connections as connections
 use Rattle.pec_serving.specs.Hearing.{Hears, IsServed}

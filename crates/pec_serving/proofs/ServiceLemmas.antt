@@ -1,6 +1,6 @@
 -- Connections one after another in a service, and how it ends.
-use Rattle.std.proofs.Common.{◌≡◌, ℕ, zero, suc, ◌+◌, ◌<◌, ◌≤◌, List, [], ◌∷◌, ◌++◌, length, refl, ap, sym, subst, ◌∙◌, arith, Option, Some, None, Result, Ok, Err}
-use Rattle.std.specs.Prelude.{All, IfSome, map, slice_get}
+use Rattle.std.proofs.Common.{◌≡◌, ℕ, zero, suc, ◌+◌, ◌<◌, ◌≤◌, List, [], ◌∷◌, ◌++◌, length, refl, ap, sym, subst, ◌∙◌, arith, Option, Some, None, Ok, Err}
+use Rattle.std.specs.Prelude.{All, IfSome, slice_get}
 use Rattle.std.proofs.lemmas.List.{append-nil, append_assoc, length-append, length-map}
 use Rattle.std.proofs.lemmas.List.Elements.{All-append, All-cons, All-nil}
 use Rattle.pec_types.specs.Bytes.{Bytes}
@@ -13,14 +13,12 @@ use Rattle.pec_plays.specs.Commands.{Command}
 use Rattle.pec_http.specs.declared.serving.Served.{Served}
 use Rattle.pec_runs.specs.Ran.{Behind, LeavesOff}
 use Rattle.pec_service.specs.Calls.{AreCalls, Call, State, calls_text, clock_from, commands_of, state_behind}
-use Rattle.pec_service.specs.Connections.{Connection, IsConnection, IsWhole, Place, connection_text, outcome_line}
+use Rattle.pec_service.specs.Connections.{Connection, IsConnection, IsWhole, Place, connection_text}
 use Rattle.pec_service.specs.Services.{AllServed, AreConnections, Halted, IsService, NoConnection, NoMoment, Service, connections_text, next_in, place_behind}
 use Rattle.pec_service.specs.Services as services
 use Rattle.pec_serving.specs.Playing.{NoneFell, PlaysAll}
 use Rattle.pec_serving.specs.Serving.{IsServedNext, ServesSo, served_line}
-use Rattle.pec_serving.specs.declared.serving.Ending.{Ending}
 use Rattle.pec_serving.specs.declared.serving.Ending.TheVariants as endings
-use Rattle.pec_serving.specs.declared.stops.Stop.{Stop}
 use Rattle.pec_serving.specs.declared.stops.Stop.TheVariants as stops
 use Rattle.pec_serving.proofs.WritingLemmas.{followed_nothing, followed_twice, part_behind}
 

@@ -1,5 +1,5 @@
 -- What became of one connection at the desk, before its line is written: `Hears`. This project's profile.
-use Rattle.std.specs.Prelude.{◌≡◌, ℕ, ◌≤◌, true, List, Option, Some}
+use Rattle.std.specs.Prelude.{◌≡◌, ℕ, ◌≤◌, List, Option}
 use Rattle.pec_types.specs.Bytes.{Bytes}
 use Rattle.pec_outside.specs.Flow.{WrotePart, followed_by}
 use Rattle.pec_directory.specs.Directory.{Kept}
@@ -11,7 +11,7 @@ use Rattle.pec_http.specs.Statuses.{number_of}
 use Rattle.pec_http.specs.declared.serving.Served.{Served}
 use Rattle.pec_http.specs.declared.serving.Served.TheVariants as served
 use Rattle.pec_service.specs.Calls.{AreCalls, Call, State, commands_of, state_behind}
-use Rattle.pec_service.specs.Connections.{Answering, Broken, Heard, Hearing, IsHeardSo, Unheard, answered_by, handed_in}
+use Rattle.pec_service.specs.Connections.{Broken, Heard, Hearing, IsHeardSo, Unheard, answered_by, handed_in}
 
 module _ (trade : Trade) (kept : List Kept) where
   -- what `serve_one` told, and what it wrote to a connection that held this

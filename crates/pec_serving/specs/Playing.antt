@@ -4,14 +4,13 @@ use Rattle.std.specs.Prelude.{◌≡◌, ℕ, ◌≤◌, List, [], ◌++◌, sli
 use Rattle.pec_types.specs.Bytes.{Bytes}
 use Rattle.pec_outside.specs.Flow.{WrotePart, followed_by}
 use Rattle.pec_directory.specs.Directory.{Provider}
-use Rattle.pec_ledger.specs.Network.{Site}
 use Rattle.pec_ledger.specs.Trade.{Trade}
 use Rattle.pec_plays.specs.Commands.{Command}
 use Rattle.pec_network.specs.Network.{NetworkState, sites}
 use Rattle.pec_runs.specs.AnswerLines.{answer_text}
 use Rattle.pec_runs.specs.Ran.{LeavesOff}
 use Rattle.pec_playing.specs.Playing.{counts_in}
-use Rattle.pec_service.specs.Calls.{AreCalls, Call, IsCall, State, answer_of, calls_text, clock_from, commands_of, state_behind}
+use Rattle.pec_service.specs.Calls.{AreCalls, Call, IsCall, State, answer_of, calls_text, commands_of, state_behind}
 use Rattle.pec_serving.specs.declared.stops.Stop.{Stop}
 use Rattle.pec_serving.specs.declared.stops.Stop.TheVariants as stops
 

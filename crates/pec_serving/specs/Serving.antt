@@ -1,16 +1,15 @@
 -- A service over a network, a clock, a door and an output: how a call of it comes out (`ServesSo`). This project's profile.
-use Rattle.std.specs.Prelude.{◌≡◌, ℕ, ◌≤◌, List, [], ◌∷◌, length, Option, Some, Result, codes}
+use Rattle.std.specs.Prelude.{◌≡◌, ℕ, List, [], ◌∷◌, Option, Some, codes}
 use Rattle.std.specs.Fmt.{decimal}
 use Rattle.pec_types.specs.Bytes.{Bytes}
 use Rattle.pec_outside.specs.Doors.{Reply as ToldReply, replied}
-use Rattle.pec_outside.specs.Flow.{HasRisen, WrotePart, followed_by}
+use Rattle.pec_outside.specs.Flow.{WrotePart, followed_by}
 use Rattle.pec_directory.specs.Directory.{Kept}
 use Rattle.pec_ledger.specs.Trade.{Trade}
 use Rattle.pec_network.specs.Network.{NetworkState}
 use Rattle.pec_http.specs.declared.serving.Served.{Served}
 use Rattle.pec_http.specs.declared.serving.Served.TheVariants as served
 use Rattle.pec_script.specs.Texts.{text_of}
-use Rattle.pec_service.specs.Calls.{Call}
 use Rattle.pec_service.specs.Connections.{Connection, IsConnection, Place, outcome_line}
 use Rattle.pec_service.specs.Services.{AllServed, Halted, IsService, NoConnection, NoMoment, Service, service_text}
 use Rattle.pec_service.specs.Services as services

@@ -1,4 +1,4 @@
-use Rattle.std.proofs.Common.{◌≡◌, ◌∙◌, ◌<◌, ◌≤◌, ℕ, List, length, ap, sym, refl, arith}
+use Rattle.std.proofs.Common.{◌≡◌, ◌∙◌, ◌<◌, List, length, ap, sym, refl, arith}
 use Rattle.pec_directory.specs.Directory.{Kept, providers_of}
 use Rattle.pec_trade.specs.TradeOf.{trade_of}
 use Rattle.pec_serving.proofs.ClockLemmas.{Joins}

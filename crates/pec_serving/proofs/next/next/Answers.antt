@@ -1,5 +1,4 @@
-use Rattle.std.proofs.Common.{◌≡◌, ◌∙◌, ap, sym, subst, refl, ℕ, List, [], Option, Some, None}
-use Rattle.std.specs.Prelude.{IfSome}
+use Rattle.std.proofs.Common.{◌∙◌, ap, sym, refl, ℕ, List, Option}
 use Rattle.pec_outside.specs.Doors.{Reply, in_front, replied}
 use Rattle.pec_seal.specs.Hmac.{hmac_seals}
 use Rattle.pec_trade.specs.TradeOf.{trade_of}

@@ -1,4 +1,4 @@
-use Rattle.std.proofs.Common.{◌≡◌, ◌∙◌, ◌+◌, ◌<◌, ◌≤◌, ℕ, List, length, ap, sym, subst, refl, arith, Result, Ok, Err}
+use Rattle.std.proofs.Common.{◌≡◌, ◌∙◌, List, length, ap, sym, subst, refl, arith, Err}
 use Rattle.pec_directory.specs.Directory.{Kept, providers_of}
 use Rattle.pec_letters.specs.Fitting.{Fits}
 use Rattle.pec_seal.specs.Hmac.{hmac_seals}
