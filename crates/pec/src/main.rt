@@ -6,12 +6,20 @@ mod screening;
 mod words;
 
 use adapters::{Input, Output};
+use pec_doors::{SystemTicks, TcpDoor};
 use pec_files::FileDepot;
 use pec_top::Status;
 use screening::run_screened;
 use std::io;
 use std::process::ExitCode;
+use std::time::Duration;
 use words::words;
+
+/// Where connections come in, on this machine alone.
+const PORT: u16 = 8125;
+
+/// How many seconds a connection has, all its reads and writes together.
+const PATIENCE: u64 = 10;
 
 fn main(rt: HostRuntime) -> ExitCode {
     let Ok(words) = words(&rt, rt.alloc()) else {
@@ -22,9 +30,19 @@ fn main(rt: HostRuntime) -> ExitCode {
         return ExitCode::from(Status::NoMemory.code());
     };
     let mut depot = FileDepot::new(&rt, folder);
+    let mut ticks = SystemTicks::new(&rt);
+    let mut door = TcpDoor::new(&rt, PORT, Duration::from_secs(PATIENCE));
     let mut input = Input::new(rt.reader());
     let mut output = Output::new(io::writer(&rt));
-    match run_screened(rt.alloc(), &words, &mut input, &mut output, &mut depot) {
+    match run_screened(
+        rt.alloc(),
+        &words,
+        &mut input,
+        &mut output,
+        &mut depot,
+        &mut ticks,
+        &mut door,
+    ) {
         Ok(status) => ExitCode::from(status.code()),
         Err(_) => ExitCode::from(Status::NoMemory.code()),
     }

@@ -2,7 +2,7 @@
 
 ghost use Rattle.std.specs.Prelude.{◌<◌, ◌^◌};
 
-use pec_outside::{Depot, Sink, Source};
+use pec_outside::{Depot, Door, Sink, Source, Ticks};
 use pec_screen::{PatternScreen, Screen, Screens};
 use pec_top::{Status, run_pec};
 use pec_types::Text8;
@@ -15,12 +15,14 @@ const LISTS: usize = 16;
 const PATTERN: &[u8] = b"PEC-VIRUS-DI-PROVA";
 
 /// Runs the program, where each of the first providers has one screen, of one pattern.
-pub(crate) fn run_screened<S: Source, W: Sink, P: Depot>(
+pub(crate) fn run_screened<S: Source, W: Sink, P: Depot, T: Ticks, R: Door>(
     alloc: Global,
     words: &[String],
     input: &mut S,
     out: &mut W,
     depot: &mut P,
+    ticks: &mut T,
+    door: &mut R,
 ) -> Result<Status, AllocError> {
     let mut screens = Vec::new(alloc);
     for _ in 0..LISTS {
@@ -29,5 +31,5 @@ pub(crate) fn run_screened<S: Source, W: Sink, P: Depot>(
         let screen: Box<dyn Screen> = Box::new(alloc, screen)?;
         screens.push(Screens::new(vec![in alloc; screen]?))?;
     }
-    Ok(run_pec(alloc, words, input, out, depot, screens))
+    Ok(run_pec(alloc, words, input, out, depot, ticks, door, screens))
 }

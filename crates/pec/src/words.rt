@@ -40,9 +40,10 @@ fn word<R: Env>(rt: &R, alloc: Global, place: usize) -> Result<Option<String>, A
 #[cfg(test)]
 mod tests {
     use super::*;
-    use pec_outside::{MemDepot, MemSink, MemSource};
-    use pec_screen::NoScreens;
-    use pec_top::{Status, run_pec};
+    use crate::screening::run_screened;
+    use pec_outside::{MemDepot, MemDoor, MemSink, MemSource, MemTicks};
+    use pec_top::Status;
+    use pec_types::Moment;
     use std::test::Fail;
 
     /// A program with one word behind its name, which nobody may ask for.
@@ -70,16 +71,29 @@ mod tests {
         }
     }
 
+    /// A clock that stands still.
+    fn clock(alloc: Global) -> Result<MemTicks, AllocError> {
+        let mut moments = Vec::new(alloc);
+        if let Some(moment) = Moment::new(1_704_186_000) {
+            moments.push(moment)?;
+        }
+        if moments.is_empty() {
+            return Err(AllocError);
+        }
+        Ok(MemTicks::new(alloc, moments, Vec::new(alloc)))
+    }
+
     /// A word that isn't UTF-8, one that looks like a form, one of more bytes than the first room, and the form itself.
     #[test]
     fn a_word_that_is_no_form_is_answered_with_usage(rt: HostRuntime) -> Result<(), Fail> {
         let long: &'static [u8; 70] =
             b"runrunrunrunrunrunrunrunrunrunrunrunrunrunrunrunrunrunrunrunrunrunrunr";
-        let rows: [(&'static [u8], Status); 4] = [
+        let rows: [(&'static [u8], Status); 5] = [
             (b"run\xff", Status::Usage),
             (b"\xffrun", Status::Usage),
             (long, Status::Usage),
             (b"run", Status::Refused),
+            (b"serve", Status::Usage),
         ];
         for (word, status) in rows {
             let words = words(&OneWord(word), rt.alloc())?;
@@ -92,19 +106,24 @@ mod tests {
             );
             let mut output = MemSink::new(rt.alloc(), Vec::new(rt.alloc()));
             let mut depot = MemDepot::new(rt.alloc(), Vec::new(rt.alloc()), Vec::new(rt.alloc()));
-            let none: Vec<NoScreens> = Vec::new(rt.alloc());
-            assert_eq!(rt;
-                run_pec(
-                    rt.alloc(),
-                    &words,
-                    &mut input,
-                    &mut output,
-                    &mut depot,
-                    none
-                ),
-                status,
-                "at {word:?}"
+            let mut ticks = clock(rt.alloc())?;
+            let none = Vec::new(rt.alloc());
+            let mut door = MemDoor::new(
+                rt.alloc(),
+                none,
+                Vec::new(rt.alloc()),
+                Vec::new(rt.alloc()),
             );
+            let ran = run_screened(
+                rt.alloc(),
+                &words,
+                &mut input,
+                &mut output,
+                &mut depot,
+                &mut ticks,
+                &mut door,
+            )?;
+            assert_eq!(rt; ran, status, "at {word:?}");
         }
         Ok(())
     }

@@ -14,6 +14,9 @@ use Rattle.pec_types.specs.declared.turns.ProviderFault.TheVariants as faults
 use Rattle.pec_types.specs.declared.turns.Submitted.{Submitted}
 use Rattle.pec_directory.specs.Directory.{Kept, account_home, is_account_of, is_number, providers_of}
 use Rattle.pec_records.specs.declared.entries.Entry.{Entry}
+use Rattle.pec_screen.specs.Screened.{finds_by, finds_in}
+use Rattle.pec_screen.specs.VerdictReading.{finds}
+use Rattle.pec_screen.specs.Verdicts.{Patterns}
 use Rattle.pec_seal.specs.Seals.{Seals}
 use Rattle.pec_ledger.specs.Books.{book, mailbox_lines}
 use Rattle.pec_ledger.specs.Half.{Half, Posted}
@@ -33,7 +36,7 @@ use Rattle.pec_http.specs.declared.demands.Look.{Look}
 use Rattle.pec_http.specs.declared.demands.Look.TheVariants as looks
 use Rattle.pec_script.specs.Texts.{book_text, items_text}
 use Rattle.pec_desk.specs.Desks.{IsSeen, as_they_are, bytes_shown, items_shown, lines_shown}
-use Rattle.pec_desk.specs.Own.{Share, entry_for, numbered, said_by, share_at, shown_to, text_or_none}
+use Rattle.pec_desk.specs.Own.{Share, entry_for, numbered, patterns_at, patterns_by, said_by, share_at, shown_to, text_or_none}
 
 -- ---- answers, and what they tell
 
@@ -163,8 +166,20 @@ seen_if : {X Y : Type 0} (seen : X → Y) (b : Bool) (x y : Result X ProviderFau
 seen_if seen true x y = refl
 seen_if seen false x y = refl
 
-module _ (kept : List Kept) (seals : Seals) (state : List Site) (address : Bytes) (number : ℕ)
-    (home : account_home (providers_of kept) address ≡ Some number) where
+-- what the screens of a provider find is what those of its patterns do
+module _ (message : Bytes) where
+  found_by : (boxes : Option (List Patterns)) → finds_by boxes message ≡ finds (patterns_by boxes) message
+  unfolding finds
+  found_by None = refl
+  found_by (Some boxes) = refl
+
+  found_at : (screens : List (List Patterns)) (number : ℕ)
+      → finds_in screens number message ≡ finds (patterns_at screens number) message
+  unfolding finds_in
+  found_at screens number = found_by (slice_get screens number)
+
+module _ (kept : List Kept) (seals : Seals) (state : List Site) (screens : List (List Patterns)) (address : Bytes)
+    (number : ℕ) (home : account_home (providers_of kept) address ≡ Some number) where
   abbrev trade : Trade
   trade = trade_of kept seals
 
@@ -175,7 +190,7 @@ module _ (kept : List Kept) (seals : Seals) (state : List Site) (address : Bytes
   ledger = half trade number journal
 
   abbrev share : Share
-  share = share_at trade state address number
+  share = share_at trade screens state address number
 
   abbrev up : Bool
   up = (site_at state number).up
@@ -305,13 +320,13 @@ module _ (kept : List Kept) (seals : Seals) (state : List Site) (address : Bytes
 
   module _ (moment : ℕ) (path : Path) (message : Bytes) where
     abbrev said : Result Submitted ProviderFault
-    said = said_by (providers_of kept) moment number share.figures address path message
+    said = said_by (providers_of kept) moment number share.figures share.patterns address path message
 
     abbrev entry : Entry
-    entry = entry_for (providers_of kept) number moment address path message
+    entry = entry_for (providers_of kept) number share.patterns moment address path message
 
     abbrev done : Submitted
-    done = numbered (providers_of kept) number share.figures.messages address path message
+    done = numbered (providers_of kept) number share.patterns share.figures.messages address path message
 
     by_tests : (account works back few full : Bool) (last : ℕ) (after : List Site) → account ≡ true
         → (if account
@@ -331,24 +346,32 @@ module _ (kept : List Kept) (seals : Seals) (state : List Site) (address : Bytes
     by_tests true false back few full last after e = refl
     by_tests false works back few full last after e = absurd (cc)
 
-    pub submit_told : (played trade (luck_of false) state (Submit number moment address path message false)).answer
-        ≡ told submitted_shown said
+    -- the submission, where the screens find this
+    abbrev handed : Bool → Luck → Played
+    handed found luck = played trade luck state (Submit number moment address path message found)
+
+    told_so : (handed (finds share.patterns message) (luck_of false)).answer ≡ told submitted_shown said
     unfolding played has_no_room
-    submit_told =
+    told_so =
         by_tests (trade.is_account number address) up (nat_lt moment ledger.last) (nat_lt (length ledger.messages) MESSAGES)
         (nat_lt longest_journal (ledger.end + size_of entry)) ledger.last
         (plays.with_site state number (plays.with_entry (site_at state number) entry)) is_ours
 
+    abbrev found : Bool
+    found = finds_in screens number message
+
+    pub submit_told : (handed found (luck_of false)).answer ≡ told submitted_shown said
+    submit_told = ap (λ (b : Bool). (handed b (luck_of false)).answer) (found_at message screens number) ∙ told_so
+
     submitted_err : (fault : ProviderFault) (after : List Site)
-        → (played trade (luck_of false) state (Submit number moment address path message false) ≡ answers state (Refuses fault))
-        × (after ≡ state) → Err fault ≡ said
+        → (handed found (luck_of false) ≡ answers state (Refuses fault)) × (after ≡ state) → Err fault ≡ said
     submitted_err fault after is =
         told_once submitted_shown submitted_tell (Err fault) said
         (sym (ap (λ (p : Played). p.answer) is.0) ∙ submit_told)
 
     -- what the provider said is what its figures say, but for want of memory and a fault of its disk
     pub submission_is : (after : List Site) (heard : Result Submitted ProviderFault)
-        → IsPlayed Submits (λ luck. played trade luck state (Submit number moment address path message false)) state after heard
+        → IsPlayed Submits (λ luck. handed found luck) state after heard
         → (heard ≡ said) ⊎ (heard ≡ Err faults.NoMemory) ⊎ (heard ≡ Err faults.DiskFault)
     submission_is after (Ok submitted) is =
         inl (told_once submitted_shown submitted_tell (Ok submitted) said
@@ -373,7 +396,7 @@ module _ (kept : List Kept) (seals : Seals) (state : List Site) (address : Bytes
     said_refuses false back few full last = tt
 
     pub submission_refuses : (after : List Site) (heard : Result Submitted ProviderFault)
-        → IsPlayed Submits (λ luck. played trade luck state (Submit number moment address path message false)) state after heard
+        → IsPlayed Submits (λ luck. handed found luck) state after heard
         → IfErr heard IsSubmitFault
     submission_refuses after heard is = elim (submission_is after heard is) [
       | inl own ↦ subst (λ (r : Result Submitted ProviderFault). IfErr r IsSubmitFault) (sym own)

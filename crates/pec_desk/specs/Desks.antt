@@ -11,6 +11,8 @@ use Rattle.pec_types.specs.declared.turns.Submitted.{Submitted}
 use Rattle.pec_outside.specs.DiskModel.{Sight}
 use Rattle.pec_directory.specs.Directory.{Account, Kept, Provider, account_home, account_of, first_domain, providers_of}
 use Rattle.pec_records.specs.Entry.{most_addresses}
+use Rattle.pec_screen.specs.Screened.{finds_in}
+use Rattle.pec_screen.specs.Verdicts.{Patterns}
 use Rattle.pec_seal.specs.Seals.{Seals}
 use Rattle.pec_ledger.specs.Ledger.{Journals}
 use Rattle.pec_ledger.specs.Network.{Site}
@@ -28,10 +30,12 @@ use Rattle.pec_http.specs.declared.passes.Pass.{Pass}
 use Rattle.pec_http.specs.declared.passes.Pass.TheVariants as passes
 use Rattle.pec_script.specs.Texts.{book_text, items_text}
 
--- The network, and the moment at which all that comes to the desk is done, in seconds.
+-- The network, the moment at which all that comes to the desk is done, in seconds, and the patterns of the boxes of each
+-- provider's screens, from 0 on: a provider without a list has none.
 pub record DeskState (D S : Type 0) : Type 0 where
   pub network : NetworkState D S
   pub moment : ℕ
+  pub screens : List (List Patterns)
 
 -- ---- who asks
 
@@ -74,9 +78,9 @@ abbrev pub count_at : {D : Type 0} → (D → ℕ) → List (ProviderState D) �
 count_at count providers None = 0
 count_at count providers (Some number) = count_in count (slice_get providers number)
 
--- An account handed a message in, and its provider said this: the command was played so at the desk's moment, where no
--- screen finds anything, for the desk has none. No other
--- provider was touched, and the disks carry on.
+-- An account handed a message in, and its provider said this: the command was played so at the desk's moment, where the
+-- provider's screens find what they do. Screens keep what they look for, no other provider was touched, and the disks
+-- carry on.
 pub record HandsIn {D S : Type 0} (sight : D → Sight) (count : D → ℕ) (tells : Type 0) (seals : S → Seals)
     (old : DeskState D S) (address : Bytes) (addresses : Path) (message : Bytes) (said : Result Submitted ProviderFault)
     (new : DeskState D S) : Type 0 where
@@ -84,9 +88,11 @@ pub record HandsIn {D S : Type 0} (sight : D → Sight) (count : D → ℕ) (tel
   pub home : account_home (providers_of old.network.kept) address ≡ Some number
   pub within : number < length old.network.kept
   pub moment : new.moment ≡ old.moment
+  pub screens : new.screens ≡ old.screens
   pub path : (0 < length addresses) × (length addresses ≤ most_addresses)
   pub plays : IsPlayed Submits
-      (λ luck. played (world_of seals old.network) luck (sites old.network) (Submit number old.moment address addresses message false))
+      (λ luck. played (world_of seals old.network) luck (sites old.network)
+      (Submit number old.moment address addresses message (finds_in old.screens number message)))
       (sites old.network) (sites new.network) said
   pub others : ChangesOnly number old.network new.network
   pub carries : tells → (journals : Journals)

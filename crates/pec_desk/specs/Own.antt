@@ -1,7 +1,7 @@
 -- What an account is answered is its own: `reply_to` is the answer of HTTP as a function of the question, the moment, the
--- directory, and the account's share of the network (`Share`): its own book and items, and what its provider comes to.
--- This project's profile.
-use Rattle.std.specs.Prelude.{◌≡◌, ◌⊎◌, ℕ, ◌+◌, nat_lt, Bool, List, length, map, Option, None, Some, Result, Ok, Err, slice_get, if◌then◌else◌, false}
+-- directory, and the account's share of the desk (`Share`): its own book and items, what its provider comes to, and what
+-- that provider's screens look for. This project's profile.
+use Rattle.std.specs.Prelude.{◌≡◌, ◌⊎◌, ℕ, ◌+◌, nat_lt, Bool, List, [], length, map, Option, None, Some, Result, Ok, Err, slice_get, if◌then◌else◌}
 use Rattle.std.specs.Option.{option_and_then, option_map}
 use Rattle.pec_types.specs.Bytes.{Bytes, Path}
 use Rattle.pec_types.specs.declared.mailboxes.ItemLine.{ItemLine}
@@ -13,6 +13,8 @@ use Rattle.pec_types.specs.declared.turns.ProviderFault.TheVariants as faults
 use Rattle.pec_types.specs.declared.turns.Submitted.{Submitted}
 use Rattle.pec_directory.specs.Directory.{Provider, account_home, first_domain, providers_of}
 use Rattle.pec_records.specs.declared.entries.Entry.{Entry}
+use Rattle.pec_screen.specs.VerdictReading.{finds}
+use Rattle.pec_screen.specs.Verdicts.{Patterns}
 use Rattle.pec_seal.specs.Seals.{Seals}
 use Rattle.pec_ledger.specs.Books.{book, mailbox_lines}
 use Rattle.pec_ledger.specs.Items.{item_text}
@@ -35,7 +37,7 @@ use Rattle.pec_http.specs.declared.stops.Stop.{Stop}
 use Rattle.pec_script.specs.Texts.{book_text, items_text}
 use Rattle.pec_desk.specs.Desks.{DeskState, world_of}
 
--- ---- an account's share of the network
+-- ---- an account's share of the desk
 
 -- Its own: its book, the lines of its mailbox, and the bytes of each item.
 pub record Own : Type 0 where
@@ -61,50 +63,63 @@ own_of trade number journal half address = record {
 abbrev pub figures_of : Bool → Half → Figures
 figures_of up half = record { up = up; last = half.last; messages = length half.messages; end = half.end }
 
+-- The patterns of the boxes of a provider: none where it has no list.
+abbrev pub patterns_by : Option (List Patterns) → List Patterns
+patterns_by None = []
+patterns_by (Some boxes) = boxes
+
+abbrev pub patterns_at : List (List Patterns) → ℕ → List Patterns
+patterns_at screens number = patterns_by (slice_get screens number)
+
 pub record Share : Type 0 where
   pub number : ℕ  -- of its provider
   pub own : Own
   pub figures : Figures
+  pub patterns : List Patterns  -- of its provider's boxes
 
-abbrev pub share_at : Trade → List Site → Bytes → ℕ → Share
-share_at trade state address number = record {
+abbrev pub share_at : Trade → List (List Patterns) → List Site → Bytes → ℕ → Share
+share_at trade screens state address number = record {
   number = number;
   own = own_of trade number (journal_at state number) (half trade number (journal_at state number)) address;
   figures = figures_of (site_at state number).up (half trade number (journal_at state number));
+  patterns = patterns_at screens number;
 }
 
 -- The share of an address, which has one where it is an account.
-abbrev pub share_in : Trade → List Provider → List Site → Bytes → Option Share
-share_in trade providers state address = option_map (share_at trade state address) (account_home providers address)
+abbrev pub share_in : Trade → List Provider → List (List Patterns) → List Site → Bytes → Option Share
+share_in trade providers screens state address =
+    option_map (share_at trade screens state address) (account_home providers address)
 
 abbrev pub share_of : {D S : Type 0} → (S → Seals) → DeskState D S → Bytes → Option Share
 share_of seals desk address =
-    share_in (world_of seals desk.network) (providers_of desk.network.kept) (sites desk.network) address
+    share_in (world_of seals desk.network) (providers_of desk.network.kept) desk.screens (sites desk.network) address
 
 -- ---- what is answered to it
 
--- what speaks against a message, where no screen finds anything
-abbrev pub cause_seen : List Provider → ℕ → Bytes → Path → Bytes → Option Cause
-cause_seen providers number address path message = screened_cause false (cause_at providers number address path message)
+-- what speaks against a message, where screens look for these
+abbrev pub cause_seen : List Provider → ℕ → List Patterns → Bytes → Path → Bytes → Option Cause
+cause_seen providers number patterns address path message =
+    screened_cause (finds patterns message) (cause_at providers number address path message)
 
-abbrev pub entry_for : List Provider → ℕ → ℕ → Bytes → Path → Bytes → Entry
-entry_for providers number moment address path message =
-    entry_by (cause_seen providers number address path message) moment address path message
+abbrev pub entry_for : List Provider → ℕ → List Patterns → ℕ → Bytes → Path → Bytes → Entry
+entry_for providers number patterns moment address path message =
+    entry_by (cause_seen providers number patterns address path message) moment address path message
 
 -- what the provider says to a submission for which its journal has room
-abbrev pub numbered : List Provider → ℕ → ℕ → Bytes → Path → Bytes → Submitted
-numbered providers number messages address path message =
-    told_by (cause_seen providers number address path message) (id_of number messages)
+abbrev pub numbered : List Provider → ℕ → List Patterns → ℕ → Bytes → Path → Bytes → Submitted
+numbered providers number patterns messages address path message =
+    told_by (cause_seen providers number patterns address path message) (id_of number messages)
 
--- What a provider says to a submission, by its figures: the first refusal that applies, or that it is accepted or isn't.
-abbrev pub said_by : List Provider → ℕ → ℕ → Figures → Bytes → Path → Bytes → Result Submitted ProviderFault
-said_by providers moment number figures address path message =
+-- What a provider says to a submission, by its figures and what its screens look for: the first refusal that applies, or
+-- that it is accepted or isn't.
+abbrev pub said_by : List Provider → ℕ → ℕ → Figures → List Patterns → Bytes → Path → Bytes → Result Submitted ProviderFault
+said_by providers moment number figures patterns address path message =
     if figures.up
     then (if nat_lt moment figures.last then Err (faults.ClockBack figures.last)
     else (if nat_lt figures.messages MESSAGES
-    then (if nat_lt longest_journal (figures.end + size_of (entry_for providers number moment address path message))
+    then (if nat_lt longest_journal (figures.end + size_of (entry_for providers number patterns moment address path message))
     then Err faults.JournalFull
-    else Ok (numbered providers number figures.messages address path message))
+    else Ok (numbered providers number patterns figures.messages address path message))
     else Err faults.Full))
     else Err faults.Down
 
@@ -127,10 +142,15 @@ abbrev pub shown_with : List Provider → Option Share → Look → Result Bytes
 shown_with providers None looked = Err faults.NoAccount
 shown_with providers (Some share) looked = shown_to providers share looked
 
+-- What an address is shown in a state. It hangs on no screens, so there are none here.
+abbrev pub shown_in : Trade → List Provider → List Site → Bytes → Look → Result Bytes ProviderFault
+shown_in trade providers state address looked = shown_with providers (share_in trade providers [] state address) looked
+
 abbrev pub submission_reply : List Provider → ℕ → Option Share → Bytes → Path → Bytes → Reply
 submission_reply providers moment None address path message = fault_reply faults.NoAccount
 submission_reply providers moment (Some share) address path message =
-    submitted_reply (first_domain providers share.number) (said_by providers moment share.number share.figures address path message)
+    submitted_reply (first_domain providers share.number)
+    (said_by providers moment share.number share.figures share.patterns address path message)
 
 -- who asks, where a question is put to the desk
 abbrev pub asker : Result Question Stop → Option Bytes

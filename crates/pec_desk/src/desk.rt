@@ -7,19 +7,22 @@ use crate::showing::{book, item, mailbox};
 use pec_http::{Desk, Pass, ProviderFaultView};
 use pec_network::Network;
 use pec_outside::Disk;
+use pec_screen::Judge;
 use pec_seal::{HmacSealer, Sealer};
 use pec_types::{Address, Moment, Submitted};
 use std::alloc::Global;
 use std::marker::Model;
 
 /// The desk at which the accounts of all providers of a network hand messages in and look at what is theirs, at one
-/// moment. This project's profile.
-pub struct NetworkDesk<D> {
+/// moment. The screens of a provider are those at its number; a provider past them has none. This project's profile.
+pub struct NetworkDesk<D, J: Judge> {
     network: Network<D, HmacSealer>,
     moment: Moment,
+    screens: Vec<J>,
 }
 
-impl<D> Model for NetworkDesk<D> {
+impl<D, J: Judge> Model for NetworkDesk<D, J> {
+    ghost use Rattle.std.specs.Prelude.{map};
     ghost use Rattle.pec_directory.specs.Directory.{providers_of};
     ghost use Rattle.pec_letters.specs.Fitting.{Fits};
     ghost use Rattle.pec_seal.specs.declared.hmac.HmacSealer.{HmacSealer};
@@ -27,32 +30,48 @@ impl<D> Model for NetworkDesk<D> {
 
     ghost Value = { DeskState D HmacSealer };
 
-    ghost view = { λ desk. record { network = desk.network; moment = desk.moment } };
+    ghost view = { λ desk.
+        record { network = desk.network; moment = desk.moment; screens = map J.patterns desk.screens.items } };
 
     ghost invariant = { λ desk.
         Fits (⟦<HmacSealer as Sealer>⟧.seals desk.network.sealer) (providers_of desk.network.kept) };
 }
 
-impl<D> NetworkDesk<D> {
-    ghost use Rattle.std.specs.Prelude.{◌≡◌, ◌<◌, ◌≤◌, Some, true, is_some, length};
+impl<D, J: Judge> NetworkDesk<D, J> {
+    ghost use Rattle.std.specs.Prelude.{◌≡◌, ◌<◌, ◌≤◌, Some, true, is_some, length, map};
     ghost use Rattle.pec_directory.specs.Directory.{account_home, first_domain, providers_of};
     ghost use Rattle.pec_letters.specs.Fitting.{Fits};
 
     /// Opens the desk of a network at a moment, whose sealer seals for the providers of its directory. It takes no memory.
-    pub fn open(network: Network<D, HmacSealer>, moment: Moment) -> NetworkDesk<D>
+    pub fn open(
+        network: Network<D, HmacSealer>,
+        moment: Moment,
+        screens: Vec<J>,
+    ) -> NetworkDesk<D, J>
         requires { Fits (⟦<HmacSealer as Sealer>⟧.seals network.sealer) (providers_of network.kept) }
-        ensures { (result.network ≡ network) × (result.moment ≡ moment) }
+        ensures network { result.network ≡ network }
+        ensures moment { result.moment ≡ moment }
+        ensures screens { result.screens ≡ map J.patterns screens.items }
     {
-        NetworkDesk { network, moment }
+        NetworkDesk {
+            network,
+            moment,
+            screens,
+        }
     }
 
-    /// The network, as the desk left it. It takes no memory.
-    pub fn close(self) -> Network<D, HmacSealer>
-        ensures is { result ≡ self.network }
-        ensures fits { Fits (⟦<HmacSealer as Sealer>⟧.seals result.sealer) (providers_of result.kept) }
+    /// The network and the screens, as the desk left them. It takes no memory.
+    pub fn close(self) -> (Network<D, HmacSealer>, Vec<J>)
+        ensures is { result.0 ≡ self.network }
+        ensures fits { Fits (⟦<HmacSealer as Sealer>⟧.seals result.0.sealer) (providers_of result.0.kept) }
+        ensures screens { map J.patterns result.1.items ≡ self.screens }
     {
-        let NetworkDesk { network, moment: _ } = self;
-        network
+        let NetworkDesk {
+            network,
+            moment: _,
+            screens,
+        } = self;
+        (network, screens)
     }
 
     /// The number of the provider whose account an address is.
@@ -69,7 +88,7 @@ impl<D> NetworkDesk<D> {
 }
 
 /// What a connection may ask for. The refusals are those of the network.
-impl<D: Disk> Desk for NetworkDesk<D> {
+impl<D: Disk, J: Judge> Desk for NetworkDesk<D, J> {
     ghost answers = { answers_of D.sight D.faults D.tells (⟦<HmacSealer as Sealer>⟧.seals) };
 
     #[tactic(auto, unfolding(crate::specs::Desks::pass_of))]
@@ -103,6 +122,7 @@ impl<D: Disk> Desk for NetworkDesk<D> {
         hand_in(
             alloc,
             &mut self.network,
+            self.screens.as_mut_slice(),
             home,
             self.moment,
             address,

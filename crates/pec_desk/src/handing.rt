@@ -1,4 +1,4 @@
-ghost use Rattle.std.specs.Prelude.{◌≡◌, ℕ, ◌<◌, ◌≤◌, Option, Some, Err, length, IfErr};
+ghost use Rattle.std.specs.Prelude.{◌≡◌, ℕ, ◌<◌, ◌≤◌, Option, Some, Err, length, map, IfErr};
 ghost use Rattle.pec_outside.specs.Flow.{HasRisen};
 ghost use Rattle.pec_types.specs.declared.turns.ProviderFault.TheVariants as faults;
 ghost use Rattle.pec_directory.specs.Directory.{account_home, providers_of};
@@ -9,16 +9,17 @@ ghost use Rattle.pec_desk.specs.Desks.{HandsIn, count_at};
 
 use pec_network::Network;
 use pec_outside::Disk;
-use pec_screen::NoScreens;
+use pec_screen::Judge;
 use pec_seal::Sealer;
 use pec_types::{Address, Moment, ProviderFault, Submitted};
 use std::alloc::Global;
 
-/// Hands the provider of an account, by its number, a message that the account submits at a moment for a forward path. No
-/// screen looks at it.
-pub(crate) fn hand_in<D: Disk, S: Sealer>(
+/// Hands the provider of an account, by its number, a message that the account submits at a moment for a forward path. The
+/// screens of a provider are those at its number.
+pub(crate) fn hand_in<D: Disk, S: Sealer, J: Judge>(
     alloc: Global,
     network: &mut Network<D, S>,
+    screens: &mut [J],
     number: u32,
     moment: Moment,
     account: &Address,
@@ -30,8 +31,10 @@ pub(crate) fn hand_in<D: Disk, S: Sealer>(
     requires fits { Fits (S.seals network.old.sealer) (providers_of network.old.kept) }
     requires path { (0 < length path.now) × (length path.now ≤ most_addresses) }
     requires message { length message.now ≤ longest_message }
-    ensures handed { HandsIn D.sight D.faults D.tells S.seals (record { network = network.old; moment = moment })
-        account.now path.now message.now result (record { network = network.new; moment = moment }) }
+    ensures handed { HandsIn D.sight D.faults D.tells S.seals
+        (record { network = network.old; moment = moment; screens = map J.patterns screens.old })
+        account.now path.now message.now result
+        (record { network = network.new; moment = moment; screens = map J.patterns screens.new }) }
     ensures same { (network.new.kept ≡ network.old.kept) × (network.new.sealer ≡ network.old.sealer) }
     ensures refusals { IfErr result IsSubmitFault }
     ensures later { (home : Option ℕ)
@@ -41,8 +44,7 @@ pub(crate) fn hand_in<D: Disk, S: Sealer>(
         (count_at D.faults network.new.providers (Some number)) }
 {
     as_many_providers(network);
-    let mut none = NoScreens;
-    let said = network.submit(alloc, number, moment, account, path, message, &mut none);
+    let said = network.submit_screened(alloc, number, moment, account, path, message, screens);
     as_many_providers(network);
     said
 }

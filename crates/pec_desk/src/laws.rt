@@ -13,9 +13,9 @@ use pec_outside::Disk;
 use pec_seal::Sealer;
 
 /// The law of accounts: what a request is answered is a function of the request, the moment, the directory, and the share
-/// of the account that asks, which is its own book and items and what its provider comes to; but for want of memory, and,
-/// of a submission, for a fault of that provider's disk. So the desks of two networks of one directory, in which that account has the same
-/// share, answer the same.
+/// of the account that asks, which is its own book and items, what its provider comes to and what that provider's screens
+/// look for; but for want of memory, and, of a submission, for a fault of that provider's disk. So the desks of two
+/// networks of one directory, in which that account has the same share, answer the same.
 pub fn an_account_sees_its_own<D: Disk, S: Sealer>()
     ensures own { (desk after : DeskState D S) (input : Bytes) (reply : ReplyShown)
         → IsAnswer (answers_of D.sight D.faults D.tells S.seals) desk input after reply

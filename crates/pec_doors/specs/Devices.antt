@@ -2,7 +2,7 @@
 use Rattle.std.specs.Prelude.{◌≡◌, ℕ, ◌+◌, ◌-◌, nat_lt, if◌then◌else◌, Bool, true, false}
 use Rattle.pec_outside.specs.Memory.{risen}
 
--- the clock, and a connection
+-- the clock
 pub record DeviceState : Type 0 where
   pub faults : ℕ  -- how many calls failed
 
@@ -14,9 +14,17 @@ unused = record { faults = 0 }
 abbrev pub faulted : DeviceState → DeviceState
 faulted device = record { faults = risen device.faults }
 
+pub record ConnectionState : Type 0 where
+  pub left : ℕ  -- how long its reads and writes may still take together, in nanoseconds
+  pub faults : ℕ  -- how many of them failed
+
+-- as it comes in, with the limit of its door
+abbrev pub begun : ℕ → ConnectionState
+begun limit = record { left = limit; faults = 0 }
+
 pub record DoorState : Type 0 where
   pub port : ℕ
-  pub limit : ℕ  -- how long a read or a write may wait, in nanoseconds
+  pub limit : ℕ  -- how long the reads and writes of a connection may take together, in nanoseconds
   pub listening : Bool  -- the port was opened
   pub out : ℕ  -- how many connections were accepted and aren't closed
   pub faulty : ℕ  -- how many were closed with faults

@@ -2,7 +2,7 @@ ghost use Rattle.std.specs.Prelude.{◌≡◌, ◌≢◌, ◌+◌, ◌<◌, ◌�
 ghost use Rattle.std.specs.Duration.{as_nanos};
 ghost use Rattle.pec_outside.specs.Flow.{HasRisen, as_u64, u64_of};
 ghost use Rattle.pec_outside.specs.Memory.{risen};
-ghost use Rattle.pec_doors.specs.Devices.{DoorState, unused, shut, accepted, closed, Refused};
+ghost use Rattle.pec_doors.specs.Devices.{DoorState, begun, shut, accepted, closed, Refused};
 
 use crate::descriptors::apart_from_the_streams;
 use crate::tcp_connection::TcpConnection;
@@ -10,6 +10,7 @@ use pec_outside::{Counted, Door, Failed};
 use std::io;
 use std::marker::Model;
 use std::net::{Ipv4Addr, Net, TcpListener, TcpStream};
+use std::rt::Clock;
 use std::time::Duration;
 
 #[cfg(test)]
@@ -44,8 +45,8 @@ impl<R> Model for TcpDoor<R> {
 }
 
 impl<R> TcpDoor<R> {
-    /// The door at a port, which isn't opened yet. A read or a write of a connection that waits longer than `limit`
-    /// fails. A limit of 0 lets no connection in.
+    /// The door at a port, which isn't opened yet. The reads and writes of a connection take no longer than `limit`, all
+    /// of them together. A limit of 0 lets no connection in.
     pub fn new(system: R, port: u16, limit: Duration) -> TcpDoor<R>
         ensures { result ≡ shut port (as_nanos limit) }
     {
@@ -87,22 +88,18 @@ impl<R: Net<Listener = TcpListener, Stream = TcpStream>> TcpDoor<R> {
         Ok(())
     }
 
-    // The socket of the next client, whose reads and writes wait no longer than the limit.
+    // The socket of the next client.
     fn next_stream(&mut self) -> io::Result<TcpStream>
         ensures ok { OnOk result (self.new ≡ record self.old { listening = true }) }
         ensures err { OnErr result (self.new ≡ record self.old { listening = self.new.listening }) }
         ensures stays { OnErr result (self.old.listening ≡ true → self.new.listening ≡ true) }
-        ensures no_time { self.old.limit ≡ 0 → IsErr result }
     {
         self.listen()?;
         let Some(listener) = &self.listener else {
             unreachable!()
         };
         let (stream, _) = listener.accept()?;
-        let stream = TcpStream::from(apart_from_the_streams(stream.into())?);
-        stream.set_read_timeout(Some(self.limit))?;
-        stream.set_write_timeout(Some(self.limit))?;
-        Ok(stream)
+        Ok(TcpStream::from(apart_from_the_streams(stream.into())?))
     }
 }
 
@@ -112,8 +109,8 @@ impl<R> Counted for TcpDoor<R> {
     ghost counted = { λ door. u64_of door.faults };
 }
 
-impl<R: Net<Listener = TcpListener, Stream = TcpStream>> Door for TcpDoor<R> {
-    type C = TcpConnection;
+impl<R: Net<Listener = TcpListener, Stream = TcpStream> + Clock + Copy> Door for TcpDoor<R> {
+    type C = TcpConnection<R>;
 
     ghost requests = { λ _. None };
 
@@ -126,8 +123,8 @@ impl<R: Net<Listener = TcpListener, Stream = TcpStream>> Door for TcpDoor<R> {
     ghost faulty_counted = { λ door. u64_of door.faulty };
 
     /// As in the trait. It waits for a client as long as none comes. It fails where the port can't be opened, as one that
-    /// is taken, where the system can't give a connection or its limit, and where 2^64 - 1 are out.
-    fn accept(&mut self) -> Result<TcpConnection, Failed>
+    /// is taken, where the system can't give a connection, where 2^64 - 1 are out, and where the limit is 0.
+    fn accept(&mut self) -> Result<TcpConnection<R>, Failed>
         ensures fresh { IfOk result (λ connection. as_u64 connection.faults ≡ 0) }
         ensures ok { OnOk result (self.new.out ≡ self.old.out + 1) }
         ensures err { OnErr result (self.new.out ≡ self.old.out) }
@@ -136,11 +133,14 @@ impl<R: Net<Listener = TcpListener, Stream = TcpStream>> Door for TcpDoor<R> {
         ensures cause { OnErr result (HasRisen (as_u64 self.old.faults) (as_u64 self.new.faults)) }
 
         // Beyond the trait.
-        ensures first { IfOk result (λ connection. connection ≡ unused) }
+        ensures first { IfOk result (λ connection. connection ≡ begun self.old.limit) }
         ensures after { OnOk result (self.new ≡ accepted self.old) }
         ensures failed { OnErr result (Refused self.old self.new) }
         ensures no_time { self.old.limit ≡ 0 → IsErr result }
     {
+        if self.limit.is_zero() {
+            return Err(self.fault());
+        }
         let Some(out) = self.out.checked_add(1) else {
             return Err(self.fault());
         };
@@ -148,11 +148,11 @@ impl<R: Net<Listener = TcpListener, Stream = TcpStream>> Door for TcpDoor<R> {
             return Err(self.fault());
         };
         self.out = out;
-        Ok(TcpConnection::new(stream))
+        Ok(TcpConnection::new(self.system, stream, self.limit))
     }
 
-    /// As in the trait. What the client still sends is let go.
-    fn close(&mut self, connection: TcpConnection)
+    /// As in the trait. What the client still sends is let go, as long as the connection has time left.
+    fn close(&mut self, connection: TcpConnection<R>)
         requires { 0 < self.old.out }
         ensures raised { as_u64 connection.faults ≢ 0 → HasRisen (as_u64 self.old.faulty) (as_u64 self.new.faulty) }
         ensures never_falls { as_u64 self.old.faulty ≤ as_u64 self.new.faulty }

@@ -5,3 +5,4 @@ pub mod Lines
 pub mod Opening
 pub mod Parts
 pub mod Pieces
+pub mod Whole

@@ -11,7 +11,7 @@ use std::alloc::{AllocError, Global};
 use std::marker::Model;
 
 /// How many bytes are asked of the source at once.
-const PIECE: usize = 32_768;
+pub(crate) const PIECE: usize = 32_768;
 
 /// Why the input couldn't be read on.
 #[derive(Clone, Copy, Debug, PartialEq, Eq)]

@@ -7,6 +7,7 @@ mod faults;
 mod laws;
 mod lines;
 mod opening;
+mod whole;
 
 pub use buffers::{Buffer, Found, InputFault, next_line};
 pub use directory::{Opened, open_directory};
@@ -14,3 +15,4 @@ pub use faults::refused_directory_text;
 pub use laws::{an_input_is_parted_in_one_way, lines_are_the_text};
 pub use lines::content;
 pub use opening::{LONGEST_DIRECTORY, Opening, read_directory};
+pub use whole::{Whole, read_whole};

@@ -2,6 +2,7 @@ pub mod BeginLemmas
 pub mod ChangeLemmas
 pub mod CrashLemmas
 pub mod DeliveryLemmas
+pub mod FindLemmas
 pub mod HomeLemmas
 pub mod KeepLemmas
 pub mod LinkLemmas

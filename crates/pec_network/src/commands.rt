@@ -1,4 +1,4 @@
-ghost use Rattle.std.specs.Prelude.{◌≡◌, ℕ, ◌<◌, ◌≤◌, List, length, IsErrOf};
+ghost use Rattle.std.specs.Prelude.{◌≡◌, ℕ, ◌<◌, ◌≤◌, List, length, map, IsErrOf};
 ghost use Rattle.pec_types.specs.declared.turns.ProviderFault.TheVariants as faults;
 ghost use Rattle.pec_directory.specs.Directory.{providers_of};
 ghost use Rattle.pec_letters.specs.Fitting.{Fits};
@@ -7,6 +7,7 @@ ghost use Rattle.pec_ledger.specs.Ledger.{Journals};
 ghost use Rattle.pec_plays.specs.Commands.{Marks, Submit, Submits, Tick, played};
 ghost use Rattle.pec_points.specs.Case.{case_at};
 ghost use Rattle.pec_provider.specs.Looking.{Looks};
+ghost use Rattle.pec_screen.specs.Screened.{finds_in};
 ghost use Rattle.pec_screen.specs.VerdictReading.{finds};
 ghost use Rattle.pec_trade.specs.TradeOf.{trade_of};
 ghost use Rattle.pec_network.specs.Carrying.{AllCarryOn, NoneFalls};
@@ -18,7 +19,7 @@ use crate::laws::what_rests_carries_on;
 use crate::network::Network;
 use pec_outside::Disk;
 use pec_provider::House;
-use pec_screen::Judge;
+use pec_screen::{Judge, NoScreens};
 use pec_seal::Sealer;
 use pec_types::{Address, Mark, Moment, ProviderFault, Submitted};
 use std::alloc::Global;
@@ -66,6 +67,51 @@ impl<D: Disk, S: Sealer> Network<D, S> {
         };
         self.providers[provider as usize].submit(
             alloc, &house, moment, sender, path, message, screens,
+        )
+    }
+
+    /// The same, under the screens of the provider, which are those at its number: `screens` has those of each provider
+    /// from 0 on. A provider past them has none.
+    pub fn submit_screened<J: Judge>(
+        &mut self,
+        alloc: Global,
+        provider: u32,
+        moment: Moment,
+        sender: &Address,
+        path: &[Address],
+        message: &[u8],
+        screens: &mut [J],
+    ) -> Result<Submitted, ProviderFault>
+        requires provider { provider < length self.old.kept }
+        requires fits { Fits (S.seals self.old.sealer) (providers_of self.old.kept) }
+        requires path { (0 < length path.now) × (length path.now ≤ most_addresses) }
+        requires message { length message.now ≤ longest_message }
+        ensures plays { IsPlayed Submits
+            (λ luck. played (trade_of self.old.kept (S.seals self.old.sealer)) luck (sites self.old)
+            (Submit provider moment sender.now path.now message.now
+            (finds_in (map J.patterns screens.old) provider message.now)))
+            (sites self.old) (sites self.new) result }
+        ensures patterns { map J.patterns screens.new ≡ map J.patterns screens.old }
+        ensures others { ChangesOnly provider self.old self.new }
+        ensures carries { D.tells → (journals : Journals) → AllCarryOn D.sight
+            (trade_of self.old.kept (S.seals self.old.sealer)) journals self.old.providers self.new.providers }
+        ensures disk_fault { IsErrOf result faults.DiskFault →
+            HasRisenAt D.faults provider self.old.providers self.new.providers }
+        ensures later { NoneFalls D.faults self.old.providers self.new.providers }
+    {
+        let at = provider as usize;
+        if at >= screens.len() {
+            let mut none = NoScreens;
+            return self.submit(alloc, provider, moment, sender, path, message, &mut none);
+        }
+        self.submit(
+            alloc,
+            provider,
+            moment,
+            sender,
+            path,
+            message,
+            &mut screens[at],
         )
     }
 

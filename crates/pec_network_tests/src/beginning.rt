@@ -1,11 +1,12 @@
 //! Networks that begin on empty disks or over journals, and those that don't: depots that fail at each place, journals
 //! that are missing, and journals of others.
 
-use crate::asking::{Asked, depot_failing};
+use crate::cases::{depot_failing, wrong_line};
+use crate::net::{Outcome, played};
 use pec_directory::Directory;
 use pec_network::{Form, NotFit, StartFault};
 use pec_outside::{Depot, MemDepot};
-use pec_provider_tests::{TWO, journal_of};
+use pec_trial::{journal_of, two};
 use std::alloc::Global;
 use std::test::Fail;
 
@@ -178,13 +179,18 @@ fn a_network_begins_or_tells_which_disk_came_to_nothing(rt: HostRuntime) -> Resu
 
 fn begun_with(alloc: Global, start: &Start) -> Result<Beginning, Fail> {
     let mut depot = depot_failing(alloc, start.failing, &[])?;
-    lay(alloc, &mut depot, 0, start.first)?;
-    lay(alloc, &mut depot, 1, start.second)?;
-    if let Some(provider) = start.out {
-        take(&mut depot, provider)?;
-        return begun_over(alloc, start.form, depot);
-    }
+    lay(alloc, &mut depot, start)?;
     begun_over(alloc, start.form, depot)
+}
+
+/// Puts the journals on the disks, and takes the disk that is out.
+fn lay(alloc: Global, depot: &mut MemDepot, start: &Start) -> Result<(), Fail> {
+    lay_at(alloc, depot, 0, start.first)?;
+    lay_at(alloc, depot, 1, start.second)?;
+    match start.out {
+        Some(provider) => take(depot, provider),
+        None => Ok(()),
+    }
 }
 
 /// Takes a disk out of a depot, and forgets it.
@@ -197,7 +203,7 @@ fn take(depot: &mut MemDepot, provider: u32) -> Result<(), Fail> {
 }
 
 /// Puts a journal on a provider's disk.
-fn lay(alloc: Global, depot: &mut MemDepot, provider: u32, entries: &str) -> Result<(), Fail> {
+fn lay_at(alloc: Global, depot: &mut MemDepot, provider: u32, entries: &str) -> Result<(), Fail> {
     if entries == "-" || provider > 1 {
         return Ok(());
     }
@@ -207,16 +213,12 @@ fn lay(alloc: Global, depot: &mut MemDepot, provider: u32, entries: &str) -> Res
 }
 
 fn begun_over(alloc: Global, form: Form, depot: MemDepot) -> Result<Beginning, Fail> {
-    match Asked::begun(alloc, form, depot)? {
-        Ok(asked) => Ok(Beginning {
-            fault: None,
-            at_home: at_home(asked.closed()),
-        }),
-        Err((fault, depot)) => Ok(Beginning {
-            fault: Some(fault),
-            at_home: at_home(depot),
-        }),
-    }
+    let played = played(alloc, form, depot, "")?;
+    let (fault, _, depot) = played.parts();
+    Ok(Beginning {
+        fault,
+        at_home: at_home(depot),
+    })
 }
 
 /// How many of the two disks the depot hands out.
@@ -235,59 +237,70 @@ fn at_home(mut depot: MemDepot) -> u32 {
 fn a_disk_that_fails_at_any_call_of_the_beginning_is_told(rt: HostRuntime) -> Result<(), Fail> {
     for provider in 0..2u32 {
         for call in 0..7u64 {
-            let depot = depot_failing(rt.alloc(), &[(provider, call)], &[])?;
-            let begun = begun_over(rt.alloc(), Form::Make, depot)?;
-            assert_eq!(rt; begun.fault, Some(StartFault::DiskFault(provider)));
-            assert_eq!(rt; begun.at_home, 2);
+            let begun = begun_failing(rt.alloc(), (provider, call))?;
+            let wanted = Beginning {
+                fault: Some(StartFault::DiskFault(provider)),
+                at_home: 2,
+            };
+            assert_eq!(rt; begun, wanted);
         }
     }
     Ok(())
 }
 
-/// A network that ends and is resumed over its disks has what it had; a disk that fails as it is opened is told.
+fn begun_failing(alloc: Global, failing: (u32, u64)) -> Result<Beginning, Fail> {
+    let depot = depot_failing(alloc, &[failing], &[])?;
+    begun_over(alloc, Form::Make, depot)
+}
+
+/// A network that ends and is resumed over its disks has what it had.
 #[test]
 fn a_network_is_resumed_with_what_it_had(rt: HostRuntime) -> Result<(), Fail> {
     let wrong = wrong_behind(rt.alloc())?;
     assert!(rt; wrong.is_none(), "{wrong:?}");
-    // The first calls of each disk behind its entries.
-    assert_eq!(rt;
-        refused(rt.alloc(), (0, 11))?,
-        Some(StartFault::DiskFault(0))
-    );
-    assert_eq!(rt;
-        refused(rt.alloc(), (1, 7))?,
-        Some(StartFault::DiskFault(1))
-    );
+    Ok(())
+}
+
+/// The first calls of each disk behind its entries, by the provider.
+static FIRST_CALLS: [(u32, u64); 2] = [(0, 11), (1, 7)];
+
+#[test]
+fn a_disk_that_fails_as_its_journal_is_opened_is_told(rt: HostRuntime) -> Result<(), Fail> {
+    for (provider, call) in FIRST_CALLS {
+        let fault = refused(rt.alloc(), (provider, call))?;
+        assert_eq!(rt; fault, Some(StartFault::DiskFault(provider)));
+    }
     Ok(())
 }
 
 /// The first wrong line of a script that is played in two networks, one over the disks of the other.
 fn wrong_behind(alloc: Global) -> Result<Option<String>, Fail> {
     let depot = depot_behind(alloc, &[])?;
-    match Asked::begun(alloc, Form::Open, depot)? {
-        Ok(mut asked) => asked.first_wrong(BEHIND),
-        Err(_) => Err("it isn't resumed".into()),
-    }
+    let played = played(alloc, Form::Open, depot, BEHIND)?;
+    wrong_line(played)
 }
 
 /// Why the network isn't resumed where a call of a disk fails.
 fn refused(alloc: Global, failing: (u32, u64)) -> Result<Option<StartFault>, Fail> {
     let depot = depot_behind(alloc, &[failing])?;
-    Ok(begun_over(alloc, Form::Open, depot)?.fault)
+    let begun = begun_over(alloc, Form::Open, depot)?;
+    Ok(begun.fault)
 }
 
 /// The disks that a network leaves, of which these calls fail.
 fn depot_behind(alloc: Global, failing: &[(u32, u64)]) -> Result<MemDepot, Fail> {
     let depot = depot_failing(alloc, failing, &[])?;
-    match Asked::begun(alloc, Form::Make, depot)? {
-        Ok(mut asked) => {
-            if asked.first_wrong(BEFORE)?.is_some() {
-                return Err("a wrong answer before the end".into());
-            }
-            Ok(asked.closed())
-        }
-        Err(_) => Err("it doesn't begin".into()),
+    let played = played(alloc, Form::Make, depot, BEFORE)?;
+    left(played)
+}
+
+/// The disks that a network leaves that began and answered each line as it says.
+fn left(played: Outcome) -> Result<MemDepot, Fail> {
+    let (fault, wrong, depot) = played.parts();
+    if fault.is_some() || wrong.is_some() {
+        return Err("a wrong answer before the end".into());
     }
+    Ok(depot)
 }
 
 const BEFORE: &str = "
@@ -309,12 +322,24 @@ round 1704186003 -> 0 sent 1 1, | 1 took 0/0, decided 0/0 bob@beta.example deliv
 /// A journal that was made with another directory is told by both digests.
 #[test]
 fn journals_of_another_directory_are_not_resumed(rt: HostRuntime) -> Result<(), Fail> {
-    let given = Directory::read(rt.alloc(), TWO)?.digest(rt.alloc())?;
-    let mut depot = depot_failing(rt.alloc(), &[], &[])?;
-    lay(rt.alloc(), &mut depot, 0, "start 0")?;
-    lay(rt.alloc(), &mut depot, 1, "start-of-another 1")?;
-    let begun = begun_over(rt.alloc(), Form::Open, depot)?;
-    let fault = StartFault::NotFit(1, NotFit::OtherDirectory([7; 32], given));
-    assert_eq!(rt; begun.fault, Some(fault));
+    let given = digest(rt.alloc())?;
+    let fault = fault_of_another(rt.alloc())?;
+    let wanted = StartFault::NotFit(1, NotFit::OtherDirectory([7; 32], given));
+    assert_eq!(rt; fault, Some(wanted));
     Ok(())
+}
+
+/// The digest of the directory of the tests.
+fn digest(alloc: Global) -> Result<[u8; 32], Fail> {
+    let directory = Directory::read(alloc, two())?;
+    Ok(directory.digest(alloc)?)
+}
+
+/// Why journals aren't resumed of which the second was made with another directory.
+fn fault_of_another(alloc: Global) -> Result<Option<StartFault>, Fail> {
+    let mut depot = depot_failing(alloc, &[], &[])?;
+    lay_at(alloc, &mut depot, 0, "start 0")?;
+    lay_at(alloc, &mut depot, 1, "start-of-another 1")?;
+    let begun = begun_over(alloc, Form::Open, depot)?;
+    Ok(begun.fault)
 }

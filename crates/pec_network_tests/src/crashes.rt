@@ -1,12 +1,12 @@
 //! Providers that are down, one or both at once, and disks that fail in the middle of a round. All answers were worked
 //! out by hand.
 
-use crate::asking::{Case, first_wrong};
+use crate::cases::{Case, first_wrong_of};
 use std::test::Fail;
 
 // A journal is made by three calls of its disk, and an entry is appended by four: those of a provider's first entries
 // are 3 to 6 (its Start), 7 to 10, 11 to 14 and 15 to 18. Each appends by a write, a sync, the gate, a sync.
-static CASES: [Case; 9] = [
+static FIRST: [Case; 3] = [
     Case {
         why: "a lost acknowledgement is sent again by a provider that crashed meanwhile",
         failing: &[],
@@ -82,6 +82,9 @@ round 1704186004 -> 0 acked 0/2 anna@alfa.example, repeat charge 0/2 0, repeat o
 round 1704186005 -> 0 repeat ack 0/2 anna@alfa.example, charged 0/1 1, learned 0/1 bob@beta.example delivered, sent 1 2, | 1 took 0/0, repeat envelope 0/1 1, decided 0/0 bob@beta.example delivered, sent 0 4,
 ",
     },
+];
+
+static SECOND: [Case; 3] = [
     Case {
         why: "both disks fail in one round; a decision that was never told is found behind the restart",
         failing: &[(0, 11), (1, 18)],
@@ -131,6 +134,9 @@ restart 0 -> 4
 round 1704186003 -> 0 sent 0 2, | 1
 ",
     },
+];
+
+static THIRD: [Case; 3] = [
     Case {
         why: "a restart may fail, and come later; a submission that failed isn't there, and its number is free",
         failing: &[(0, 7), (0, 8)],
@@ -172,14 +178,24 @@ mailbox alice@alfa.example -> acceptance 0/0, warning 0/0 bob@beta.example, 2 it
     },
 ];
 
-/// The table, by a function without a clause: the proof of the test is spared its texts.
-fn cases() -> &'static [Case] {
-    &CASES
+/// The tables, by functions without a clause: the proof of the test is spared their texts.
+fn first() -> &'static [Case] {
+    &FIRST
+}
+
+fn second() -> &'static [Case] {
+    &SECOND
+}
+
+fn third() -> &'static [Case] {
+    &THIRD
 }
 
 #[test]
 fn a_provider_that_is_down_is_restarted_as_it_was(rt: HostRuntime) -> Result<(), Fail> {
-    let wrong = first_wrong(rt.alloc(), cases())?;
-    assert!(rt; wrong.is_none(), "{wrong:?}");
+    for cases in [first(), second(), third()] {
+        let wrong = first_wrong_of(rt.alloc(), cases)?;
+        assert!(rt; wrong.is_none(), "{wrong:?}");
+    }
     Ok(())
 }

@@ -1,23 +1,27 @@
-//! A network of two providers over disks in memory, and the depot of its disks.
+//! A network of two providers over disks in memory, and the depot of its disks: it answers lines of words.
 
 ghost use Rattle.std.specs.Prelude.{◌≡◌, ◌<◌, ◌≤◌, length, IfOk};
 ghost use Rattle.pec_directory.specs.Directory.{providers_of};
 ghost use Rattle.pec_letters.specs.Fitting.{Fits};
-ghost use Rattle.pec_records.specs.Entry.{longest_message, most_addresses};
 
-use crate::calls::{crash, restart, submit, tick};
+use crate::calls::{crash, restart, round, submit, tick};
+use crate::words::{link_word, restart_word};
 use pec_directory::Directory;
 use pec_house::sealer_of;
 use pec_link::LinkFault;
-use pec_network::{Form, Network, RestartFault, StartFault};
+use pec_network::{Form, Network, StartFault};
 use pec_outside::{MemDepot, MemDisk};
-use pec_provider::{Mark, ProviderFault, Submitted};
 use pec_seal::{HmacSealer, Sealer};
-use pec_types::{Address, BookLine, Frame, ItemLine, Moment, NoMemory, Turn};
+use pec_trial::{
+    Answers, account_at, add_number, first_wrong, moment_of, number, small, submission_of, text_of,
+    told, told_all, told_item, told_turns, told_word, two, word,
+};
+use pec_types::{Frame, Text8};
 use std::alloc::Global;
+use std::test::Fail;
 
-/// A network of at least two providers, which answers as the calls of `Network` do.
-pub struct Net {
+/// A network of at least two providers.
+struct Net {
     alloc: Global,
     network: Network<MemDisk, HmacSealer>,
     depot: MemDepot,
@@ -35,26 +39,84 @@ impl Drop for Net {
     }
 }
 
-/// A network that begins over a depot, with a directory that is given as text; or why it doesn't begin, and the depot.
-/// None where the directory is refused or has fewer than two providers, or memory runs out.
-pub fn begun(
-    alloc: Global,
-    text: &str,
-    form: Form,
-    mut depot: MemDepot,
-) -> Option<Result<Net, (StartFault, MemDepot)>> {
-    let directory = Directory::read(alloc, text).ok()?;
-    let sealer = sealer_of(alloc, &directory).ok()?;
-    if directory.count() < 2 {
-        return None;
+/// How a script was played: why its network didn't begin, the first line that isn't answered as it says, with what came,
+/// and the depot, which has all disks again.
+pub(crate) struct Outcome {
+    fault: Option<StartFault>,
+    wrong: Option<String>,
+    depot: MemDepot,
+}
+
+impl Drop for Outcome {
+    fn drop(self) {
+        let Outcome {
+            fault: _,
+            wrong: _,
+            depot: _,
+        } = self;
     }
-    match of_form(alloc, form, directory, sealer, &mut depot) {
-        Ok(network) => Some(Ok(Net {
-            alloc,
-            network,
+}
+
+impl Outcome {
+    /// All that it has, in the order of its fields.
+    pub(crate) fn parts(self) -> (Option<StartFault>, Option<String>, MemDepot) {
+        let Outcome {
+            fault,
+            wrong,
             depot,
-        })),
-        Err(fault) => Some(Err((fault, depot))),
+        } = self;
+        (fault, wrong, depot)
+    }
+}
+
+/// Plays a script in a network of the directory of the tests, which begins over a depot and ends behind the script.
+pub(crate) fn played(
+    alloc: Global,
+    form: Form,
+    depot: MemDepot,
+    script: &str,
+) -> Result<Outcome, Fail> {
+    let directory = directory(alloc)?;
+    let sealer = sealer_of(alloc, &directory)?;
+    begun(alloc, form, directory, sealer, depot, script)
+}
+
+/// The directory of the tests.
+fn directory(alloc: Global) -> Result<Directory, Fail>
+    ensures { IfOk result (λ directory. 2 ≤ length directory) }
+{
+    let directory = Directory::read(alloc, two())?;
+    if directory.count() < 2 {
+        return Err("too few providers".into());
+    }
+    Ok(directory)
+}
+
+fn begun(
+    alloc: Global,
+    form: Form,
+    directory: Directory,
+    sealer: HmacSealer,
+    mut depot: MemDepot,
+    script: &str,
+) -> Result<Outcome, Fail>
+    requires fits { Fits (⟦<HmacSealer as Sealer>⟧.seals sealer) (providers_of directory) }
+    requires two { 2 ≤ length directory }
+{
+    match of_form(alloc, form, directory, sealer, &mut depot) {
+        Ok(network) => within(
+            Net {
+                alloc,
+                network,
+                depot,
+            },
+            script,
+        ),
+        Err(fault) => Ok(Outcome {
+            fault: Some(fault),
+            wrong: None,
+            depot,
+        }),
     }
 }
 
@@ -74,10 +136,111 @@ fn of_form(
     }
 }
 
-/// Calls by the numbers of providers, 0 and 1.
+fn within(mut net: Net, script: &str) -> Result<Outcome, Fail> {
+    let wrong = first_wrong(net.alloc, &mut net, script)?;
+    Ok(Outcome {
+        fault: None,
+        wrong,
+        depot: net.closed(),
+    })
+}
+
+/// A provider's number: 0 or 1.
+fn who(line: &str, place: usize) -> Result<u32, Fail>
+    ensures { IfOk result (λ number. number < 2) }
+{
+    let number = small(line, place)?;
+    if number > 1 {
+        return Err("no such provider".into());
+    }
+    Ok(number)
+}
+
+/// A link, and a place on it.
+#[derive(Clone, Copy)]
+struct Spot {
+    from: u32,
+    to: u32,
+    place: usize,
+}
+
+/// `VERB FROM TO PLACE`
+fn spot_of(line: &str) -> Result<Spot, Fail>
+    ensures { IfOk result (λ spot. (spot.from < 2) × (spot.to < 2)) }
+{
+    let from = who(line, 1)?;
+    let to = who(line, 2)?;
+    let place = number(line, 3)? as usize;
+    Ok(Spot { from, to, place })
+}
+
+/// A verb of a line.
+#[derive(Clone, Copy)]
+enum Verb {
+    Submit,
+    Tick,
+    Round,
+    Lose,
+    Repeat,
+    Swap,
+    Inject,
+    Crash,
+    Restart,
+    Book,
+    Mailbox,
+    Show,
+    Entries,
+}
+
+const VERBS: [(&str, Verb); 13] = [
+    ("submit", Verb::Submit),
+    ("tick", Verb::Tick),
+    ("round", Verb::Round),
+    ("lose", Verb::Lose),
+    ("repeat", Verb::Repeat),
+    ("swap", Verb::Swap),
+    ("inject", Verb::Inject),
+    ("crash", Verb::Crash),
+    ("restart", Verb::Restart),
+    ("book", Verb::Book),
+    ("mailbox", Verb::Mailbox),
+    ("show", Verb::Show),
+    ("entries", Verb::Entries),
+];
+
+fn verb_of(word: &str) -> Result<Verb, Fail> {
+    for (name, verb) in &VERBS {
+        if *name == word {
+            return Ok(*verb);
+        }
+    }
+    Err("no such verb".into())
+}
+
+/// A line is a verb and the words that it has below.
+impl Answers for Net {
+    fn answer(&mut self, call: &str) -> Result<Vec<u8>, Fail> {
+        match verb_of(word(call, 0))? {
+            Verb::Submit => self.submit(call),
+            Verb::Tick => self.tick(call),
+            Verb::Round => self.round(call),
+            Verb::Lose => self.lose(call),
+            Verb::Repeat => self.repeat(call),
+            Verb::Swap => self.swap(call),
+            Verb::Inject => self.inject(call),
+            Verb::Crash => self.crash(call),
+            Verb::Restart => self.restart(call),
+            Verb::Book => self.book(call),
+            Verb::Mailbox => self.mailbox(call),
+            Verb::Show => self.show(call),
+            Verb::Entries => self.entries(call),
+        }
+    }
+}
+
 impl Net {
     /// Ends the network. Its depot has all disks again.
-    pub fn closed(self) -> MemDepot {
+    fn closed(self) -> MemDepot {
         let Net {
             alloc: _,
             network,
@@ -87,94 +250,120 @@ impl Net {
         depot
     }
 
-    pub fn submit(
-        &mut self,
-        provider: u32,
-        moment: Moment,
-        sender: &Address,
-        path: &[Address],
-        message: &[u8],
-    ) -> Result<Submitted, ProviderFault>
-        requires provider { provider < 2 }
-        requires path { (0 < length path.now) × (length path.now ≤ most_addresses) }
-        requires message { length message.now ≤ longest_message }
-    {
-        submit(
-            self.alloc,
-            &mut self.network,
-            provider,
-            moment,
-            sender,
-            path,
-            message,
-        )
+    /// `submit PROVIDER MOMENT SENDER PATH MESSAGE`
+    fn submit(&mut self, line: &str) -> Result<Vec<u8>, Fail> {
+        let provider = who(line, 1)?;
+        let asked = submission_of(self.alloc, line)?;
+        let answer = submit(self.alloc, &mut self.network, provider, &asked);
+        told(self.alloc, answer)
     }
 
-    pub fn tick(&mut self, provider: u32, moment: Moment) -> Result<Vec<Mark>, ProviderFault>
-        requires { provider < 2 }
-    {
-        tick(self.alloc, &mut self.network, provider, moment)
+    /// `tick PROVIDER MOMENT`
+    fn tick(&mut self, line: &str) -> Result<Vec<u8>, Fail> {
+        let provider = who(line, 1)?;
+        let moment = moment_of(line, 2)?;
+        let answer = tick(self.alloc, &mut self.network, provider, moment);
+        told_all(self.alloc, answer, b"marks")
     }
 
-    pub fn round(&mut self, moment: Moment) -> Result<Vec<Turn>, NoMemory> {
-        self.network.round(self.alloc, moment)
+    /// `round MOMENT`
+    fn round(&mut self, line: &str) -> Result<Vec<u8>, Fail> {
+        let moment = moment_of(line, 1)?;
+        let answer = round(self.alloc, &mut self.network, moment);
+        told_turns(self.alloc, answer)
     }
 
-    pub fn lose(&mut self, from: u32, to: u32, place: usize) -> Result<(), LinkFault>
-        requires from { from < 2 }
-        requires to { to < 2 }
-    {
-        self.network.lose(from, to, place)
+    /// `lose FROM TO PLACE`
+    fn lose(&mut self, line: &str) -> Result<Vec<u8>, Fail> {
+        let spot = spot_of(line)?;
+        let answer = self.network.lose(spot.from, spot.to, spot.place);
+        told_word(self.alloc, link_word(answer))
     }
 
-    pub fn repeat(&mut self, from: u32, to: u32, place: usize) -> Result<(), LinkFault>
-        requires from { from < 2 }
-        requires to { to < 2 }
-    {
-        self.network.repeat(self.alloc, from, to, place)
+    /// `repeat FROM TO PLACE`
+    fn repeat(&mut self, line: &str) -> Result<Vec<u8>, Fail> {
+        let spot = spot_of(line)?;
+        let answer = self
+            .network
+            .repeat(self.alloc, spot.from, spot.to, spot.place);
+        told_word(self.alloc, link_word(answer))
     }
 
-    pub fn swap(&mut self, from: u32, to: u32, place: usize) -> Result<(), LinkFault>
-        requires from { from < 2 }
-        requires to { to < 2 }
-    {
-        self.network.swap(from, to, place)
+    /// `swap FROM TO PLACE`
+    fn swap(&mut self, line: &str) -> Result<Vec<u8>, Fail> {
+        let spot = spot_of(line)?;
+        let answer = self.network.swap(spot.from, spot.to, spot.place);
+        told_word(self.alloc, link_word(answer))
     }
 
-    pub fn inject(&mut self, from: u32, to: u32, frame: Frame) -> Result<(), LinkFault>
+    /// `inject FROM TO TEXT TIMES`: what the last of so many times came to.
+    fn inject(&mut self, line: &str) -> Result<Vec<u8>, Fail> {
+        let from = who(line, 1)?;
+        let to = who(line, 2)?;
+        let times = number(line, 4)?;
+        let mut answer = Ok(());
+        for _ in 0..times {
+            let text = text_of(self.alloc, word(line, 3))?;
+            answer = self.injected(from, to, Frame::of(Text8::of(text)));
+        }
+        told_word(self.alloc, link_word(answer))
+    }
+
+    fn injected(&mut self, from: u32, to: u32, frame: Frame) -> Result<(), LinkFault>
         requires from { from < 2 }
         requires to { to < 2 }
     {
         self.network.inject(from, to, frame)
     }
 
-    pub fn crash(&mut self, provider: u32)
-        requires { provider < 2 }
-    {
+    /// `crash PROVIDER`
+    fn crash(&mut self, line: &str) -> Result<Vec<u8>, Fail> {
+        let provider = who(line, 1)?;
         crash(&mut self.network, provider, &mut self.depot);
+        told_word(self.alloc, b"crashed")
     }
 
-    pub fn restart(&mut self, provider: u32) -> Result<u64, RestartFault>
-        requires { provider < 2 }
-    {
-        restart(self.alloc, &mut self.network, provider)
+    /// `restart PROVIDER`: how many entries it has.
+    fn restart(&mut self, line: &str) -> Result<Vec<u8>, Fail> {
+        let provider = who(line, 1)?;
+        match restart(self.alloc, &mut self.network, provider) {
+            Ok(entries) => told_number(self.alloc, entries),
+            Err(fault) => told_word(self.alloc, restart_word(fault)),
+        }
     }
 
-    pub fn book(&self, account: &Address) -> Result<Vec<BookLine>, ProviderFault> {
-        self.network.book(self.alloc, account)
+    /// `book ACCOUNT`
+    fn book(&self, line: &str) -> Result<Vec<u8>, Fail> {
+        let account = account_at(self.alloc, line, 1)?;
+        let answer = self.network.book(self.alloc, &account);
+        told_all(self.alloc, answer, b"rows")
     }
 
-    pub fn mailbox(&self, account: &Address) -> Result<Vec<ItemLine>, ProviderFault> {
-        self.network.mailbox(self.alloc, account)
+    /// `mailbox ACCOUNT`
+    fn mailbox(&self, line: &str) -> Result<Vec<u8>, Fail> {
+        let account = account_at(self.alloc, line, 1)?;
+        let answer = self.network.mailbox(self.alloc, &account);
+        told_all(self.alloc, answer, b"items")
     }
 
-    pub fn show(&self, account: &Address, place: u32) -> Result<Vec<u8>, ProviderFault> {
-        self.network.show(self.alloc, account, place)
+    /// `show ACCOUNT PLACE`
+    fn show(&self, line: &str) -> Result<Vec<u8>, Fail> {
+        let account = account_at(self.alloc, line, 1)?;
+        let place = small(line, 2)?;
+        let answer = self.network.show(self.alloc, &account, place);
+        told_item(self.alloc, answer)
     }
 
-    pub fn entries(&self, provider: u32) -> u64
-        requires { provider < 2 }
-    {
-        self.network.entries(provider)
+    /// `entries PROVIDER`
+    fn entries(&self, line: &str) -> Result<Vec<u8>, Fail> {
+        let provider = who(line, 1)?;
+        let entries = self.network.entries(provider);
+        told_number(self.alloc, entries)
     }
+}
+
+fn told_number(alloc: Global, number: u64) -> Result<Vec<u8>, Fail> {
+    let mut words = Vec::new(alloc);
+    add_number(alloc, &mut words, number)?;
+    Ok(words)
 }

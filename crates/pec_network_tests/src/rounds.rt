@@ -1,10 +1,10 @@
 //! Worked rows as calls of a network: the turns of rounds as values, what befalls links, and what accounts are shown.
 //! All answers were worked out by hand.
 
-use crate::asking::{Case, first_wrong};
+use crate::cases::{Case, first_wrong_of};
 use std::test::Fail;
 
-static CASES: [Case; 11] = [
+static FIRST: [Case; 3] = [
     Case {
         why: "within one provider a message comes to its end, with receipts and all, while the other is idle",
         failing: &[],
@@ -55,6 +55,9 @@ mailbox alice@alfa.example -> acceptance 0/0, delivery-error 0/0 nobody@beta.exa
 mailbox nobody@beta.example -> no-account
 ",
     },
+];
+
+static SECOND: [Case; 3] = [
     Case {
         why: "an envelope that is lost twice and repeated three times is placed once",
         failing: &[],
@@ -114,6 +117,9 @@ book alice@alfa.example -> 0/0 anna@alfa.example primary 1704186000 1704272403 1
 mailbox alice@alfa.example -> acceptance 0/0, warning 0/0 anna@alfa.example, notice 0/0 anna@alfa.example, delivery 0/0 anna@alfa.example, 4 items
 ",
     },
+];
+
+static THIRD: [Case; 3] = [
     Case {
         why: "what isn't certified comes as an anomaly to whom its path names; what is no frame is dropped",
         failing: &[],
@@ -160,6 +166,9 @@ round 1704186002 -> 0 sent 1 2, | 1 took 0/0, took 0/1, decided 0/0 carl@beta.ex
 round 1704186003 -> 0 charged 0/0 1, charged 0/1 1, learned 0/0 carl@beta.example delivered, learned 0/1 carl@beta.example mailbox-full, sent 1 2, | 1 repeat envelope 0/0 1, repeat envelope 0/1 1, sent 0 4,
 ",
     },
+];
+
+static FOURTH: [Case; 2] = [
     Case {
         why: "a link holds 64 frames; what is due is cut to the room that it had as the round began",
         failing: &[],
@@ -200,14 +209,28 @@ round 1704186001 -> 0 charged 0/0 1, learned 0/0 bob@beta.example delivered, rep
     },
 ];
 
-/// The table, by a function without a clause: the proof of the test is spared its texts.
-fn cases() -> &'static [Case] {
-    &CASES
+/// The tables, by functions without a clause: the proof of the test is spared their texts.
+fn first() -> &'static [Case] {
+    &FIRST
+}
+
+fn second() -> &'static [Case] {
+    &SECOND
+}
+
+fn third() -> &'static [Case] {
+    &THIRD
+}
+
+fn fourth() -> &'static [Case] {
+    &FOURTH
 }
 
 #[test]
 fn calls_of_a_network_are_answered_as_the_rules_say(rt: HostRuntime) -> Result<(), Fail> {
-    let wrong = first_wrong(rt.alloc(), cases())?;
-    assert!(rt; wrong.is_none(), "{wrong:?}");
+    for cases in [first(), second(), third(), fourth()] {
+        let wrong = first_wrong_of(rt.alloc(), cases)?;
+        assert!(rt; wrong.is_none(), "{wrong:?}");
+    }
     Ok(())
 }

@@ -7,4 +7,3 @@ pub mod PlayLemmas
 pub mod RestartLemmas
 pub mod RoundLemmas
 pub mod SameLemmas
-mod FindLemmas

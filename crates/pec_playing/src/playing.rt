@@ -5,7 +5,8 @@ ghost use Rattle.pec_letters.specs.Fitting.{Fits};
 ghost use Rattle.pec_trade.specs.TradeOf.{trade_of};
 ghost use Rattle.pec_network.specs.Carrying.{AllStand, NoneFalls};
 ghost use Rattle.pec_network.specs.Network.{sites};
-ghost use Rattle.pec_runs.specs.ScriptLines.{command_in, finds_in};
+ghost use Rattle.pec_runs.specs.ScriptLines.{command_in};
+ghost use Rattle.pec_screen.specs.Screened.{finds_in};
 ghost use Rattle.pec_playing.specs.Doing.{Does};
 ghost use Rattle.pec_playing.specs.Playing.{CanPlay, HasPlayed, HasStopped, counts_in};
 

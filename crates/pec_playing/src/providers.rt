@@ -3,15 +3,14 @@ ghost use Rattle.pec_directory.specs.Directory.{providers_of};
 ghost use Rattle.pec_letters.specs.Fitting.{Fits};
 ghost use Rattle.pec_records.specs.Entry.{longest_message, most_addresses};
 ghost use Rattle.pec_plays.specs.Commands.{Submit, Tick};
-ghost use Rattle.pec_runs.specs.ScriptLines.{finds_in};
-ghost use Rattle.pec_screen.specs.VerdictReading.{finds};
+ghost use Rattle.pec_screen.specs.Screened.{finds_in};
 ghost use Rattle.pec_trade.specs.TradeOf.{trade_of};
 ghost use Rattle.pec_playing.specs.Doing.{Does};
 
 use crate::refusals::refusal_text;
 use pec_network::Network;
 use pec_outside::Disk;
-use pec_screen::{Judge, NoScreens};
+use pec_screen::Judge;
 use pec_script::{marks_text, submitted_text};
 use pec_seal::Sealer;
 use pec_types::{Address, Moment, NoMemory};
@@ -47,48 +46,8 @@ pub(crate) fn submit<D: Disk, S: Sealer, J: Judge>(
         (finds_in (map J.patterns screens.old) provider message.now)) network.old network.new result }
     ensures patterns { map J.patterns screens.new ≡ map J.patterns screens.old }
 {
-    let at = provider as usize;
-    if at >= screens.len() {
-        let mut none = NoScreens;
-        return submit_under(
-            alloc, network, &mut none, provider, moment, sender, path, message,
-        );
-    }
-    submit_under(
-        alloc,
-        network,
-        &mut screens[at],
-        provider,
-        moment,
-        sender,
-        path,
-        message,
-    )
-}
-
-/// Hands in a message under the screens of its provider.
-fn submit_under<D: Disk, S: Sealer, J: Judge>(
-    alloc: Global,
-    network: &mut Network<D, S>,
-    screens: &mut J,
-    provider: u32,
-    moment: Moment,
-    sender: &Address,
-    path: &[Address],
-    message: &[u8],
-) -> Result<Vec<u8>, NoMemory>
-    requires provider { provider < length network.old.kept }
-    requires fits { Fits (S.seals network.old.sealer) (providers_of network.old.kept) }
-    requires some { 0 < length path.now }
-    requires few { length path.now ≤ most_addresses }
-    requires short { length message.now ≤ longest_message }
-    ensures does { Does D.sight D.faults D.tells (trade_of network.old.kept (S.seals network.old.sealer))
-        (Submit provider moment sender.now path.now message.now (finds (J.patterns screens.old) message.now))
-        network.old network.new result }
-    ensures patterns { J.patterns screens.new ≡ J.patterns screens.old }
-{
     as_many_providers(network);
-    match network.submit(alloc, provider, moment, sender, path, message, screens) {
+    match network.submit_screened(alloc, provider, moment, sender, path, message, screens) {
         Ok(submitted) => {
             let text = submitted_text(alloc, network.directory(), &submitted)?;
             return Ok(text);

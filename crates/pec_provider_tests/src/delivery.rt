@@ -1,11 +1,11 @@
 //! Worked rows on the calls of one provider, or of two whose frames are handed on. All answers were worked out by hand.
 
-use crate::world::{Case, first_wrong};
+use crate::world::{Case, first_wrong_of};
 use std::test::Fail;
 
 // The Start of a provider takes 50 bytes with the header; the entry of the message to anna takes 5 and 106, and a clock
 // call 5 and 9.
-static CASES: [Case; 11] = [
+static FIRST: [Case; 3] = [
     Case {
         why: "what one provider answers about a message that is open for 12 hours",
         script: "
@@ -90,6 +90,9 @@ beta book bob@beta.example -> 0 rows
 alfa book bob@beta.example -> no-account
 ",
     },
+];
+
+static SECOND: [Case; 3] = [
     Case {
         why: "a message is one envelope for all recipients of a provider, in the order of its head",
         script: "
@@ -128,6 +131,9 @@ alfa mailbox alice@alfa.example -> acceptance 0/0, delivery-error 0/0 nobody@bet
 beta mailbox nobody@beta.example -> no-account
 ",
     },
+];
+
+static THIRD: [Case; 3] = [
     Case {
         why: "a message may be put twice, and an envelope that comes four times is placed once",
         script: "
@@ -177,6 +183,9 @@ alfa book alice@alfa.example -> 0/0 anna@alfa.example primary 1704186000 1704265
 alfa mailbox alice@alfa.example -> acceptance 0/0, notice 0/0 anna@alfa.example, delivery 0/0 anna@alfa.example, 3 items
 ",
     },
+];
+
+static FOURTH: [Case; 2] = [
     Case {
         why: "a mailbox at its quota takes no further message, but receipts",
         script: "
@@ -210,14 +219,28 @@ alfa put 0 64 -> X-Trasporto: posta-certificata, 1 frames
     },
 ];
 
-/// The table, by a function without a clause: the proof of the test is spared its texts.
-fn cases() -> &'static [Case] {
-    &CASES
+/// The tables, by functions without a clause: the proof of the test is spared their texts.
+fn first() -> &'static [Case] {
+    &FIRST
+}
+
+fn second() -> &'static [Case] {
+    &SECOND
+}
+
+fn third() -> &'static [Case] {
+    &THIRD
+}
+
+fn fourth() -> &'static [Case] {
+    &FOURTH
 }
 
 #[test]
 fn calls_are_answered_as_the_rules_say(rt: HostRuntime) -> Result<(), Fail> {
-    let wrong = first_wrong(rt.alloc(), cases())?;
-    assert!(rt; wrong.is_none(), "{wrong:?}");
+    for cases in [first(), second(), third(), fourth()] {
+        let wrong = first_wrong_of(rt.alloc(), cases)?;
+        assert!(rt; wrong.is_none(), "{wrong:?}");
+    }
     Ok(())
 }

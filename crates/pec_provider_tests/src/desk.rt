@@ -1,61 +1,47 @@
-//! One provider over a disk in memory, and where it is at home.
+//! One provider of the directory of the tests over a disk in memory, which is asked by lines.
 
 ghost use Rattle.std.specs.Prelude.{◌<◌, ◌≤◌, length};
-ghost use Rattle.pec_directory.specs.Directory.{providers_of};
-ghost use Rattle.pec_letters.specs.Fitting.{Fits};
 ghost use Rattle.pec_records.specs.Entry.{longest_message, most_addresses};
 
-use pec_directory::Directory;
-use pec_house::sealer_of;
+use crate::home::Home;
 use pec_outside::MemDisk;
-use pec_provider::{
-    CreateFault, Event, House, Mark, Provider, ProviderFault, ReopenFault, Submitted,
-};
+use pec_provider::{CreateFault, House, Provider, ProviderFault, ReopenFault, Submitted};
 use pec_screen::NoScreens;
-use pec_seal::{HmacSealer, Sealer};
-use pec_types::{Address, BookLine, Frame, ItemLine, Moment, NoMemory};
-use std::alloc::Global;
+use pec_trial::{
+    Submission, account_at, add, add_number, moment_of, number, small, submission_of, told,
+    told_all, told_item, told_list, told_word, word,
+};
+use pec_types::{Frame, NoMemory};
+use std::alloc::{AllocError, Global};
 use std::marker::Model;
+use std::test::Fail;
 
-/// Where the providers of a directory are at home.
-pub struct Home {
-    directory: Directory,
-    sealer: HmacSealer,
-    ghost fits: { Fits (⟦<HmacSealer as Sealer>⟧.seals sealer) (providers_of directory) },
+/// The two providers of the directory of the tests.
+#[derive(Clone, Copy)]
+pub(crate) enum Who {
+    Alfa,
+    Beta,
 }
 
-impl Drop for Home {
-    fn drop(self) {
-        let Home {
-            directory: _,
-            sealer: _,
-        } = self;
-    }
-}
-
-impl Home {
-    /// The home of a directory that is given as text; none where it is refused or memory runs out.
-    pub fn of(alloc: Global, text: &str) -> Option<Home> {
-        let directory = Directory::read(alloc, text).ok()?;
-        let sealer = sealer_of(alloc, &directory).ok()?;
-        Some(Home { directory, sealer })
-    }
-
-    pub fn directory(&self) -> &Directory {
-        &self.directory
-    }
-
-    pub fn sealer(&self) -> &HmacSealer {
-        &self.sealer
+impl Who {
+    /// The number of the provider.
+    fn number(self) -> u32
+        ensures { result < 2 }
+    {
+        match self {
+            Who::Alfa => 0,
+            Who::Beta => 1,
+        }
     }
 }
 
-/// One provider, which answers as the calls of `Provider` do.
-pub struct Desk {
+/// One provider, and the frames that it put last.
+pub(crate) struct Desk {
     alloc: Global,
     home: Home,
     me: u32,
     provider: Provider<MemDisk>,
+    put: Vec<Frame>,
 }
 
 impl Model for Desk {
@@ -76,90 +62,147 @@ impl Drop for Desk {
             home: _,
             me: _,
             provider: _,
+            put: _,
         } = self;
     }
 }
 
 impl Desk {
-    /// A provider on an empty disk, of which these calls fail, numbered from 0; or why no journal was made. None where
-    /// there is no such provider or memory runs out.
-    pub fn made(
+    /// A provider on a disk, on which it makes its journal; or why it can't.
+    pub(crate) fn made(
         alloc: Global,
         home: Home,
-        me: u32,
-        failing: &[u64],
-    ) -> Option<Result<Desk, CreateFault>> {
-        let disk = MemDisk::new(alloc, Vec::from_slice(alloc, failing).ok()?);
-        if me >= home.directory.count() {
-            return None;
-        }
+        who: Who,
+        disk: MemDisk,
+    ) -> Result<Desk, CreateFault> {
+        let me = who.number();
         let house = House {
             directory: &home.directory,
             sealer: &home.sealer,
             me,
         };
         match Provider::create(alloc, &house, disk) {
-            Ok(provider) => Some(Ok(Desk {
+            Ok(provider) => Ok(Desk {
                 alloc,
                 home,
                 me,
                 provider,
-            })),
-            Err((fault, _)) => Some(Err(fault)),
+                put: Vec::new(alloc),
+            }),
+            Err((fault, _)) => Err(fault),
         }
     }
 
-    /// The provider whose journal is on a disk; or why it isn't opened. None where there is no such provider.
-    pub fn opened(
+    /// The provider whose journal is on a disk; or why it isn't opened.
+    pub(crate) fn opened(
         alloc: Global,
         home: Home,
-        me: u32,
+        who: Who,
         disk: MemDisk,
-    ) -> Option<Result<Desk, ReopenFault>> {
-        if me >= home.directory.count() {
-            return None;
-        }
+    ) -> Result<Desk, ReopenFault> {
+        let me = who.number();
         let house = House {
             directory: &home.directory,
             sealer: &home.sealer,
             me,
         };
         match Provider::reopen(alloc, &house, disk) {
-            Ok(provider) => Some(Ok(Desk {
+            Ok(provider) => Ok(Desk {
                 alloc,
                 home,
                 me,
                 provider,
-            })),
-            Err((fault, _)) => Some(Err(fault)),
+                put: Vec::new(alloc),
+            }),
+            Err((fault, _)) => Err(fault),
         }
     }
 
-    /// The provider opened again over its disk, and whether an entry of it was interrupted; none where it isn't opened.
-    pub fn reopened(self) -> Option<(Desk, bool)> {
+    /// The provider opened again over its disk, and whether an entry of it was interrupted.
+    pub(crate) fn reopened(self, who: Who) -> Result<(Desk, bool), ReopenFault> {
         let Desk {
             alloc,
             home,
-            me,
+            me: _,
             provider,
+            put: _,
         } = self;
         let (disk, interrupted) = provider.into_parts();
         let was_interrupted = interrupted.is_some();
-        match Desk::opened(alloc, home, me, disk)? {
-            Ok(desk) => Some((desk, was_interrupted)),
-            Err(_) => None,
+        let desk = Desk::opened(alloc, home, who, disk)?;
+        Ok((desk, was_interrupted))
+    }
+
+    pub(crate) fn put(&self) -> &[Frame] {
+        &self.put
+    }
+}
+
+/// A verb of a line.
+#[derive(Clone, Copy)]
+enum Verb {
+    Submit,
+    Tick,
+    Arrive,
+    Decide,
+    Put,
+    EndTurn,
+    Book,
+    Mailbox,
+    Item,
+    Figures,
+}
+
+const VERBS: [(&str, Verb); 10] = [
+    ("submit", Verb::Submit),
+    ("tick", Verb::Tick),
+    ("arrive", Verb::Arrive),
+    ("decide", Verb::Decide),
+    ("put", Verb::Put),
+    ("end-turn", Verb::EndTurn),
+    ("book", Verb::Book),
+    ("mailbox", Verb::Mailbox),
+    ("item", Verb::Item),
+    ("figures", Verb::Figures),
+];
+
+fn verb_of(word: &str) -> Result<Verb, Fail> {
+    for (name, verb) in &VERBS {
+        if *name == word {
+            return Ok(*verb);
+        }
+    }
+    Err("no such verb".into())
+}
+
+impl Desk {
+    /// What a line asks of it, as words: a provider, a verb, and what each verb has below. A frame that a line names is
+    /// given beside it.
+    pub(crate) fn answer(&mut self, line: &str, frame: &[u8]) -> Result<Vec<u8>, Fail> {
+        match verb_of(word(line, 1))? {
+            Verb::Submit => self.submit(line),
+            Verb::Tick => self.tick(line),
+            Verb::Arrive => self.arrive(line, frame),
+            Verb::Decide => self.decide(line),
+            Verb::Put => self.put_due(line),
+            Verb::EndTurn => self.end_turn(),
+            Verb::Book => self.book(line),
+            Verb::Mailbox => self.mailbox(line),
+            Verb::Item => self.item(line),
+            Verb::Figures => self.figures(),
         }
     }
 
-    pub fn submit(
-        &mut self,
-        moment: Moment,
-        sender: &Address,
-        path: &[Address],
-        message: &[u8],
-    ) -> Result<Submitted, ProviderFault>
-        requires path { (0 < length path.now) × (length path.now ≤ most_addresses) }
-        requires message { length message.now ≤ longest_message }
+    /// `submit MOMENT SENDER PATH MESSAGE`
+    fn submit(&mut self, line: &str) -> Result<Vec<u8>, Fail> {
+        let asked = submission_of(self.alloc, line)?;
+        let answer = self.submitted(&asked);
+        told(self.alloc, answer)
+    }
+
+    fn submitted(&mut self, asked: &Submission) -> Result<Submitted, ProviderFault>
+        requires path { (0 < length asked.now.path.items) × (length asked.now.path.items ≤ most_addresses) }
+        requires message { length asked.now.message.items ≤ longest_message }
     {
         let home = &self.home;
         let house = House {
@@ -168,40 +211,65 @@ impl Desk {
             me: self.me,
         };
         let mut none = NoScreens;
-        self.provider.submit(self.alloc, &house, moment, sender, path, message, &mut none)
+        self.provider.submit(
+            self.alloc,
+            &house,
+            asked.moment,
+            &asked.sender,
+            &asked.path,
+            &asked.message,
+            &mut none,
+        )
     }
 
-    pub fn tick(&mut self, moment: Moment) -> Result<Vec<Mark>, ProviderFault> {
+    /// `tick MOMENT`
+    fn tick(&mut self, line: &str) -> Result<Vec<u8>, Fail> {
+        let moment = moment_of(line, 2)?;
         let home = &self.home;
         let house = House {
             directory: &home.directory,
             sealer: &home.sealer,
             me: self.me,
         };
-        self.provider.tick(self.alloc, &house, moment)
+        let answer = self.provider.tick(self.alloc, &house, moment);
+        told_all(self.alloc, answer, b"marks")
     }
 
-    pub fn arrive(&mut self, moment: Moment, frame: &[u8]) -> Result<Event, ProviderFault> {
+    /// `arrive MOMENT ..`
+    fn arrive(&mut self, line: &str, frame: &[u8]) -> Result<Vec<u8>, Fail> {
+        let moment = moment_of(line, 2)?;
         let home = &self.home;
         let house = House {
             directory: &home.directory,
             sealer: &home.sealer,
             me: self.me,
         };
-        self.provider.arrive(self.alloc, &house, moment, frame)
+        let answer = self.provider.arrive(self.alloc, &house, moment, frame);
+        told(self.alloc, answer)
     }
 
-    pub fn decide_next(&mut self, moment: Moment) -> Result<Option<Event>, ProviderFault> {
+    /// `decide MOMENT`
+    fn decide(&mut self, line: &str) -> Result<Vec<u8>, Fail> {
+        let moment = moment_of(line, 2)?;
         let home = &self.home;
         let house = House {
             directory: &home.directory,
             sealer: &home.sealer,
             me: self.me,
         };
-        self.provider.decide_next(self.alloc, &house, moment)
+        let answer = self.provider.decide_next(self.alloc, &house, moment);
+        told(self.alloc, answer)
     }
 
-    pub fn put_due(&self, to: u32, room: usize) -> Result<Vec<Frame>, NoMemory> {
+    /// `put TO ROOM`
+    fn put_due(&mut self, line: &str) -> Result<Vec<u8>, Fail> {
+        let to = small(line, 2)?;
+        let room = number(line, 3)? as usize;
+        self.put = self.due(to, room)?;
+        told_list(self.alloc, &self.put, b"frames")
+    }
+
+    fn due(&self, to: u32, room: usize) -> Result<Vec<Frame>, NoMemory> {
         let home = &self.home;
         let house = House {
             directory: &home.directory,
@@ -211,57 +279,70 @@ impl Desk {
         self.provider.put_due(self.alloc, &house, to, room)
     }
 
-    pub fn end_turn(&mut self) {
+    /// `end-turn`
+    fn end_turn(&mut self) -> Result<Vec<u8>, Fail> {
         self.provider.end_turn();
+        told_word(self.alloc, b"ended")
     }
 
-    pub fn book(&self, account: &Address) -> Result<Vec<BookLine>, ProviderFault> {
+    /// `book ACCOUNT`
+    fn book(&self, line: &str) -> Result<Vec<u8>, Fail> {
+        let account = account_at(self.alloc, line, 2)?;
         let home = &self.home;
         let house = House {
             directory: &home.directory,
             sealer: &home.sealer,
             me: self.me,
         };
-        self.provider.book(self.alloc, &house, account)
+        let answer = self.provider.book(self.alloc, &house, &account);
+        told_all(self.alloc, answer, b"rows")
     }
 
-    pub fn mailbox(&self, account: &Address) -> Result<Vec<ItemLine>, ProviderFault> {
+    /// `mailbox ACCOUNT`
+    fn mailbox(&self, line: &str) -> Result<Vec<u8>, Fail> {
+        let account = account_at(self.alloc, line, 2)?;
         let home = &self.home;
         let house = House {
             directory: &home.directory,
             sealer: &home.sealer,
             me: self.me,
         };
-        self.provider.mailbox(self.alloc, &house, account)
+        let answer = self.provider.mailbox(self.alloc, &house, &account);
+        told_all(self.alloc, answer, b"items")
     }
 
-    pub fn item(&self, account: &Address, place: u32) -> Result<Vec<u8>, ProviderFault> {
+    /// `item ACCOUNT PLACE`
+    fn item(&self, line: &str) -> Result<Vec<u8>, Fail> {
+        let account = account_at(self.alloc, line, 2)?;
+        let place = small(line, 3)?;
         let home = &self.home;
         let house = House {
             directory: &home.directory,
             sealer: &home.sealer,
             me: self.me,
         };
-        self.provider.item(self.alloc, &house, account, place)
+        let answer = self.provider.item(self.alloc, &house, &account, place);
+        told_item(self.alloc, answer)
     }
 
-    pub fn figures(&self) -> Figures {
-        Figures {
-            entries: self.provider.entries(),
-            last: self.provider.last(),
-            messages: self.provider.messages(),
-            fill: self.provider.fill(),
-            is_down: self.provider.is_down(),
-        }
+    /// `figures`: entries, the last moment, messages, the end of the journal, and whether the provider is down.
+    fn figures(&self) -> Result<Vec<u8>, Fail> {
+        let provider = &self.provider;
+        let numbers = [
+            provider.entries(),
+            provider.last().seconds(),
+            provider.messages(),
+            provider.fill(),
+        ];
+        Ok(figures_text(self.alloc, numbers, provider.is_down())?)
     }
 }
 
-/// The figures of a provider.
-#[derive(Clone, Copy, Debug, PartialEq, Eq)]
-pub struct Figures {
-    pub entries: u64,
-    pub last: Moment,
-    pub messages: u64,
-    pub fill: u64,
-    pub is_down: bool,
+fn figures_text(alloc: Global, numbers: [u64; 4], is_down: bool) -> Result<Vec<u8>, AllocError> {
+    let mut words = Vec::new(alloc);
+    for number in numbers {
+        add_number(alloc, &mut words, number)?;
+    }
+    add(&mut words, if is_down { b"down" } else { b"up" })?;
+    Ok(words)
 }

@@ -1,10 +1,12 @@
 //! Disks that fail at one call of the append of each kind of entry, and providers that are opened again over them.
 
-use crate::desk::{Desk, Home};
-use crate::directories::TWO;
-use crate::world::{Failing, World};
+use crate::desk::{Desk, Who};
+use crate::home::Home;
+use crate::world::{Failing, wrong_line};
+use pec_outside::MemDisk;
 use pec_provider::CreateFault;
-use std::alloc::Global;
+use pec_trial::two;
+use std::alloc::{AllocError, Global};
 use std::test::Fail;
 
 /// An entry that a call appends behind a script, and what the same call answers once the provider is opened again:
@@ -151,65 +153,54 @@ fn first_call(number: u64) -> u64 {
 fn a_fault_of_the_disk_leaves_an_entry_or_none(rt: HostRuntime) -> Result<(), Fail> {
     for entry in entries() {
         for call in 0..4u64 {
-            let left = left_by(rt.alloc(), entry, call)?;
-            assert_eq!(rt; left, Left::Right, "{} {call}", entry.why);
+            let wrong = wrong_behind(rt.alloc(), entry, call)?;
+            assert!(rt; wrong.is_none(), "{} {call}: {wrong:?}", entry.why);
         }
     }
     Ok(())
 }
 
-/// What isn't as it has to be where a call of the disk fails, if anything.
-#[derive(Clone, Copy, Debug, PartialEq, Eq)]
-enum Left {
-    Right,
-    WrongBefore,
-    WrongFault,
-    WrongWhileDown,
-    WrongInterruption,
-    WrongBehind,
-}
+/// A call that a fault of the disk ends, and the same call while the provider is down and once it is opened again.
+const FAULTED: &str = "
+CALL -> disk-fault
+CALL -> down
+WHO reopen -> interrupted
+CALL -> LEFT
+";
 
-fn left_by(alloc: Global, entry: &Entry, call: u64) -> Result<Left, Fail> {
-    let call_of_disk = first_call(entry.number).saturating_add(call);
+/// The first wrong line where a call of the disk fails as the entry is appended.
+fn wrong_behind(alloc: Global, entry: &Entry, call: u64) -> Result<Option<String>, Fail> {
+    let script = script_of(alloc, entry, call)?;
     let failing = Failing {
         whose: entry.whose,
-        call: call_of_disk,
+        call: first_call(entry.number).saturating_add(call),
     };
-    let mut world = World::failing(alloc, failing)?;
-    if world.first_wrong(entry.before)?.is_some() {
-        return Ok(Left::WrongBefore);
+    wrong_line(alloc, &[failing], script.as_str())
+}
+
+fn script_of(alloc: Global, entry: &Entry, call: u64) -> Result<String, AllocError> {
+    let who = if entry.whose == 0 { "alfa" } else { "beta" };
+    let left = if call == 3 { entry.with } else { entry.without };
+    let faulted = with_words(alloc, &[("CALL", entry.call), ("WHO", who), ("LEFT", left)])?;
+    let mut script = String::from_str(alloc, entry.before)?;
+    script.push_str(faulted.as_str())?;
+    Ok(script)
+}
+
+/// The lines with these words.
+fn with_words(alloc: Global, words: &[(&str, &str)]) -> Result<String, AllocError> {
+    let mut lines = String::from_str(alloc, FAULTED)?;
+    for (word, instead) in words {
+        lines = lines.replace(alloc, word, instead)?;
     }
-    if world.answer(entry.call)?.as_slice() != b"disk-fault".as_slice() {
-        return Ok(Left::WrongFault);
-    }
-    if world.answer(entry.call)?.as_slice() != b"down".as_slice() {
-        return Ok(Left::WrongWhileDown);
-    }
-    let (mut world, interrupted) = world.reopened(entry.whose)?;
-    if !interrupted {
-        return Ok(Left::WrongInterruption);
-    }
-    let wanted = if call == 3 { entry.with } else { entry.without };
-    if world.answer(entry.call)?.as_slice() != wanted.as_bytes() {
-        return Ok(Left::WrongBehind);
-    }
-    Ok(Left::Right)
+    Ok(lines)
 }
 
 /// While a provider is down nothing is shown and nothing taken; it is opened again with what it had, and owes nothing.
 #[test]
 fn who_is_down_says_no_more(rt: HostRuntime) -> Result<(), Fail> {
     let failing = Failing { whose: 1, call: 14 };
-    let mut world = World::failing(rt.alloc(), failing)?;
-    let wrong = world.first_wrong(DOWN)?;
-    assert!(rt; wrong.is_none(), "{wrong:?}");
-    let (mut world, interrupted) = world.reopened(1)?;
-    assert!(rt; interrupted);
-    let wrong = world.first_wrong(UP)?;
-    assert!(rt; wrong.is_none(), "{wrong:?}");
-    let (mut world, interrupted) = world.reopened(1)?;
-    assert!(rt; !interrupted);
-    let wrong = world.first_wrong(UP_AGAIN)?;
+    let wrong = wrong_line(rt.alloc(), &[failing], DOWN)?;
     assert!(rt; wrong.is_none(), "{wrong:?}");
     Ok(())
 }
@@ -229,9 +220,7 @@ beta book bob@beta.example -> down
 beta mailbox bob@beta.example -> down
 beta item bob@beta.example 9 -> down
 beta item alice@alfa.example 0 -> no-account
-";
-
-const UP: &str = "
+beta reopen -> interrupted
 beta mailbox bob@beta.example -> envelope 0/0, 1 items
 beta decide 1704186001 -> clock-back 1704186002
 beta decide 1704186003 -> none
@@ -239,9 +228,7 @@ beta put 0 64 -> X-Ricevuta: avvenuta-consegna, 1 frames
 beta arrive 1704186003 alfa 0 -> repeat envelope 0/0 1
 beta put 0 64 -> X-Ricevuta: presa-in-carico, X-Ricevuta: avvenuta-consegna, 2 frames
 alfa arrive 1704186004 beta 1 -> learned 0/0 bob@beta.example delivered
-";
-
-const UP_AGAIN: &str = "
+beta reopen -> whole
 beta put 0 64 -> X-Ricevuta: avvenuta-consegna, 1 frames
 alfa arrive 1704186004 beta 0 -> repeat outcome 0/0 bob@beta.example
 alfa mailbox alice@alfa.example -> acceptance 0/0, delivery 0/0 bob@beta.example, 2 items
@@ -251,20 +238,24 @@ beta mailbox bob@beta.example -> envelope 0/0, 1 items
 /// A journal is made by three calls, and its Start is appended by four. Where one of these fails there is no provider.
 #[test]
 fn a_fault_of_the_disk_makes_no_provider(rt: HostRuntime) -> Result<(), Fail> {
-    for call in 0..7u64 {
+    for call in 0..8u64 {
         let fault = fault_of(rt.alloc(), call)?;
-        assert_eq!(rt; fault, Some(CreateFault::DiskFault), "call {call}");
+        let wanted = if call < 7 {
+            Some(CreateFault::DiskFault)
+        } else {
+            None
+        };
+        assert_eq!(rt; fault, wanted, "call {call}");
     }
-    assert_eq!(rt; fault_of(rt.alloc(), 7)?, None);
     Ok(())
 }
 
 /// Why no provider is made on an empty disk, of which this call fails.
 fn fault_of(alloc: Global, call: u64) -> Result<Option<CreateFault>, Fail> {
-    let home = Home::of(alloc, TWO).ok_or("no directory")?;
-    match Desk::made(alloc, home, 0, &[call]) {
-        Some(Ok(_)) => Ok(None),
-        Some(Err(fault)) => Ok(Some(fault)),
-        None => Err("no provider".into()),
+    let home = Home::of(alloc, two())?;
+    let disk = MemDisk::new(alloc, Vec::from_slice(alloc, &[call])?);
+    match Desk::made(alloc, home, Who::Alfa, disk) {
+        Ok(_) => Ok(None),
+        Err(fault) => Ok(Some(fault)),
     }
 }

@@ -1,11 +1,11 @@
 //! Journals of others, and bytes that are none.
 
-use crate::desk::{Desk, Home};
-use crate::directories::TWO;
-use crate::writing::journal_of;
+use crate::desk::{Desk, Who};
+use crate::home::Home;
 use pec_directory::Directory;
 use pec_outside::{Disk, MemDisk};
 use pec_provider::ReopenFault;
+use pec_trial::{journal_of, two};
 use std::alloc::Global;
 use std::test::Fail;
 
@@ -13,7 +13,7 @@ use std::test::Fail;
 #[derive(Clone, Copy)]
 struct Case {
     why: &'static str,
-    me: u32,
+    who: Who,
     entries: &'static str,
     fault: Option<ReopenFault>,
 }
@@ -21,61 +21,61 @@ struct Case {
 static CASES: [Case; 10] = [
     Case {
         why: "its own entries",
-        me: 0,
+        who: Who::Alfa,
         entries: "start 0\naccepted 5 alice@alfa.example to-bob\nticked 5",
         fault: None,
     },
     Case {
         why: "no entry",
-        me: 0,
+        who: Who::Alfa,
         entries: "",
         fault: Some(ReopenFault::BadEntry(0)),
     },
     Case {
         why: "the Start of another provider",
-        me: 1,
+        who: Who::Beta,
         entries: "start 0\nticked 5",
         fault: Some(ReopenFault::BadEntry(0)),
     },
     Case {
         why: "no Start",
-        me: 0,
+        who: Who::Alfa,
         entries: "ticked 5",
         fault: Some(ReopenFault::BadEntry(0)),
     },
     Case {
         why: "a Start too many",
-        me: 0,
+        who: Who::Alfa,
         entries: "start 0\nstart 0",
         fault: Some(ReopenFault::BadEntry(1)),
     },
     Case {
         why: "and behind others",
-        me: 0,
+        who: Who::Alfa,
         entries: "start 0\nticked 5\nticked 6\nstart 0\nticked 7",
         fault: Some(ReopenFault::BadEntry(3)),
     },
     Case {
         why: "a moment that goes back",
-        me: 0,
+        who: Who::Alfa,
         entries: "start 0\nticked 5\nticked 4",
         fault: Some(ReopenFault::BadEntry(2)),
     },
     Case {
         why: "a message of an account of another",
-        me: 0,
+        who: Who::Alfa,
         entries: "start 0\nticked 5\naccepted 5 bob@beta.example to-alice",
         fault: Some(ReopenFault::BadEntry(2)),
     },
     Case {
         why: "a message of another sender",
-        me: 0,
+        who: Who::Alfa,
         entries: "start 0\naccepted 5 anna@alfa.example to-bob",
         fault: Some(ReopenFault::BadEntry(1)),
     },
     Case {
         why: "bytes that are no entry",
-        me: 0,
+        who: Who::Alfa,
         entries: "start 0\nticked 5\njunk\nticked 4",
         fault: Some(ReopenFault::BadEntry(2)),
     },
@@ -99,45 +99,47 @@ fn a_journal_of_others_is_refused_with_the_number_of_its_first_bad_entry(
 
 fn fault_of(alloc: Global, case: &Case) -> Result<Option<ReopenFault>, Fail> {
     let disk = journal_of(alloc, case.entries)?;
-    let home = Home::of(alloc, TWO).ok_or("no directory")?;
-    fault_over(alloc, home, case.me, disk)
+    fault_over(alloc, two(), case.who, disk)
 }
 
-/// Why the provider isn't opened over a disk.
+/// Why a provider of a directory isn't opened over a disk.
 fn fault_over(
     alloc: Global,
-    home: Home,
-    me: u32,
+    directory: &str,
+    who: Who,
     disk: MemDisk,
 ) -> Result<Option<ReopenFault>, Fail> {
-    match Desk::opened(alloc, home, me, disk) {
-        Some(Ok(_)) => Ok(None),
-        Some(Err(fault)) => Ok(Some(fault)),
-        None => Err("no provider".into()),
+    let home = Home::of(alloc, directory)?;
+    match Desk::opened(alloc, home, who, disk) {
+        Ok(_) => Ok(None),
+        Err(fault) => Ok(Some(fault)),
     }
 }
 
 /// A journal that was made with another directory is told by both digests.
 #[test]
 fn a_journal_of_another_directory_is_refused(rt: HostRuntime) -> Result<(), Fail> {
-    let other = TWO.replacen(rt.alloc(), "quota = 100", "quota = 99", 1)?;
-    let given = digest_of(rt.alloc(), other.as_str())?;
-    let kept = digest_of(rt.alloc(), TWO)?;
-    let fault = fault_under(rt.alloc(), other.as_str())?;
-    assert_eq!(rt; fault, Some(ReopenFault::OtherDirectory(kept, given)));
+    let other = two().replacen(rt.alloc(), "quota = 100", "quota = 99", 1)?;
+    let digests = digests(rt.alloc(), other.as_str())?;
+    let disk = journal_of(rt.alloc(), "start 0\nticked 5")?;
+    let fault = fault_over(rt.alloc(), other.as_str(), Who::Alfa, disk)?;
+    assert_eq!(rt;
+        fault,
+        Some(ReopenFault::OtherDirectory(digests.0, digests.1))
+    );
     Ok(())
+}
+
+/// The digests of the directory of the tests and of another one.
+fn digests(alloc: Global, other: &str) -> Result<([u8; 32], [u8; 32]), Fail> {
+    let kept = digest_of(alloc, two())?;
+    let given = digest_of(alloc, other)?;
+    Ok((kept, given))
 }
 
 fn digest_of(alloc: Global, directory: &str) -> Result<[u8; 32], Fail> {
     let directory = Directory::read(alloc, directory)?;
     Ok(directory.digest(alloc)?)
-}
-
-/// Why a journal of the directory of the tests isn't opened under another.
-fn fault_under(alloc: Global, directory: &str) -> Result<Option<ReopenFault>, Fail> {
-    let disk = journal_of(alloc, "start 0\nticked 5")?;
-    let home = Home::of(alloc, directory).ok_or("no directory")?;
-    fault_over(alloc, home, 0, disk)
 }
 
 /// Bytes that are no journal, and the place at which they stop being one.
@@ -186,6 +188,5 @@ fn bytes_that_are_no_journal_are_refused_at_their_place(rt: HostRuntime) -> Resu
 fn fault_of_bytes(alloc: Global, file: &File) -> Result<Option<ReopenFault>, Fail> {
     let mut disk = MemDisk::new(alloc, Vec::new(alloc));
     disk.write_at(0, file.bytes)?;
-    let home = Home::of(alloc, TWO).ok_or("no directory")?;
-    fault_over(alloc, home, 0, disk)
+    fault_over(alloc, two(), Who::Alfa, disk)
 }

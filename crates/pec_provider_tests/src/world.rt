@@ -1,21 +1,21 @@
 //! Two providers without a network: what one puts, the lines of a script hand to the other.
 
-use crate::asking::Asked;
-use crate::desk::{Desk, Home};
-use crate::directories::{TWO, text_of};
+use crate::desk::{Desk, Who};
+use crate::home::Home;
 use crate::letters::changed;
-use crate::reading::{number, word};
-use crate::words::told;
+use pec_outside::MemDisk;
+use pec_trial::{Answers, behind, first_wrong, number, text_of, told_word, two, word};
 use pec_types::Frame;
-use std::alloc::Global;
+use std::alloc::{AllocError, Global};
 use std::test::Fail;
 
-/// The providers of the directory of the tests, alfa and beta, and a home from whose seals a forger takes.
+/// The providers of the directory of the tests, and a home from whose seals a forger takes. One that isn't opened again
+/// is gone.
 pub(crate) struct World {
     alloc: Global,
     forger: Home,
-    alfa: Asked,
-    beta: Asked,
+    alfa: Option<Desk>,
+    beta: Option<Desk>,
 }
 
 impl Drop for World {
@@ -29,7 +29,7 @@ impl Drop for World {
     }
 }
 
-/// Calls of a provider's disk that fail: the provider's number, and the numbers of the calls from 0.
+/// A call of a provider's disk that fails: the provider's number, and the number of the call, from 0.
 #[derive(Clone, Copy)]
 pub(crate) struct Failing {
     pub(crate) whose: u32,
@@ -37,134 +37,122 @@ pub(crate) struct Failing {
 }
 
 impl World {
-    pub(crate) fn new(alloc: Global) -> Result<World, Fail> {
+    /// Providers on empty disks, of which these calls fail.
+    fn new(alloc: Global, failing: &[Failing]) -> Result<World, Fail> {
+        let forger = Home::of(alloc, two())?;
+        let alfa = desk(alloc, Who::Alfa, calls_of(alloc, failing, 0)?)?;
+        let beta = desk(alloc, Who::Beta, calls_of(alloc, failing, 1)?)?;
         Ok(World {
             alloc,
-            forger: home(alloc)?,
-            alfa: asked(alloc, 0, &[])?,
-            beta: asked(alloc, 1, &[])?,
+            forger,
+            alfa: Some(alfa),
+            beta: Some(beta),
         })
-    }
-
-    /// One call of the disk of one provider fails.
-    pub(crate) fn failing(alloc: Global, failing: Failing) -> Result<World, Fail> {
-        let call = [failing.call];
-        if failing.whose == 0 {
-            return Ok(World {
-                alloc,
-                forger: home(alloc)?,
-                alfa: asked(alloc, 0, &call)?,
-                beta: asked(alloc, 1, &[])?,
-            });
-        }
-        Ok(World {
-            alloc,
-            forger: home(alloc)?,
-            alfa: asked(alloc, 0, &[])?,
-            beta: asked(alloc, 1, &call)?,
-        })
-    }
-
-    /// The first line of a script that isn't answered as it says, and what came. A line is `PROVIDER CALL -> ANSWER`.
-    pub(crate) fn first_wrong(&mut self, script: &'static str) -> Result<Option<String>, Fail> {
-        for line in script.split('\n') {
-            let Some((call, answer)) = line.split_once(" -> ") else {
-                continue;
-            };
-            let came = self.answer(call)?;
-            if came.as_slice() != answer.as_bytes() {
-                return Ok(Some(told(self.alloc, line, &came)?));
-            }
-        }
-        Ok(None)
-    }
-
-    /// What a call of a line comes to.
-    pub(crate) fn answer(&mut self, line: &'static str) -> Result<Vec<u8>, Fail> {
-        let frame = self.frame(line)?;
-        if word(line, 0) == "alfa" {
-            return self.alfa.answer(line, &frame);
-        }
-        self.beta.answer(line, &frame)
     }
 
     /// The frame that arrives by a line: `arrive MOMENT FROM PLACE CHANGES`, the one at a place of those that a
     /// provider put last, with changes; or `arrive MOMENT TEXT`. Of another line, no byte.
-    fn frame(&self, line: &'static str) -> Result<Vec<u8>, Fail> {
+    fn frame(&self, line: &str) -> Result<Vec<u8>, Fail> {
         if word(line, 1) != "arrive" {
             return Ok(Vec::new(self.alloc));
         }
-        let from = word(line, 3);
+        self.arriving(word(line, 3), line)
+    }
+
+    fn arriving(&self, from: &str, line: &str) -> Result<Vec<u8>, Fail> {
         if from == "alfa" {
-            return self.changed(&self.alfa.put, line);
+            return self.changed(put(&self.alfa), line);
         }
         if from == "beta" {
-            return self.changed(&self.beta.put, line);
+            return self.changed(put(&self.beta), line);
         }
         Ok(text_of(self.alloc, from)?)
     }
 
-    fn changed(&self, put: &[Frame], line: &'static str) -> Result<Vec<u8>, Fail> {
+    fn changed(&self, put: &[Frame], line: &str) -> Result<Vec<u8>, Fail> {
         let place = number(line, 4)? as usize;
         let frame = put.get(place).ok_or("no frame")?;
-        let sealer = self.forger.sealer();
-        changed(self.alloc, sealer, frame.bytes(), behind(line, 5))
+        changed(
+            self.alloc,
+            &self.forger.sealer,
+            frame.bytes(),
+            behind(line, 5),
+        )
     }
+}
 
-    /// A provider is opened again over its disk. Whether an entry of it was interrupted is told, too.
-    pub(crate) fn reopened(self, whose: u32) -> Result<(World, bool), Fail> {
-        let World {
-            alloc,
-            forger,
-            alfa,
-            beta,
-        } = self;
-        if whose == 0 {
-            let (alfa, interrupted) = alfa.reopened()?;
-            let world = World {
-                alloc,
-                forger,
-                alfa,
-                beta,
-            };
-            return Ok((world, interrupted));
+/// A line is `PROVIDER CALL`; beside the calls of a desk, `reopen` opens a provider again over its disk, and tells
+/// whether an entry of it was interrupted.
+impl Answers for World {
+    fn answer(&mut self, call: &str) -> Result<Vec<u8>, Fail> {
+        let frame = self.frame(call)?;
+        if word(call, 0) == "alfa" {
+            return answer(self.alloc, &mut self.alfa, Who::Alfa, call, &frame);
         }
-        let (beta, interrupted) = beta.reopened()?;
-        let world = World {
-            alloc,
-            forger,
-            alfa,
-            beta,
-        };
-        Ok((world, interrupted))
+        answer(self.alloc, &mut self.beta, Who::Beta, call, &frame)
+    }
+}
+
+fn answer(
+    alloc: Global,
+    desk: &mut Option<Desk>,
+    who: Who,
+    call: &str,
+    frame: &[u8],
+) -> Result<Vec<u8>, Fail> {
+    if word(call, 1) == "reopen" {
+        return reopen(alloc, desk, who);
+    }
+    match desk {
+        Some(desk) => desk.answer(call, frame),
+        None => Err("the provider is gone".into()),
+    }
+}
+
+fn reopen(alloc: Global, desk: &mut Option<Desk>, who: Who) -> Result<Vec<u8>, Fail> {
+    let (opened, interrupted) = reopened(desk.take(), who)?;
+    *desk = Some(opened);
+    told_word(
+        alloc,
+        if interrupted {
+            b"interrupted"
+        } else {
+            b"whole"
+        },
+    )
+}
+
+fn reopened(desk: Option<Desk>, who: Who) -> Result<(Desk, bool), Fail> {
+    match desk {
+        Some(desk) => Ok(desk.reopened(who)?),
+        None => Err("the provider is gone".into()),
+    }
+}
+
+/// The frames that a provider put last.
+fn put(desk: &Option<Desk>) -> &[Frame] {
+    match desk {
+        Some(desk) => desk.put(),
+        None => &[],
     }
 }
 
 /// A provider of the directory of the tests on an empty disk, of which these calls fail.
-fn asked(alloc: Global, me: u32, failing: &[u64]) -> Result<Asked, Fail> {
-    let home = home(alloc)?;
-    match Desk::made(alloc, home, me, failing) {
-        Some(Ok(desk)) => Ok(Asked::of(alloc, desk)),
-        Some(Err(_)) => Err("no journal was made".into()),
-        None => Err("no provider".into()),
-    }
+fn desk(alloc: Global, who: Who, failing: Vec<u64>) -> Result<Desk, Fail> {
+    let home = Home::of(alloc, two())?;
+    let disk = MemDisk::new(alloc, failing);
+    Ok(Desk::made(alloc, home, who, disk)?)
 }
 
-fn home(alloc: Global) -> Result<Home, Fail> {
-    let home = Home::of(alloc, TWO).ok_or("no directory")?;
-    Ok(home)
-}
-
-/// The words of a line from a place on.
-fn behind(line: &'static str, place: usize) -> &'static str {
-    let mut rest = line;
-    for _ in 0..place {
-        let Some((_, behind)) = rest.split_once(' ') else {
-            return "";
-        };
-        rest = behind;
+/// The failing calls of one provider's disk.
+fn calls_of(alloc: Global, failing: &[Failing], whose: u32) -> Result<Vec<u64>, AllocError> {
+    let mut calls = Vec::new(alloc);
+    for one in failing {
+        if one.whose == whose {
+            calls.push(one.call)?;
+        }
     }
-    rest
+    Ok(calls)
 }
 
 /// A script over two providers, and what it is about.
@@ -175,13 +163,22 @@ pub(crate) struct Case {
 }
 
 /// The first line of the cases that isn't answered as it says, and what came.
-pub(crate) fn first_wrong(alloc: Global, cases: &[Case]) -> Result<Option<String>, Fail> {
+pub(crate) fn first_wrong_of(alloc: Global, cases: &[Case]) -> Result<Option<String>, Fail> {
     for case in cases {
-        let mut world = World::new(alloc)?;
-        let wrong = world.first_wrong(case.script)?;
+        let wrong = wrong_line(alloc, &[], case.script)?;
         if wrong.is_some() {
             return Ok(wrong);
         }
     }
     Ok(None)
+}
+
+/// The first line of a script that isn't answered as it says where these calls of disks fail, and what came.
+pub(crate) fn wrong_line(
+    alloc: Global,
+    failing: &[Failing],
+    script: &str,
+) -> Result<Option<String>, Fail> {
+    let mut world = World::new(alloc, failing)?;
+    first_wrong(alloc, &mut world, script)
 }

@@ -9,7 +9,8 @@ use Rattle.pec_script.specs.LinesReading.{command_of}
 use Rattle.pec_script.specs.declared.commands.Command.{Command as Written}
 use Rattle.pec_script.specs.declared.faults.LineFault.{LineFault}
 use Rattle.pec_input.specs.Lines.{content_of}
-use Rattle.pec_runs.specs.ScriptLines.{Finds, Line, PassedOver, Says, SaysNone, TooLong, TooMany, command_in, is_passed_over, line_by, longest_line, most_lines, said_by}
+use Rattle.pec_runs.specs.ScriptLines.{Line, PassedOver, Says, SaysNone, TooLong, TooMany, command_in, is_passed_over, line_by, longest_line, most_lines, said_by}
+use Rattle.pec_screen.specs.Screened.{Finds}
 use Rattle.pec_runs.proofs.LineLemmas.{ReadsSo}
 
 module _ (reads : ReadsSo) (finds : Finds) (providers : List Provider) (number : ℕ) (line : Bytes) where

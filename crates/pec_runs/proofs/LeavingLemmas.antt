@@ -41,6 +41,8 @@ no_hand statuses.WriteFault next rest lucks script not_both = refl
 no_hand statuses.StartFault next rest lucks script not_both = refl
 no_hand statuses.NotEmpty next rest lucks script not_both = refl
 no_hand statuses.NotFit next rest lucks script not_both = refl
+no_hand statuses.ClockFault next rest lucks script not_both = refl
+no_hand statuses.DoorFault next rest lucks script not_both = refl
 no_hand statuses.InputTooLong next rest lucks script not_both = refl
 
 leaves_behind : (trade : Trade) (after left : List Site) (hand : Option Command) → hand ≡ None

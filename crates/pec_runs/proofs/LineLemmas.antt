@@ -23,7 +23,8 @@ use Rattle.pec_plays.specs.Scripts.{AllUnforged, IsUnforged}
 use Rattle.pec_runs.specs.Endings.{End}
 use Rattle.pec_runs.specs.Headline.{AllHonest, CanBeSaid, IsHonest}
 use Rattle.pec_input.specs.Lines.{content_of}
-use Rattle.pec_runs.specs.ScriptLines.{Finds, Line, PassedOver, Says, SaysNone, TooLong, TooMany, behind_line, command_in, is_passed_over, line_by, longest_line, most_lines, said_by, script_of}
+use Rattle.pec_runs.specs.ScriptLines.{Line, PassedOver, Says, SaysNone, TooLong, TooMany, behind_line, command_in, is_passed_over, line_by, longest_line, most_lines, said_by, script_of}
+use Rattle.pec_screen.specs.Screened.{Finds}
 
 -- ---- arguments
 

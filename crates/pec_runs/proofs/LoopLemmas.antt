@@ -16,7 +16,8 @@ use Rattle.pec_runs.specs.Endings.{Done, End}
 use Rattle.pec_input.specs.Lines.{raw_lines}
 use Rattle.pec_runs.specs.Plays.{Ends, HasMemory, MayPlay, MayStray, Outcome, RoseBy, Stopped, Stops, Strayed, Strays}
 use Rattle.pec_runs.specs.Plays.{ToTheEnd, faults_by, finish_text, onto_outcome, outcome_from, outcome_text}
-use Rattle.pec_runs.specs.ScriptLines.{Finds, Line, PassedOver, Says, Script, behind_line, nothing_but, said_by, script_of}
+use Rattle.pec_runs.specs.ScriptLines.{Line, PassedOver, Says, Script, behind_line, nothing_but, said_by, script_of}
+use Rattle.pec_screen.specs.Screened.{Finds}
 use Rattle.pec_runs.proofs.ClimbLemmas.{outcome_on, plays_astray, plays_none, plays_on, plays_over}
 
 -- ---- what is written

@@ -73,6 +73,8 @@ hand_can statuses.WriteFault rest lucks script command all e = absurd (none-some
 hand_can statuses.StartFault rest lucks script command all e = absurd (none-some command e)
 hand_can statuses.NotEmpty rest lucks script command all e = absurd (none-some command e)
 hand_can statuses.NotFit rest lucks script command all e = absurd (none-some command e)
+hand_can statuses.ClockFault rest lucks script command all e = absurd (none-some command e)
+hand_can statuses.DoorFault rest lucks script command all e = absurd (none-some command e)
 hand_can statuses.InputTooLong rest lucks script command all e = absurd (none-some command e)
 
 -- what is played by a run that has its journals

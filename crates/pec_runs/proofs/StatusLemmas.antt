@@ -22,7 +22,8 @@ use Rattle.pec_runs.specs.Openings.{Disks, Form, Next, NoMore, Holds, Unfits, Fa
 use Rattle.pec_runs.specs.Plays.{Finish, MayPlay, Outcome, Rest, Stopped, Strayed, ToTheEnd, at_end, finish_of, finish_text, outcome_from, outcome_text}
 use Rattle.pec_runs.specs.Plays as plays
 use Rattle.pec_runs.specs.Ran.{Counts, IsAt, PlaysOn, Ran, Tells, TellsAs, beginning, status_at, world}
-use Rattle.pec_runs.specs.ScriptLines.{Finds, Line, PassedOver, Says, SaysNone, TooLong, TooMany, Script, behind_line, said_by, script_of}
+use Rattle.pec_runs.specs.ScriptLines.{Line, PassedOver, Says, SaysNone, TooLong, TooMany, Script, behind_line, said_by, script_of}
+use Rattle.pec_screen.specs.Screened.{Finds}
 use Rattle.pec_runs.specs.Statuses.{Status, status_of}
 use Rattle.pec_runs.specs.Statuses as statuses
 use Rattle.pec_runs.specs.Writing.{HasEnded, IsDone, IsOfEnd, WroteAnswers}
@@ -141,6 +142,8 @@ ends_so statuses.NoMemory of before after text finish told = absurd of
 ends_so statuses.StartFault of before after text finish told = absurd of
 ends_so statuses.NotEmpty of before after text finish told = (finish_is statuses.NotEmpty of finish told.0, told.1)
 ends_so statuses.NotFit of before after text finish told = (finish_is statuses.NotFit of finish told.0, told.1)
+ends_so statuses.ClockFault of before after text finish told = (finish_is statuses.ClockFault of finish told.0, told.1)
+ends_so statuses.DoorFault of before after text finish told = (finish_is statuses.DoorFault of finish told.0, told.1)
 ends_so statuses.InputTooLong of before after text finish told =
     (finish_is statuses.InputTooLong of finish told.0, told.1)
 

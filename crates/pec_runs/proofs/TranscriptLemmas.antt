@@ -163,6 +163,8 @@ module _ (one : OneWay) (there : QuietThere) (asked : Asked) (status : Status)
   by_status statuses.StartFault e = absurd (start_blamed (blamed statuses.StartFault e))
   by_status statuses.NotEmpty e = inr (subst IsOfEnd (sym e) tt)
   by_status statuses.NotFit e = inr (subst IsOfEnd (sym e) tt)
+  by_status statuses.ClockFault e = inr (subst IsOfEnd (sym e) tt)
+  by_status statuses.DoorFault e = inr (subst IsOfEnd (sym e) tt)
   by_status statuses.InputTooLong e = inr (subst IsOfEnd (sym e) tt)
 
   by_kind : (status ≡ statuses.NoMemory) ⊎ IsOfEnd status

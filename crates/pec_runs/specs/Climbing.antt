@@ -11,7 +11,8 @@ use Rattle.pec_plays.specs.Commands.{Answer, Luck}
 use Rattle.pec_runs.specs.AnswerLines.{answers_text}
 use Rattle.pec_input.specs.Lines.{raw_lines}
 use Rattle.pec_runs.specs.Plays.{MayPlay, Outcome, Rest, outcome_from}
-use Rattle.pec_runs.specs.ScriptLines.{Finds, script_of}
+use Rattle.pec_runs.specs.ScriptLines.{script_of}
+use Rattle.pec_screen.specs.Screened.{Finds}
 
 -- the lines that are left to read, where that is told
 abbrev pub AreLinesLeft : Option Bytes → List Bytes → Type 0

@@ -11,7 +11,8 @@ use Rattle.pec_types.specs.declared.turns.Event.TheVariants as events
 use Rattle.pec_types.specs.declared.turns.ProviderFault.TheVariants as faults
 use Rattle.pec_runs.specs.Endings.{Done}
 use Rattle.pec_runs.specs.Openings.{opened}
-use Rattle.pec_runs.specs.ScriptLines.{Finds, Script}
+use Rattle.pec_runs.specs.ScriptLines.{Script}
+use Rattle.pec_screen.specs.Screened.{Finds}
 
 -- ---- a directory of two providers
 

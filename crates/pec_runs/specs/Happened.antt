@@ -20,7 +20,8 @@ use Rattle.pec_runs.specs.Endings as ends
 use Rattle.pec_runs.specs.Openings.{Form, Next, NoMore, Holds, Unfits, Fails, Stops, Opening, form_in, next_of, opened_all}
 use Rattle.pec_runs.specs.Plays.{Finish, Outcome, Rest, outcome_from}
 use Rattle.pec_runs.specs.Plays as plays
-use Rattle.pec_runs.specs.ScriptLines.{Finds, Script, script_of}
+use Rattle.pec_runs.specs.ScriptLines.{Script, script_of}
+use Rattle.pec_screen.specs.Screened.{Finds}
 
 -- ---- the setting
 

@@ -1,11 +1,10 @@
 -- The lines of a script, in a directory: what each says (`said_by`), and the commands that they come to, with the end
 -- to which the last of them leads (`script_of`). This project's profile.
-use Rattle.std.specs.Prelude.{ℕ, ◌+◌, ◌==◌, nat_lt, Bool, false, true, List, [], ◌∷◌, length, slice_get, Option, Some, None, Result, Ok, Err, if◌then◌else◌}
+use Rattle.std.specs.Prelude.{ℕ, ◌+◌, ◌==◌, nat_lt, Bool, true, List, [], ◌∷◌, length, Result, Ok, Err, if◌then◌else◌}
 use Rattle.pec_types.specs.Bytes.{Bytes}
 use Rattle.pec_directory.specs.Directory.{Provider}
 use Rattle.pec_plays.specs.Commands.{Command, Submit, Tick, Round, Lose, Repeat, Swap, Inject, Crash, Restart, Book, Mailbox, Show}
-use Rattle.pec_screen.specs.VerdictReading.{finds}
-use Rattle.pec_screen.specs.Verdicts.{Patterns}
+use Rattle.pec_screen.specs.Screened.{Finds}
 use Rattle.pec_script.specs.LinesReading.{command_of}
 use Rattle.pec_script.specs.declared.commands.Command.{Command as Written}
 use Rattle.pec_script.specs.declared.commands.Command.TheVariants as written
@@ -20,20 +19,6 @@ most_lines = 1000000
 
 abbrev pub longest_line : ℕ
 longest_line = 67108864
-
--- Whether some screen of a provider finds a rule in a message. It is the same in all of a run: screens keep what they look
--- for.
-abbrev pub Finds : Type 0
-Finds = ℕ → Bytes → Bool
-
-abbrev pub finds_by : Option (List Patterns) → Bytes → Bool
-finds_by None message = false
-finds_by (Some boxes) message = finds boxes message
-
--- What screens find whose boxes have these patterns, a list for each provider from 0 on. A provider without a list has no
--- screens.
-unfoldable pub finds_in : List (List Patterns) → Finds
-finds_in screens provider message = finds_by (slice_get screens provider) message
 
 -- a command as the network plays it, where screens find this
 abbrev pub command_in : Finds → Written → Command

@@ -13,6 +13,8 @@ pub data Status : Type 0 where
   StartFault : Status
   NotEmpty : Status
   NotFit : Status
+  ClockFault : Status
+  DoorFault : Status
   InputTooLong : Status
 
 abbrev pub code_of : Status → ℕ
@@ -25,6 +27,8 @@ code_of NoMemory = 6
 code_of StartFault = 7
 code_of NotEmpty = 8
 code_of NotFit = 9
+code_of ClockFault = 10
+code_of DoorFault = 11
 code_of InputTooLong = 12
 
 abbrev pub status_of : End → Status

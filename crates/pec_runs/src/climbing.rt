@@ -12,7 +12,8 @@ ghost use Rattle.pec_runs.specs.Endings.{Done, End};
 ghost use Rattle.pec_runs.specs.Plays.{Ends, HasMemory, MayPlay, MayStray, Outcome, Rest, RoseBy, Stopped, Stops};
 ghost use Rattle.pec_runs.specs.Plays.{Strayed, Strays, ToTheEnd, faults_by, onto_outcome, outcome_from, outcome_text};
 ghost use Rattle.pec_runs.specs.ScriptLines.{PassedOver, Says, Script, behind_line, nothing_but, onto_script, said_by};
-ghost use Rattle.pec_runs.specs.ScriptLines.{Finds, script_of};
+ghost use Rattle.pec_runs.specs.ScriptLines.{script_of};
+ghost use Rattle.pec_screen.specs.Screened.{Finds};
 
 use pec_outside::Depot;
 

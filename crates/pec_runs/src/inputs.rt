@@ -5,7 +5,8 @@ ghost use Rattle.pec_script.specs.Lines.{IsCommand, IsLineFault};
 ghost use Rattle.pec_script.specs.declared.commands.Command.{Command as Written};
 ghost use Rattle.pec_script.specs.declared.faults.LineFault.{LineFault};
 ghost use Rattle.pec_input.specs.Lines.{content_of};
-ghost use Rattle.pec_runs.specs.ScriptLines.{Finds, PassedOver, Says, SaysNone, TooLong, TooMany, command_in, is_passed_over, longest_line, most_lines, said_by};
+ghost use Rattle.pec_runs.specs.ScriptLines.{PassedOver, Says, SaysNone, TooLong, TooMany, command_in, is_passed_over, longest_line, most_lines, said_by};
+ghost use Rattle.pec_screen.specs.Screened.{Finds};
 
 use pec_script::a_line_has_one_reading;
 

@@ -22,5 +22,5 @@ pub use quiet::{
     a_script_without_faults_is_one,
 };
 pub use resuming::{a_resumed_run_begins_where_the_last_left, a_script_may_be_cut};
-pub use runs::a_runs_books_belong_to_the_ledger;
+pub use runs::{a_run_begins_sound, a_runs_books_belong_to_the_ledger};
 pub use writing::{a_status_says_what_was_written, answers_are_whole_lines};

@@ -1,10 +1,13 @@
 ghost use Rattle.std.specs.Prelude.{◌≡◌, ℕ, List, Option};
 ghost use Rattle.pec_types.specs.Bytes.{Bytes};
 ghost use Rattle.pec_ledger.specs.Ledger.{Fit};
-ghost use Rattle.pec_ledger.specs.Network.{journals_in};
 ghost use Rattle.pec_runs.specs.Happened.{Asked, Begun, stage_of};
 ghost use Rattle.pec_runs.specs.Headline.{AllHonest, Headline};
-ghost use Rattle.pec_runs.specs.Openings.{Form, NoMore, Resume};
+ghost use Rattle.pec_ledger.specs.Network.{Sound, journals_in};
+ghost use Rattle.pec_ledger.specs.Trade.{Trade};
+ghost use Rattle.pec_ledger.specs.TradeLaws.{IsTrade};
+ghost use Rattle.pec_plays.specs.Possible.{NoneInterrupted};
+ghost use Rattle.pec_runs.specs.Openings.{Form, IsOpening, NoMore, Opening, Resume, disks_at, opened_all};
 ghost use Rattle.pec_runs.specs.Ran.{Counts, RanOver, beginning, world};
 ghost use Rattle.pec_runs.specs.ScriptLines.{Script};
 ghost use Rattle.pec_runs.specs.Statuses.{Status};
@@ -13,6 +16,18 @@ use crate::headline::the_books_belong_to_the_ledger;
 use pec_ledger::{licences_stand, soundness};
 use pec_outside::Depot;
 use pec_script::a_line_has_one_reading;
+
+/// A run that has all its journals begins Sound, with nothing interrupted: they were made, or opened where they fit
+/// together.
+pub fn a_run_begins_sound<P: Depot>()
+    ensures { (trade : Trade) → IsTrade trade → (depot : P) (form : Form) (opening : Opening)
+        → IsOpening trade (disks_at (P.tells × P.D.tells) P.D.sight (P.home depot)) form opening → opening.next ≡ NoMore
+        → (form ≡ Resume → Fit trade (journals_in opening.journals))
+        → Sound trade (opened_all trade opening.journals) × NoneInterrupted (opened_all trade opening.journals) }
+{
+    licences_stand();
+    soundness();
+}
 
 /// The headline, of a run: for every directory and script, whatever devices do, where no forged frame is injected,
 /// and, for a run that resumed, where the journals as opened fit together.

@@ -1,3 +1,4 @@
 pub mod Occurrence
 pub mod Verdicts
 pub mod VerdictReading
+pub mod Screened

@@ -1,3 +1,4 @@
 pub mod CallLemmas
 pub mod ConnectionLemmas
+pub mod RunLemmas
 pub mod StoredLemmas

@@ -7,6 +7,7 @@ use Rattle.pec_types.specs.declared.turns.ProviderFault.{ProviderFault}
 use Rattle.pec_types.specs.declared.turns.ProviderFault.TheVariants as faults
 use Rattle.pec_types.specs.declared.turns.Submitted.{Submitted}
 use Rattle.pec_directory.specs.Directory.{Kept}
+use Rattle.pec_screen.specs.Screened.{Finds}
 use Rattle.pec_ledger.specs.Network.{Site, journal_at, site_at}
 use Rattle.pec_ledger.specs.Trade.{Trade}
 use Rattle.pec_plays.specs.Commands.{Command, Luck, Played, Submit, Submits, appended, entry_by, messages_at, played, screened_cause, told_by}
@@ -34,12 +35,13 @@ tells_if : (b : Bool) (x y : Played) → Tells x → Tells y → Tells (if b the
 tells_if true x y one other = one
 tells_if false x y one other = other
 
-module _ (trade : Trade) (luck : Luck) (sites : List Site) (number moment : ℕ) (address : Bytes) (path : Path) (message : Bytes) where
+module _ (trade : Trade) (luck : Luck) (sites : List Site) (number moment : ℕ) (address : Bytes) (path : Path) (message : Bytes)
+    (found : Bool) where
   appends : (fails : Bool) (entry : _) (submitted : Submitted) → Tells (appended fails sites number entry (Submits submitted))
   appends true entry submitted = tt
   appends false entry submitted = tt
 
-  pub submission_tells : Tells (played trade luck sites (Submit number moment address path message false))
+  pub submission_tells : Tells (played trade luck sites (Submit number moment address path message found))
   unfolding played
   submission_tells =
       tells_if (trade.is_account number address) _ _
@@ -47,25 +49,25 @@ module _ (trade : Trade) (luck : Luck) (sites : List Site) (number moment : ℕ)
       (tells_if (nat_lt moment (last_of trade number (journal_at sites number))) _ _ tt
       (tells_if (nat_lt (messages_at trade sites number) MESSAGES) _ _
       (tells_if (has_no_room trade number (journal_at sites number)
-      (entry_by (screened_cause false (trade.cause number address path message)) moment address path message)) _ _ tt
-      (appends luck.fails (entry_by (screened_cause false (trade.cause number address path message)) moment address path message)
-      (told_by (screened_cause false (trade.cause number address path message)) (id_of number (messages_at trade sites number)))))
+      (entry_by (screened_cause found (trade.cause number address path message)) moment address path message)) _ _ tt
+      (appends luck.fails (entry_by (screened_cause found (trade.cause number address path message)) moment address path message)
+      (told_by (screened_cause found (trade.cause number address path message)) (id_of number (messages_at trade sites number)))))
       tt)) tt) tt
 
 -- ---- a connection
 
-module _ (trade : Trade) (sites : List Site) where
+module _ (trade : Trade) (finds : Finds) (sites : List Site) where
   said_by : (moment : ℕ) (answering : Answering) (call : Call) (calls : List Call)
-      → commands_of (call ∷ calls) ≡ handed_by moment answering → IsSaid (said_in (answer_of trade sites call))
+      → commands_of (call ∷ calls) ≡ handed_by finds moment answering → IsSaid (said_in (answer_of trade sites call))
   said_by moment connections.Lacks call calls is = cc
   said_by moment (connections.Stops stop) call calls is = cc
   said_by moment (connections.Sees address looked) call calls is = cc
   said_by moment (connections.HandsIn number address path message) call calls is =
-      subst (λ (c : Command). Tells (played trade call.luck sites c)) (sym (ap (first_or (Submit number moment address path message false)) is))
-      (submission_tells trade call.luck sites number moment address path message)
+      subst (λ (c : Command). Tells (played trade call.luck sites c)) (sym (ap (first_or (Submit number moment address path message (finds number message))) is))
+      (submission_tells trade call.luck sites number moment address path message (finds number message))
 
   said_in_hearing : (moment : ℕ) (hearing : Hearing) (call : Call) (calls : List Call)
-      → commands_of (call ∷ calls) ≡ handed_in moment hearing → IsSaid (said_in (answer_of trade sites call))
+      → commands_of (call ∷ calls) ≡ handed_in finds moment hearing → IsSaid (said_in (answer_of trade sites call))
   said_in_hearing moment connections.Unheard call calls is = cc
   said_in_hearing moment (connections.Heard answering) call calls is = said_by moment answering call calls is
   said_in_hearing moment (connections.Broken answering) call calls is = said_by moment answering call calls is
@@ -73,11 +75,11 @@ module _ (trade : Trade) (sites : List Site) where
   not_lack : (said : Result Submitted ProviderFault) → IsSaid said → said ≡ Err faults.NoMemory → ⊥
   not_lack said is lack = subst IsSaid lack is
 
-pub stored_is_said : (trade : Trade) (kept : List Kept) (here : Place) (connection : Connection) (call : Call)
-    (calls : List Call) → IsConnection trade kept here connection → connection.handed ≡ call ∷ calls
+pub stored_is_said : (trade : Trade) (kept : List Kept) (finds : Finds) (here : Place) (connection : Connection) (call : Call)
+    (calls : List Call) → IsConnection trade kept finds here connection → connection.handed ≡ call ∷ calls
     → heard_from trade kept here.network.sites connection.handed ≡ Err faults.NoMemory → ⊥
-stored_is_said trade kept here connection call calls is handed lack =
-    not_lack trade here.network.sites (said_in (answer_of trade here.network.sites call))
-    (said_in_hearing trade here.network.sites connection.moment connection.hearing call calls
+stored_is_said trade kept finds here connection call calls is handed lack =
+    not_lack trade finds here.network.sites (said_in (answer_of trade here.network.sites call))
+    (said_in_hearing trade finds here.network.sites connection.moment connection.hearing call calls
     (ap commands_of (sym handed) ∙ is.hands))
     (ap (heard_from trade kept here.network.sites) (sym handed) ∙ lack)

@@ -1,7 +1,7 @@
 -- One connection that is served, as it went: it is accepted, the moment is asked, its request is answered at the desk of
 -- the network at that moment, and then each provider looks at the clock, in order, and one round is played, all at that
 -- moment. The headline is `IsConnection`. This project's profile.
-use Rattle.std.specs.Prelude.{◌≡◌, ℕ, ◌+◌, ◌<◌, ◌≤◌, true, List, [], ◌∷◌, ◌++◌, length, codes, Option, Some, Result, Ok, Err, IfSome, false}
+use Rattle.std.specs.Prelude.{◌≡◌, ℕ, ◌+◌, ◌<◌, ◌≤◌, true, List, [], ◌∷◌, ◌++◌, length, codes, Option, Some, Result, Ok, Err, IfSome}
 use Rattle.std.specs.Fmt.{decimal}
 use Rattle.pec_types.specs.Bytes.{Bytes, Path}
 use Rattle.pec_types.specs.declared.moments.TheConstants.{END_OF_TIME}
@@ -12,6 +12,7 @@ use Rattle.pec_outside.specs.Clocks.{Gives}
 use Rattle.pec_outside.specs.Doors.{Reply as ToldReply, in_front}
 use Rattle.pec_directory.specs.Directory.{Kept, account_home, first_domain, providers_of}
 use Rattle.pec_records.specs.Entry.{most_addresses}
+use Rattle.pec_screen.specs.Screened.{Finds}
 use Rattle.pec_ledger.specs.Network.{Site}
 use Rattle.pec_ledger.specs.Trade.{Trade}
 use Rattle.pec_plays.specs.Commands.{Answer, Command, Refuses, Submit, Submits}
@@ -24,7 +25,7 @@ use Rattle.pec_http.specs.declared.demands.Look.{Look}
 use Rattle.pec_http.specs.declared.stops.Stop.{Stop}
 use Rattle.pec_script.specs.Texts.{text_of}
 use Rattle.pec_desk.specs.Desks.{pass_of}
-use Rattle.pec_desk.specs.Own.{share_in, shown_with}
+use Rattle.pec_desk.specs.Own.{shown_in}
 use Rattle.pec_service.specs.Calls.{AreCalls, Call, State, answer_of, calls_text, clock_from, commands_of, state_behind}
 
 -- ---- what a request comes to
@@ -57,15 +58,16 @@ IsHeardSo kept input Unheard = Unit {0}
 IsHeardSo kept input (Heard answering) = AsksSo kept input answering
 IsHeardSo kept input (Broken answering) = AsksSo kept input answering
 
--- the command by which a message is handed in, where one is; no screen looks at it
-abbrev pub handed_by : ℕ → Answering → List Command
-handed_by moment (HandsIn number address path message) = Submit number moment address path message false ∷ []
-handed_by moment _ = []
+-- the command by which a message is handed in, where one is and screens find this
+abbrev pub handed_by : Finds → ℕ → Answering → List Command
+handed_by finds moment (HandsIn number address path message) =
+    Submit number moment address path message (finds number message) ∷ []
+handed_by finds moment _ = []
 
-abbrev pub handed_in : ℕ → Hearing → List Command
-handed_in moment Unheard = []
-handed_in moment (Heard answering) = handed_by moment answering
-handed_in moment (Broken answering) = handed_by moment answering
+abbrev pub handed_in : Finds → ℕ → Hearing → List Command
+handed_in finds moment Unheard = []
+handed_in finds moment (Heard answering) = handed_by finds moment answering
+handed_in finds moment (Broken answering) = handed_by finds moment answering
 
 -- ---- a connection
 
@@ -106,13 +108,12 @@ module _ (trade : Trade) (kept : List Kept) where
   heard_from sites (call ∷ calls) = said_in (answer_of trade sites call)
 
   -- What is answered, by the state as the connection was accepted and what was handed in. An account is shown its own
-  -- (`shown_with` of pec_desk).
+  -- (`shown_in` of pec_desk).
   abbrev pub answered_by : List Site → List Call → Answering → Reply
   answered_by sites handed Lacks = memory_reply
   answered_by sites handed (Stops stop) = stop_reply stop
   answered_by sites handed (Sees address looked) =
-      shown_reply (kind_of looked)
-      (shown_with (providers_of kept) (share_in trade (providers_of kept) sites address) looked)
+      shown_reply (kind_of looked) (shown_in trade (providers_of kept) sites address looked)
   answered_by sites handed (HandsIn number address path message) =
       submitted_reply (first_domain (providers_of kept) number) (heard_from sites handed)
 
@@ -139,7 +140,8 @@ module _ (trade : Trade) (kept : List Kept) where
       outcome_line here.sites connection.handed connection.hearing
       ++ calls_text trade (providers_of kept) (state_behind here connection.handed) connection.clock
 
-  -- It was served from this place on. Where all wasn't played, these commands were left.
+module _ (trade : Trade) (kept : List Kept) (finds : Finds) where
+  -- It was served from this place on, where screens find this. Where all wasn't played, these commands were left.
   pub record IsConnection (here : Place) (connection : Connection) : Type 0 where
     pub moment : Gives here.moments connection.moment connection.behind.moments
     pub in_time : connection.moment < END_OF_TIME
@@ -147,9 +149,9 @@ module _ (trade : Trade) (kept : List Kept) where
     pub request : here.requests ≡ in_front left connection.behind.requests
     pub is_input : IsInput left connection.input
     pub heard : IsHeardSo kept connection.input connection.hearing
-    pub replied : IsReplied here.network.sites connection.handed connection.hearing connection.reply
+    pub replied : IsReplied trade kept here.network.sites connection.handed connection.hearing connection.reply
     pub replies : IfSome here.replies (λ replies. connection.behind.replies ≡ Some (replies ++ connection.reply ∷ []))
-    pub hands : commands_of connection.handed ≡ handed_in connection.moment connection.hearing
+    pub hands : commands_of connection.handed ≡ handed_in finds connection.moment connection.hearing
     pub unplayed : List Command
     pub plays : commands_of connection.clock ++ unplayed ≡ clock_from (length kept) 0 connection.moment
     pub calls : AreCalls trade here.network (calls_of connection)

@@ -1,5 +1,6 @@
 ghost use Rattle.std.specs.Prelude.{◌≡◌, ◌≤◌, ℕ, List, [], ◌∷◌, ◌++◌};
 ghost use Rattle.pec_directory.specs.Directory.{Kept, Provider};
+ghost use Rattle.pec_screen.specs.Screened.{Finds};
 ghost use Rattle.pec_ledger.specs.Trade.{Trade};
 ghost use Rattle.pec_runs.specs.AnswerLines.{answer_text};
 ghost use Rattle.pec_service.specs.Calls.{AreCalls, Call, IsCall, State, answer_of, calls_text, commands_of, state_behind};
@@ -37,10 +38,10 @@ pub fn calls_are_joined()
 
 /// How a loop over connections climbs.
 pub fn connections_are_joined()
-    ensures one { (trade : Trade) (kept : List Kept) (here : Place) (connections : List Connection) (connection : Connection)
-        → AreConnections trade kept here connections
-        → IsConnection trade kept (place_behind here connections) connection
-        → AreConnections trade kept here (connections ++ connection ∷ []) }
+    ensures one { (trade : Trade) (kept : List Kept) (finds : Finds) (here : Place) (connections : List Connection)
+        (connection : Connection) → AreConnections trade kept finds here connections
+        → IsConnection trade kept finds (place_behind here connections) connection
+        → AreConnections trade kept finds here (connections ++ connection ∷ []) }
     ensures behind { (here : Place) (connections : List Connection) (connection : Connection)
         → place_behind here (connections ++ connection ∷ []) ≡ connection.behind }
     ensures text { (trade : Trade) (kept : List Kept) (here : Place) (connections : List Connection)

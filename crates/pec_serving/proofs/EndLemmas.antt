@@ -1,11 +1,13 @@
 -- How a loop over connections goes on and ends, from the network with which the service began.
-use Rattle.std.proofs.Common.{◌≡◌, ◌+◌, ◌<◌, ◌≤◌, ◌-◌, ◌^◌, ℕ, List, length, arith, inl, inr, Option, Result, Ok, Err}
+use Rattle.std.proofs.Common.{◌≡◌, ◌+◌, ◌<◌, ◌≤◌, ◌-◌, ◌^◌, ℕ, List, length, arith, inl, inr, subst, Option, Result, Ok, Err}
 use Rattle.std.proofs.lemmas.Bool.{cases_lt}
 use Rattle.pec_types.specs.Bytes.{Bytes}
 use Rattle.pec_outside.specs.DiskModel.{Sight}
 use Rattle.pec_outside.specs.Doors.{Reply}
 use Rattle.pec_outside.specs.Flow.{HasRisen, WrotePart, followed_by}
 use Rattle.pec_directory.specs.Directory.{Kept, providers_of}
+use Rattle.pec_screen.specs.Screened.{finds_in}
+use Rattle.pec_screen.specs.Verdicts.{Patterns}
 use Rattle.pec_seal.specs.Seals.{Seals}
 use Rattle.pec_ledger.specs.Trade.{Trade}
 use Rattle.pec_trade.specs.TradeOf.{trade_of}
@@ -25,11 +27,12 @@ use Rattle.pec_serving.proofs.KeepLemmas.{as_begun}
 use Rattle.pec_serving.proofs.ServiceLemmas.{CallLaws, ConnectionLaws, Going, clock_lacks, clock_stops, goes_on, line_broke, none_met, none_told}
 
 module _ {D S : Type 0} (sight : D → Sight) (count : D → ℕ) (disks : Type 0) (seals : S → Seals)
-    (start : NetworkState D S) (laws : CallLaws (trade_of start.kept (seals start.sealer)))
-    (joins : ConnectionLaws (trade_of start.kept (seals start.sealer)) start.kept) (elsewhere : ℕ → ℕ) (here : Place)
-    (now again : NetworkState D S) (keeps : Keeps sight count disks start now) (moments : Option (List ℕ))
+    (start : NetworkState D S) (screens : List (List Patterns)) (laws : CallLaws (trade_of start.kept (seals start.sealer)))
+    (joins : ConnectionLaws (trade_of start.kept (seals start.sealer)) start.kept (finds_in screens)) (elsewhere : ℕ → ℕ) (here : Place)
+    (now again : NetworkState D S) (screens_now : List (List Patterns)) (look_so : screens_now ≡ screens)
+    (keeps : Keeps sight count disks start now) (moments : Option (List ℕ))
     (requests : Option (List Bytes)) (replies : Option (List Reply)) (served : ℕ) (before mid : Option Bytes)
-    (going : Going (trade_of start.kept (seals start.sealer)) start.kept here
+    (going : Going (trade_of start.kept (seals start.sealer)) start.kept (finds_in screens) here
     (place_of count elsewhere now moments requests replies) served before mid)
     (moments_then : Option (List ℕ)) (requests_then : Option (List Bytes)) (replies_then : Option (List Reply))
     (wanted : ℕ) (few : served < wanted) where
@@ -43,29 +46,32 @@ module _ {D S : Type 0} (sight : D → Sight) (count : D → ℕ) (disks : Type 
   left = place_of count elsewhere again moments_then requests_then replies_then
 
   -- what came next, in the world of the beginning
-  comes_so : (came : Came) → ComesNext (trade_of now.kept (seals now.sealer)) now.kept at left came
-      → ComesNext trade start.kept at left came
+  comes_so : (came : Came) → ComesNext (trade_of now.kept (seals now.sealer)) now.kept (finds_in screens_now) at left came
+      → ComesNext trade start.kept (finds_in screens) at left came
   comes_so came comes =
-      as_begun sight count disks seals start now keeps (λ (t : Trade) (k : List Kept). ComesNext t k at left came) comes
+      as_begun sight count disks seals start now keeps
+      (λ (t : Trade) (k : List Kept). ComesNext t k (finds_in screens) at left came)
+      (subst (λ (s : List (List Patterns)). ComesNext (trade_of now.kept (seals now.sealer)) now.kept (finds_in s) at left came)
+      look_so comes)
 
-  pub ends_unmet : ComesNext (trade_of now.kept (seals now.sealer)) now.kept at left came.NoConnection
-      → ServesSo trade start.kept wanted here left before mid endings.NoConnection
+  pub ends_unmet : ComesNext (trade_of now.kept (seals now.sealer)) now.kept (finds_in screens_now) at left came.NoConnection
+      → ServesSo trade start.kept (finds_in screens) wanted here left before mid endings.NoConnection
   ends_unmet comes =
       let is = comes_so came.NoConnection comes
-      in none_met trade start.kept laws joins here at served before mid going wanted few left is.network is.replies
+      in none_met trade start.kept (finds_in screens) laws joins here at served before mid going wanted few left is.network is.replies
 
-  pub ends_untold : ComesNext (trade_of now.kept (seals now.sealer)) now.kept at left came.NoMoment
-      → ServesSo trade start.kept wanted here left before mid endings.NoMoment
+  pub ends_untold : ComesNext (trade_of now.kept (seals now.sealer)) now.kept (finds_in screens_now) at left came.NoMoment
+      → ServesSo trade start.kept (finds_in screens) wanted here left before mid endings.NoMoment
   ends_untold comes =
       let is = comes_so came.NoMoment comes
-      in none_told trade start.kept laws joins here at served before mid going wanted few left is.network is.replies
+      in none_told trade start.kept (finds_in screens) laws joins here at served before mid going wanted few left is.network is.replies
 
   module _ (moment : ℕ) (told : Served)
-      (comes : ComesNext (trade_of now.kept (seals now.sealer)) now.kept at left (came.Served moment told)) where
+      (comes : ComesNext (trade_of now.kept (seals now.sealer)) now.kept (finds_in screens_now) at left (came.Served moment told)) where
     pub ends_broken : (after : Option Bytes) → WrotePart mid after (served_line told)
-        → ServesSo trade start.kept wanted here left before after endings.WriteFault
+        → ServesSo trade start.kept (finds_in screens) wanted here left before after endings.WriteFault
     ends_broken after part =
-        line_broke trade start.kept laws joins here at served before mid going left moment told
+        line_broke trade start.kept (finds_in screens) laws joins here at served before mid going left moment told
         (comes_so (came.Served moment told) comes) wanted (omega (arith, few)) after part
 
     module _ (keeps_again : Keeps sight count disks start again) (last : NetworkState D S) (line_held after : Option Bytes)
@@ -83,30 +89,30 @@ module _ {D S : Type 0} (sight : D → Sight) (count : D → ℕ) (disks : Type 
       pub ends_written : PlaysAll (trade_of again.kept (seals again.sealer)) (providers_of again.kept)
           (state_of count elsewhere again) (state_of count elsewhere last) (clock_from (length again.kept) 0 moment)
           line_held after (Ok tt)
-          → Going trade start.kept here (place_of count elsewhere last moments_then requests_then replies_then) (served + 1)
+          → Going trade start.kept (finds_in screens) here (place_of count elsewhere last moments_then requests_then replies_then) (served + 1)
           before after
       ends_written plays =
-          goes_on trade start.kept laws joins here at served before mid going left moment told
+          goes_on trade start.kept (finds_in screens) laws joins here at served before mid going left moment told
           (comes_so (came.Served moment told) comes) line_held line (state_of count elsewhere last) after
           (played_so (Ok tt) plays)
 
       pub ends_stopped : PlaysAll (trade_of again.kept (seals again.sealer)) (providers_of again.kept)
           (state_of count elsewhere again) (state_of count elsewhere last) (clock_from (length again.kept) 0 moment)
           line_held after (Err stops.WriteFault)
-          → ServesSo trade start.kept wanted here (place_of count elsewhere last moments_then requests_then replies_then)
+          → ServesSo trade start.kept (finds_in screens) wanted here (place_of count elsewhere last moments_then requests_then replies_then)
           before after endings.WriteFault
       ends_stopped plays =
-          clock_stops trade start.kept laws joins here at served before mid going left moment told
+          clock_stops trade start.kept (finds_in screens) laws joins here at served before mid going left moment told
           (comes_so (came.Served moment told) comes) line_held line wanted (omega (arith, few))
           (state_of count elsewhere last) after (played_so (Err stops.WriteFault) plays)
 
       pub ends_lacking : PlaysAll (trade_of again.kept (seals again.sealer)) (providers_of again.kept)
           (state_of count elsewhere again) (state_of count elsewhere last) (clock_from (length again.kept) 0 moment)
           line_held after (Err stops.NoMemory)
-          → ServesSo trade start.kept wanted here (place_of count elsewhere last moments_then requests_then replies_then)
+          → ServesSo trade start.kept (finds_in screens) wanted here (place_of count elsewhere last moments_then requests_then replies_then)
           before after endings.NoMemory
       ends_lacking plays =
-          clock_lacks trade start.kept laws joins here at served before mid going left moment told
+          clock_lacks trade start.kept (finds_in screens) laws joins here at served before mid going left moment told
           (comes_so (came.Served moment told) comes) line_held line wanted (omega (arith, few))
           (state_of count elsewhere last) after (played_so (Err stops.NoMemory) plays)
 

@@ -1,13 +1,16 @@
 -- What became of a connection at the desk, from what `serve_one` says of it.
 use Rattle.std.proofs.Common.{◌≡◌, inl, inr, ℕ, ◌<◌, ◌≤◌, true, false, List, [], ◌∷◌, length, refl, ap, sym, subst, ◌∙◌, arith, Option, Some, None, Result, Ok, Err}
 use Rattle.std.specs.Prelude.{◌⊎◌, IsErrOf, unwrap_or}
+use Rattle.std.specs.Option.{option_map}
 use Rattle.pec_types.specs.Bytes.{Bytes, Path}
 use Rattle.pec_types.specs.declared.turns.ProviderFault.{ProviderFault}
 use Rattle.pec_types.specs.declared.turns.ProviderFault.TheVariants as faults
 use Rattle.pec_types.specs.declared.turns.Submitted.{Submitted}
 use Rattle.pec_outside.specs.DiskModel.{Sight}
 use Rattle.pec_outside.specs.Flow.{WrotePart, followed_by}
-use Rattle.pec_directory.specs.Directory.{first_domain, providers_of}
+use Rattle.pec_directory.specs.Directory.{account_home, first_domain, providers_of}
+use Rattle.pec_screen.specs.Screened.{finds_in}
+use Rattle.pec_screen.specs.Verdicts.{Patterns}
 use Rattle.pec_seal.specs.Seals.{Seals}
 use Rattle.pec_ledger.specs.Network.{Site}
 use Rattle.pec_ledger.specs.Trade.{Trade}
@@ -22,16 +25,17 @@ use Rattle.pec_http.specs.Asking.{Asks, Question, See}
 use Rattle.pec_http.specs.Asking as asking
 use Rattle.pec_http.specs.Desks.{Answers}
 use Rattle.pec_http.specs.Input.{IsInput}
-use Rattle.pec_http.specs.Replies.{Reply, reply_text, submitted_reply}
-use Rattle.pec_http.specs.Serving.{IsAnswer, IsAnswered, RestsUnread, Replies, Sends, Serves, Stays}
+use Rattle.pec_http.specs.Replies.{Reply, reply_text, shown_reply, submitted_reply}
+use Rattle.pec_http.specs.Serving.{IsAnswer, IsAnswered, RestsUnread, Replies, Sends, Serves, Stays, kind_of}
 use Rattle.pec_http.specs.Serving as serving
 use Rattle.pec_http.specs.Statuses.{number_of}
+use Rattle.pec_http.specs.declared.demands.Look.{Look}
 use Rattle.pec_http.specs.declared.serving.Served.{Served}
 use Rattle.pec_http.specs.declared.serving.Served.TheVariants as served
 use Rattle.pec_http.specs.declared.stops.Stop.{Stop}
 use Rattle.pec_runs.specs.Plays.{HasMemory, RoseBy, faults_at}
 use Rattle.pec_desk.specs.Desks.{DeskState, HandsIn, answers_of, domain_at, pass_of, world_of}
-use Rattle.pec_desk.specs.Own.{IsFaultOf, asking_share, reply_to}
+use Rattle.pec_desk.specs.Own.{IsFaultOf, asking_share, reply_to, share_at, shown_with}
 use Rattle.pec_playing.specs.Playing.{counts_in}
 use Rattle.pec_service.specs.Calls.{AreCalls, Call, IsCall, State, commands_of, state_behind}
 use Rattle.pec_service.specs.Connections.{Answering, AsksSo, Hearing, IsHeardSo, answered_by, handed_by, handed_in, said_in}
@@ -109,13 +113,13 @@ OwnAnswers {D} {S} desk_answers seals = (desk after : DeskState D S) (input : By
 
 module _ {D S : Type 0} (sight : D → Sight) (count : D → ℕ) (tells : Type 0) (seals : S → Seals) (counted : Counted count)
     (own : OwnAnswers (answers_of sight count tells seals) seals) (network : NetworkState D S) (moment : ℕ)
-    (after : DeskState D S) (elsewhere : ℕ → ℕ) (many : length after.network.providers ≡ length network.providers)
+    (screens : List (List Patterns)) (after : DeskState D S) (elsewhere : ℕ → ℕ) (many : length after.network.providers ≡ length network.providers)
     (whole : length network.providers ≡ length network.kept) where
   abbrev desk_answers : Answers (DeskState D S)
   desk_answers = answers_of sight count tells seals
 
   abbrev desk : DeskState D S
-  desk = record { network = network; moment = moment }
+  desk = record { network = network; moment = moment; screens = screens }
 
   abbrev trade : Trade
   trade = world_of seals network
@@ -131,7 +135,7 @@ module _ {D S : Type 0} (sight : D → Sight) (count : D → ℕ) (tells : Type 
     pub answering : Answering
     pub handed : List Call
     pub asks : AsksSo network.kept input answering
-    pub hands : commands_of handed ≡ handed_by moment answering
+    pub hands : commands_of handed ≡ handed_by (finds_in screens) moment answering
     pub calls : AreCalls trade here handed
     pub state : there.sites ≡ (state_behind here handed).sites
     pub later : (provider : ℕ) → (state_behind here handed).counts provider ≤ there.counts provider
@@ -142,7 +146,7 @@ module _ {D S : Type 0} (sight : D → Sight) (count : D → ℕ) (tells : Type 
 
   -- nothing was handed in
   idle : (input : Bytes) (reply : Reply) (answering : Answering) → AsksSo network.kept input answering
-      → [] ≡ handed_by moment answering → there.sites ≡ here.sites
+      → [] ≡ handed_by (finds_in screens) moment answering → there.sites ≡ here.sites
       → ((provider : ℕ) → here.counts provider ≤ there.counts provider)
       → reply ≡ answered_by trade network.kept here.sites [] answering → Comes input reply
   idle input reply answering asks none same rose is = record {
@@ -157,7 +161,7 @@ module _ {D S : Type 0} (sight : D → Sight) (count : D → ℕ) (tells : Type 
   }
 
   rests : (input : Bytes) (reply : Reply) (answering : Answering) → AsksSo network.kept input answering
-      → [] ≡ handed_by moment answering → after ≡ desk
+      → [] ≡ handed_by (finds_in screens) moment answering → after ≡ desk
       → reply ≡ answered_by trade network.kept here.sites [] answering → Comes input reply
   rests input reply answering asks none same is =
       idle input reply answering asks none (ap (λ (s : State). s.sites) (unchanged same))
@@ -175,7 +179,7 @@ module _ {D S : Type 0} (sight : D → Sight) (count : D → ℕ) (tells : Type 
     number = handed_in_so.number
 
     abbrev command : Command
-    command = Submit number moment address path message false
+    command = Submit number moment address path message (finds_in screens number message)
 
     abbrev play : Luck → Played
     play luck = played trade luck here.sites command
@@ -236,6 +240,13 @@ module _ {D S : Type 0} (sight : D → Sight) (count : D → ℕ) (tells : Type 
           submitted_reply (first_domain (providers_of network.kept) number) said) lack.0)
     ]
 
+  -- what an address is shown hangs on no screens
+  shown_same : (address : Bytes) (looked : Look) (home : Option ℕ)
+      → shown_with (providers_of network.kept) (option_map (share_at trade screens here.sites address) home) looked
+      ≡ shown_with (providers_of network.kept) (option_map (share_at trade [] here.sites address) home) looked
+  shown_same address looked None = refl
+  shown_same address looked (Some number) = refl
+
   answered : (input : Bytes) (reply : Reply) (asked : Result Question Stop) → Asks (pass_of network.kept) input asked
       → IsAnswer desk_answers desk input after reply → IsAnswered desk_answers desk asked after reply → Comes input reply
   answered input reply (Err stop) asks whole stays = rests input reply (connections.Stops stop) asks refl stays.same stays.is
@@ -243,7 +254,8 @@ module _ {D S : Type 0} (sight : D → Sight) (count : D → ℕ) (tells : Type 
       handed_comes input reply address path message asks submits
   answered input reply (Ok (See address looked)) asks whole shows =
       elim (own desk after input reply whole (Ok (See address looked)) asks) [
-        | inl is ↦ rests input reply (connections.Sees address looked) asks refl shows.same is
+        | inl is ↦ rests input reply (connections.Sees address looked) asks refl shows.same
+            (is ∙ ap (shown_reply (kind_of looked)) (shown_same address looked (account_home (providers_of network.kept) address)))
         | inr lack ↦ rests input reply connections.Lacks tt refl shows.same lack
       ]
 
@@ -255,9 +267,9 @@ module _ {D S : Type 0} (sight : D → Sight) (count : D → ℕ) (tells : Type 
 
   heard_so : (left held held_then : Option Bytes) (told_status : Served) (input : Bytes) → IsInput left input
       → (hearing : Hearing) (reply : Reply) (come : Comes input reply)
-      → IsHeardSo network.kept input hearing → commands_of come.handed ≡ handed_in moment hearing
+      → IsHeardSo network.kept input hearing → commands_of come.handed ≡ handed_in (finds_in screens) moment hearing
       → IsServed trade network.kept here.sites come.handed hearing held held_then told_status
-      → Hears trade network.kept moment here there left held held_then told_status
+      → Hears trade network.kept (finds_in screens) moment here there left held held_then told_status
   heard_so left held held_then told_status input is_input hearing reply come heard hands is = record {
     input = input;
     is_input = is_input;
@@ -277,7 +289,7 @@ module _ {D S : Type 0} (sight : D → Sight) (count : D → ℕ) (tells : Type 
 
   replies_hear : (left held held_then : Option Bytes) (code : ℕ) (input : Bytes) (reply : Reply) → IsInput left input
       → (come : Comes input reply) → Sends held held_then (served.Answered code) reply.status (reply_text reply)
-      → Hears trade network.kept moment here there left held held_then (served.Answered code)
+      → Hears trade network.kept (finds_in screens) moment here there left held held_then (served.Answered code)
   replies_hear left held held_then code input reply is_input come sends =
       heard_so left held held_then (served.Answered code) input is_input (connections.Heard come.answering) reply come
       come.asks come.hands (
@@ -287,14 +299,14 @@ module _ {D S : Type 0} (sight : D → Sight) (count : D → ℕ) (tells : Type 
 
   breaks_hear : (left held held_then : Option Bytes) (input : Bytes) (reply : Reply) → IsInput left input
       → (come : Comes input reply) → Sends held held_then served.WriteFault reply.status (reply_text reply)
-      → Hears trade network.kept moment here there left held held_then served.WriteFault
+      → Hears trade network.kept (finds_in screens) moment here there left held held_then served.WriteFault
   breaks_hear left held held_then input reply is_input come sends =
       heard_so left held held_then served.WriteFault input is_input (connections.Broken come.answering) reply come
       come.asks come.hands (refl, subst (λ (r : Reply). WrotePart held held_then (reply_text r)) come.reply_is sends)
 
   pub serves_hear : (left held held_then : Option Bytes) (told_status : Served)
       → Serves desk_answers left held desk after held_then told_status
-      → Hears trade network.kept moment here there left held held_then told_status
+      → Hears trade network.kept (finds_in screens) moment here there left held held_then told_status
   serves_hear left held held_then (served.Answered code) replies =
       replies_hear left held held_then code replies.input replies.reply replies.is_input
       (comes replies.input replies.reply replies.is_answer) replies.sends
@@ -317,8 +329,12 @@ module _ {D S : Type 0} (sight : D → Sight) (count : D → ℕ) (tells : Type 
 
 -- ---- a desk as it was opened
 
-pub opened_is : {D S : Type 0} (desk : DeskState D S) (network : NetworkState D S) (moment : ℕ) → desk.network ≡ network
-    → desk.moment ≡ moment → desk ≡ record { network = network; moment = moment }
-opened_is {D} {S} desk network moment same_network same_moment =
-    ap (λ (n : NetworkState D S). (let d : DeskState D S = record { network = n; moment = desk.moment } in d)) same_network
-    ∙ ap (λ (m : ℕ). (let d : DeskState D S = record { network = network; moment = m } in d)) same_moment
+pub opened_is : {D S : Type 0} (desk : DeskState D S) (network : NetworkState D S) (moment : ℕ)
+    (screens : List (List Patterns)) → desk.network ≡ network → desk.moment ≡ moment → desk.screens ≡ screens
+    → desk ≡ record { network = network; moment = moment; screens = screens }
+opened_is {D} {S} desk network moment screens same_network same_moment same_screens =
+    ap (λ (n : NetworkState D S).
+    (let d : DeskState D S = record { network = n; moment = desk.moment; screens = desk.screens } in d)) same_network
+    ∙ ap (λ (m : ℕ). (let d : DeskState D S = record { network = network; moment = m; screens = desk.screens } in d)) same_moment
+    ∙ ap (λ (s : List (List Patterns)).
+    (let d : DeskState D S = record { network = network; moment = moment; screens = s } in d)) same_screens

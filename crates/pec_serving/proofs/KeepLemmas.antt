@@ -41,52 +41,71 @@ module _ {D S : Type 0} (sight : D → Sight) (count : D → ℕ) (disks : Type 
         omega (arith, first.later number other within, second.later number other (omega (arith, within, many)));
   }
 
-  module _ (seals : S → Seals) (desk after : DeskState D S) (whole : length desk.network.providers ≡ length desk.network.kept)
-      (whole_after : length after.network.providers ≡ length after.network.kept) where
+  -- What holds of a desk, and of it with a message handed in, holds of whatever it leaves.
+  module _ (seals : S → Seals) (desk after : DeskState D S) (Holds : DeskState D S → Type 0) (rests : Holds desk)
+      (hands : (address : Bytes) (path : List Bytes) (message : Bytes) (said : Result Submitted ProviderFault)
+      → HandsIn sight count disks seals desk address path message said after → Holds after) where
     abbrev desk_answers : Answers (DeskState D S)
     desk_answers = answers_of sight count disks seals
 
-    keeps_same : after ≡ desk → Keeps sight count disks desk.network after.network
-    keeps_same same =
-        subst (λ (d : DeskState D S). Keeps sight count disks desk.network d.network) (sym same) (keeps_all desk.network)
+    holds_same : after ≡ desk → Holds after
+    holds_same same = subst Holds (sym same) rests
 
-    keeps_handed : (address : Bytes) (path : List Bytes) (message : Bytes) (said : Result Submitted ProviderFault)
+    holds_answered : (asked : Result Question Stop) (reply : Reply) → IsAnswered desk_answers desk asked after reply
+        → Holds after
+    holds_answered (Err stop) reply stays = holds_same stays.same
+    holds_answered (Ok (asking.Submit address path message)) reply submits =
+        hands address path message submits.said submits.may_say
+    holds_answered (Ok (See address looked)) reply shows = holds_same shows.same
+
+    holds_by : (input : Bytes) (reply : Reply) → IsAnswerOrLack desk_answers desk input after reply → Holds after
+    holds_by input reply (inl answer) = holds_answered answer.asked reply answer.answered
+    holds_by input reply (inr stays) = holds_same stays.same
+
+    holds_served : (left held held_then : Option Bytes) (told : Served)
+        → Serves desk_answers left held desk after held_then told → Holds after
+    holds_served left held held_then (served.Answered code) replies = holds_by replies.input replies.reply replies.is_answer
+    holds_served left held held_then served.WriteFault replies = holds_by replies.input replies.reply replies.is_answer
+    holds_served left held held_then served.ReadFault rest = holds_same rest.same
+
+  module _ (seals : S → Seals) (desk after : DeskState D S) where
+    keeps_handed : (whole : length desk.network.providers ≡ length desk.network.kept)
+        (whole_after : length after.network.providers ≡ length after.network.kept) (address : Bytes) (path : List Bytes)
+        (message : Bytes) (said : Result Submitted ProviderFault)
         → HandsIn sight count disks seals desk address path message said after
         → Keeps sight count disks desk.network after.network
-    keeps_handed address path message said handed = elim (slice_get_cases desk.network.providers handed.number).1 [
-      | inl there ↦
-          let only = handed.others there.0
-          in let kept : after.network.kept ≡ desk.network.kept = ap (λ (n : NetworkState D S). n.kept) only
-          in let many : length after.network.providers ≡ length desk.network.providers =
-          whole_after ∙ ap (λ (k : List Kept). length k) kept ∙ sym whole
-          in record {
-            directory = kept;
-            seals = ap (λ (n : NetworkState D S). n.sealer) only;
-            stands = λ told all number other within.
-                (let below : number < length desk.network.providers = omega (arith, within, many)
-                in (handed.carries told (λ p. []) number other below).stands (all number other below));
-            later = handed.later;
-          }
-      | inr past ↦ absurd (omega (arith, past.0, handed.within, whole))
-    ]
+    keeps_handed whole whole_after address path message said handed =
+        elim (slice_get_cases desk.network.providers handed.number).1 [
+          | inl there ↦
+              let only = handed.others there.0
+              in let kept : after.network.kept ≡ desk.network.kept = ap (λ (n : NetworkState D S). n.kept) only
+              in let many : length after.network.providers ≡ length desk.network.providers =
+              whole_after ∙ ap (λ (k : List Kept). length k) kept ∙ sym whole
+              in record {
+                directory = kept;
+                seals = ap (λ (n : NetworkState D S). n.sealer) only;
+                stands = λ told all number other within.
+                    (let below : number < length desk.network.providers = omega (arith, within, many)
+                    in (handed.carries told (λ p. []) number other below).stands (all number other below));
+                later = handed.later;
+              }
+          | inr past ↦ absurd (omega (arith, past.0, handed.within, whole))
+        ]
 
-    keeps_answered : (asked : Result Question Stop) (reply : Reply) → IsAnswered desk_answers desk asked after reply
+    pub serves_keep : length desk.network.providers ≡ length desk.network.kept
+        → length after.network.providers ≡ length after.network.kept → (left held held_then : Option Bytes) (told : Served)
+        → Serves (answers_of sight count disks seals) left held desk after held_then told
         → Keeps sight count disks desk.network after.network
-    keeps_answered (Err stop) reply stays = keeps_same stays.same
-    keeps_answered (Ok (asking.Submit address path message)) reply submits =
-        keeps_handed address path message submits.said submits.may_say
-    keeps_answered (Ok (See address looked)) reply shows = keeps_same shows.same
+    serves_keep whole whole_after left held held_then told serves =
+        holds_served seals desk after (λ (d : DeskState D S). Keeps sight count disks desk.network d.network)
+        (keeps_all desk.network) (keeps_handed whole whole_after) left held held_then told serves
 
-    keeps_by : (input : Bytes) (reply : Reply) → IsAnswerOrLack desk_answers desk input after reply
-        → Keeps sight count disks desk.network after.network
-    keeps_by input reply (inl answer) = keeps_answered answer.asked reply answer.answered
-    keeps_by input reply (inr stays) = keeps_same stays.same
-
-    pub serves_keep : (left held held_then : Option Bytes) (told : Served)
-        → Serves desk_answers left held desk after held_then told → Keeps sight count disks desk.network after.network
-    serves_keep left held held_then (served.Answered code) replies = keeps_by replies.input replies.reply replies.is_answer
-    serves_keep left held held_then served.WriteFault replies = keeps_by replies.input replies.reply replies.is_answer
-    serves_keep left held held_then served.ReadFault rest = keeps_same rest.same
+    -- the screens look for what they looked for
+    pub serves_look : (left held held_then : Option Bytes) (told : Served)
+        → Serves (answers_of sight count disks seals) left held desk after held_then told → after.screens ≡ desk.screens
+    serves_look left held held_then told serves =
+        holds_served seals desk after (λ (d : DeskState D S). d.screens ≡ desk.screens) refl
+        (λ address path message said handed. handed.screens) left held held_then told serves
 
 -- the world is the same as long as directory and seals are kept
 pub as_begun : {D S : Type 0} (sight : D → Sight) (count : D → ℕ) (disks : Type 0) (seals : S → Seals)

@@ -9,6 +9,7 @@ use Rattle.pec_outside.specs.Clocks.{Gives}
 use Rattle.pec_outside.specs.Doors.{Reply as ToldReply, in_front, replied}
 use Rattle.pec_outside.specs.Flow.{HasRisen, followed_by}
 use Rattle.pec_directory.specs.Directory.{Kept}
+use Rattle.pec_screen.specs.Screened.{Finds}
 use Rattle.pec_ledger.specs.Trade.{Trade}
 use Rattle.pec_http.specs.Replies.{reply_text}
 use Rattle.pec_http.specs.declared.serving.Served.{Served}
@@ -22,12 +23,12 @@ use Rattle.pec_serving.specs.Serving.{IsServedNext, served_line}
 rose_from : (faults : ℕ) → HasRisen 0 faults → nat_lt 0 faults ≡ true
 rose_from faults risen = lt-ltb 0 faults (risen (omega arith))
 
-module _ (trade : Trade) (kept : List Kept) (moment : ℕ) (in_time : moment < END_OF_TIME) (here there : Place)
+module _ (trade : Trade) (kept : List Kept) (finds : Finds) (moment : ℕ) (in_time : moment < END_OF_TIME) (here there : Place)
     (left held held_then : Option Bytes) (fresh faults : ℕ) (told : Served)
     (gives : Gives here.moments moment there.moments) (came : here.requests ≡ in_front left there.requests)
     (empty : IfSome here.replies (λ rs. held ≡ Some [])) (none_yet : fresh ≡ 0)
     (closed : there.replies ≡ replied here.replies held_then faults)
-    (hears : Hears trade kept moment here.network there.network left held held_then told)
+    (hears : Hears trade kept finds moment here.network there.network left held held_then told)
     (read_fault : told ≡ served.ReadFault → HasRisen fresh faults)
     (write_fault : told ≡ served.WriteFault → HasRisen fresh faults) where
   abbrev reply : Bytes → ToldReply
@@ -76,7 +77,7 @@ module _ (trade : Trade) (kept : List Kept) (moment : ℕ) (in_time : moment < E
       ∙ ap (λ (o : Option Bytes). replied (Some replies) o faults)
       (done.held_is (subst (λ (o : Option (List ToldReply)). IfSome o (λ rs. held ≡ Some [])) is empty))
 
-  pub served_next : IsServedNext trade kept here there moment told
+  pub served_next : IsServedNext trade kept finds here there moment told
   served_next = record {
     connection = record {
       moment = moment;

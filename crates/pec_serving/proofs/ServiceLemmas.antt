@@ -8,6 +8,7 @@ use Rattle.pec_outside.specs.Clocks.{Gives}
 use Rattle.pec_outside.specs.Doors.{in_front, replied}
 use Rattle.pec_outside.specs.Flow.{WrotePart, followed_by}
 use Rattle.pec_directory.specs.Directory.{Kept, Provider, providers_of}
+use Rattle.pec_screen.specs.Screened.{Finds}
 use Rattle.pec_ledger.specs.Trade.{Trade}
 use Rattle.pec_plays.specs.Commands.{Command}
 use Rattle.pec_http.specs.declared.serving.Served.{Served}
@@ -40,11 +41,11 @@ pub record CallLaws (trade : Trade) : Type 0 where
   pub behind : (here : State) (calls more : List Call)
       → state_behind here (calls ++ more) ≡ state_behind (state_behind here calls) more
 
-pub record ConnectionLaws (trade : Trade) (kept : List Kept) : Type 0 where
+pub record ConnectionLaws (trade : Trade) (kept : List Kept) (finds : Finds) : Type 0 where
   pub one : (here : Place) (connections : List Connection) (connection : Connection)
-      → AreConnections trade kept here connections
-      → IsConnection trade kept (place_behind here connections) connection
-      → AreConnections trade kept here (connections ++ connection ∷ [])
+      → AreConnections trade kept finds here connections
+      → IsConnection trade kept finds (place_behind here connections) connection
+      → AreConnections trade kept finds here (connections ++ connection ∷ [])
   pub behind : (here : Place) (connections : List Connection) (connection : Connection)
       → place_behind here (connections ++ connection ∷ []) ≡ connection.behind
   pub text : (here : Place) (connections : List Connection) (connection : Connection)
@@ -54,8 +55,8 @@ pub record ConnectionLaws (trade : Trade) (kept : List Kept) : Type 0 where
 
 -- ---- one connection, behind its line
 
-module _ (trade : Trade) (kept : List Kept) (laws : CallLaws trade) (here there : Place) (moment : ℕ) (told : Served)
-    (next : IsServedNext trade kept here there moment told) where
+module _ (trade : Trade) (kept : List Kept) (finds : Finds) (laws : CallLaws trade) (here there : Place) (moment : ℕ) (told : Served)
+    (next : IsServedNext trade kept finds here there moment told) where
   abbrev connection : Connection
   connection = next.connection
 
@@ -114,7 +115,7 @@ module _ (trade : Trade) (kept : List Kept) (laws : CallLaws trade) (here there 
 
     pub with_calls_is : (now : State) → now.sites ≡ (state_behind here.network (handed ++ calls)).sites
         → ((provider : ℕ) → (state_behind here.network (handed ++ calls)).counts provider ≤ now.counts provider)
-        → IsConnection trade kept here (with_calls calls now)
+        → IsConnection trade kept finds here (with_calls calls now)
     with_calls_is now same later = record {
       moment = subst (λ (p : Place). Gives here.moments connection.moment p.moments) next.behind_is next.is.moment;
       in_time = next.is.in_time;
@@ -159,17 +160,17 @@ moved there state =
 -- ---- how far a service is
 
 -- So many connections were served whole, from here to now, and written.
-pub record Going (trade : Trade) (kept : List Kept) (here now : Place) (served : ℕ) (before after : Option Bytes) : Type 0 where
+pub record Going (trade : Trade) (kept : List Kept) (finds : Finds) (here now : Place) (served : ℕ) (before after : Option Bytes) : Type 0 where
   pub whole : List Connection
-  pub are : AreConnections trade kept here whole
+  pub are : AreConnections trade kept finds here whole
   pub all_whole : All (IsWhole kept) whole
   pub count : length whole ≡ served
   pub behind : place_behind here whole ≡ now
   pub held : after ≡ followed_by before (connections_text trade kept here whole)
 
-pub goes_none : (trade : Trade) (kept : List Kept) (here : Place) (before : Option Bytes)
-    → Going trade kept here here 0 before before
-goes_none trade kept here before = record {
+pub goes_none : (trade : Trade) (kept : List Kept) (finds : Finds) (here : Place) (before : Option Bytes)
+    → Going trade kept finds here here 0 before before
+goes_none trade kept finds here before = record {
   whole = [];
   are = tt;
   all_whole = All-nil (IsWhole kept);
@@ -178,11 +179,11 @@ goes_none trade kept here before = record {
   held = followed_nothing before;
 }
 
-module _ (trade : Trade) (kept : List Kept) (laws : CallLaws trade) (joins : ConnectionLaws trade kept) (here now : Place)
-    (served : ℕ) (before mid : Option Bytes) (going : Going trade kept here now served before mid) where
+module _ (trade : Trade) (kept : List Kept) (finds : Finds) (laws : CallLaws trade) (joins : ConnectionLaws trade kept finds) (here now : Place)
+    (served : ℕ) (before mid : Option Bytes) (going : Going trade kept finds here now served before mid) where
   -- ---- one more
 
-  module _ (there : Place) (moment : ℕ) (told : Served) (next : IsServedNext trade kept now there moment told)
+  module _ (there : Place) (moment : ℕ) (told : Served) (next : IsServedNext trade kept finds now there moment told)
       (line_held : Option Bytes) (line_written : line_held ≡ followed_by mid (served_line told)) where
     abbrev due : List Command
     due = clock_from (length kept) 0 moment
@@ -190,9 +191,9 @@ module _ (trade : Trade) (kept : List Kept) (laws : CallLaws trade) (joins : Con
     abbrev whole_text : Bytes
     whole_text = connections_text trade kept here going.whole
 
-    is_behind : (c : Connection) → IsConnection trade kept now c
-        → IsConnection trade kept (place_behind here going.whole) c
-    is_behind c is = subst (λ (p : Place). IsConnection trade kept p c) (sym going.behind) is
+    is_behind : (c : Connection) → IsConnection trade kept finds now c
+        → IsConnection trade kept finds (place_behind here going.whole) c
+    is_behind c is = subst (λ (p : Place). IsConnection trade kept finds p c) (sym going.behind) is
 
     text_with : (c : Connection) (text : Bytes) → connection_text trade kept now.network c ≡ text
         → connections_text trade kept here (going.whole ++ c ∷ []) ≡ whole_text ++ text
@@ -213,35 +214,35 @@ module _ (trade : Trade) (kept : List Kept) (laws : CallLaws trade) (joins : Con
     module _ (left : State) (calls : List Call) (unplayed : List Command)
         (plays : commands_of calls ++ unplayed ≡ due) (are : AreCalls trade there.network calls) where
       abbrev then_at : State → Connection
-      then_at state = with_calls trade kept laws now there moment told next calls state
+      then_at state = with_calls trade kept finds laws now there moment told next calls state
 
       one_is : (state : State)
           → state.sites ≡ (state_behind now.network (next.connection.handed ++ calls)).sites
           → ((provider : ℕ) → (state_behind now.network (next.connection.handed ++ calls)).counts provider ≤ state.counts provider)
-          → AreConnections trade kept here (going.whole ++ then_at state ∷ [])
+          → AreConnections trade kept finds here (going.whole ++ then_at state ∷ [])
       one_is state same later =
           joins.one here going.whole (then_at state) going.are
-          (is_behind (then_at state) (with_calls_is trade kept laws now there moment told next calls unplayed plays are state same later))
+          (is_behind (then_at state) (with_calls_is trade kept finds laws now there moment told next calls unplayed plays are state same later))
 
       all_text : (state : State) → connections_text trade kept here (going.whole ++ then_at state ∷ [])
           ≡ whole_text ++ (served_line told ++ calls_text trade (providers_of kept) there.network calls)
       all_text state =
           text_with (then_at state) (served_line told ++ calls_text trade (providers_of kept) there.network calls)
-          (with_calls_text trade kept laws now there moment told next calls unplayed plays are state)
+          (with_calls_text trade kept finds laws now there moment told next calls unplayed plays are state)
 
       -- the network is the one behind these calls
       at_same : state_behind there.network calls ≡ left
           → left.sites ≡ (state_behind now.network (next.connection.handed ++ calls)).sites
       at_same is =
           ap (λ (s : State). s.sites) (sym is)
-          ∙ sym (behind_same trade kept laws now there moment told next calls unplayed plays are)
+          ∙ sym (behind_same trade kept finds laws now there moment told next calls unplayed plays are)
 
       at_later : state_behind there.network calls ≡ left → (provider : ℕ)
           → (state_behind now.network (next.connection.handed ++ calls)).counts provider ≤ left.counts provider
       at_later is provider =
           let a : (state_behind there.network calls).counts provider ≡ left.counts provider =
           ap (λ (s : State). s.counts provider) is
-          in omega (arith, a, behind_later trade kept laws now there moment told next calls unplayed plays are provider)
+          in omega (arith, a, behind_later trade kept finds laws now there moment told next calls unplayed plays are provider)
 
       -- as many calls as are due
       as_many : unplayed ≡ [] → length calls ≡ length kept + 1
@@ -252,7 +253,7 @@ module _ (trade : Trade) (kept : List Kept) (laws : CallLaws trade) (joins : Con
 
       goes : unplayed ≡ [] → state_behind there.network calls ≡ left → (after : Option Bytes)
           → after ≡ followed_by line_held (calls_text trade (providers_of kept) there.network calls)
-          → Going trade kept here (moved there left) (served + 1) before after
+          → Going trade kept finds here (moved there left) (served + 1) before after
       goes none is after written = record {
         whole = going.whole ++ then_at left ∷ [];
         are = one_is left (at_same is) (at_later is);
@@ -270,7 +271,7 @@ module _ (trade : Trade) (kept : List Kept) (laws : CallLaws trade) (joins : Con
 
       broke : (wanted : ℕ) → served ≤ wanted → state_behind there.network calls ≡ left → (after : Option Bytes)
           → WrotePart mid after (served_line told ++ calls_text trade (providers_of kept) there.network calls)
-          → ServesSo trade kept wanted here (moved there left) before after endings.WriteFault
+          → ServesSo trade kept finds wanted here (moved there left) before after endings.WriteFault
       broke wanted few is after part = record {
         service = record { whole = going.whole; part = Some (then_at left); ending = Halted };
         is = record {
@@ -296,15 +297,15 @@ module _ (trade : Trade) (kept : List Kept) (laws : CallLaws trade) (joins : Con
           → LeavesOff trade (state_behind there.network calls).sites (slice_get unplayed 0) left.sites
           → NoneFell (state_behind there.network calls) left → (after : Option Bytes)
           → after ≡ followed_by line_held (calls_text trade (providers_of kept) there.network calls)
-          → ServesSo trade kept wanted here (moved there left) before after endings.NoMemory
+          → ServesSo trade kept finds wanted here (moved there left) before after endings.NoMemory
       lacks wanted few leaves later after written =
           let at = state_behind there.network calls
-          in let same = sym (behind_same trade kept laws now there moment told next calls unplayed plays are)
+          in let same = sym (behind_same trade kept finds laws now there moment told next calls unplayed plays are)
           in let behind = joins.behind here going.whole (then_at at)
           in record {
             service = record { whole = going.whole; part = Some (then_at at); ending = Halted };
             is = record {
-              each = one_is at same (behind_later trade kept laws now there moment told next calls unplayed plays are);
+              each = one_is at same (behind_later trade kept finds laws now there moment told next calls unplayed plays are);
               whole = going.all_whole;
               ends = omega (arith, few, going.count);
               leaves = (
@@ -329,13 +330,13 @@ module _ (trade : Trade) (kept : List Kept) (laws : CallLaws trade) (joins : Con
 
     pub goes_on : (left : State) (after : Option Bytes)
         → PlaysAll trade (providers_of kept) there.network left due line_held after (Ok tt)
-        → Going trade kept here (moved there left) (served + 1) before after
+        → Going trade kept finds here (moved there left) (served + 1) before after
     goes_on left after plays =
         goes left plays.calls plays.unplayed plays.front.plays plays.front.are plays.plays.0 plays.plays.1 after plays.plays.2
 
     pub clock_stops : (wanted : ℕ) → served ≤ wanted → (left : State) (after : Option Bytes)
         → PlaysAll trade (providers_of kept) there.network left due line_held after (Err stops.WriteFault)
-        → ServesSo trade kept wanted here (moved there left) before after endings.WriteFault
+        → ServesSo trade kept finds wanted here (moved there left) before after endings.WriteFault
     clock_stops wanted few left after plays =
         broke left plays.calls plays.unplayed plays.front.plays plays.front.are wanted few plays.plays.0 after
         (part_behind mid line_held after (served_line told) (calls_text trade (providers_of kept) there.network plays.calls)
@@ -343,7 +344,7 @@ module _ (trade : Trade) (kept : List Kept) (laws : CallLaws trade) (joins : Con
 
     pub clock_lacks : (wanted : ℕ) → served ≤ wanted → (left : State) (after : Option Bytes)
         → PlaysAll trade (providers_of kept) there.network left due line_held after (Err stops.NoMemory)
-        → ServesSo trade kept wanted here (moved there left) before after endings.NoMemory
+        → ServesSo trade kept finds wanted here (moved there left) before after endings.NoMemory
     clock_lacks wanted few left after plays =
         lacks left plays.calls plays.unplayed plays.front.plays plays.front.are wanted few plays.plays.0 plays.plays.2 after
         plays.plays.1
@@ -353,8 +354,8 @@ module _ (trade : Trade) (kept : List Kept) (laws : CallLaws trade) (joins : Con
   abbrev between : services.Ending → Service
   between ending = record { whole = going.whole; part = None; ending = ending }
 
-  each_is : AreConnections trade kept here (going.whole ++ [])
-  each_is = subst (λ (l : List Connection). AreConnections trade kept here l) (sym (append-nil going.whole)) going.are
+  each_is : AreConnections trade kept finds here (going.whole ++ [])
+  each_is = subst (λ (l : List Connection). AreConnections trade kept finds here l) (sym (append-nil going.whole)) going.are
 
   place_is : place_behind here (going.whole ++ []) ≡ now
   place_is = ap (place_behind here) (append-nil going.whole) ∙ going.behind
@@ -377,7 +378,7 @@ module _ (trade : Trade) (kept : List Kept) (laws : CallLaws trade) (joins : Con
       → left.network.sites ≡ (place_behind here (going.whole ++ [])).network.sites
   sites_is left same = ap (λ (s : State). s.sites) same ∙ ap (λ (p : Place). p.network.sites) (sym place_is)
 
-  pub all_served : (wanted : ℕ) → served ≡ wanted → ServesSo trade kept wanted here now before mid endings.AllServed
+  pub all_served : (wanted : ℕ) → served ≡ wanted → ServesSo trade kept finds wanted here now before mid endings.AllServed
   all_served wanted is = record {
     service = between AllServed;
     is = record {
@@ -392,7 +393,7 @@ module _ (trade : Trade) (kept : List Kept) (laws : CallLaws trade) (joins : Con
   }
 
   pub none_met : (wanted : ℕ) → served < wanted → (left : Place) → left.network ≡ now.network → left.replies ≡ now.replies
-      → ServesSo trade kept wanted here left before mid endings.NoConnection
+      → ServesSo trade kept finds wanted here left before mid endings.NoConnection
   none_met wanted few left same replies = record {
     service = between NoConnection;
     is = record {
@@ -408,7 +409,7 @@ module _ (trade : Trade) (kept : List Kept) (laws : CallLaws trade) (joins : Con
 
   pub none_told : (wanted : ℕ) → served < wanted → (left : Place) → left.network ≡ now.network
       → left.replies ≡ replied now.replies (Some []) 0
-      → ServesSo trade kept wanted here left before mid endings.NoMoment
+      → ServesSo trade kept finds wanted here left before mid endings.NoMoment
   none_told wanted few left same replies = record {
     service = between NoMoment;
     is = record {
@@ -426,9 +427,9 @@ module _ (trade : Trade) (kept : List Kept) (laws : CallLaws trade) (joins : Con
   }
 
   -- the line of the connection wasn't written whole
-  module _ (there : Place) (moment : ℕ) (told : Served) (next : IsServedNext trade kept now there moment told) where
+  module _ (there : Place) (moment : ℕ) (told : Served) (next : IsServedNext trade kept finds now there moment told) where
     pub line_broke : (wanted : ℕ) → served ≤ wanted → (after : Option Bytes) → WrotePart mid after (served_line told)
-        → ServesSo trade kept wanted here there before after endings.WriteFault
+        → ServesSo trade kept finds wanted here there before after endings.WriteFault
     line_broke wanted few after part =
         broke there moment told next (followed_by mid (served_line told)) refl there.network []
         (clock_from (length kept) 0 moment) refl tt wanted few refl after

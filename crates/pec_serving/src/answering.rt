@@ -1,8 +1,9 @@
-ghost use Rattle.std.specs.Prelude.{◌≡◌, ℕ, ◌≤◌, length};
+ghost use Rattle.std.specs.Prelude.{◌≡◌, ℕ, ◌≤◌, length, map};
 ghost use Rattle.pec_outside.specs.Flow.{HasRisen};
 ghost use Rattle.pec_directory.specs.Directory.{providers_of};
 ghost use Rattle.pec_http.specs.declared.serving.Served.TheVariants as served;
 ghost use Rattle.pec_letters.specs.Fitting.{Fits};
+ghost use Rattle.pec_screen.specs.Screened.{finds_in};
 ghost use Rattle.pec_trade.specs.TradeOf.{trade_of};
 ghost use Rattle.pec_playing.specs.Doing.{Keeps};
 ghost use Rattle.pec_serving.specs.Hearing.{Hears};
@@ -13,36 +14,41 @@ use pec_http::{Served, serve_one};
 use pec_network::Network;
 use pec_outside::{Disk, Sink, Source};
 use pec_playing::what_is_told_was_counted;
+use pec_screen::Judge;
 use pec_seal::{HmacSealer, Sealer};
 use pec_types::Moment;
 use std::alloc::Global;
 
-/// Answers the request of a connection at the desk of a network, at a moment. The network is given back as the desk left
-/// it.
-pub(crate) fn answer<D: Disk, C: Source + Sink>(
+/// Answers the request of a connection at the desk of a network, at a moment. The network and the screens are given back as
+/// the desk left them.
+pub(crate) fn answer<D: Disk, J: Judge, C: Source + Sink>(
     alloc: Global,
     network: Network<D, HmacSealer>,
+    screens: Vec<J>,
     moment: Moment,
     connection: &mut C,
-) -> (Network<D, HmacSealer>, Served)
+) -> (Network<D, HmacSealer>, Vec<J>, Served)
     requires { Fits (⟦<HmacSealer as Sealer>⟧.seals network.sealer) (providers_of network.kept) }
     ensures hears { (elsewhere : ℕ → ℕ)
-        → Hears (trade_of network.kept (⟦<HmacSealer as Sealer>⟧.seals network.sealer)) network.kept moment
+        → Hears (trade_of network.kept (⟦<HmacSealer as Sealer>⟧.seals network.sealer)) network.kept
+        (finds_in (map J.patterns screens.items)) moment
         (state_of D.faults elsewhere network) (state_of D.faults elsewhere result.0)
-        (C.left connection.old) (C.held connection.old) (C.held connection.new) result.1 }
+        (C.left connection.old) (C.held connection.old) (C.held connection.new) result.2 }
     ensures keeps { Keeps D.sight D.faults D.tells network result.0 }
     ensures fits { Fits (⟦<HmacSealer as Sealer>⟧.seals result.0.sealer) (providers_of result.0.kept) }
-    ensures read_fault { result.1 ≡ served.ReadFault → HasRisen (C.faults connection.old) (C.faults connection.new) }
-    ensures write_fault { result.1 ≡ served.WriteFault → HasRisen (C.faults connection.old) (C.faults connection.new) }
+    // Screens keep what they look for.
+    ensures patterns { map J.patterns result.1.items ≡ map J.patterns screens.items }
+    ensures read_fault { result.2 ≡ served.ReadFault → HasRisen (C.faults connection.old) (C.faults connection.new) }
+    ensures write_fault { result.2 ≡ served.WriteFault → HasRisen (C.faults connection.old) (C.faults connection.new) }
 {
     an_account_sees_its_own::<D, HmacSealer>();
     what_is_told_was_counted::<D>();
     as_many_providers(&network);
-    let mut desk = NetworkDesk::open(network, moment);
+    let mut desk = NetworkDesk::open(network, moment, screens);
     let told = serve_one(alloc, connection, &mut desk);
-    let network = desk.close();
+    let (network, screens) = desk.close();
     as_many_providers(&network);
-    (network, told)
+    (network, screens, told)
 }
 
 /// A network has the providers of its directory.

@@ -1,7 +1,8 @@
-ghost use Rattle.std.specs.Prelude.{◌≡◌, ℕ, ◌≤◌};
+ghost use Rattle.std.specs.Prelude.{◌≡◌, ℕ, ◌≤◌, map};
 ghost use Rattle.pec_outside.specs.Flow.{HasRisen};
 ghost use Rattle.pec_directory.specs.Directory.{providers_of};
 ghost use Rattle.pec_letters.specs.Fitting.{Fits};
+ghost use Rattle.pec_screen.specs.Screened.{finds_in};
 ghost use Rattle.pec_trade.specs.TradeOf.{trade_of};
 ghost use Rattle.pec_playing.specs.Doing.{Keeps};
 ghost use Rattle.pec_serving.specs.Serving.{ComesNext, place_of};
@@ -10,6 +11,7 @@ use crate::answering::answer;
 use pec_http::Served;
 use pec_network::Network;
 use pec_outside::{Disk, Door, Ticks};
+use pec_screen::Judge;
 use pec_seal::{HmacSealer, Sealer};
 use pec_types::Moment;
 use std::alloc::Global;
@@ -27,21 +29,24 @@ pub(crate) enum Came {
 
 /// Accepts the next connection, asks for the moment, answers the connection at the desk of the network at that moment, and
 /// closes it. A connection for which there is no moment is closed unread.
-pub(crate) fn next<D: Disk, T: Ticks, R: Door>(
+pub(crate) fn next<D: Disk, J: Judge, T: Ticks, R: Door>(
     alloc: Global,
     network: Network<D, HmacSealer>,
+    screens: Vec<J>,
     ticks: &mut T,
     door: &mut R,
-) -> (Network<D, HmacSealer>, Came)
+) -> (Network<D, HmacSealer>, Vec<J>, Came)
     requires { Fits (⟦<HmacSealer as Sealer>⟧.seals network.sealer) (providers_of network.kept) }
     ensures comes { (elsewhere : ℕ → ℕ)
         → ComesNext (trade_of network.kept (⟦<HmacSealer as Sealer>⟧.seals network.sealer)) network.kept
+        (finds_in (map J.patterns screens.items))
         (place_of D.faults elsewhere network (T.coming ticks.old) (R.requests door.old) (R.replies door.old))
-        (place_of D.faults elsewhere result.0 (T.coming ticks.new) (R.requests door.new) (R.replies door.new)) result.1 }
+        (place_of D.faults elsewhere result.0 (T.coming ticks.new) (R.requests door.new) (R.replies door.new)) result.2 }
     ensures keeps { Keeps D.sight D.faults D.tells network result.0 }
     ensures fits { Fits (⟦<HmacSealer as Sealer>⟧.seals result.0.sealer) (providers_of result.0.kept) }
-    ensures no_moment { result.1 ≡ Came.NoMoment → HasRisen (T.faults ticks.old) (T.faults ticks.new) }
-    ensures no_connection { result.1 ≡ Came.NoConnection → HasRisen (R.faults door.old) (R.faults door.new) }
+    ensures patterns { map J.patterns result.1.items ≡ map J.patterns screens.items }
+    ensures no_moment { result.2 ≡ Came.NoMoment → HasRisen (T.faults ticks.old) (T.faults ticks.new) }
+    ensures no_connection { result.2 ≡ Came.NoConnection → HasRisen (R.faults door.old) (R.faults door.new) }
     // Each connection is given back.
     ensures out { R.out door.new ≡ R.out door.old }
     ensures clock_later { T.faults ticks.old ≤ T.faults ticks.new }
@@ -49,16 +54,16 @@ pub(crate) fn next<D: Disk, T: Ticks, R: Door>(
 {
     let mut connection = match door.accept() {
         Ok(connection) => connection,
-        Err(_) => return (network, Came::NoConnection),
+        Err(_) => return (network, screens, Came::NoConnection),
     };
     let moment = match ticks.now() {
         Ok(moment) => moment,
         Err(_) => {
             door.close(connection);
-            return (network, Came::NoMoment);
+            return (network, screens, Came::NoMoment);
         }
     };
-    let (network, told) = answer(alloc, network, moment, &mut connection);
+    let (network, screens, told) = answer(alloc, network, screens, moment, &mut connection);
     door.close(connection);
-    (network, Came::Served(moment, told))
+    (network, screens, Came::Served(moment, told))
 }

@@ -1,7 +1,8 @@
-ghost use Rattle.std.specs.Prelude.{◌≡◌, ℕ, ◌≤◌};
+ghost use Rattle.std.specs.Prelude.{◌≡◌, ℕ, ◌≤◌, map};
 ghost use Rattle.pec_outside.specs.Flow.{HasRisen};
 ghost use Rattle.pec_directory.specs.Directory.{providers_of};
 ghost use Rattle.pec_letters.specs.Fitting.{Fits};
+ghost use Rattle.pec_screen.specs.Screened.{finds_in};
 ghost use Rattle.pec_trade.specs.TradeOf.{trade_of};
 ghost use Rattle.pec_playing.specs.Doing.{Keeps};
 ghost use Rattle.pec_serving.specs.Serving.{ServesSo, place_of};
@@ -13,6 +14,7 @@ use crate::next::{Came, next};
 use crate::stops::Stop;
 use pec_network::Network;
 use pec_outside::{Disk, Door, Sink, Ticks};
+use pec_screen::Judge;
 use pec_seal::{HmacSealer, Sealer};
 use pec_service::{calls_are_joined, connections_are_joined};
 use std::alloc::Global;
@@ -34,10 +36,12 @@ pub enum Ending {
 
 /// Serves so many connections, one after another, over a network whose journals are made or opened. Each is answered at the
 /// desk of the network at one moment, its line is written, and then every provider looks at the clock, in the order of the
-/// directory, and one round is played, all at that moment. This project's profile.
-pub fn serve<D: Disk, T: Ticks, R: Door, W: Sink>(
+/// directory, and one round is played, all at that moment. The screens of a provider are those at its number; a provider
+/// past them has none. They are dropped in the end. This project's profile.
+pub fn serve<D: Disk, J: Judge, T: Ticks, R: Door, W: Sink>(
     alloc: Global,
     network: Network<D, HmacSealer>,
+    screens: Vec<J>,
     ticks: &mut T,
     door: &mut R,
     out: &mut W,
@@ -45,7 +49,8 @@ pub fn serve<D: Disk, T: Ticks, R: Door, W: Sink>(
 ) -> (Network<D, HmacSealer>, Ending)
     requires { Fits (⟦<HmacSealer as Sealer>⟧.seals network.sealer) (providers_of network.kept) }
     ensures serves { (elsewhere : ℕ → ℕ)
-        → ServesSo (trade_of network.kept (⟦<HmacSealer as Sealer>⟧.seals network.sealer)) network.kept wanted
+        → ServesSo (trade_of network.kept (⟦<HmacSealer as Sealer>⟧.seals network.sealer)) network.kept
+        (finds_in (map J.patterns screens.items)) wanted
         (place_of D.faults elsewhere network (T.coming ticks.old) (R.requests door.old) (R.replies door.old))
         (place_of D.faults elsewhere result.0 (T.coming ticks.new) (R.requests door.new) (R.replies door.new))
         (W.held out.old) (W.held out.new) result.1 }
@@ -63,9 +68,11 @@ pub fn serve<D: Disk, T: Ticks, R: Door, W: Sink>(
     connections_are_joined();
     as_many_providers(&network);
     let mut network = network;
+    let mut screens = screens;
     for served in 0..wanted {
-        let (again, came) = next(alloc, network, ticks, door);
+        let (again, back, came) = next(alloc, network, screens, ticks, door);
         network = again;
+        screens = back;
         as_many_providers(&network);
         match came {
             Came::NoConnection => return (network, Ending::NoConnection),

@@ -8,7 +8,11 @@ mod directories;
 #[cfg(test)]
 mod lines;
 #[cfg(test)]
+mod messages;
+#[cfg(test)]
 mod plain;
+#[cfg(test)]
+mod plain_answers;
 #[cfg(test)]
 mod playing;
 #[cfg(test)]

@@ -4,7 +4,6 @@ ghost use Rattle.pec_ledger.specs.OfDirectory.{IsOf};
 ghost use Rattle.pec_ledger.specs.Trade.{Trade};
 ghost use Rattle.pec_shelf.specs.Seen.{IsFor};
 
-use crate::directories::TWO;
 use crate::lines::{add_facts, add_found, add_letters, add_nothing, add_pair, add_row};
 use crate::reading::step_of;
 use crate::steps::{Act, Id, Question, Step, address_of, entry_of, id_of};
@@ -12,17 +11,27 @@ use pec_directory::Directory;
 use pec_records::Entry;
 use pec_script::{book_text, items_text, marks_text};
 use pec_shelf::{PrepareFault, Shelf, a_directory_has_a_trade, what_is_kept_goes_on};
-use pec_types::{Mark, NoMemory};
+use pec_trial::two;
+use pec_types::{Address, Mark, NoMemory};
 use std::alloc::{AllocError, Global};
 use std::test::Fail;
 
 /// A shelf and its directory.
-#[derive(Drop)]
 struct Desk {
     alloc: Global,
     directory: Directory,
     shelf: Shelf,
     ghost homes: { (trade : Trade) → IsOf directory trade → IsFor trade shelf },
+}
+
+impl Drop for Desk {
+    fn drop(self) {
+        let Desk {
+            alloc: _,
+            directory: _,
+            shelf: _,
+        } = self;
+    }
 }
 
 /// The lines of two scripts and of these steps, one after another on the shelf of a provider. An entry that is no step
@@ -35,12 +44,16 @@ pub(crate) fn played(
     steps: &[Step],
 ) -> Result<Vec<u8>, Fail> {
     let mut desk = Desk::new(alloc, me)?;
-    desk.play(before, script, steps)
+    let mut log = Vec::new(alloc);
+    desk.play_script(&mut log, before)?;
+    desk.play_script(&mut log, script)?;
+    desk.play_all(&mut log, steps)?;
+    Ok(log)
 }
 
 impl Desk {
     fn new(alloc: Global, me: u32) -> Result<Desk, Fail> {
-        let directory = Directory::read(alloc, TWO)?;
+        let directory = Directory::read(alloc, two())?;
         Ok(Desk {
             alloc,
             directory,
@@ -48,28 +61,18 @@ impl Desk {
         })
     }
 
-    fn play(
-        &mut self,
-        before: &'static str,
-        script: &'static str,
-        steps: &[Step],
-    ) -> Result<Vec<u8>, Fail> {
-        let mut log = Vec::new(self.alloc);
-        self.play_script(&mut log, before)?;
-        self.play_script(&mut log, script)?;
+    fn play_all(&mut self, log: &mut Vec<u8>, steps: &[Step]) -> Result<(), Fail> {
         for step in steps {
-            self.step(&mut log, step)?;
+            self.step(log, step)?;
         }
-        Ok(log)
+        Ok(())
     }
 
     fn play_script(&mut self, log: &mut Vec<u8>, script: &'static str) -> Result<(), Fail> {
         for line in script.split('\n') {
-            if line.is_empty() {
-                continue;
+            if !line.is_empty() {
+                self.step(log, &step_at(line)?)?;
             }
-            let step = step_of(line).ok_or("a line is no step")?;
-            self.step(log, &step)?;
         }
         Ok(())
     }
@@ -82,17 +85,33 @@ impl Desk {
     }
 
     fn enter(&mut self, log: &mut Vec<u8>, moment: u64, act: &Act) -> Result<(), Fail> {
+        let marks = self.entered(moment, act)?;
+        self.add_marks(log, act, marks)
+    }
+
+    fn entered(&mut self, moment: u64, act: &Act) -> Result<Option<Vec<Mark>>, Fail> {
         let entry = entry_of(self.alloc, moment, act)?;
-        let Some(marks) = self.taken_in(&entry)? else {
-            log.extend_from_slice(b"not-a-step\n")?;
-            return Ok(());
-        };
+        Ok(self.taken_in(&entry)?)
+    }
+
+    fn add_marks(
+        &self,
+        log: &mut Vec<u8>,
+        act: &Act,
+        marks: Option<Vec<Mark>>,
+    ) -> Result<(), Fail> {
+        match marks {
+            Some(marks) => self.add_marks_of(log, act, &marks),
+            None => Ok(log.extend_from_slice(b"not-a-step\n")?),
+        }
+    }
+
+    fn add_marks_of(&self, log: &mut Vec<u8>, act: &Act, marks: &[Mark]) -> Result<(), Fail> {
         if marks.is_empty() && !is_tick(act) {
             return Ok(());
         }
-        let text = marks_text(self.alloc, &self.directory, &marks)?;
-        log.extend_from_slice(&text)?;
-        Ok(())
+        let text = marks_text(self.alloc, &self.directory, marks)?;
+        Ok(log.extend_from_slice(&text)?)
     }
 
     /// The marks of an entry, where it is a step.
@@ -115,81 +134,94 @@ impl Desk {
             Question::Facts(number) => self.add_facts(log, number),
             Question::Row(id, recipient) => self.add_row(log, id, recipient),
             Question::Counted(account) => self.add_counted(log, account),
-            Question::Own(number) => {
-                add_found(self.alloc, log, self.shelf.own(number))?;
-                Ok(())
-            }
-            Question::Took(id) => {
-                add_found(self.alloc, log, self.shelf.took(id_of(id)?))?;
-                Ok(())
-            }
+            Question::Own(number) => self.add_own(log, number),
+            Question::Took(id) => self.add_took(log, id),
             Question::Source(account, place) => self.add_source(log, account, place),
         }
     }
 
+    fn add_own(&self, log: &mut Vec<u8>, number: u64) -> Result<(), Fail> {
+        Ok(add_found(self.alloc, log, self.shelf.own(number))?)
+    }
+
+    fn add_took(&self, log: &mut Vec<u8>, id: Id) -> Result<(), Fail> {
+        let id = id_of(id)?;
+        Ok(add_found(self.alloc, log, self.shelf.took(id))?)
+    }
+
     fn add_due(&self, log: &mut Vec<u8>, to: u32, room: usize) -> Result<(), Fail> {
         let letters = self.shelf.due(to, room)?;
-        add_letters(self.alloc, &self.directory, log, &letters)?;
-        Ok(())
+        Ok(add_letters(self.alloc, &self.directory, log, &letters)?)
     }
 
     fn add_book(&self, log: &mut Vec<u8>, account: &str) -> Result<(), Fail> {
         let account = address_of(self.alloc, account)?;
-        let lines = self.shelf.book(&account)?;
-        let text = book_text(self.alloc, &self.directory, &lines)?;
-        log.extend_from_slice(&text)?;
-        Ok(())
+        let text = self.book(&account)?;
+        Ok(log.extend_from_slice(&text)?)
+    }
+
+    fn book(&self, account: &Address) -> Result<Vec<u8>, Fail> {
+        let lines = self.shelf.book(account)?;
+        Ok(book_text(self.alloc, &self.directory, &lines)?)
     }
 
     fn add_items(&self, log: &mut Vec<u8>, account: &str) -> Result<(), Fail> {
         let account = address_of(self.alloc, account)?;
-        let lines = self.shelf.items(&account)?;
-        let text = items_text(self.alloc, &self.directory, &lines)?;
-        log.extend_from_slice(&text)?;
-        Ok(())
+        let text = self.items(&account)?;
+        Ok(log.extend_from_slice(&text)?)
+    }
+
+    fn items(&self, account: &Address) -> Result<Vec<u8>, Fail> {
+        let lines = self.shelf.items(account)?;
+        Ok(items_text(self.alloc, &self.directory, &lines)?)
     }
 
     fn add_undecided(&self, log: &mut Vec<u8>) -> Result<(), Fail> {
         match self.shelf.next_undecided() {
             Some((id, recipient)) => {
-                add_pair(self.alloc, &self.directory, log, id, recipient.bytes())?
+                Ok(add_pair(self.alloc, &self.directory, log, id, recipient.bytes())?)
             }
-            None => add_nothing(log)?,
+            None => Ok(add_nothing(log)?),
         }
-        Ok(())
     }
 
     fn add_facts(&self, log: &mut Vec<u8>, number: u64) -> Result<(), Fail> {
         match self.shelf.facts(number) {
-            Some(facts) => add_facts(log, facts)?,
-            None => add_nothing(log)?,
+            Some(facts) => Ok(add_facts(log, facts)?),
+            None => Ok(add_nothing(log)?),
         }
-        Ok(())
     }
 
     fn add_row(&self, log: &mut Vec<u8>, id: Id, recipient: &str) -> Result<(), Fail> {
+        let id = id_of(id)?;
         let recipient = address_of(self.alloc, recipient)?;
-        match self.shelf.row(id_of(id)?, &recipient) {
-            Some(row) => add_row(self.alloc, log, row)?,
-            None => add_nothing(log)?,
+        match self.shelf.row(id, &recipient) {
+            Some(row) => Ok(add_row(self.alloc, log, row)?),
+            None => Ok(add_nothing(log)?),
         }
-        Ok(())
     }
 
     fn add_counted(&self, log: &mut Vec<u8>, account: &str) -> Result<(), Fail> {
         let account = address_of(self.alloc, account)?;
-        add_found(self.alloc, log, Some(self.shelf.counted(&account)))?;
-        Ok(())
+        let count = self.shelf.counted(&account);
+        Ok(add_found(self.alloc, log, Some(count))?)
     }
 
     fn add_source(&self, log: &mut Vec<u8>, account: &str, place: u32) -> Result<(), Fail> {
         let account = address_of(self.alloc, account)?;
-        add_found(self.alloc, log, self.shelf.source(&account, place))?;
-        Ok(())
+        let entry = self.shelf.source(&account, place);
+        Ok(add_found(self.alloc, log, entry)?)
     }
 }
 
-pub(crate) fn is_tick(act: &Act) -> bool {
+fn step_at(line: &'static str) -> Result<Step, Fail> {
+    match step_of(line) {
+        Some(step) => Ok(step),
+        None => Err("a line is no step".into()),
+    }
+}
+
+fn is_tick(act: &Act) -> bool {
     match act {
         Act::Ticks => true,
         _ => false,
@@ -224,8 +256,19 @@ fn comes(alloc: Global, case: &Case) -> Result<bool, Fail> {
 
 /// Lines with the names of messages written out.
 fn written_out(alloc: Global, lines: &str) -> Result<String, AllocError> {
-    let text = lines.replace(alloc, "I0", "pec.0000000@alfa.example")?;
-    let text = text.replace(alloc, "I1", "pec.0000001@alfa.example")?;
-    let text = text.replace(alloc, "J0", "pec.0000000@beta.example")?;
+    let mut text = String::from_str(alloc, lines)?;
+    for (word, name) in names() {
+        text = text.replace(alloc, word, name)?;
+    }
     Ok(text)
+}
+
+static NAMES: [(&str, &str); 3] = [
+    ("I0", "pec.0000000@alfa.example"),
+    ("I1", "pec.0000001@alfa.example"),
+    ("J0", "pec.0000000@beta.example"),
+];
+
+fn names() -> &'static [(&'static str, &'static str)] {
+    &NAMES
 }

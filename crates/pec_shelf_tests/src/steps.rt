@@ -77,8 +77,13 @@ pub(crate) fn entry_of(alloc: Global, seconds: u64, act: &Act) -> Result<Entry, 
 }
 
 fn start(alloc: Global, provider: u32, directory: &str) -> Result<Entry, Fail> {
-    let digest = Directory::read(alloc, directory)?.digest(alloc)?;
+    let digest = digest(alloc, directory)?;
     Ok(Entry::Start { provider, digest })
+}
+
+fn digest(alloc: Global, directory: &str) -> Result<[u8; 32], Fail> {
+    let directory = Directory::read(alloc, directory)?;
+    Ok(directory.digest(alloc)?)
 }
 
 fn accepted(alloc: Global, moment: Moment, sender: &str, message: Message) -> Result<Entry, Fail> {

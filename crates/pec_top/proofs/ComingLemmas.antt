@@ -22,7 +22,8 @@ use Rattle.pec_runs.specs.Plays.{Ends, HasMemory, MayStray, Outcome, Rest, RoseB
 use Rattle.pec_runs.specs.Plays.{ToTheEnd}
 use Rattle.pec_runs.specs.Plays.{MayPlay, faults_by, onto_outcome, outcome_from, outcome_text}
 use Rattle.pec_runs.specs.Ran.{Behind, LeavesOff, TellsAs, command_in_hand}
-use Rattle.pec_runs.specs.ScriptLines.{Finds, Line, PassedOver, Says, Script, behind_line, onto_script, said_by, script_of}
+use Rattle.pec_runs.specs.ScriptLines.{Line, PassedOver, Says, Script, behind_line, onto_script, said_by, script_of}
+use Rattle.pec_screen.specs.Screened.{Finds}
 use Rattle.pec_runs.specs.Statuses.{Status, status_of}
 use Rattle.pec_runs.specs.Statuses as statuses
 use Rattle.pec_top.specs.LoopLaws.{LoopLaws}

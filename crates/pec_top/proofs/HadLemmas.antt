@@ -23,8 +23,8 @@ use Rattle.pec_network.specs.declared.faults.NotFit.{NotFit}
 use Rattle.pec_network.specs.declared.faults.NotFit.TheVariants as reasons
 use Rattle.pec_network.specs.declared.faults.StartFault.{StartFault}
 use Rattle.pec_network.specs.declared.faults.StartFault.TheVariants as faults
-use Rattle.pec_runs.specs.Openings.{AreLeft, Disks, IsHad, IsLeft, IsNext, IsOpening, IsUnread, Next, NoMore, Opening}
-use Rattle.pec_runs.specs.Openings.{Fails, Stops, disks_at, fault_of, opened, opened_all}
+use Rattle.pec_runs.specs.Openings.{AreLeft, Disks, IsHad, IsLeft, IsNext, IsOpening, IsUnread, Next, NoMore}
+use Rattle.pec_runs.specs.Openings.{Stops, disks_at, fault_of, opened, opened_all}
 use Rattle.pec_runs.specs.Openings as runs
 use Rattle.pec_top.specs.Shown.{form_shown, unfit_of, way_of}
 use Rattle.pec_top.specs.Starting.{next_by}

@@ -2,12 +2,17 @@ pub mod ComingLemmas
 pub mod CountLemmas
 pub mod FlowLemmas
 pub mod HadLemmas
+pub mod HeadlessLemmas
+pub mod HostedLemmas
+pub mod HostingLemmas
 pub mod InputLemmas
 pub mod LineReadLemmas
 pub mod LoopPlaces
 pub mod RefusedLemmas
+pub mod RestLemmas
 pub mod RunningLemmas
 pub mod SaidLemmas
 pub mod StepLemmas
 pub mod TopLemmas
+pub mod UnfitLemmas
 pub mod WholeLemmas

@@ -3,7 +3,7 @@
 use Rattle.std.proofs.Common.{◌≡◌, ℕ, ◌+◌, ◌≤◌, List, [], ◌++◌, refl, sym, Option}
 use Rattle.pec_types.specs.Bytes.{Bytes}
 use Rattle.pec_outside.specs.Flow.{followed_by}
-use Rattle.pec_runs.specs.ScriptLines.{Finds}
+use Rattle.pec_screen.specs.Screened.{Finds}
 use Rattle.pec_top.proofs.FlowLemmas.{followed_by-nil}
 use Rattle.pec_directory.specs.Directory.{Provider}
 use Rattle.pec_ledger.specs.Network.{Site}

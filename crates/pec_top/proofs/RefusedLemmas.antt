@@ -35,7 +35,7 @@ use Rattle.pec_top.proofs.LineReadLemmas.{lines_there}
 use Rattle.pec_top.proofs.RunningLemmas.{ran_begun}
 
 -- a refusal is of the next provider
-names_next : (form : Form) (me : ℕ) (fault : StartFault) → IsAbout (way_of form) me fault
+pub names_next : (form : Form) (me : ℕ) (fault : StartFault) → IsAbout (way_of form) me fault
     → provider_named me fault ≡ me
 names_next forms.Run me (faults.NotEmpty number) about = about
 names_next forms.Run me (faults.DiskFault number) about = about
@@ -55,7 +55,7 @@ next_known faults.NoMemory e = cc
 stops_known : Stops ≡ NoMore → ⊥
 stops_known e = cc
 
-not_all : (fault : StartFault) (next : Next) → (next ≡ next_by fault) ⊎ (next ≡ Stops) → next ≡ NoMore → ⊥
+pub not_all : (fault : StartFault) (next : Next) → (next ≡ next_by fault) ⊎ (next ≡ Stops) → next ≡ NoMore → ⊥
 not_all fault next (inl e) none = next_known fault (sym e ∙ none)
 not_all fault next (inr e) none = stops_known (sym e ∙ none)
 

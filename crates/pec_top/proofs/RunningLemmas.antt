@@ -48,7 +48,7 @@ parts_there (Some text) = (_, refl)
 
 -- ---- a run without its disks
 
-abbrev nobody : Setting
+abbrev pub nobody : Setting
 nobody = record { kept = []; seals = hmac_seals [] [] }
 
 abbrev nothing : Parts → Bool → Happened
@@ -158,7 +158,7 @@ parts_are unread (Some text) bytes lines e left =
     read_parts : Bytes → List Bytes → Parts
     read_parts bytes lines = record { directory = bytes; script = Some lines }
 
-same_ok : (told : Result (List Provider) DirectoryFault) (a b : List Provider) → told ≡ Ok a → told ≡ Ok b → a ≡ b
+pub same_ok : (told : Result (List Provider) DirectoryFault) (a b : List Provider) → told ≡ Ok a → told ≡ Ok b → a ≡ b
 same_ok told a b e f = cc
 
 -- ---- a run that begins

@@ -16,7 +16,8 @@ use Rattle.pec_script.specs.declared.answers.Unfit.{Unfit}
 use Rattle.pec_script.specs.declared.faults.LineFault.{LineFault}
 use Rattle.pec_runs.specs.Endings.{End, end_text}
 use Rattle.pec_runs.specs.Endings as ends
-use Rattle.pec_runs.specs.ScriptLines.{Finds, Line, PassedOver, TooLong, TooMany, Script, behind_line, is_passed_over}
+use Rattle.pec_runs.specs.ScriptLines.{Line, PassedOver, TooLong, TooMany, Script, behind_line, is_passed_over}
+use Rattle.pec_screen.specs.Screened.{Finds}
 use Rattle.pec_runs.specs.ScriptLines.{line_by, longest_line, most_lines, nothing_but, said_by, script_of}
 use Rattle.pec_runs.specs.Statuses.{status_of}
 use Rattle.pec_top.specs.Shown.{end_shown}

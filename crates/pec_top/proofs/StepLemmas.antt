@@ -16,7 +16,8 @@ use Rattle.pec_runs.specs.Climbing.{AreLinesLeft, Place, behind_answers}
 use Rattle.pec_runs.specs.Endings.{Done, end_text}
 use Rattle.pec_runs.specs.Plays.{Outcome, Stops}
 use Rattle.pec_runs.specs.Ran.{Behind}
-use Rattle.pec_runs.specs.ScriptLines.{Finds, longest_line}
+use Rattle.pec_runs.specs.ScriptLines.{longest_line}
+use Rattle.pec_screen.specs.Screened.{Finds}
 use Rattle.pec_runs.specs.Statuses.{Status, status_of}
 use Rattle.pec_runs.specs.Statuses as statuses
 use Rattle.pec_top.specs.LoopLaws.{LoopLaws}

@@ -24,7 +24,8 @@ use Rattle.pec_runs.specs.Happened.{Asked, IsSetting, Setting, providers_in, tra
 use Rattle.pec_runs.specs.Openings.{AreLeft, Disks, Form, IsLeft, IsOpening, NoMore, disks_at, form_in, opened_all}
 use Rattle.pec_runs.specs.Plays.{MayPlay, Outcome, Rest}
 use Rattle.pec_runs.specs.Ran.{LeavesOff, Tells, command_in_hand}
-use Rattle.pec_runs.specs.ScriptLines.{Finds, Script, script_of}
+use Rattle.pec_runs.specs.ScriptLines.{Script, script_of}
+use Rattle.pec_screen.specs.Screened.{Finds}
 use Rattle.pec_runs.specs.Statuses.{Status}
 use Rattle.pec_top.specs.Running.{RanSo, parts_behind}
 use Rattle.pec_top.specs.Scripts.{AreKept, ScriptRan}

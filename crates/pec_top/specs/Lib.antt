@@ -1,7 +1,9 @@
 pub mod Blaming
+pub mod Hosting
 pub mod LoopLaws
 pub mod Running
 pub mod Scripts
 pub mod Shown
 pub mod Starting
+pub mod Surveys
 pub mod Taking

@@ -13,7 +13,8 @@ use Rattle.pec_runs.specs.Climbing.{AreLinesLeft, Comes, Place, behind_answers}
 use Rattle.pec_runs.specs.Endings.{Done, End}
 use Rattle.pec_runs.specs.Plays.{Ends, HasMemory, MayPlay, MayStray, Outcome, Rest, RoseBy, Stopped, Stops, Strays}
 use Rattle.pec_runs.specs.Plays.{faults_by, onto_outcome, outcome_from, outcome_text}
-use Rattle.pec_runs.specs.ScriptLines.{Finds, Says, Script, nothing_but, onto_script, said_by, script_of}
+use Rattle.pec_runs.specs.ScriptLines.{Says, Script, nothing_but, onto_script, said_by, script_of}
+use Rattle.pec_screen.specs.Screened.{Finds}
 
 pub record LoopLaws (tells : Type 0) (trade : Trade) (finds : Finds) (providers : List Provider) : Type 0 where
   -- what comes at the end of the input, at a line at which the script ends, and where the run strays

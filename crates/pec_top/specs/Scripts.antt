@@ -13,7 +13,8 @@ use Rattle.pec_runs.specs.Climbing.{Comes, Place}
 use Rattle.pec_runs.specs.Openings.{IsLeft, NoMore}
 use Rattle.pec_runs.specs.Plays.{Outcome}
 use Rattle.pec_runs.specs.Ran.{LeavesOff, Tells, command_in_hand}
-use Rattle.pec_runs.specs.ScriptLines.{Finds, script_of}
+use Rattle.pec_runs.specs.ScriptLines.{script_of}
+use Rattle.pec_screen.specs.Screened.{Finds}
 use Rattle.pec_runs.specs.Statuses.{Status}
 
 -- Where a script stands: before the line of a number, over a network, with this left to read. Past the providers, the

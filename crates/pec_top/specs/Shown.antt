@@ -31,6 +31,8 @@ status_shown told.NoMemory = statuses.NoMemory
 status_shown told.StartFault = statuses.StartFault
 status_shown told.NotEmpty = statuses.NotEmpty
 status_shown told.NotFit = statuses.NotFit
+status_shown told.ClockFault = statuses.ClockFault
+status_shown told.DoorFault = statuses.DoorFault
 status_shown told.InputTooLong = statuses.InputTooLong
 
 abbrev pub end_shown : End → statuses.Status

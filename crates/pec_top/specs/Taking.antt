@@ -10,7 +10,8 @@ use Rattle.pec_input.specs.Lines.{content_of}
 use Rattle.pec_input.specs.declared.buffers.Found.{Found}
 use Rattle.pec_input.specs.declared.buffers.Found.TheVariants as found
 use Rattle.pec_runs.specs.Endings.{Done, End, end_text}
-use Rattle.pec_runs.specs.ScriptLines.{Finds, PassedOver, Says, longest_line, nothing_but, said_by, script_of}
+use Rattle.pec_runs.specs.ScriptLines.{PassedOver, Says, longest_line, nothing_but, said_by, script_of}
+use Rattle.pec_screen.specs.Screened.{Finds}
 use Rattle.pec_runs.specs.Statuses.{status_of}
 use Rattle.pec_playing.specs.Playing.{HasPlayed, HasStopped}
 use Rattle.pec_top.specs.Shown.{end_shown}

@@ -1,6 +1,13 @@
-ghost use Rattle.std.specs.Prelude.{◌≡◌, map, option_map, string_bytes};
+ghost use Rattle.std.specs.Prelude.{◌≡◌, codes, map, None, option_map, string_bytes, if◌then◌else◌};
+ghost use Rattle.std.specs.Str.{bytes_eq};
 ghost use Rattle.pec_runs.specs.Openings.{form_in};
+ghost use Rattle.pec_service.specs.Runs.{number_wanted, wanted_in};
 ghost use Rattle.pec_top.specs.Shown.{form_named, form_shown};
+
+use pec_words::number_below;
+
+/// How many connections may be asked for.
+const MOST_CONNECTIONS: u64 = 1_000_000;
 
 /// The forms of the program that play a script.
 #[derive(Clone, Copy, Debug, PartialEq, Eq)]
@@ -34,4 +41,27 @@ fn named(word: &str) -> Option<Form>
         return Some(Form::Resume);
     }
     None
+}
+
+/// How many connections the words ask for, where they are `serve N`.
+pub(crate) fn wanted(words: &[String]) -> Option<u32>
+    ensures { result ≡ wanted_in (map string_bytes words.now) }
+{
+    match words {
+        [word, number] => wanted_of(word.as_str(), number.as_bytes()),
+        _ => None,
+    }
+}
+
+fn wanted_of(word: &str, number: &[u8]) -> Option<u32>
+    ensures { result ≡ if bytes_eq word.now (codes "serve") then number_wanted number.now else None }
+{
+    if word != "serve" {
+        return None;
+    }
+    let number = number_below(number, MOST_CONNECTIONS + 1)?;
+    if number == 0 {
+        return None;
+    }
+    Some(number as u32)
 }

@@ -3,7 +3,7 @@ ghost use Rattle.pec_directory.specs.Directory.{Provider, providers_of};
 ghost use Rattle.pec_directory.specs.Lawful.{IsLawful};
 ghost use Rattle.pec_ledger.specs.Trade.{Trade};
 ghost use Rattle.pec_network.specs.Network.{IsOfDirectory};
-ghost use Rattle.pec_runs.specs.ScriptLines.{Finds};
+ghost use Rattle.pec_screen.specs.Screened.{Finds};
 ghost use Rattle.pec_top.specs.LoopLaws.{LoopLaws};
 
 use pec_directory::Directory;

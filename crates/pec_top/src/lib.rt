@@ -5,10 +5,12 @@
 mod beginning;
 mod ending;
 mod forms;
+mod hosting;
 mod laws;
 mod run;
 mod script;
 mod status;
+mod survey;
 mod taking;
 mod texts;
 mod top;

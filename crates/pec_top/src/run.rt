@@ -13,7 +13,7 @@ ghost use Rattle.pec_input.specs.declared.opening.TheConstants.{LONGEST_DIRECTOR
 ghost use Rattle.pec_network.specs.Carrying.{AllStand};
 ghost use Rattle.pec_network.specs.Beginning.{NoneFell};
 ghost use Rattle.pec_runs.specs.Openings.{disks_at, form_in};
-ghost use Rattle.pec_runs.specs.ScriptLines.{finds_in};
+ghost use Rattle.pec_screen.specs.Screened.{finds_in};
 ghost use Rattle.pec_top.specs.Blaming.{BlamesDevices, BlamesDisks};
 ghost use Rattle.pec_top.specs.Running.{AreHomeAgain, RanSo, parts_behind};
 ghost use Rattle.pec_top.specs.Scripts.{AreKept, ScriptRan, place_at};

@@ -8,7 +8,7 @@ ghost use Rattle.pec_input.specs.Finding.{IsAtEnd};
 ghost use Rattle.pec_network.specs.Carrying.{AllStand};
 ghost use Rattle.pec_network.specs.Network.{sites};
 ghost use Rattle.pec_playing.specs.Playing.{counts_in};
-ghost use Rattle.pec_runs.specs.ScriptLines.{finds_in};
+ghost use Rattle.pec_screen.specs.Screened.{finds_in};
 ghost use Rattle.pec_top.specs.Blaming.{BlamesDevices};
 ghost use Rattle.pec_top.specs.Scripts.{ScriptRan, place_at};
 ghost use Rattle.pec_top.specs.Shown.{result_shown};

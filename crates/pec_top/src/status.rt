@@ -20,10 +20,14 @@ pub enum Status {
     NoMemory,
     /// A disk failed, or the depot did, while journals were made or opened.
     StartFault,
-    /// A journal was to be made on a disk that isn't empty.
+    /// A journal was to be made on a disk that isn't empty, or opened on one that doesn't begin as a journal does.
     NotEmpty,
     /// The journal on a disk isn't its provider's own.
     NotFit,
+    /// The clock failed.
+    ClockFault,
+    /// The door failed.
+    DoorFault,
     /// The directory, a line or the number of lines is past its limit.
     InputTooLong,
 }
@@ -43,6 +47,8 @@ impl Status {
             Status::StartFault => 7,
             Status::NotEmpty => 8,
             Status::NotFit => 9,
+            Status::ClockFault => 10,
+            Status::DoorFault => 11,
             Status::InputTooLong => 12,
         }
     }

@@ -10,7 +10,8 @@ ghost use Rattle.pec_network.specs.Carrying.{AllStand};
 ghost use Rattle.pec_network.specs.Network.{sites};
 ghost use Rattle.pec_playing.specs.Playing.{counts_in};
 ghost use Rattle.pec_script.specs.Texts.{refused_text};
-ghost use Rattle.pec_runs.specs.ScriptLines.{Finds, finds_in, is_passed_over, longest_line, most_lines};
+ghost use Rattle.pec_runs.specs.ScriptLines.{is_passed_over, longest_line, most_lines};
+ghost use Rattle.pec_screen.specs.Screened.{Finds, finds_in};
 ghost use Rattle.pec_top.specs.Taking.{EndsAt, IsFoundTaken, IsTaken, StopsAt, StopsAtFound};
 
 use crate::ending::End;

@@ -5,7 +5,7 @@ use crate::running::{Case, Run, first_wrong};
 use pec_top::Status;
 use std::test::Fail;
 
-static CASES: [Case; 13] = [
+static FIRST: [Case; 3] = [
     Case {
         why: "a message is accepted, and stands open in its sender's book",
         directory: ALFA,
@@ -55,6 +55,9 @@ static CASES: [Case; 13] = [
             status: Status::Done,
         }],
     },
+];
+
+static SECOND: [Case; 3] = [
     Case {
         why: "a message to nobody is told undelivered",
         directory: TWO,
@@ -116,6 +119,9 @@ static CASES: [Case; 13] = [
             status: Status::Done,
         }],
     },
+];
+
+static THIRD: [Case; 3] = [
     Case {
         why: "a sender is warned at 12 hours and has notice at 22 hours, to the second",
         directory: ALFA,
@@ -163,6 +169,9 @@ static CASES: [Case; 13] = [
             status: Status::Done,
         }],
     },
+];
+
+static FOURTH: [Case; 3] = [
     Case {
         why: "what isn't certified comes as an anomaly to whom its path names",
         directory: TWO,
@@ -213,33 +222,52 @@ static CASES: [Case; 13] = [
             status: Status::Done,
         }],
     },
-    Case {
-        why: "messages are named by the first domain of their provider",
-        directory: DOMAINS,
-        failing: &[],
-        runs: &[Run {
-            form: "run",
-            script: "submit gamma 10 b@gamma.example a@uno.example,c@due.example \
+];
+
+static FIFTH: [Case; 1] = [Case {
+    why: "messages are named by the first domain of their provider",
+    directory: DOMAINS,
+    failing: &[],
+    runs: &[Run {
+        form: "run",
+        script: "submit gamma 10 b@gamma.example a@uno.example,c@due.example \
                      {From: b@gamma.example|To: a@uno.example|Cc: c@due.example||}\n\
                      submit gamma 11 C@Due.example b@gamma.example {From: c@due.example|To: b@gamma.example||}\n\
                      book b@gamma.example\nbook c@due.example\n",
-            output: "accepted pec.0000000@uno.example\naccepted pec.0000001@uno.example\n\
+        output: "accepted pec.0000000@uno.example\naccepted pec.0000001@uno.example\n\
                      pec.0000000@uno.example a@uno.example primary 10 - - - open\n\
                      pec.0000000@uno.example c@due.example copy 10 - - - open\nbook 2\n\
                      pec.0000001@uno.example b@gamma.example primary 11 - - - open\nbook 1\n",
-            status: Status::Done,
-        }],
-    },
-];
+        status: Status::Done,
+    }],
+}];
 
-/// The table, by a function without a clause: the proof of the test is spared its texts.
-fn cases() -> &'static [Case] {
-    &CASES
+/// The tables, by functions without a clause: the proof of the test is spared their texts.
+fn first() -> &'static [Case] {
+    &FIRST
+}
+
+fn second() -> &'static [Case] {
+    &SECOND
+}
+
+fn third() -> &'static [Case] {
+    &THIRD
+}
+
+fn fourth() -> &'static [Case] {
+    &FOURTH
+}
+
+fn fifth() -> &'static [Case] {
+    &FIFTH
 }
 
 #[test]
 fn messages_come_to_their_ends(rt: HostRuntime) -> Result<(), Fail> {
-    let wrong = first_wrong(rt.alloc(), cases())?;
-    assert_eq!(rt; wrong, None);
+    for cases in [first(), second(), third(), fourth(), fifth()] {
+        let wrong = first_wrong(rt.alloc(), cases)?;
+        assert_eq!(rt; wrong, None);
+    }
     Ok(())
 }

@@ -1,7 +1,7 @@
 //! Disks that fail, crashes, and runs that go on where others left: over memory disks.
 
-use crate::directories::{ALFA, THREE, TWO};
-use crate::running::{Case, Run, depot_failing, first_wrong, played, written_out};
+use crate::directories::{ALFA, THREE, TWO, alfa, two};
+use crate::running::{Case, Ran, Run, depot_failing, first_wrong, played, written_out};
 use pec_outside::MemDepot;
 use pec_top::Status;
 use std::alloc::{AllocError, Global};
@@ -14,57 +14,136 @@ const ROUNDS: &str =
 
 const BOXES: &str = "mailbox alice@alfa.example\nmailbox anna@alfa.example\n";
 
-const DELIVERED: &[u8] =
-    b"0 acceptance pec.0000000@alfa.example -\n1 delivery pec.0000000@alfa.example anna@alfa.example\nmailbox 2\n\
-0 envelope pec.0000000@alfa.example -\nmailbox 1\n";
+const DELIVERED: &str =
+    "0 acceptance I0 -\n1 delivery I0 anna@alfa.example\nmailbox 2\n0 envelope I0 -\nmailbox 1\n";
 
 const NOTHING: &[u8] = b"mailbox 0\nmailbox 0\n";
+
+/// How the first run came out: whether it began, and wrote nothing, or that the message is accepted.
+#[derive(Clone, Copy)]
+struct Beginning {
+    began: bool,
+    is_empty: bool,
+    accepted: bool,
+}
+
+fn begun(alloc: Global, depot: &mut MemDepot) -> Result<Beginning, AllocError> {
+    let mut script = String::from_str(alloc, SUBMISSION)?;
+    script.push_str(ROUNDS)?;
+    let ran = played(alloc, depot, alfa(), "run", script.as_str())?;
+    Ok(Beginning {
+        began: ran.status != Status::StartFault,
+        is_empty: ran.text.is_empty(),
+        accepted: ran.text.starts_with(b"accepted"),
+    })
+}
+
+/// The status of further rounds.
+fn went_on(alloc: Global, depot: &mut MemDepot) -> Result<Status, AllocError> {
+    let ran = played(alloc, depot, alfa(), "resume", ROUNDS)?;
+    Ok(ran.status)
+}
+
+/// Whether further rounds end well, at the second time where the fault came only as the journal was opened.
+fn ends_well(alloc: Global, depot: &mut MemDepot) -> Result<bool, AllocError> {
+    let status = went_on(alloc, depot)?;
+    if status != Status::StartFault {
+        return Ok(status == Status::Done);
+    }
+    Ok(went_on(alloc, depot)? == Status::Done)
+}
+
+/// What the mailboxes hold in the end.
+#[derive(Clone, Copy, PartialEq, Eq)]
+enum Boxes {
+    Delivered,
+    Nothing,
+    Other,
+}
+
+fn held(alloc: Global, depot: &mut MemDepot) -> Result<Boxes, AllocError> {
+    let delivered = written_out(alloc, DELIVERED)?;
+    let boxes = played(alloc, depot, alfa(), "resume", BOXES)?;
+    Ok(held_in(&boxes.text, delivered.as_bytes()))
+}
+
+fn held_in(text: &[u8], delivered: &[u8]) -> Boxes {
+    if text == delivered {
+        return Boxes::Delivered;
+    }
+    if text == NOTHING {
+        return Boxes::Nothing;
+    }
+    Boxes::Other
+}
 
 /// Whether a run that a fault of alfa's disk may end or hold up, and further runs over its disks, deliver the message
 /// once or not at all: not at all only where it wasn't accepted.
 fn is_delivered_once(alloc: Global, call: u64) -> Result<bool, AllocError> {
     let mut depot = depot_failing(alloc, &[(0, call)])?;
-    let mut script = String::from_str(alloc, SUBMISSION)?;
-    script.push_str(ROUNDS)?;
-    let first = played(alloc, &mut depot, ALFA, "run", script.as_str())?;
-    if first.status == Status::StartFault {
-        return Ok(first.text.is_empty());
+    let first = begun(alloc, &mut depot)?;
+    if !first.began {
+        return Ok(first.is_empty);
     }
-    let mut again = played(alloc, &mut depot, ALFA, "resume", ROUNDS)?;
-    if again.status == Status::StartFault {
-        // The fault came only now, as the journal was opened.
-        again = played(alloc, &mut depot, ALFA, "resume", ROUNDS)?;
-    }
-    if again.status != Status::Done {
+    is_held_once(alloc, &mut depot, first.accepted)
+}
+
+fn is_held_once(alloc: Global, depot: &mut MemDepot, accepted: bool) -> Result<bool, AllocError> {
+    if !ends_well(alloc, depot)? {
         return Ok(false);
     }
-    let boxes = played(alloc, &mut depot, ALFA, "resume", BOXES)?;
-    if boxes.text.as_slice() == DELIVERED {
-        return Ok(true);
+    match held(alloc, depot)? {
+        Boxes::Delivered => Ok(true),
+        Boxes::Nothing => Ok(!accepted),
+        Boxes::Other => Ok(false),
     }
-    let accepted = first.text.starts_with(b"accepted");
-    Ok(!accepted && boxes.text.as_slice() == NOTHING)
 }
 
 #[test]
 fn a_fault_of_a_disk_loses_no_receipt_and_doubles_none(rt: HostRuntime) -> Result<(), Fail> {
     for call in 0..40u64 {
-        assert!(rt; is_delivered_once(rt.alloc(), call)?);
+        let once = is_delivered_once(rt.alloc(), call)?;
+        assert!(rt; once, "call {call}");
     }
     Ok(())
 }
 
 /// Runs the lines of a script one by one, each in a run of its own over the disks that the one before left, and gives
 /// what the last one writes.
-fn cut_up(alloc: Global, depot: &mut MemDepot, lines: &[&str]) -> Result<Vec<u8>, AllocError> {
+fn cut_up(alloc: Global, lines: &[&str]) -> Result<Vec<u8>, AllocError> {
+    let mut depot = depot_failing(alloc, &[])?;
     let mut text = Vec::new(alloc);
     let mut form = "run";
     for line in lines {
-        let ran = played(alloc, depot, TWO, form, line)?;
-        text = ran.text;
+        text = text_of(alloc, &mut depot, form, line)?;
         form = "resume";
     }
     Ok(text)
+}
+
+fn text_of(
+    alloc: Global,
+    depot: &mut MemDepot,
+    form: &str,
+    script: &str,
+) -> Result<Vec<u8>, AllocError> {
+    let ran = played(alloc, depot, two(), form, script)?;
+    Ok(ran.text)
+}
+
+/// Runs the lines of a script in one run, and gives what it writes.
+fn at_once(alloc: Global, lines: &[&str]) -> Result<Vec<u8>, AllocError> {
+    let script = joined(alloc, lines)?;
+    let mut depot = depot_failing(alloc, &[])?;
+    text_of(alloc, &mut depot, "run", script.as_str())
+}
+
+fn joined(alloc: Global, lines: &[&str]) -> Result<String, AllocError> {
+    let mut whole = String::new(alloc);
+    for line in lines {
+        whole.push_str(line)?;
+    }
+    Ok(whole)
 }
 
 /// A script in ten pieces, at whose ends no frame waits.
@@ -102,16 +181,10 @@ fn settled() -> &'static [&'static str] {
 /// A script in one run and the same script cut into ten runs end with the same books and mailboxes.
 #[test]
 fn a_script_may_be_cut_into_runs(rt: HostRuntime) -> Result<(), Fail> {
-    let mut whole = String::new(rt.alloc());
-    for piece in settled() {
-        whole.push_str(piece)?;
-    }
     let books = written_out(rt.alloc(), SETTLED_BOOKS)?;
-    let mut depot = depot_failing(rt.alloc(), &[])?;
-    let once = played(rt.alloc(), &mut depot, TWO, "run", whole.as_str())?;
-    assert!(rt; once.text.ends_with(books.as_bytes()));
-    let mut other = depot_failing(rt.alloc(), &[])?;
-    let last = cut_up(rt.alloc(), &mut other, settled())?;
+    let once = at_once(rt.alloc(), settled())?;
+    assert!(rt; once.ends_with(books.as_bytes()));
+    let last = cut_up(rt.alloc(), settled())?;
     assert_eq!(rt; last.as_slice(), books.as_bytes());
     Ok(())
 }
@@ -158,7 +231,7 @@ const DECIDED_ONCE_RUN: [Run; 1] = [Run {
     status: Status::Done,
 }];
 
-static CASES: [Case; 8] = [
+static FIRST: [Case; 3] = [
     Case {
         why: "where the write of a decision fails it isn't in the journal, and is made again",
         directory: ALFA,
@@ -177,6 +250,9 @@ static CASES: [Case; 8] = [
         failing: &[(0, 17)],
         runs: &DECIDED_AGAIN_RUN,
     },
+];
+
+static SECOND: [Case; 3] = [
     Case {
         why: "where the last sync fails the decision is in the journal, and isn't made again",
         directory: ALFA,
@@ -215,6 +291,9 @@ static CASES: [Case; 8] = [
             status: Status::NotFit,
         }],
     },
+];
+
+static THIRD: [Case; 2] = [
     Case {
         why: "where a second journal can't be made the first is neither made again nor resumed without it",
         directory: THREE,
@@ -273,27 +352,44 @@ static CASES: [Case; 8] = [
     },
 ];
 
-/// The table, by a function without a clause: the proof of the test is spared its texts.
-fn cases() -> &'static [Case] {
-    &CASES
+/// The tables, by functions without a clause: the proof of the test is spared their texts.
+fn first() -> &'static [Case] {
+    &FIRST
+}
+
+fn second() -> &'static [Case] {
+    &SECOND
+}
+
+fn third() -> &'static [Case] {
+    &THIRD
 }
 
 #[test]
 fn runs_go_on_where_others_left(rt: HostRuntime) -> Result<(), Fail> {
-    let wrong = first_wrong(rt.alloc(), cases())?;
-    assert_eq!(rt; wrong, None);
+    for cases in [first(), second(), third()] {
+        let wrong = first_wrong(rt.alloc(), cases)?;
+        assert_eq!(rt; wrong, None);
+    }
     Ok(())
 }
 
 /// Over journals that another directory made, the two digests are told, each in 64 hexadecimal digits.
 #[test]
 fn a_journal_of_another_directory_is_not_opened(rt: HostRuntime) -> Result<(), Fail> {
-    let mut depot = depot_failing(rt.alloc(), &[])?;
-    let first = played(rt.alloc(), &mut depot, TWO, "run", "")?;
-    assert_eq!(rt; first.status, Status::Done);
-    let again = played(rt.alloc(), &mut depot, ALFA, "resume", "")?;
+    let again = ran_under_another(rt.alloc())?;
     assert_eq!(rt; again.status, Status::NotFit);
     assert!(rt; again.text.starts_with(b"not-fit alfa directory "));
     assert_eq!(rt; again.text.len(), 23 + 64 + 1 + 64 + 1);
     Ok(())
+}
+
+/// A run under the directory of alfa alone over disks on which a run under that of two made journals.
+fn ran_under_another(alloc: Global) -> Result<Ran, Fail> {
+    let mut depot = depot_failing(alloc, &[])?;
+    let first = played(alloc, &mut depot, two(), "run", "")?;
+    if first.status != Status::Done {
+        return Err("no journals were made".into());
+    }
+    Ok(played(alloc, &mut depot, alfa(), "resume", "")?)
 }

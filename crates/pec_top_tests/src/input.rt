@@ -2,7 +2,7 @@
 
 ghost use Rattle.std.specs.Prelude.{◌<◌};
 
-use crate::directories::{ALFA, TWO};
+use crate::directories::{alfa, two};
 use crate::running::{Ran, depot_failing, input_of, played, run_over};
 use pec_top::Status;
 use std::alloc::{AllocError, Global};
@@ -68,11 +68,10 @@ fn long_inputs() -> &'static [Long] {
 /// Whatever stands in the input, and whether it can be read or not.
 #[test]
 fn other_words_are_answered_with_the_usage(rt: HostRuntime) -> Result<(), Fail> {
-    let input = input_of(rt.alloc(), ALFA, FIRST)?;
+    let input = input_of(rt.alloc(), alfa(), FIRST)?;
     for words in wrong_words() {
         let ran = ran(rt.alloc(), words, &input, 7, &[0], &[])?;
-        assert_eq!(rt; ran.text.as_slice(), b"usage\n".as_slice());
-        assert_eq!(rt; ran.status, Status::Usage);
+        assert!(rt; ran.is(b"usage\n", Status::Usage));
     }
     Ok(())
 }
@@ -117,12 +116,15 @@ static BEGUN: [Begun; 4] = [
 fn words_and_directories_come_first(rt: HostRuntime) -> Result<(), Fail> {
     for begun in inputs() {
         let ran = ran(rt.alloc(), begun.words, begun.input, 7, &[], &[])?;
-        assert_eq!(rt; ran.text.as_slice(), begun.output);
-        assert_eq!(rt; ran.status, begun.status);
+        assert!(rt; ran.is(begun.output, begun.status));
     }
-    let unmarked = ran(rt.alloc(), &["run"], ALFA.as_bytes(), 7, &[], &[])?;
-    assert_eq!(rt; unmarked.text.as_slice(), b"refused no-script\n".as_slice());
-    assert_eq!(rt; unmarked.status, Status::Refused);
+    Ok(())
+}
+
+#[test]
+fn an_input_without_a_mark_has_no_script(rt: HostRuntime) -> Result<(), Fail> {
+    let ran = ran(rt.alloc(), &["run"], alfa().as_bytes(), 7, &[], &[])?;
+    assert!(rt; ran.is(b"refused no-script\n", Status::Refused));
     Ok(())
 }
 
@@ -193,29 +195,47 @@ static FAULTS: [(&str, &str, &[u8]); 12] = [
 #[test]
 fn a_directory_is_refused_for_its_first_fault(rt: HostRuntime) -> Result<(), Fail> {
     for (there, instead, output) in faults() {
-        let directory = TWO.replacen(rt.alloc(), there, instead, 1)?;
-        let mut depot = depot_failing(rt.alloc(), &[])?;
-        let ran = played(rt.alloc(), &mut depot, directory.as_str(), "run", "")?;
-        assert_eq!(rt; ran.text.as_slice(), *output);
-        assert_eq!(rt; ran.status, Status::Refused);
+        let ran = ran_with(rt.alloc(), there, instead)?;
+        assert!(rt; ran.is(output, Status::Refused), "{instead}");
     }
     Ok(())
 }
 
-/// An input may come in pieces of one byte, its lines may end with a carriage return, and wherever it is cut it writes
-/// a front, or what the cut line says.
+/// A run under the directory of two, where another text stands in place of one.
+fn ran_with(alloc: Global, there: &str, instead: &str) -> Result<Ran, AllocError> {
+    let directory = two().replacen(alloc, there, instead, 1)?;
+    let mut depot = depot_failing(alloc, &[])?;
+    played(alloc, &mut depot, directory.as_str(), "run", "")
+}
+
+/// An input may come in pieces of one byte, and its lines may end with a carriage return.
 #[test]
-fn pieces_ends_and_cuts_are_taken_as_they_come(rt: HostRuntime) -> Result<(), Fail> {
-    let input = input_of(rt.alloc(), ALFA, FIRST)?;
-    let small = ran(rt.alloc(), &["run"], &input, 1, &[], &[])?;
-    assert_eq!(rt; small.text.as_slice(), FIRST_OUTPUT);
+fn pieces_and_ends_are_taken_as_they_come(rt: HostRuntime) -> Result<(), Fail> {
+    let input = input_of(rt.alloc(), alfa(), FIRST)?;
+    let by_bytes = is_first(rt.alloc(), &input, 1)?;
+    assert!(rt; by_bytes);
     let ended = with_returns(rt.alloc(), &input)?;
-    let other = ran(rt.alloc(), &["run"], &ended, 1000, &[], &[])?;
-    assert_eq!(rt; other.text.as_slice(), FIRST_OUTPUT);
+    let with_ends = is_first(rt.alloc(), &ended, 1000)?;
+    assert!(rt; with_ends);
+    Ok(())
+}
+
+fn is_first(alloc: Global, input: &[u8], piece: usize) -> Result<bool, AllocError>
+    requires { 0 < piece }
+{
+    let ran = ran(alloc, &["run"], input, piece, &[], &[])?;
+    Ok(ran.text.as_slice() == FIRST_OUTPUT)
+}
+
+/// Wherever an input is cut it writes a front, or what the cut line says. Every seventh cut is enough to meet each kind
+/// of place.
+#[test]
+fn cuts_are_taken_as_they_come(rt: HostRuntime) -> Result<(), Fail> {
+    let input = input_of(rt.alloc(), alfa(), FIRST)?;
     for cut in 0..input.len() {
-        // Every seventh cut is enough to meet each kind of place.
         if cut % 7 == 0 {
-            assert!(rt; is_front_of_first(rt.alloc(), &input[..cut])?);
+            let front = is_front_of_first(rt.alloc(), &input[..cut])?;
+            assert!(rt; front, "cut at {cut}");
         }
     }
     Ok(())
@@ -236,29 +256,49 @@ fn with_returns(alloc: Global, input: &[u8]) -> Result<Vec<u8>, AllocError> {
 /// A cut inside the last word of a line leaves less of a message, or the address of nobody.
 fn is_front_of_first(alloc: Global, input: &[u8]) -> Result<bool, AllocError> {
     let ran = ran(alloc, &["run"], input, 64, &[], &[])?;
-    if ran.status == Status::Refused {
-        return Ok(true);
+    Ok(is_front(&ran))
+}
+
+fn is_front(ran: &Ran) -> bool {
+    if ran.status == Status::Refused || FIRST_OUTPUT.starts_with(&ran.text) {
+        return true;
     }
-    if ran.text.as_slice() == b"not-accepted pec.0000000@alfa.example head\n".as_slice() {
-        return Ok(true);
+    if ran.text.ends_with(b"no-account\n") {
+        return true;
     }
-    Ok(FIRST_OUTPUT.starts_with(&ran.text) || ran.text.ends_with(b"no-account\n"))
+    ran.text.as_slice() == b"not-accepted pec.0000000@alfa.example head\n".as_slice()
 }
 
 #[test]
-fn each_read_and_write_can_fail(rt: HostRuntime) -> Result<(), Fail> {
-    let input = input_of(rt.alloc(), ALFA, FIRST)?;
+fn each_read_can_fail(rt: HostRuntime) -> Result<(), Fail> {
+    let input = input_of(rt.alloc(), alfa(), FIRST)?;
     for call in 0..6u64 {
-        let ran = ran(rt.alloc(), &["run"], &input, 60, &[call], &[])?;
-        assert_eq!(rt; ran.status, Status::ReadFault);
-        assert!(rt; FIRST_OUTPUT.starts_with(&ran.text));
-    }
-    for call in 0..2u64 {
-        let ran = ran(rt.alloc(), &["run"], &input, 60, &[], &[call])?;
-        assert_eq!(rt; ran.status, Status::WriteFault);
-        assert!(rt; FIRST_OUTPUT.starts_with(&ran.text));
+        let told = is_stopped(rt.alloc(), &input, &[call], &[], Status::ReadFault)?;
+        assert!(rt; told, "read {call}");
     }
     Ok(())
+}
+
+#[test]
+fn each_write_can_fail(rt: HostRuntime) -> Result<(), Fail> {
+    let input = input_of(rt.alloc(), alfa(), FIRST)?;
+    for call in 0..2u64 {
+        let told = is_stopped(rt.alloc(), &input, &[], &[call], Status::WriteFault)?;
+        assert!(rt; told, "write {call}");
+    }
+    Ok(())
+}
+
+/// Whether a run where these reads and writes fail ends so, and writes a front.
+fn is_stopped(
+    alloc: Global,
+    input: &[u8],
+    reads: &[u64],
+    writes: &[u64],
+    status: Status,
+) -> Result<bool, AllocError> {
+    let ran = ran(alloc, &["run"], input, 60, reads, writes)?;
+    Ok(ran.status == status && FIRST_OUTPUT.starts_with(&ran.text))
 }
 
 /// So many times a byte between two texts, and what is written for that.
@@ -325,16 +365,18 @@ static LONG: [Long; 6] = [
 
 /// The bytes of a long input: behind `%%` stands the directory of alfa and the mark.
 fn long_input(alloc: Global, long: &Long) -> Result<Vec<u8>, AllocError> {
+    let mut input = front_of(alloc, long.front)?;
     let middle = vec![in alloc; long.byte; long.count]?;
-    let mut input = Vec::new(alloc);
-    if long.front == "%%" {
-        input = input_of(alloc, ALFA, "")?;
-    } else {
-        input.extend_from_slice(long.front.as_bytes())?;
-    }
     input.extend_from_slice(&middle)?;
     input.extend_from_slice(long.back)?;
     Ok(input)
+}
+
+fn front_of(alloc: Global, front: &str) -> Result<Vec<u8>, AllocError> {
+    if front == "%%" {
+        return input_of(alloc, alfa(), "");
+    }
+    Vec::from_slice(alloc, front.as_bytes())
 }
 
 #[test]
@@ -342,8 +384,7 @@ fn the_limits_of_an_input_are_kept(rt: HostRuntime) -> Result<(), Fail> {
     for long in long_inputs() {
         let input = long_input(rt.alloc(), long)?;
         let ran = ran(rt.alloc(), &["run"], &input, 1_000_000, &[], &[])?;
-        assert_eq!(rt; ran.text.as_slice(), long.output);
-        assert_eq!(rt; ran.status, long.status);
+        assert!(rt; ran.is(long.output, long.status));
     }
     Ok(())
 }

@@ -2,7 +2,7 @@
 //! Lines end with a line feed here and with CRLF in the letters; words in capitals stand for those of a row.
 
 /// The words that a row doesn't give itself.
-pub(crate) const USUAL: [(&str, &str); 7] = [
+static USUAL: [(&str, &str); 7] = [
     ("WISH", ""),
     ("ORIGINAL", ""),
     ("PROVIDER", "alfa"),
@@ -11,6 +11,11 @@ pub(crate) const USUAL: [(&str, &str); 7] = [
     ("DAY", "02/01/2024"),
     ("HOUR", "10:00:00"),
 ];
+
+/// The table, by a function without a clause: the proofs of others are spared its texts.
+pub(crate) fn usual() -> &'static [(&'static str, &'static str)] {
+    &USUAL
+}
 
 /// A receipt or notice to alice of a message of hers.
 pub(crate) const RECEIPT: &str = r#"X-Ricevuta: KIND

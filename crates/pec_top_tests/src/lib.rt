@@ -12,6 +12,8 @@ mod forgery;
 #[cfg(test)]
 mod input;
 #[cfg(test)]
+mod items;
+#[cfg(test)]
 mod letters;
 #[cfg(test)]
 mod refusals;
@@ -19,6 +21,8 @@ mod refusals;
 mod running;
 #[cfg(test)]
 mod screens;
+#[cfg(test)]
+mod serving;
 #[cfg(test)]
 mod shown;
 #[cfg(test)]

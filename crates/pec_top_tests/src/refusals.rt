@@ -1,14 +1,14 @@
 //! Commands and lines that are refused, and journals that aren't taken. All outputs were worked out by hand.
 
-use crate::directories::{ALFA, TWO};
-use crate::running::{Case, Run, depot_failing, first_wrong, played};
+use crate::directories::{ALFA, TWO, two};
+use crate::running::{Case, Ran, Run, depot_failing, first_wrong, played, written_out};
 use pec_top::Status;
 use std::alloc::{AllocError, Global};
 use std::test::Fail;
 
 const ROW: &str = "submit alfa 1704186000 alice@alfa.example anna@alfa.example {M1}\n";
 
-static CASES: [Case; 8] = [
+static FIRST: [Case; 3] = [
     Case {
         why: "a message that breaks a row of the table of admission isn't accepted",
         directory: TWO,
@@ -56,6 +56,9 @@ static CASES: [Case; 8] = [
             status: Status::Done,
         }],
     },
+];
+
+static SECOND: [Case; 3] = [
     Case {
         why: "where no frame waits none is lost, repeated or swapped; and who is up isn't restarted",
         directory: TWO,
@@ -104,6 +107,9 @@ static CASES: [Case; 8] = [
             status: Status::NotFit,
         }],
     },
+];
+
+static THIRD: [Case; 2] = [
     Case {
         why: "a line is refused for its first fault, behind the lines before it",
         directory: TWO,
@@ -149,8 +155,16 @@ static LINES: [(&str, &str); 9] = [
 ];
 
 /// The tables, by functions without a clause: the proofs of the tests are spared their texts.
-fn cases() -> &'static [Case] {
-    &CASES
+fn first() -> &'static [Case] {
+    &FIRST
+}
+
+fn second() -> &'static [Case] {
+    &SECOND
+}
+
+fn third() -> &'static [Case] {
+    &THIRD
 }
 
 fn lines() -> &'static [(&'static str, &'static str)] {
@@ -159,32 +173,37 @@ fn lines() -> &'static [(&'static str, &'static str)] {
 
 #[test]
 fn what_is_refused_is_told_by_its_first_cause(rt: HostRuntime) -> Result<(), Fail> {
-    let wrong = first_wrong(rt.alloc(), cases())?;
-    assert_eq!(rt; wrong, None);
+    for cases in [first(), second(), third()] {
+        let wrong = first_wrong(rt.alloc(), cases)?;
+        assert_eq!(rt; wrong, None);
+    }
     Ok(())
 }
 
 #[test]
 fn a_line_that_says_no_command_ends_the_run(rt: HostRuntime) -> Result<(), Fail> {
     for (line, fault) in lines() {
-        assert!(rt; is_refused_for(rt.alloc(), line, fault)?, "{line}");
+        let refused = is_refused_for(rt.alloc(), line, fault)?;
+        assert!(rt; refused, "{line}");
     }
     Ok(())
 }
 
 /// Whether a script of this line is refused for this fault, and ends there.
 fn is_refused_for(alloc: Global, line: &str, fault: &str) -> Result<bool, AllocError> {
-    let mut script = String::from_str(alloc, line)?;
-    script.push_str("\nbook alice@alfa.example\n")?;
-    let mut output = String::from_str(alloc, "refused line 1 ")?;
-    output.push_str(fault)?;
-    output.push('\n')?;
+    let script = joined(alloc, &[line, "\nbook alice@alfa.example\n"])?;
+    let output = joined(alloc, &["refused line 1 ", fault, "\n"])?;
     let mut depot = depot_failing(alloc, &[])?;
-    let ran = played(alloc, &mut depot, TWO, "run", script.as_str())?;
-    if ran.status != Status::Refused {
-        return Ok(false);
+    let ran = played(alloc, &mut depot, two(), "run", script.as_str())?;
+    Ok(ran.is(output.as_bytes(), Status::Refused))
+}
+
+fn joined(alloc: Global, texts: &[&str]) -> Result<String, AllocError> {
+    let mut whole = String::new(alloc);
+    for text in texts {
+        whole.push_str(text)?;
     }
-    Ok(ran.text.as_slice() == output.as_bytes())
+    Ok(whole)
 }
 
 /// A message of 69 bytes of head and so many of body, to bob and carl.
@@ -204,38 +223,57 @@ fn submission_of(alloc: Global, body: u32) -> Result<String, AllocError> {
 /// Where the limit is 1000, a message of 500 bytes may go to two recipients, and one of 501 bytes may not.
 #[test]
 fn a_message_counts_once_for_each_recipient(rt: HostRuntime) -> Result<(), Fail> {
+    let ran = ran_with_limit(rt.alloc())?;
+    let output = written_out(rt.alloc(), "accepted I0\nnot-accepted I1 size\n")?;
+    assert_eq!(rt; ran.text.as_slice(), output.as_bytes());
+    Ok(())
+}
+
+fn ran_with_limit(alloc: Global) -> Result<Ran, AllocError> {
     let limit = "name = \"alfa\"\nlimit = 1000";
-    let directory = TWO.replacen(rt.alloc(), "name = \"alfa\"", limit, 1)?;
-    let mut script = submission_of(rt.alloc(), 431)?;
-    let larger = submission_of(rt.alloc(), 432)?;
-    script.push_str(larger.as_str())?;
-    let mut depot = depot_failing(rt.alloc(), &[])?;
-    let ran = played(
-        rt.alloc(),
+    let directory = two().replacen(alloc, "name = \"alfa\"", limit, 1)?;
+    let script = two_submissions(alloc)?;
+    let mut depot = depot_failing(alloc, &[])?;
+    played(
+        alloc,
         &mut depot,
         directory.as_str(),
         "run",
         script.as_str(),
-    )?;
-    let output = "accepted pec.0000000@alfa.example\nnot-accepted pec.0000001@alfa.example size\n";
-    assert_eq!(rt; ran.text.as_slice(), output.as_bytes());
-    Ok(())
+    )
+}
+
+/// A message of 500 bytes, and one of 501.
+fn two_submissions(alloc: Global) -> Result<String, AllocError> {
+    let mut script = submission_of(alloc, 431)?;
+    let larger = submission_of(alloc, 432)?;
+    script.push_str(larger.as_str())?;
+    Ok(script)
 }
 
 /// A link holds 64 frames, and the next is refused.
 #[test]
 fn a_full_link_takes_no_frame(rt: HostRuntime) -> Result<(), Fail> {
-    let mut script = String::new(rt.alloc());
-    let mut output = String::new(rt.alloc());
-    for _ in 0..64 {
-        script.push_str("inject alfa beta {F1}\n")?;
-        output.push_str("injected\n")?;
-    }
-    script.push_str("inject alfa beta {F1}\nrepeat alfa beta 0\nrepeat alfa beta 64\n")?;
-    output.push_str("link-full\nlink-full\nno-frame\n")?;
-    let mut depot = depot_failing(rt.alloc(), &[])?;
-    let ran = played(rt.alloc(), &mut depot, TWO, "run", script.as_str())?;
-    assert_eq!(rt; ran.text.as_slice(), output.as_bytes());
-    assert_eq!(rt; ran.status, Status::Done);
+    let full = is_full(rt.alloc())?;
+    assert!(rt; full);
     Ok(())
+}
+
+fn is_full(alloc: Global) -> Result<bool, AllocError> {
+    let more = "inject alfa beta {F1}\nrepeat alfa beta 0\nrepeat alfa beta 64\n";
+    let script = many(alloc, "inject alfa beta {F1}\n", more)?;
+    let output = many(alloc, "injected\n", "link-full\nlink-full\nno-frame\n")?;
+    let mut depot = depot_failing(alloc, &[])?;
+    let ran = played(alloc, &mut depot, two(), "run", script.as_str())?;
+    Ok(ran.is(output.as_bytes(), Status::Done))
+}
+
+/// A line 64 times, and others behind.
+fn many(alloc: Global, line: &str, behind: &str) -> Result<String, AllocError> {
+    let mut text = String::new(alloc);
+    for _ in 0..64 {
+        text.push_str(line)?;
+    }
+    text.push_str(behind)?;
+    Ok(text)
 }

@@ -4,9 +4,12 @@ ghost use Rattle.std.specs.Prelude.{◌<◌};
 
 use crate::directories::message;
 use base64::engine::general_purpose::STANDARD;
-use pec_outside::{MemDepot, MemSink, MemSource};
+use pec_outside::{
+    Depot, Door, MemDepot, MemDoor, MemSink, MemSource, MemTicks, Sink, Source, Ticks,
+};
 use pec_screen::{Judge, NoScreens};
 use pec_top::{Status, run_pec};
+use pec_types::Moment;
 use std::alloc::{AllocError, Global};
 
 /// One run: its form, its script, what it has to write, and its status. In a script `{..}` holds a message or its name,
@@ -44,13 +47,23 @@ pub(crate) fn first_wrong(
 fn comes(alloc: Global, case: &Case) -> Result<bool, AllocError> {
     let mut depot = depot_failing(alloc, case.failing)?;
     for run in case.runs {
-        let wanted = written_out(alloc, run.output)?;
-        let ran = played(alloc, &mut depot, case.directory, run.form, run.script)?;
-        if ran.text.as_slice() != wanted.as_bytes() || ran.status != run.status {
+        if !runs(alloc, &mut depot, case.directory, run)? {
             return Ok(false);
         }
     }
     Ok(true)
+}
+
+/// Whether a run writes what it has to, and ends with its status.
+fn runs(
+    alloc: Global,
+    depot: &mut MemDepot,
+    directory: &str,
+    run: &Run,
+) -> Result<bool, AllocError> {
+    let wanted = written_out(alloc, run.output)?;
+    let ran = played(alloc, depot, directory, run.form, run.script)?;
+    Ok(ran.is(wanted.as_bytes(), run.status))
 }
 
 /// A depot of three empty disks, where these calls fail, each by its provider's number and its own.
@@ -78,6 +91,13 @@ fn calls_of(alloc: Global, failing: &[(u32, u64)], provider: u32) -> Result<Vec<
 pub(crate) struct Ran {
     pub(crate) text: Vec<u8>,
     pub(crate) status: Status,
+}
+
+impl Ran {
+    /// Whether it wrote this and ended so.
+    pub(crate) fn is(&self, text: &[u8], status: Status) -> bool {
+        self.status == status && self.text.as_slice() == text
+    }
 }
 
 /// Runs the program in this form, over a depot, on a script behind a directory.
@@ -134,49 +154,133 @@ pub(crate) fn run_under<J: Judge>(
 ) -> Result<Ran, AllocError>
     requires { 0 < piece }
 {
-    let mut given = Vec::new(alloc);
-    for word in words {
-        given.push(String::from_str(alloc, word)?)?;
-    }
-    let bytes = Vec::from_slice(alloc, input)?;
-    let mut source = MemSource::new(alloc, bytes, piece, Vec::from_slice(alloc, reads)?);
+    let mut ticks = clock(alloc, &[])?;
+    let mut door = MemDoor::new(alloc, Vec::new(alloc), Vec::new(alloc), Vec::new(alloc));
+    let given = strings(alloc, words)?;
+    let mut source = source_of(alloc, input, piece, reads)?;
     let mut sink = MemSink::new(alloc, Vec::from_slice(alloc, writes)?);
-    let status = run_pec(alloc, &given, &mut source, &mut sink, depot, screens);
+    let status = status_of(
+        alloc,
+        &given,
+        &mut source,
+        &mut sink,
+        depot,
+        &mut ticks,
+        &mut door,
+        screens,
+    );
+    outcome(alloc, &sink, status)
+}
+
+/// A clock that stands still, where these calls fail.
+pub(crate) fn clock(alloc: Global, failing: &[u64]) -> Result<MemTicks, AllocError> {
+    let Some(moment) = Moment::new(1_704_186_000) else {
+        return Err(AllocError);
+    };
+    let moments = vec![in alloc; moment]?;
+    Ok(MemTicks::new(alloc, moments, Vec::from_slice(alloc, failing)?))
+}
+
+/// Runs the program on these words and a directory, with a clock and a door, where the named writes fail.
+pub(crate) fn run_serving(
+    alloc: Global,
+    depot: &mut MemDepot,
+    ticks: &mut MemTicks,
+    door: &mut MemDoor,
+    words: &[&str],
+    directory: &str,
+    writes: &[u64],
+) -> Result<Ran, AllocError> {
+    let given = strings(alloc, words)?;
+    let mut source = source_of(alloc, directory.as_bytes(), 1000, &[])?;
+    let mut sink = MemSink::new(alloc, Vec::from_slice(alloc, writes)?);
+    let none: Vec<NoScreens> = Vec::new(alloc);
+    let status = status_of(
+        alloc,
+        &given,
+        &mut source,
+        &mut sink,
+        depot,
+        ticks,
+        door,
+        none,
+    );
+    outcome(alloc, &sink, status)
+}
+
+/// The one call of the program.
+fn status_of<S: Source, W: Sink, P: Depot, T: Ticks, R: Door, J: Judge>(
+    alloc: Global,
+    words: &[String],
+    source: &mut S,
+    sink: &mut W,
+    depot: &mut P,
+    ticks: &mut T,
+    door: &mut R,
+    screens: Vec<J>,
+) -> Status {
+    run_pec(alloc, words, source, sink, depot, ticks, door, screens)
+}
+
+fn outcome(alloc: Global, sink: &MemSink, status: Status) -> Result<Ran, AllocError> {
     let text = Vec::from_slice(alloc, sink.bytes())?;
     Ok(Ran { text, status })
+}
+
+fn strings(alloc: Global, words: &[&str]) -> Result<Vec<String>, AllocError> {
+    let mut strings = Vec::new(alloc);
+    for word in words {
+        strings.push(String::from_str(alloc, word)?)?;
+    }
+    Ok(strings)
+}
+
+fn source_of(
+    alloc: Global,
+    input: &[u8],
+    piece: usize,
+    reads: &[u64],
+) -> Result<MemSource, AllocError>
+    requires { 0 < piece }
+{
+    let bytes = Vec::from_slice(alloc, input)?;
+    let reads = Vec::from_slice(alloc, reads)?;
+    Ok(MemSource::new(alloc, bytes, piece, reads))
 }
 
 /// A script where `{..}` holds a message or its name: its base64 is written, with CRLF for each `|`.
 fn script_of(alloc: Global, text: &str) -> Result<Vec<u8>, AllocError> {
     let mut script = Vec::new(alloc);
     for part in text.split('{') {
-        let Some((inside, after)) = part.split_once('}') else {
-            script.extend_from_slice(part.as_bytes())?;
-            continue;
-        };
-        let bytes = lines_of(alloc, message(inside))?;
-        let encoded = STANDARD.encode(alloc, &bytes)?;
-        script.extend_from_slice(encoded.as_bytes())?;
-        script.extend_from_slice(after.as_bytes())?;
+        add_part(alloc, &mut script, part)?;
     }
     Ok(script)
 }
 
+fn add_part(alloc: Global, script: &mut Vec<u8>, part: &str) -> Result<(), AllocError> {
+    match part.split_once('}') {
+        Some((inside, after)) => {
+            add_message(alloc, script, inside)?;
+            script.extend_from_slice(after.as_bytes())
+        }
+        None => script.extend_from_slice(part.as_bytes()),
+    }
+}
+
+fn add_message(alloc: Global, script: &mut Vec<u8>, inside: &str) -> Result<(), AllocError> {
+    let bytes = lines_of(alloc, message(inside))?;
+    let encoded = STANDARD.encode(alloc, &bytes)?;
+    script.extend_from_slice(encoded.as_bytes())
+}
+
 /// The bytes of a message, whose lines end at `|`.
 pub(crate) fn lines_of(alloc: Global, text: &str) -> Result<Vec<u8>, AllocError> {
-    let mut bytes = Vec::new(alloc);
-    for b in text.as_bytes() {
-        if *b == b'|' {
-            bytes.extend_from_slice(b"\r\n")?;
-        } else {
-            bytes.push(*b)?;
-        }
-    }
-    Ok(bytes)
+    let lines = text.replace(alloc, "|", "\r\n")?;
+    Vec::from_slice(alloc, lines.as_bytes())
 }
 
 /// Messages by their short names in outputs.
-const NAMES: [(&str, &str); 5] = [
+static NAMES: [(&str, &str); 5] = [
     ("I0", "pec.0000000@alfa.example"),
     ("I1", "pec.0000001@alfa.example"),
     ("I2", "pec.0000002@alfa.example"),
@@ -184,9 +288,14 @@ const NAMES: [(&str, &str); 5] = [
     ("K0", "pec.0000000@gamma.example"),
 ];
 
+/// The table, by a function without a clause: the proofs of others are spared its texts.
+fn names() -> &'static [(&'static str, &'static str)] {
+    &NAMES
+}
+
 /// An output with the names of messages written out.
 pub(crate) fn written_out(alloc: Global, output: &str) -> Result<String, AllocError> {
-    with_words(alloc, output, &NAMES)
+    with_words(alloc, output, names())
 }
 
 /// A text with the first of each pair made the second, in the order of the pairs.

@@ -1,8 +1,8 @@
 //! Messages that a provider doesn't accept for what its screens find, over whole runs. Worked out by hand.
 
-use crate::directories::TWO;
-use crate::running::{Ran, depot_failing, input_of, lines_of, run_under, written_out};
-use base64::engine::general_purpose::STANDARD;
+use crate::directories::two;
+use crate::items::{holds, last_item};
+use crate::running::{Ran, depot_failing, input_of, run_under, written_out};
 use pec_screen::{PatternScreen, Screen, Screens};
 use pec_types::Text8;
 use std::alloc::{AllocError, Global};
@@ -40,34 +40,41 @@ static ROWS: [Row; 6] = [
     ),
 ];
 
+/// The table, by a function without a clause: the proof of the test is spared its texts.
+fn rows() -> &'static [Row] {
+    &ROWS
+}
+
 #[test]
 fn a_message_is_refused_by_the_screens_of_its_provider(rt: HostRuntime) -> Result<(), Fail> {
-    for row in ROWS {
-        let ran = screened(rt.alloc(), row.0, row.1, row.2)?;
-        let wanted = written_out(rt.alloc(), row.3)?;
-        assert_eq!(rt; std::str::from_utf8(&ran.text)?, wanted.as_str());
+    for row in rows() {
+        let right = is_right(rt.alloc(), row)?;
+        assert!(rt; right, "{}", row.3);
     }
     Ok(())
 }
 
+fn is_right(alloc: Global, row: &Row) -> Result<bool, AllocError> {
+    let ran = screened(alloc, row.0, row.1, row.2)?;
+    let wanted = written_out(alloc, row.3)?;
+    Ok(ran.text.as_slice() == wanted.as_bytes())
+}
+
 #[test]
 fn the_notice_says_that_a_virus_was_found(rt: HostRuntime) -> Result<(), Fail> {
-    let script = String::from_str(rt.alloc(), FROM_ALICE)?;
-    let script = format!(in rt.alloc(); "{script}show alice@alfa.example 0\n")?;
-    let ran = screened(rt.alloc(), &[0], 1, script.as_str())?;
-    let shown = last_line(rt.alloc(), &ran)?;
-    let field = lines_of(rt.alloc(), "|X-VerificaSicurezza: errore|")?;
-    let text = std::str::from_utf8(&shown)?;
-    assert!(rt; text.contains(std::str::from_utf8(&field)?));
+    let says = says_so(rt.alloc())?;
+    assert!(rt; says);
     Ok(())
 }
 
-/// The bytes of the item in the last line.
-fn last_line(alloc: Global, ran: &Ran) -> Result<Vec<u8>, Fail> {
-    let text = std::str::from_utf8(&ran.text)?;
-    let lines = text.strip_suffix('\n').unwrap_or("");
-    let (_, last) = lines.rsplit_once('\n').ok_or("no line")?;
-    Ok(STANDARD.decode(alloc, last.as_bytes())?)
+const SHOWN: &str = "submit alfa 1704186000 alice@alfa.example bob@beta.example \
+     {From: alice@alfa.example|To: bob@beta.example|Subject: Ciao||PEC-VIRUS-DI-PROVA|}\n\
+     show alice@alfa.example 0\n";
+
+fn says_so(alloc: Global) -> Result<bool, Fail> {
+    let ran = screened(alloc, &[0], 1, SHOWN)?;
+    let notice = last_item(alloc, &ran.text)?;
+    holds(alloc, &notice, "|X-VerificaSicurezza: errore|")
 }
 
 /// Runs a script with so many lists of screens, where the named ones have one of the pattern.
@@ -76,16 +83,21 @@ fn screened(alloc: Global, named: &[usize], lists: usize, script: &str) -> Resul
     for place in 0..lists {
         let mut boxes: Vec<Box<dyn Screen>> = Vec::new(alloc);
         if named.contains(&place) {
-            let pattern = Text8::of(Vec::from_slice(alloc, b"PEC-VIRUS-DI-PROVA")?);
-            let screen: Box<dyn Screen> = Box::new(
-                alloc,
-                PatternScreen::new(vec![in alloc; pattern]?),
-            )?;
+            let screen: Box<dyn Screen> = Box::new(alloc, pattern_screen(alloc)?)?;
             boxes = vec![in alloc; screen]?;
         }
         screens.push(Screens::new(boxes))?;
     }
-    let input = input_of(alloc, TWO, script)?;
+    ran_under(alloc, script, screens)
+}
+
+fn pattern_screen(alloc: Global) -> Result<PatternScreen, AllocError> {
+    let pattern = Text8::of(Vec::from_slice(alloc, b"PEC-VIRUS-DI-PROVA")?);
+    Ok(PatternScreen::new(vec![in alloc; pattern]?))
+}
+
+fn ran_under(alloc: Global, script: &str, screens: Vec<Screens>) -> Result<Ran, AllocError> {
+    let input = input_of(alloc, two(), script)?;
     let mut depot = depot_failing(alloc, &[])?;
     run_under(alloc, &mut depot, &["run"], &input, 1000, &[], &[], screens)
 }

@@ -1,6 +1,7 @@
 use Rattle.std.proofs.Common.{map}
 use Rattle.pec_trade.specs.TradeOf.{trade_of}
-use Rattle.pec_runs.specs.ScriptLines.{command_in, finds_in}
+use Rattle.pec_runs.specs.ScriptLines.{command_in}
+use Rattle.pec_screen.specs.Screened.{finds_in}
 use Rattle.pec_playing.proofs.PlayLemmas.{play_says, play_stops}
 use Rattle.pec_playing.proofs.playing.play.Goals as goal
 

@@ -1,29 +1,87 @@
--- The screens at the number of the provider, or none.
-use Rattle.std.proofs.Common.{arith, subst, Bool}
-use Rattle.std.proofs.Math.Seq.{map-set_same}
-use Rattle.pec_plays.specs.Commands.{Submit}
-use Rattle.pec_playing.specs.Doing.{Does}
-use Rattle.pec_playing.proofs.FindLemmas.{no_list, own_list}
+use Rattle.std.proofs.Common.{◌∙◌, ◌<◌, List, length, map, Err, ap, arith}
+use Rattle.pec_directory.specs.Directory.{Kept, providers_of}
+use Rattle.pec_plays.specs.Commands.{Submit, Submits}
+use Rattle.pec_script.specs.Texts.{submitted_text}
+use Rattle.pec_screen.specs.Screened.{finds_in}
 use Rattle.pec_trade.specs.TradeOf.{trade_of}
+use Rattle.pec_playing.proofs.AskLemmas.{call_refuses, call_says, call_stops, submitted_told, submit_of}
+use Rattle.pec_playing.proofs.KeptLemmas.{as_many, keeps_others}
 use Rattle.pec_playing.proofs.providers.submit.Goals as goal
 
-pub returns-then-at-screens-clause-does : goal.returns-then-at-screens-clause-does
-returns-then-at-screens-clause-does g c =
+pub returns-in-Ok-clause-does : goal.returns-in-Ok-clause-does
+returns-in-Ok-clause-does g c =
     let network = c.args.network.now in
-    subst (λ (found : Bool). Does g.D.Disk.sight g.D.Counted.faults g.D.Disk.tells (trade_of network.kept (g.S.Sealer.seals network.sealer))
-    (Submit c.args.provider c.args.moment c.args.sender.now c.args.path.now c.args.message.now found) network c.submit_under.new.network
-    c.submit_under.result)
-    (no_list g.J.Judge.patterns c.args.screens.now c.args.provider c.args.message.now c.if-at-screens.true) c.submit_under.ensures.does
+    let trade = trade_of network.kept (g.S.Sealer.seals network.sealer) in
+    let new = c.submit_screened.new.self in
+    let within : c.args.provider < length network.providers =
+    omega (arith, c.as_many_providers.ensures, c.requires.provider) in
+    let keeps = keeps_others network new c.args.provider c.submit_screened.ensures.others within
+    g.D.Disk.sight g.D.Counted.faults g.D.Disk.tells trade c.submit_screened.ensures.carries c.submit_screened.ensures.later in
+    let many = as_many network new c.args.provider c.submit_screened.ensures.others within in
+    call_says g.D.Disk.sight g.D.Counted.faults g.D.Disk.tells trade
+    (Submit c.args.provider c.args.moment c.args.sender.now c.args.path.now c.args.message.now
+    (finds_in (map g.J.Judge.patterns c.args.screens.now) c.args.provider c.args.message.now)) network new keeps many
+    c.args.provider within
+    (submit_of trade c.args.provider c.args.moment c.args.sender.now c.args.path.now c.args.message.now
+    (finds_in (map g.J.Judge.patterns c.args.screens.now) c.args.provider c.args.message.now)) Submits
+    c.in-Ok.submitted (λ providers. submitted_text providers c.in-Ok.submitted) (submitted_told c.in-Ok.submitted)
+    c.in-Ok.ensures.plays c.in_ok-text-in-Ok.text
+    (c.in_ok-text-in-Ok.ensures
+    ∙ ap (λ (k : List Kept). submitted_text (providers_of k) c.in-Ok.submitted)
+    (c.directory.ensures.value ∙ keeps.directory))
 
-pub returns-clause-does : goal.returns-clause-does
-returns-clause-does g c =
+pub returns-in-Err-clause-does : goal.returns-in-Err-clause-does
+returns-in-Err-clause-does g c =
     let network = c.args.network.now in
-    subst (λ (found : Bool). Does g.D.Disk.sight g.D.Counted.faults g.D.Disk.tells (trade_of network.kept (g.S.Sealer.seals network.sealer))
-    (Submit c.args.provider c.args.moment c.args.sender.now c.args.path.now c.args.message.now found) network c.submit_under-2.new.network
-    c.submit_under-2.result)
-    (own_list g.J.Judge.patterns c.args.screens.now c.args.provider c.index-screens-at.result c.args.message.now (omega arith)) c.submit_under-2.ensures.does
+    let trade = trade_of network.kept (g.S.Sealer.seals network.sealer) in
+    let new = c.submit_screened.new.self in
+    let within : c.args.provider < length network.providers =
+    omega (arith, c.as_many_providers.ensures, c.requires.provider) in
+    let keeps = keeps_others network new c.args.provider c.submit_screened.ensures.others within
+    g.D.Disk.sight g.D.Counted.faults g.D.Disk.tells trade c.submit_screened.ensures.carries c.submit_screened.ensures.later in
+    let many = as_many network new c.args.provider c.submit_screened.ensures.others within in
+    call_refuses g.D.Disk.sight g.D.Counted.faults g.D.Disk.tells trade
+    (Submit c.args.provider c.args.moment c.args.sender.now c.args.path.now c.args.message.now
+    (finds_in (map g.J.Judge.patterns c.args.screens.now) c.args.provider c.args.message.now)) network new keeps many
+    c.args.provider within
+    (submit_of trade c.args.provider c.args.moment c.args.sender.now c.args.path.now c.args.message.now
+    (finds_in (map g.J.Judge.patterns c.args.screens.now) c.args.provider c.args.message.now)) Submits
+    c.in-Err.fault (λ e. c.in-Err.ensures.disk_fault (ap Err e)) c.in-Err.ensures.plays
+    c.in_ok-text-in-Err.text c.in_ok-text-in-Err.ensures
 
-pub returns-clause-patterns : goal.returns-clause-patterns
-returns-clause-patterns g c =
-    map-set_same g.J.Judge.patterns c.args.screens.now c.args.provider c.submit_under-2.new.screens c.index-screens-at.result
-    c.submit_under-2.ensures.patterns
+pub returns-in_err-text-in-Ok-clause-does : goal.returns-in_err-text-in-Ok-clause-does
+returns-in_err-text-in-Ok-clause-does g c =
+    let network = c.args.network.now in
+    let trade = trade_of network.kept (g.S.Sealer.seals network.sealer) in
+    let new = c.submit_screened.new.self in
+    let within : c.args.provider < length network.providers =
+    omega (arith, c.as_many_providers.ensures, c.requires.provider) in
+    let keeps = keeps_others network new c.args.provider c.submit_screened.ensures.others within
+    g.D.Disk.sight g.D.Counted.faults g.D.Disk.tells trade c.submit_screened.ensures.carries c.submit_screened.ensures.later in
+    let many = as_many network new c.args.provider c.submit_screened.ensures.others within in
+    call_stops g.D.Disk.sight g.D.Counted.faults g.D.Disk.tells trade
+    (Submit c.args.provider c.args.moment c.args.sender.now c.args.path.now c.args.message.now
+    (finds_in (map g.J.Judge.patterns c.args.screens.now) c.args.provider c.args.message.now)) network new keeps many
+    c.args.provider within
+    (submit_of trade c.args.provider c.args.moment c.args.sender.now c.args.path.now c.args.message.now
+    (finds_in (map g.J.Judge.patterns c.args.screens.now) c.args.provider c.args.message.now)) Submits
+    c.submit_screened.result c.submit_screened.ensures.plays c.from_residual.result c.from_residual.ensures.0
+
+pub returns-in_err-text-in-Err-clause-does : goal.returns-in_err-text-in-Err-clause-does
+returns-in_err-text-in-Err-clause-does g c =
+    let network = c.args.network.now in
+    let trade = trade_of network.kept (g.S.Sealer.seals network.sealer) in
+    let new = c.submit_screened.new.self in
+    let within : c.args.provider < length network.providers =
+    omega (arith, c.as_many_providers.ensures, c.requires.provider) in
+    let keeps = keeps_others network new c.args.provider c.submit_screened.ensures.others within
+    g.D.Disk.sight g.D.Counted.faults g.D.Disk.tells trade c.submit_screened.ensures.carries c.submit_screened.ensures.later in
+    let many = as_many network new c.args.provider c.submit_screened.ensures.others within in
+    call_stops g.D.Disk.sight g.D.Counted.faults g.D.Disk.tells trade
+    (Submit c.args.provider c.args.moment c.args.sender.now c.args.path.now c.args.message.now
+    (finds_in (map g.J.Judge.patterns c.args.screens.now) c.args.provider c.args.message.now)) network new keeps many
+    c.args.provider within
+    (submit_of trade c.args.provider c.args.moment c.args.sender.now c.args.path.now c.args.message.now
+    (finds_in (map g.J.Judge.patterns c.args.screens.now) c.args.provider c.args.message.now)) Submits
+    c.submit_screened.result c.submit_screened.ensures.plays c.from_residual-in_err-text-in-Err.result
+    c.from_residual-in_err-text-in-Err.ensures.0

@@ -5,10 +5,10 @@ use Rattle.pec_service.proofs.headline.a_services_books_belong_to_the_ledger.Goa
 
 pub returns : goal.returns
 returns c = record {
-  headline = λ trade world kept here all sound none are.
+  headline = λ trade world kept finds here all sound none are.
       c.the_books_belong_to_the_ledger.ensures trade world (lucks_of (calls_in all)) here.network.sites
-      (commands_of (calls_in all)) sound none (are_unforged trade kept here all are);
-  states = λ trade kept here all are. states_are trade kept here all are;
-  sound = λ trade world kept here all sound are.
-      sound_behind trade kept (c.a_network_stays_sound.ensures.commands trade world) here all are sound;
+      (commands_of (calls_in all)) sound none (are_unforged trade kept finds here all are);
+  states = λ trade kept finds here all are. states_are trade kept finds here all are;
+  sound = λ trade world kept finds here all sound are.
+      sound_behind trade kept finds (c.a_network_stays_sound.ensures.commands trade world) here all are sound;
 }

@@ -1,5 +1,6 @@
-use Rattle.std.proofs.Common.{◌∙◌, ap, sym, refl, ℕ, List, Option}
+use Rattle.std.proofs.Common.{◌∙◌, ap, sym, refl, map, ℕ, List, Option}
 use Rattle.pec_outside.specs.Doors.{Reply, in_front, replied}
+use Rattle.pec_screen.specs.Screened.{finds_in}
 use Rattle.pec_seal.specs.Hmac.{hmac_seals}
 use Rattle.pec_trade.specs.TradeOf.{trade_of}
 use Rattle.pec_serving.specs.Serving.{place_of}
@@ -13,13 +14,13 @@ returns-clause-comes g c = λ elsewhere.
     let faults = g.R.C.Counted.faults c.answer-network.new.connection in
     served_next
     (trade_of c.args.network.kept (hmac_seals c.args.network.sealer.names.items c.args.network.sealer.keys.items))
-    c.args.network.kept c.in-Ok-now.moment c.in-Ok-now.ensures.bound
+    c.args.network.kept (finds_in (map g.J.Judge.patterns c.args.screens.items)) c.in-Ok-now.moment c.in-Ok-now.ensures.bound
     (place_of g.D.Counted.faults elsewhere c.args.network (g.T.Ticks.coming c.args.ticks.now)
     (g.R.Door.requests c.args.door.now) (g.R.Door.replies c.args.door.now))
     (place_of g.D.Counted.faults elsewhere c.answer-network.result.0 (g.T.Ticks.coming c.now.new.self)
     (g.R.Door.requests c.close-2.new.self) (g.R.Door.replies c.close-2.new.self))
     left (g.R.C.Stream.held c.in-Ok.connection) held (g.R.C.Counted.faults c.in-Ok.connection) faults
-    c.answer-network.result.1 c.in-Ok-now.ensures.given
+    c.answer-network.result.2 c.in-Ok-now.ensures.given
     (c.in-Ok.ensures.came ∙ ap (λ (o : Option (List (List ℕ))). in_front left o) (sym c.close-2.ensures.requests))
     c.in-Ok.ensures.empty c.in-Ok.ensures.fresh
     (c.close-2.ensures.replies ∙ ap (λ (o : Option (List Reply)). replied o held faults) c.in-Ok.ensures.replies)

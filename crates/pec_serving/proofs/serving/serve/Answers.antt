@@ -1,6 +1,8 @@
-use Rattle.std.proofs.Common.{◌≡◌, ◌∙◌, List, length, ap, sym, subst, refl, arith, Err}
+use Rattle.std.proofs.Common.{◌≡◌, ◌∙◌, List, length, map, ap, sym, subst, refl, arith, Err}
 use Rattle.pec_directory.specs.Directory.{Kept, providers_of}
 use Rattle.pec_letters.specs.Fitting.{Fits}
+use Rattle.pec_screen.specs.Screened.{finds_in}
+use Rattle.pec_screen.specs.Verdicts.{Patterns}
 use Rattle.pec_seal.specs.Hmac.{hmac_seals}
 use Rattle.pec_seal.specs.Seals.{Seals}
 use Rattle.pec_seal.specs.declared.hmac.HmacSealer.{HmacSealer}
@@ -22,8 +24,10 @@ pub loop-served-init : goal.loop-served-init
 loop-served-init g c = record {
   going = λ elsewhere.
       goes_none (trade_of c.args.network.kept (seals_of c.args.network.sealer)) c.args.network.kept
+      (finds_in (map g.J.Judge.patterns c.args.screens.items))
       (place_of g.D.Counted.faults elsewhere c.args.network (g.T.Ticks.coming c.args.ticks.now)
       (g.R.Door.requests c.args.door.now) (g.R.Door.replies c.args.door.now)) (g.W.Stream.held c.args.out.now);
+  patterns = refl;
   keeps = keeps_all g.D.Disk.sight g.D.Counted.faults g.D.Disk.tells c.args.network;
   fits = c.requires;
   many = refl;
@@ -46,21 +50,23 @@ returns-in-NoConnection-clause-serves g c = λ elsewhere.
       same_text = c.calls_are_joined.ensures.same_text trade;
       behind = c.calls_are_joined.ensures.behind;
     } in
-    let joins : ConnectionLaws trade start.kept = record {
-      one = c.connections_are_joined.ensures.one trade start.kept;
+    let screens : List (List Patterns) = map g.J.Judge.patterns c.args.screens.items in
+    let joins : ConnectionLaws trade start.kept (finds_in screens) = record {
+      one = c.connections_are_joined.ensures.one trade start.kept (finds_in screens);
       behind = c.connections_are_joined.ensures.behind;
       text = c.connections_are_joined.ensures.text trade start.kept;
     } in
     let now = c.loop-served.network in
+    let screens_now : List (List Patterns) = map g.J.Judge.patterns c.loop-served.screens.items in
     let again = c.next-again.result.0 in
     let here = place_of g.D.Counted.faults elsewhere start (g.T.Ticks.coming c.args.ticks.now)
     (g.R.Door.requests c.args.door.now) (g.R.Door.replies c.args.door.now) in
-    ends_unmet g.D.Disk.sight g.D.Counted.faults g.D.Disk.tells seals_of start laws joins elsewhere here now again
-    c.loop-served.invariant.keeps (g.T.Ticks.coming c.loop-served.ticks) (g.R.Door.requests c.loop-served.door)
+    ends_unmet g.D.Disk.sight g.D.Counted.faults g.D.Disk.tells seals_of start screens laws joins elsewhere here now again screens_now
+    c.loop-served.invariant.patterns c.loop-served.invariant.keeps (g.T.Ticks.coming c.loop-served.ticks) (g.R.Door.requests c.loop-served.door)
     (g.R.Door.replies c.loop-served.door) c.loop-served.served (g.W.Stream.held c.args.out.now)
     (g.W.Stream.held c.loop-served.out) (c.loop-served.invariant.going elsewhere) (g.T.Ticks.coming c.next-again.new.ticks)
     (g.R.Door.requests c.next-again.new.door) (g.R.Door.replies c.next-again.new.door) c.args.wanted c.loop-served-test.true
-    (subst (λ (came : Came). ComesNext (trade_of now.kept (seals_of now.sealer)) now.kept
+    (subst (λ (came : Came). ComesNext (trade_of now.kept (seals_of now.sealer)) now.kept (finds_in screens_now)
     (place_of g.D.Counted.faults elsewhere now (g.T.Ticks.coming c.loop-served.ticks) (g.R.Door.requests c.loop-served.door)
     (g.R.Door.replies c.loop-served.door))
     (place_of g.D.Counted.faults elsewhere again (g.T.Ticks.coming c.next-again.new.ticks)
@@ -91,21 +97,23 @@ returns-in-NoMoment-clause-serves g c = λ elsewhere.
       same_text = c.calls_are_joined.ensures.same_text trade;
       behind = c.calls_are_joined.ensures.behind;
     } in
-    let joins : ConnectionLaws trade start.kept = record {
-      one = c.connections_are_joined.ensures.one trade start.kept;
+    let screens : List (List Patterns) = map g.J.Judge.patterns c.args.screens.items in
+    let joins : ConnectionLaws trade start.kept (finds_in screens) = record {
+      one = c.connections_are_joined.ensures.one trade start.kept (finds_in screens);
       behind = c.connections_are_joined.ensures.behind;
       text = c.connections_are_joined.ensures.text trade start.kept;
     } in
     let now = c.loop-served.network in
+    let screens_now : List (List Patterns) = map g.J.Judge.patterns c.loop-served.screens.items in
     let again = c.next-again.result.0 in
     let here = place_of g.D.Counted.faults elsewhere start (g.T.Ticks.coming c.args.ticks.now)
     (g.R.Door.requests c.args.door.now) (g.R.Door.replies c.args.door.now) in
-    ends_untold g.D.Disk.sight g.D.Counted.faults g.D.Disk.tells seals_of start laws joins elsewhere here now again
-    c.loop-served.invariant.keeps (g.T.Ticks.coming c.loop-served.ticks) (g.R.Door.requests c.loop-served.door)
+    ends_untold g.D.Disk.sight g.D.Counted.faults g.D.Disk.tells seals_of start screens laws joins elsewhere here now again screens_now
+    c.loop-served.invariant.patterns c.loop-served.invariant.keeps (g.T.Ticks.coming c.loop-served.ticks) (g.R.Door.requests c.loop-served.door)
     (g.R.Door.replies c.loop-served.door) c.loop-served.served (g.W.Stream.held c.args.out.now)
     (g.W.Stream.held c.loop-served.out) (c.loop-served.invariant.going elsewhere) (g.T.Ticks.coming c.next-again.new.ticks)
     (g.R.Door.requests c.next-again.new.door) (g.R.Door.replies c.next-again.new.door) c.args.wanted c.loop-served-test.true
-    (subst (λ (came : Came). ComesNext (trade_of now.kept (seals_of now.sealer)) now.kept
+    (subst (λ (came : Came). ComesNext (trade_of now.kept (seals_of now.sealer)) now.kept (finds_in screens_now)
     (place_of g.D.Counted.faults elsewhere now (g.T.Ticks.coming c.loop-served.ticks) (g.R.Door.requests c.loop-served.door)
     (g.R.Door.replies c.loop-served.door))
     (place_of g.D.Counted.faults elsewhere again (g.T.Ticks.coming c.next-again.new.ticks)
@@ -136,22 +144,24 @@ returns-in-Err-clause-serves g c = λ elsewhere.
       same_text = c.calls_are_joined.ensures.same_text trade;
       behind = c.calls_are_joined.ensures.behind;
     } in
-    let joins : ConnectionLaws trade start.kept = record {
-      one = c.connections_are_joined.ensures.one trade start.kept;
+    let screens : List (List Patterns) = map g.J.Judge.patterns c.args.screens.items in
+    let joins : ConnectionLaws trade start.kept (finds_in screens) = record {
+      one = c.connections_are_joined.ensures.one trade start.kept (finds_in screens);
       behind = c.connections_are_joined.ensures.behind;
       text = c.connections_are_joined.ensures.text trade start.kept;
     } in
     let now = c.loop-served.network in
+    let screens_now : List (List Patterns) = map g.J.Judge.patterns c.loop-served.screens.items in
     let again = c.next-again.result.0 in
     let here = place_of g.D.Counted.faults elsewhere start (g.T.Ticks.coming c.args.ticks.now)
     (g.R.Door.requests c.args.door.now) (g.R.Door.replies c.args.door.now) in
-    ends_broken g.D.Disk.sight g.D.Counted.faults g.D.Disk.tells seals_of start laws joins elsewhere here now again
-    c.loop-served.invariant.keeps (g.T.Ticks.coming c.loop-served.ticks) (g.R.Door.requests c.loop-served.door)
+    ends_broken g.D.Disk.sight g.D.Counted.faults g.D.Disk.tells seals_of start screens laws joins elsewhere here now again screens_now
+    c.loop-served.invariant.patterns c.loop-served.invariant.keeps (g.T.Ticks.coming c.loop-served.ticks) (g.R.Door.requests c.loop-served.door)
     (g.R.Door.replies c.loop-served.door) c.loop-served.served (g.W.Stream.held c.args.out.now)
     (g.W.Stream.held c.loop-served.out) (c.loop-served.invariant.going elsewhere) (g.T.Ticks.coming c.next-again.new.ticks)
     (g.R.Door.requests c.next-again.new.door) (g.R.Door.replies c.next-again.new.door) c.args.wanted c.loop-served-test.true
     c.in-Served.moment c.in-Served.told
-    (subst (λ (came : Came). ComesNext (trade_of now.kept (seals_of now.sealer)) now.kept
+    (subst (λ (came : Came). ComesNext (trade_of now.kept (seals_of now.sealer)) now.kept (finds_in screens_now)
     (place_of g.D.Counted.faults elsewhere now (g.T.Ticks.coming c.loop-served.ticks) (g.R.Door.requests c.loop-served.door)
     (g.R.Door.replies c.loop-served.door))
     (place_of g.D.Counted.faults elsewhere again (g.T.Ticks.coming c.next-again.new.ticks)
@@ -177,22 +187,24 @@ returns-in-Err-WriteFault-clause-serves g c = λ elsewhere.
       same_text = c.calls_are_joined.ensures.same_text trade;
       behind = c.calls_are_joined.ensures.behind;
     } in
-    let joins : ConnectionLaws trade start.kept = record {
-      one = c.connections_are_joined.ensures.one trade start.kept;
+    let screens : List (List Patterns) = map g.J.Judge.patterns c.args.screens.items in
+    let joins : ConnectionLaws trade start.kept (finds_in screens) = record {
+      one = c.connections_are_joined.ensures.one trade start.kept (finds_in screens);
       behind = c.connections_are_joined.ensures.behind;
       text = c.connections_are_joined.ensures.text trade start.kept;
     } in
     let now = c.loop-served.network in
+    let screens_now : List (List Patterns) = map g.J.Judge.patterns c.loop-served.screens.items in
     let again = c.next-again.result.0 in
     let here = place_of g.D.Counted.faults elsewhere start (g.T.Ticks.coming c.args.ticks.now)
     (g.R.Door.requests c.args.door.now) (g.R.Door.replies c.args.door.now) in
-    ends_stopped g.D.Disk.sight g.D.Counted.faults g.D.Disk.tells seals_of start laws joins elsewhere here now again
-    c.loop-served.invariant.keeps (g.T.Ticks.coming c.loop-served.ticks) (g.R.Door.requests c.loop-served.door)
+    ends_stopped g.D.Disk.sight g.D.Counted.faults g.D.Disk.tells seals_of start screens laws joins elsewhere here now again screens_now
+    c.loop-served.invariant.patterns c.loop-served.invariant.keeps (g.T.Ticks.coming c.loop-served.ticks) (g.R.Door.requests c.loop-served.door)
     (g.R.Door.replies c.loop-served.door) c.loop-served.served (g.W.Stream.held c.args.out.now)
     (g.W.Stream.held c.loop-served.out) (c.loop-served.invariant.going elsewhere) (g.T.Ticks.coming c.next-again.new.ticks)
     (g.R.Door.requests c.next-again.new.door) (g.R.Door.replies c.next-again.new.door) c.args.wanted c.loop-served-test.true
     c.in-Served.moment c.in-Served.told
-    (subst (λ (came : Came). ComesNext (trade_of now.kept (seals_of now.sealer)) now.kept
+    (subst (λ (came : Came). ComesNext (trade_of now.kept (seals_of now.sealer)) now.kept (finds_in screens_now)
     (place_of g.D.Counted.faults elsewhere now (g.T.Ticks.coming c.loop-served.ticks) (g.R.Door.requests c.loop-served.door)
     (g.R.Door.replies c.loop-served.door))
     (place_of g.D.Counted.faults elsewhere again (g.T.Ticks.coming c.next-again.new.ticks)
@@ -227,22 +239,24 @@ returns-in-Err-NoMemory-clause-serves g c = λ elsewhere.
       same_text = c.calls_are_joined.ensures.same_text trade;
       behind = c.calls_are_joined.ensures.behind;
     } in
-    let joins : ConnectionLaws trade start.kept = record {
-      one = c.connections_are_joined.ensures.one trade start.kept;
+    let screens : List (List Patterns) = map g.J.Judge.patterns c.args.screens.items in
+    let joins : ConnectionLaws trade start.kept (finds_in screens) = record {
+      one = c.connections_are_joined.ensures.one trade start.kept (finds_in screens);
       behind = c.connections_are_joined.ensures.behind;
       text = c.connections_are_joined.ensures.text trade start.kept;
     } in
     let now = c.loop-served.network in
+    let screens_now : List (List Patterns) = map g.J.Judge.patterns c.loop-served.screens.items in
     let again = c.next-again.result.0 in
     let here = place_of g.D.Counted.faults elsewhere start (g.T.Ticks.coming c.args.ticks.now)
     (g.R.Door.requests c.args.door.now) (g.R.Door.replies c.args.door.now) in
-    ends_lacking g.D.Disk.sight g.D.Counted.faults g.D.Disk.tells seals_of start laws joins elsewhere here now again
-    c.loop-served.invariant.keeps (g.T.Ticks.coming c.loop-served.ticks) (g.R.Door.requests c.loop-served.door)
+    ends_lacking g.D.Disk.sight g.D.Counted.faults g.D.Disk.tells seals_of start screens laws joins elsewhere here now again screens_now
+    c.loop-served.invariant.patterns c.loop-served.invariant.keeps (g.T.Ticks.coming c.loop-served.ticks) (g.R.Door.requests c.loop-served.door)
     (g.R.Door.replies c.loop-served.door) c.loop-served.served (g.W.Stream.held c.args.out.now)
     (g.W.Stream.held c.loop-served.out) (c.loop-served.invariant.going elsewhere) (g.T.Ticks.coming c.next-again.new.ticks)
     (g.R.Door.requests c.next-again.new.door) (g.R.Door.replies c.next-again.new.door) c.args.wanted c.loop-served-test.true
     c.in-Served.moment c.in-Served.told
-    (subst (λ (came : Came). ComesNext (trade_of now.kept (seals_of now.sealer)) now.kept
+    (subst (λ (came : Came). ComesNext (trade_of now.kept (seals_of now.sealer)) now.kept (finds_in screens_now)
     (place_of g.D.Counted.faults elsewhere now (g.T.Ticks.coming c.loop-served.ticks) (g.R.Door.requests c.loop-served.door)
     (g.R.Door.replies c.loop-served.door))
     (place_of g.D.Counted.faults elsewhere again (g.T.Ticks.coming c.next-again.new.ticks)
@@ -283,22 +297,24 @@ loop-served-preserved g c =
             same_text = c.calls_are_joined.ensures.same_text trade;
             behind = c.calls_are_joined.ensures.behind;
           } in
-          let joins : ConnectionLaws trade start.kept = record {
-            one = c.connections_are_joined.ensures.one trade start.kept;
+          let screens : List (List Patterns) = map g.J.Judge.patterns c.args.screens.items in
+          let joins : ConnectionLaws trade start.kept (finds_in screens) = record {
+            one = c.connections_are_joined.ensures.one trade start.kept (finds_in screens);
             behind = c.connections_are_joined.ensures.behind;
             text = c.connections_are_joined.ensures.text trade start.kept;
           } in
           let now = c.loop-served.network in
+          let screens_now : List (List Patterns) = map g.J.Judge.patterns c.loop-served.screens.items in
           let again = c.next-again.result.0 in
           let here = place_of g.D.Counted.faults elsewhere start (g.T.Ticks.coming c.args.ticks.now)
           (g.R.Door.requests c.args.door.now) (g.R.Door.replies c.args.door.now) in
-          ends_written g.D.Disk.sight g.D.Counted.faults g.D.Disk.tells seals_of start laws joins elsewhere here now again
-          c.loop-served.invariant.keeps (g.T.Ticks.coming c.loop-served.ticks) (g.R.Door.requests c.loop-served.door)
+          ends_written g.D.Disk.sight g.D.Counted.faults g.D.Disk.tells seals_of start screens laws joins elsewhere here now again screens_now
+          c.loop-served.invariant.patterns c.loop-served.invariant.keeps (g.T.Ticks.coming c.loop-served.ticks) (g.R.Door.requests c.loop-served.door)
           (g.R.Door.replies c.loop-served.door) c.loop-served.served (g.W.Stream.held c.args.out.now)
           (g.W.Stream.held c.loop-served.out) (c.loop-served.invariant.going elsewhere) (g.T.Ticks.coming c.next-again.new.ticks)
           (g.R.Door.requests c.next-again.new.door) (g.R.Door.replies c.next-again.new.door) c.args.wanted c.loop-served-test.true
           c.in-Served.moment c.in-Served.told
-          (subst (λ (came : Came). ComesNext (trade_of now.kept (seals_of now.sealer)) now.kept
+          (subst (λ (came : Came). ComesNext (trade_of now.kept (seals_of now.sealer)) now.kept (finds_in screens_now)
           (place_of g.D.Counted.faults elsewhere now (g.T.Ticks.coming c.loop-served.ticks) (g.R.Door.requests c.loop-served.door)
           (g.R.Door.replies c.loop-served.door))
           (place_of g.D.Counted.faults elsewhere again (g.T.Ticks.coming c.next-again.new.ticks)
@@ -307,6 +323,7 @@ loop-served-preserved g c =
           (keeps_on g.D.Disk.sight g.D.Counted.faults g.D.Disk.tells c.args.network c.loop-served.network c.next-again.result.0
           c.loop-served.invariant.many c.loop-served.invariant.keeps c.next-again.ensures.keeps) c.play_clock.new.network (g.W.Stream.held c.write_outcome.new.out)
           (g.W.Stream.held c.play_clock.new.out) c.in_default.ensures.ok (c.in-Ok.ensures.plays elsewhere);
+      patterns = c.next-again.ensures.patterns ∙ c.loop-served.invariant.patterns;
       keeps = keeps_again;
       fits = subst (λ (k : List Kept). Fits (seals_of c.play_clock.new.network.sealer) (providers_of k))
           (sym c.play_clock.ensures.keeps.directory)
@@ -333,8 +350,9 @@ returns-clause-serves g c = λ elsewhere.
       same_text = c.calls_are_joined.ensures.same_text trade;
       behind = c.calls_are_joined.ensures.behind;
     } in
-    let joins : ConnectionLaws trade start.kept = record {
-      one = c.connections_are_joined.ensures.one trade start.kept;
+    let screens : List (List Patterns) = map g.J.Judge.patterns c.args.screens.items in
+    let joins : ConnectionLaws trade start.kept (finds_in screens) = record {
+      one = c.connections_are_joined.ensures.one trade start.kept (finds_in screens);
       behind = c.connections_are_joined.ensures.behind;
       text = c.connections_are_joined.ensures.text trade start.kept;
     } in
@@ -344,5 +362,5 @@ returns-clause-serves g c = λ elsewhere.
     (g.R.Door.requests c.loop-served.door) (g.R.Door.replies c.loop-served.door) in
     let all : c.loop-served.served ≡ c.args.wanted =
     omega (arith, c.loop-served-test.false, c.loop-served.auto.served-end) in
-    all_served trade start.kept laws joins here there c.loop-served.served (g.W.Stream.held c.args.out.now)
+    all_served trade start.kept (finds_in screens) laws joins here there c.loop-served.served (g.W.Stream.held c.args.out.now)
     (g.W.Stream.held c.loop-served.out) (c.loop-served.invariant.going elsewhere) c.args.wanted all

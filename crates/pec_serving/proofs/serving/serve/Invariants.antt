@@ -1,6 +1,7 @@
-use Rattle.std.proofs.Common.{◌≡◌, ◌≤◌, ℕ, length}
+use Rattle.std.proofs.Common.{◌≡◌, ◌≤◌, ℕ, length, map}
 use Rattle.pec_directory.specs.Directory.{providers_of}
 use Rattle.pec_letters.specs.Fitting.{Fits}
+use Rattle.pec_screen.specs.Screened.{finds_in}
 use Rattle.pec_seal.specs.Hmac.{hmac_seals}
 use Rattle.pec_trade.specs.TradeOf.{trade_of}
 use Rattle.pec_playing.specs.Doing.{Keeps}
@@ -13,12 +14,13 @@ abbrev pub invariant-loop-served : goal.invariant-loop-served
 invariant-loop-served g l = record {
   going : (elsewhere : ℕ → ℕ)
       → Going (trade_of l.fn.network.kept (hmac_seals l.fn.network.sealer.names.items l.fn.network.sealer.keys.items))
-      l.fn.network.kept
+      l.fn.network.kept (finds_in (map g.J.Judge.patterns l.fn.screens.items))
       (place_of g.D.Counted.faults elsewhere l.fn.network (g.T.Ticks.coming l.fn.ticks) (g.R.Door.requests l.fn.door)
       (g.R.Door.replies l.fn.door))
       (place_of g.D.Counted.faults elsewhere l.network (g.T.Ticks.coming l.ticks) (g.R.Door.requests l.door)
       (g.R.Door.replies l.door))
       l.served (g.W.Stream.held l.fn.out) (g.W.Stream.held l.out);
+  patterns : map g.J.Judge.patterns l.screens.items ≡ map g.J.Judge.patterns l.fn.screens.items;
   keeps : Keeps g.D.Disk.sight g.D.Counted.faults g.D.Disk.tells l.fn.network l.network;
   fits : Fits (hmac_seals l.network.sealer.names.items l.network.sealer.keys.items) (providers_of l.network.kept);
   many : length l.network.providers ≡ length l.fn.network.providers;

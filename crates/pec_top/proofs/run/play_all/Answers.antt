@@ -5,7 +5,7 @@ use Rattle.pec_directory.specs.Directory.{Kept, providers_of}
 use Rattle.pec_trade.specs.TradeOf.{trade_of}
 use Rattle.pec_network.specs.Network.{sites}
 use Rattle.pec_playing.specs.Playing.{counts_in}
-use Rattle.pec_runs.specs.ScriptLines.{finds_in}
+use Rattle.pec_screen.specs.Screened.{finds_in}
 use Rattle.pec_top.specs.Scripts.{place_at}
 use Rattle.pec_top.specs.Shown.{result_shown}
 use Rattle.pec_top.proofs.CountLemmas.{closed_so, fell_so}

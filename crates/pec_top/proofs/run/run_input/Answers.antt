@@ -8,7 +8,7 @@ use Rattle.pec_input.specs.declared.opening.Opening.{Opening}
 use Rattle.pec_runs.specs.Endings as ends
 use Rattle.pec_runs.specs.Openings.{disks_at}
 use Rattle.pec_runs.specs.Statuses as statuses
-use Rattle.pec_runs.specs.ScriptLines.{finds_in}
+use Rattle.pec_screen.specs.Screened.{finds_in}
 use Rattle.pec_runs.specs.Happened.{Asked}
 use Rattle.pec_top.specs.Shown.{form_shown, stop_of, stop_shown}
 use Rattle.pec_top.proofs.InputLemmas.{input_stops, long_parts, unmarked_parts}

@@ -14,7 +14,7 @@ use Rattle.pec_playing.specs.Playing.{counts_in}
 use Rattle.pec_runs.specs.Happened.{Asked, IsSetting, Setting, trade_in}
 use Rattle.pec_runs.specs.Openings.{disks_at}
 use Rattle.pec_runs.specs.Statuses as statuses
-use Rattle.pec_runs.specs.ScriptLines.{finds_in}
+use Rattle.pec_screen.specs.Screened.{finds_in}
 use Rattle.pec_top.specs.Shown.{end_shown, form_shown, stop_shown}
 use Rattle.pec_top.proofs.CountLemmas.{fell_so}
 use Rattle.pec_top.proofs.HadLemmas.{begins_so, opening_whole}

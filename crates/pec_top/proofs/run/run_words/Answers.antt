@@ -7,7 +7,7 @@ use Rattle.pec_outside.specs.Flow.{WrotePart, followed_by}
 use Rattle.pec_runs.specs.Endings as ends
 use Rattle.pec_runs.specs.Openings.{disks_at}
 use Rattle.pec_runs.specs.Statuses as statuses
-use Rattle.pec_runs.specs.ScriptLines.{finds_in}
+use Rattle.pec_screen.specs.Screened.{finds_in}
 use Rattle.pec_runs.specs.Happened.{Asked}
 use Rattle.pec_top.proofs.InputLemmas.{at_end_behind, behind_nothing}
 use Rattle.pec_top.proofs.RunningLemmas.{parts_there, ran_over, stage_usage, untouched}

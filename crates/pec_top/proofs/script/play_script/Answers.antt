@@ -9,7 +9,7 @@ use Rattle.pec_input.specs.declared.buffers.InputFault.TheVariants as faults
 use Rattle.pec_network.specs.Carrying.{AllStand}
 use Rattle.pec_network.specs.Network.{sites}
 use Rattle.pec_playing.specs.Playing.{counts_in}
-use Rattle.pec_runs.specs.ScriptLines.{finds_in}
+use Rattle.pec_screen.specs.Screened.{finds_in}
 use Rattle.pec_top.specs.Scripts.{place_at}
 use Rattle.pec_top.specs.Shown.{stop_of, stop_shown}
 use Rattle.pec_top.proofs.ComingLemmas.{halts}

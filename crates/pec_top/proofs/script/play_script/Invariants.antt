@@ -6,7 +6,8 @@ use Rattle.pec_directory.specs.Directory.{providers_of}
 use Rattle.pec_trade.specs.TradeOf.{trade_of}
 use Rattle.pec_network.specs.Carrying.{AllStand}
 use Rattle.pec_playing.specs.Playing.{counts_in}
-use Rattle.pec_runs.specs.ScriptLines.{finds_in, most_lines}
+use Rattle.pec_runs.specs.ScriptLines.{most_lines}
+use Rattle.pec_screen.specs.Screened.{finds_in}
 use Rattle.pec_top.specs.Scripts.{place_at}
 use Rattle.pec_top.proofs.LoopPlaces.{IsHere}
 use Rattle.pec_top.proofs.script.play_script.Given as goal

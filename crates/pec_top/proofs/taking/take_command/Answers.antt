@@ -3,7 +3,8 @@ use Rattle.std.proofs.Common.{◌≡◌, ◌∙◌, ap, refl, sym, Ok, Err, List
 use Rattle.pec_top.proofs.FlowLemmas.{on_err}
 use Rattle.pec_directory.specs.Directory.{Kept, providers_of}
 use Rattle.pec_runs.specs.Endings as ends
-use Rattle.pec_runs.specs.ScriptLines.{finds_in, SaysNone, command_in, line_by}
+use Rattle.pec_runs.specs.ScriptLines.{SaysNone, command_in, line_by}
+use Rattle.pec_screen.specs.Screened.{finds_in}
 use Rattle.pec_script.specs.LinesReading.{command_of}
 use Rattle.pec_top.specs.Taking.{Amid, Ends, Plays}
 use Rattle.pec_top.proofs.CountLemmas.{counts_later}

@@ -2,7 +2,8 @@
 use Rattle.std.proofs.Common.{◌∙◌, ap, arith, length, map, refl, sym}
 use Rattle.pec_types.specs.Bytes.{Bytes}
 use Rattle.pec_directory.specs.Directory.{providers_of}
-use Rattle.pec_runs.specs.ScriptLines.{finds_in, is_passed_over}
+use Rattle.pec_runs.specs.ScriptLines.{is_passed_over}
+use Rattle.pec_screen.specs.Screened.{finds_in}
 use Rattle.pec_top.specs.Taking.{Passes}
 use Rattle.pec_top.proofs.SaidLemmas.{said_over}
 use Rattle.pec_top.proofs.taking.take_line.Goals as goal

@@ -1,0 +1,157 @@
+-- Disks that were looked at: each reads as it did, and a crash leaves nothing else.
+use Rattle.std.proofs.Common.{◌≡◌, ◌≢◌, ℕ, ◌+◌, ◌<◌, ◌≤◌, ◌⊎◌, inl, inr, Bool, false, List, [], ap, arith, refl, sym, subst, ◌∙◌, Option, Some, None}
+use Rattle.std.proofs.lemmas.Bool.{cases_lt}
+use Rattle.std.proofs.lemmas.Option.{none-some, same_Some}
+use Rattle.pec_types.specs.Bytes.{Bytes}
+use Rattle.pec_outside.specs.DiskModel.{Sight}
+use Rattle.pec_records.specs.declared.entries.Entry.{Entry}
+use Rattle.pec_ledger.specs.Network.{Site}
+use Rattle.pec_ledger.specs.Trade.{Trade}
+use Rattle.pec_network.specs.Beginning.{IsAsItWas}
+use Rattle.pec_runs.specs.Openings.{AreLeft, AreUntouched, Disks, Form, Run, Resume, IsHad, IsNext, IsOpening, Next, NoMore, Holds, Unfits, Fails, Stops, Opening, disks_at, next_of}
+use Rattle.pec_top.specs.Surveys.{AreAsTheyWere, HoldsSo, IsAsBefore}
+use Rattle.pec_top.proofs.RunningLemmas.{untouched}
+
+module _ {D : Type 0} (reads : Type 0) (sight : D → Sight) where
+  pub rest_none : (home : ℕ → Option D) → AreAsTheyWere reads sight home home
+  rest_none home k = so (home k)
+    where
+      so : (here : Option D) → IsAsBefore reads sight here here
+      so None = refl
+      so (Some disk) = (disk, refl, λ told. record { seen = refl; crash = λ image leaves. leaves })
+
+  pub rest_on : (old mid new : ℕ → Option D) → AreAsTheyWere reads sight old mid → AreAsTheyWere reads sight mid new
+      → AreAsTheyWere reads sight old new
+  rest_on old mid new first second k = so (old k) (mid k) (new k) (first k) (second k)
+    where
+      so : (a b c : Option D) → IsAsBefore reads sight a b → IsAsBefore reads sight b c → IsAsBefore reads sight a c
+      so None b c f s = subst (λ (o : Option D). IsAsBefore reads sight o c) f s
+      so (Some was) b c f s =
+          let x = subst (λ (o : Option D). IsAsBefore reads sight o c) f.1 s in (
+            x.0,
+            x.1,
+            λ told. record {
+              seen = (x.2 told).seen ∙ (f.2 told).seen;
+              crash = λ image leaves. (f.2 told).crash image ((x.2 told).crash image leaves);
+            },
+          )
+
+module _ {D : Type 0} (home_tells reads : Type 0) (sight : D → Sight) (old new : ℕ → Option D)
+    (rest : home_tells → AreAsTheyWere reads sight old new) where
+  abbrev Old : Disks
+  Old = disks_at (home_tells × reads) sight old
+
+  abbrev New : Disks
+  New = disks_at (home_tells × reads) sight new
+
+  pub reads_on : (k : ℕ) (bytes : Bytes) → Old.reads k bytes → New.reads k bytes
+  reads_on k bytes read =
+      let at = subst (λ (o : Option D). IsAsBefore reads sight o (new k)) read.1.1 (rest read.0.0 k)
+      in (read.0, (at.0, at.1, (at.2 read.0.1).seen ∙ read.1.2))
+
+  before_it : (k : ℕ) (now : D) → home_tells → new k ≡ Some now
+      → (was : D) × (old k ≡ Some was) × (reads → IsAsItWas (sight was) (sight now))
+  before_it k now told is = so (old k) refl (rest told k)
+    where
+      so : (o : Option D) → old k ≡ o → IsAsBefore reads sight o (new k)
+          → (was : D) × (old k ≡ Some was) × (reads → IsAsItWas (sight was) (sight now))
+      so None e at = absurd (none-some now (sym at ∙ is))
+      so (Some was) e at = (
+        was,
+        e,
+        subst (λ (d : D). reads → IsAsItWas (sight was) (sight d)) (same_Some at.0 now (sym at.1 ∙ is)) at.2,
+      )
+
+  pub reads_back : (k : ℕ) (bytes : Bytes) → New.reads k bytes → Old.reads k bytes
+  reads_back k bytes read =
+      let b = before_it k read.1.0 read.0.0 read.1.1 in (read.0, (b.0, b.1, sym (b.2 read.0.1).seen ∙ read.1.2))
+
+  pub leaves_back : (k : ℕ) (bytes : Bytes) → New.may_leave k bytes → Old.may_leave k bytes
+  leaves_back k bytes leaves =
+      let b = before_it k leaves.1.0 leaves.0.0 leaves.1.1
+      in (leaves.0, (b.0, b.1, (b.2 leaves.0.1).crash bytes leaves.1.2))
+
+  pub untouched_rest : AreUntouched Old New
+  untouched_rest k was bytes before now =
+      untouched (home_tells × reads) sight old k was bytes before (reads_back k bytes now)
+
+  pub home_rest : home_tells → (k : ℕ) → old k ≢ None → new k ≢ None
+  home_rest told k some gone = so (old k) refl (rest told k)
+    where
+      so : (o : Option D) → old k ≡ o → IsAsBefore reads sight o (new k) → ⊥
+      so None e at = some e
+      so (Some was) e at = none-some at.0 (sym gone ∙ at.1)
+
+-- One more disk was looked at, and holds nothing.
+pub empty_next : {D : Type 0} (home_tells reads : Type 0) (sight : D → Sight) (old mid : ℕ → Option D)
+    (rest : home_tells → AreAsTheyWere reads sight old mid) (count : ℕ) (holds : Bool) → holds ≡ false
+    → (home_tells → HoldsSo reads sight (mid count) holds)
+    → ((k : ℕ) → k < count → (bytes : Bytes) → (disks_at (home_tells × reads) sight old).reads k bytes → bytes ≡ [])
+    → (k : ℕ) → k < count + 1 → (bytes : Bytes) → (disks_at (home_tells × reads) sight old).reads k bytes → bytes ≡ []
+empty_next {D} home_tells reads sight old mid rest count holds is held earlier k below bytes read = so (cases_lt k count)
+  where
+    so : (k < count) ⊎ (count ≤ k) → bytes ≡ []
+    so (inl within) = earlier k within bytes read
+    so (inr past) =
+        let same : k ≡ count = omega (arith, below, past)
+        in let now = reads_on home_tells reads sight old mid rest k bytes read
+        in let none = subst (λ (h : Bool). home_tells → HoldsSo reads sight (mid count) h) is held
+        in sym now.1.2 ∙ none now.0.0 now.0.1 now.1.0 (ap mid (sym same) ∙ now.1.1)
+
+-- ---- what is said of disks as they were a while ago
+
+module _ (trade : Trade) (old mid : Disks) (on : (k : ℕ) (bytes : Bytes) → old.reads k bytes → mid.reads k bytes) where
+  had_since : (form : Form) (k : ℕ) (journal : List Entry) → IsHad trade mid form k journal → IsHad trade old form k journal
+  had_since Run k journal had = (had.0, λ bytes read. had.1 bytes (on k bytes read))
+  had_since Resume k journal had = (had.0, λ bytes read. had.1 bytes (on k bytes read))
+
+  next_since : (form : Form) (k : ℕ) (next : Next) → IsNext trade mid form k next → IsNext trade old form k next
+  next_since form k NoMore is = is
+  next_since form k Holds is = (is.0, λ bytes read. is.1 bytes (on k bytes read))
+  next_since form k (Unfits unfit) is = (is.0, λ bytes read. is.1 bytes (on k bytes read))
+  next_since form k Fails is = tt
+  next_since form k Stops is = tt
+
+  pub opening_since : (form : Form) (opening : Opening) → IsOpening trade mid form opening → IsOpening trade old form opening
+  opening_since form opening is = record {
+    count = is.count;
+    each = λ k journal there. had_since form k journal (is.each k journal there);
+    next = next_since form (next_of opening) opening.next is.next;
+  }
+
+pub left_since : (old mid new : Disks) → ((k : ℕ) (bytes : Bytes) → old.reads k bytes → mid.reads k bytes)
+    → (form : Form) (opening : Opening) (sites : List Site) → AreLeft mid new form opening sites
+    → AreLeft old new form opening sites
+left_since old mid new on form opening sites left = record {
+  reads = left.reads;
+  crash = left.crash;
+  next = λ unread was bytes before now. left.next unread was bytes (on (next_of opening) was before) now;
+  others = λ k far was bytes before now. left.others k far was bytes (on k was before) now;
+}
+
+pub left_until : (old mid new : Disks) → ((k : ℕ) (bytes : Bytes) → new.reads k bytes → mid.reads k bytes)
+    → ((k : ℕ) (bytes : Bytes) → new.may_leave k bytes → mid.may_leave k bytes)
+    → (form : Form) (opening : Opening) (sites : List Site) → AreLeft old mid form opening sites
+    → AreLeft old new form opening sites
+left_until old mid new read_back leave_back form opening sites left = record {
+  reads = λ k within bytes read. left.reads k within bytes (read_back k bytes read);
+  crash = λ k within bytes leaves. left.crash k within bytes (leave_back k bytes leaves);
+  next = λ unread was bytes before now. left.next unread was bytes before (read_back (next_of opening) bytes now);
+  others = λ k far was bytes before now. left.others k far was bytes before (read_back k bytes now);
+}
+
+-- a disk that couldn't be looked at again reads as it did
+pub left_failing : (old new : Disks) (journals : List (List Entry)) (sites : List Site)
+    → AreLeft old new Resume (record { journals = journals; next = Stops }) sites
+    → AreLeft old new Resume (record { journals = journals; next = Fails }) sites
+left_failing old new journals sites left = record {
+  reads = left.reads;
+  crash = left.crash;
+  next = λ unread was bytes before now. left.next tt was bytes before now;
+  others = left.others;
+}
+
+pub opening_failing : (trade : Trade) (old : Disks) (form : Form) (journals : List (List Entry))
+    → IsOpening trade old form (record { journals = journals; next = Stops })
+    → IsOpening trade old form (record { journals = journals; next = Fails })
+opening_failing trade old form journals is = record { count = is.count; each = is.each; next = tt }
