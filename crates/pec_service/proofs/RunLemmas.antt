@@ -42,24 +42,24 @@ module _ (asked : Asked) (status : Status) (unread before after : Option Bytes) 
     (here there : Outside) (from upto : ℕ → ℕ)
     (ran : HasServed asked status unread before after old_disks new_disks here there from upto) (form : Form)
     (begins : stage_of ran.happened.early ran.happened.directory ≡ Begins) (is_form : ran.happened.form ≡ Some form)
-    where
-  pub is_world : IsTrade (world ran.happened)
-  is_world =
-      let had = has_directory ran.happened.early ran.happened.directory begins
-      in (ran.setting begins had.0 had.1).world
+  where
+    pub is_world : IsTrade (world ran.happened)
+    is_world =
+        let had = has_directory ran.happened.early ran.happened.directory begins
+        in (ran.setting begins had.0 had.1).world
 
-  pub has_journals : HasJournals asked status before after old_disks new_disks here there from upto ran.happened.setting
-      ran.happened.course form
-  has_journals =
-      let at = subst (IsAt asked status before after old_disks new_disks here there from upto ran.happened) begins ran.is_at
-      in (subst (HasBegun asked status before after old_disks new_disks here there from upto ran.happened.setting
-      ran.happened.course) is_form at).1
+    pub has_journals : HasJournals asked status before after old_disks new_disks here there from upto ran.happened.setting
+        ran.happened.course form
+    has_journals =
+        let at = subst (IsAt asked status before after old_disks new_disks here there from upto ran.happened) begins ran.is_at
+        in (subst (HasBegun asked status before after old_disks new_disks here there from upto ran.happened.setting
+        ran.happened.course) is_form at).1
 
-  pub serves_on : ran.happened.course.opening.next ≡ NoMore
-      → Serves asked status before after old_disks new_disks here there from upto ran.happened.setting ran.happened.course form
-  serves_on at_hand =
-      subst (GoesOn asked status before after old_disks new_disks here there from upto ran.happened.setting ran.happened.course
-      form) at_hand has_journals.goes_on
+    pub serves_on : ran.happened.course.opening.next ≡ NoMore
+        → Serves asked status before after old_disks new_disks here there from upto ran.happened.setting ran.happened.course form
+    serves_on at_hand =
+        subst (GoesOn asked status before after old_disks new_disks here there from upto ran.happened.setting ran.happened.course
+        form) at_hand has_journals.goes_on
 
 -- ---- runs without faults
 

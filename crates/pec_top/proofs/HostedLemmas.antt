@@ -32,23 +32,26 @@ journals_hosted tells sight reads_so asked status before after setting form jour
       holds = false;
       service = hosts.service;
     }
-    in (course, record {
-      opening = opening;
-      looked_at = tt;
-      goes_on = record {
-        counts = counts;
-        sooner = sooner;
-        network = hosts.network;
-        is = subst (λ (s : List Site). IsService trade setting.kept asked.finds asked.wanted
-            (place_with (record { sites = s; counts = counts }) here) (place_with hosts.network there) hosts.service) begins
-            hosts.is;
-        told = subst (λ (s : List Site). TellsService status before after (service_text trade setting.kept
-            (place_with (record { sites = s; counts = counts }) here) hosts.service) hosts.service.ending) begins hosts.told;
-        later = hosts.later;
-        disks = left_whole tells sight reads_so form journals (length setting.kept) size hosts.network.sites hosts.network.sites
-            (λ told. refl) old mid new apart hosts.kept_so;
-      };
-    })
+    in (
+      course,
+      record {
+        opening = opening;
+        looked_at = tt;
+        goes_on = record {
+          counts = counts;
+          sooner = sooner;
+          network = hosts.network;
+          is = subst (λ (s : List Site). IsService trade setting.kept asked.finds asked.wanted
+              (place_with (record { sites = s; counts = counts }) here) (place_with hosts.network there) hosts.service) begins
+              hosts.is;
+          told = subst (λ (s : List Site). TellsService status before after (service_text trade setting.kept
+              (place_with (record { sites = s; counts = counts }) here) hosts.service) hosts.service.ending) begins hosts.told;
+          later = hosts.later;
+          disks = left_whole tells sight reads_so form journals (length setting.kept) size hosts.network.sites hosts.network.sites
+              (λ told. refl) old mid new apart hosts.kept_so;
+        };
+      },
+    )
 
 -- ---- the same, of disks as they were a while before
 

@@ -123,16 +123,19 @@ pub source_on : (status : Status) (source_old source_new sink_old sink_new depot
     → CountsGo status (counts_of source_old sink_old depot_old last clock_old door_old)
     (counts_of source_new sink_new depot_new left clock_new door_new)
 source_on status source_old source_new sink_old sink_new depot_old depot_new last left clock_old clock_new door_old door_new
-    later go = (blamed status go.0, record {
-      devices = record {
-        source = later;
-        sink = go.1.devices.sink;
-        depot = go.1.devices.depot;
-        disks = go.1.devices.disks;
-      };
-      clock = go.1.clock;
-      door = go.1.door;
-    })
+    later go = (
+      blamed status go.0,
+      record {
+        devices = record {
+          source = later;
+          sink = go.1.devices.sink;
+          depot = go.1.devices.depot;
+          disks = go.1.devices.disks;
+        };
+        clock = go.1.clock;
+        door = go.1.door;
+      },
+    )
   where
     bare_old : AllCounts
     bare_old = counts_of 0 sink_old depot_old last clock_old door_old
@@ -291,16 +294,19 @@ pub unfit_counts : (status : Status) (fault : StartFault) (sink_old sink_new dep
     → NoneFell (counts_of 0 sink_old depot_b last_b 0 0) (counts_of 0 sink_new depot_c last_c 0 0)
     → CountsGo status (counts_of 0 sink_old depot_a last_a clock door) (counts_of 0 sink_new depot_c last_c clock door)
 unfit_counts status fault sink_old sink_new depot_a depot_b depot_c last_a last_b last_c clock door depot_up last_up began start
-    blame later = (so status refl, record {
-      devices = record {
-        source = omega arith;
-        sink = later.devices.sink;
-        depot = let l = later.devices.depot in omega (arith, depot_up, l);
-        disks = λ k. let a = last_up k in let b = later.devices.disks k in omega (arith, a, b);
-      };
-      clock = omega arith;
-      door = omega arith;
-    })
+    blame later = (
+      so status refl,
+      record {
+        devices = record {
+          source = omega arith;
+          sink = later.devices.sink;
+          depot = let l = later.devices.depot in omega (arith, depot_up, l);
+          disks = λ k. let a = last_up k in let b = later.devices.disks k in omega (arith, a, b);
+        };
+        clock = omega arith;
+        door = omega arith;
+      },
+    )
   where
     old_counts : AllCounts
     old_counts = counts_of 0 sink_old depot_a last_a clock door

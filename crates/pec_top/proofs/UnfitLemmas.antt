@@ -126,11 +126,14 @@ module _ {D : Type 0} (home_tells reads : Type 0) (sight : D → Sight) (kept : 
       here : Old.reads me bytes → Mid.reads me bytes
       here read =
           let back = refused.next read.0.0 read.1.0 read.1.1
-          in (read.0, (
-            back.now,
-            back.is,
-            seen_so form fault unfit (sight read.1.0) (sight back.now) (back.left read.0.1) ∙ read.1.2,
-          ))
+          in (
+            read.0,
+            (
+              back.now,
+              back.is,
+              seen_so form fault unfit (sight read.1.0) (sight back.now) (back.left read.0.1) ∙ read.1.2,
+            ),
+          )
 
   looked_so : (holds : Bool) (next : Next) → Came fault next → IsLookedAt Mid (provider_named me fault) holds next
       → IsLookedAt Old (length Had) holds next
@@ -170,9 +173,12 @@ module _ {D : Type 0} (home_tells reads : Type 0) (sight : D → Sight) (kept : 
         outside = refl;
         disks = left;
       }
-      in (course, record {
-        opening = opens ends.next ends.is_next;
-        looked_at = looked_so ends.holds ends.next ends.is_next ends.looked_at;
-        goes_on = goes_next asked status before after here here from upto course ends.next
-            (none_came fault ends.next ends.is_next) none;
-      })
+      in (
+        course,
+        record {
+          opening = opens ends.next ends.is_next;
+          looked_at = looked_so ends.holds ends.next ends.is_next ends.looked_at;
+          goes_on = goes_next asked status before after here here from upto course ends.next
+              (none_came fault ends.next ends.is_next) none;
+        },
+      )

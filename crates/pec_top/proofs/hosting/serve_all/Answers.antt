@@ -76,8 +76,7 @@ returns-clause-counts g c = λ fell.
     (g.T.Counted.faults c.args.ticks.now) (g.R.Counted.faults c.args.door.now) in
     let new = counts_of 0 (g.W.Counted.faults c.serve-network.new.out) (g.P.Counted.faults c.close.new.depot)
     (g.P.Depot.last c.close.new.depot) (g.T.Counted.faults c.serve-network.new.ticks)
-    (g.R.Counted.faults c.serve-network.new.door) in
-    (
+    (g.R.Counted.faults c.serve-network.new.door) in (
       subst (λ (s : Status). Blames s old new) (sym c.ended.ensures)
           (blames_ended c.serve-network.result.1 old new c.serve-network.ensures.no_moment c.serve-network.ensures.no_connection
           c.serve-network.ensures.write_fault),
