@@ -1,10 +1,11 @@
 //! A second shelf, of a provider of the two providers' directory: a plain list of what happened, and loops over it. It knows
 //! no clock calls, no refused messages and no anomalies.
 
+use crate::lines::Log;
 use crate::messages::{goes_to, home, is_account_of, is_named};
 use crate::steps::{Act, Id, Message, Step};
 use pec_types::{Decision, Refusal};
-use std::alloc::{AllocError, Global};
+use std::alloc::Global;
 
 /// An act that was a step.
 #[derive(Clone, Copy)]
@@ -39,16 +40,20 @@ impl Plain {
     }
 
     /// Does a step, and adds the lines that come of it.
-    pub(crate) fn play(&mut self, log: &mut Vec<u8>, step: &Step) -> Result<(), AllocError> {
+    pub(crate) fn play(&mut self, log: &mut Log, step: &Step) {
         match *step {
-            Step::Enter(moment, act) => {
-                if !self.follows(moment, &act) {
-                    return log.extend_from_slice(b"not-a-step\n");
-                }
-                self.done.push(Done { moment, act })?;
-                Ok(())
-            }
+            Step::Enter(moment, act) => self.enter(log, moment, act),
             Step::Ask(question) => self.answer(log, question),
+        }
+    }
+
+    fn enter(&mut self, log: &mut Log, moment: u64, act: Act) {
+        if !self.follows(moment, &act) {
+            return log.put(b"not-a-step\n");
+        }
+        match self.done.push(Done { moment, act }) {
+            Ok(()) => {}
+            Err(_) => log.fail(),
         }
     }
 

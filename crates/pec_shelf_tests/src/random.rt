@@ -1,6 +1,7 @@
 //! Entries in random order on the shelf of alfa, beside a plain list and loops over it.
 ghost use Rattle.std.specs.Prelude.{◌<◌};
 
+use crate::lines::Log;
 use crate::plain::Plain;
 use crate::playing::played;
 use crate::steps::{Act, Id, Message, Question, Step};
@@ -216,18 +217,30 @@ struct Comparison {
 
 fn compared(alloc: Global) -> Result<Comparison, Fail> {
     let steps = steps(alloc)?;
-    let shelf = played(alloc, 0, "", "", &steps)?;
-    let (messages, log) = plainly(alloc, &steps)?;
-    let is_same = shelf.as_slice() == log.as_slice();
-    Ok(Comparison { messages, is_same })
+    compared_at(alloc, &steps)
 }
 
-/// What a plain list says, and how many messages it has.
-fn plainly(alloc: Global, steps: &[Step]) -> Result<(usize, Vec<u8>), AllocError> {
+fn compared_at(alloc: Global, steps: &[Step]) -> Result<Comparison, Fail> {
     let mut plain = Plain::new(alloc, 0);
-    let mut log = Vec::new(alloc);
+    let lines = plainly(alloc, &mut plain, steps)?;
+    let is_same = comes_to(alloc, steps, &lines)?;
+    Ok(Comparison {
+        messages: plain.messages(),
+        is_same,
+    })
+}
+
+/// Whether these lines come of the steps on a shelf.
+fn comes_to(alloc: Global, steps: &[Step], lines: &[u8]) -> Result<bool, Fail> {
+    let played = played(alloc, 0, "", "", steps)?;
+    Ok(played.as_slice() == lines)
+}
+
+/// What a plain list says.
+fn plainly(alloc: Global, plain: &mut Plain, steps: &[Step]) -> Result<Vec<u8>, Fail> {
+    let mut log = Log::new(alloc);
     for step in steps {
-        plain.play(&mut log, step)?;
+        plain.play(&mut log, step);
     }
-    Ok((plain.messages(), log))
+    log.finished()
 }
