@@ -4,9 +4,8 @@ use pec_directory::Directory;
 use pec_shelf::Row;
 use pec_types::{Decision, Facts, Letter, Moment, MsgId, id_text};
 use std::alloc::Global;
-use std::test::Fail;
 
-/// Lines one behind the other. What fails as they are written is told at their end.
+/// Lines one behind the other. Where one couldn't be written, the log is like no other.
 #[derive(Drop)]
 pub(crate) struct Log {
     alloc: Global,
@@ -23,12 +22,14 @@ impl Log {
         }
     }
 
-    /// What was written, where nothing failed.
-    pub(crate) fn finished(self) -> Result<Vec<u8>, Fail> {
-        if self.has_failed {
-            return Err("a line couldn't be written".into());
-        }
-        Ok(self.text)
+    /// Whether these bytes were written, and nothing failed.
+    pub(crate) fn is(&self, bytes: &[u8]) -> bool {
+        !self.has_failed && self.text.as_slice() == bytes
+    }
+
+    /// Whether the same was written, and nothing failed.
+    pub(crate) fn is_as(&self, other: &Log) -> bool {
+        !other.has_failed && self.is(&other.text)
     }
 
     /// Something couldn't be written.

@@ -13,11 +13,12 @@ use pec_script::{book_text, items_text, marks_text};
 use pec_shelf::{PrepareFault, Shelf, a_directory_has_a_trade, what_is_kept_goes_on};
 use pec_trial::two;
 use pec_types::{Address, BookLine, ItemLine, Mark, MsgId, NoMemory};
-use std::alloc::{AllocError, Global};
+use std::alloc::Global;
 use std::test::Fail;
 
-/// A shelf and its directory.
-struct Desk {
+/// A shelf and its directory. An entry that is no step has a line that says so, a clock call its marks, and any other
+/// entry none.
+pub(crate) struct Desk {
     alloc: Global,
     directory: Directory,
     shelf: Shelf,
@@ -34,37 +35,9 @@ impl Drop for Desk {
     }
 }
 
-/// The lines of two scripts and of these steps, one after another on the shelf of a provider. An entry that is no step
-/// has a line that says so, a clock call its marks, and any other entry none.
-pub(crate) fn played(
-    alloc: Global,
-    me: u32,
-    before: &'static str,
-    script: &'static str,
-    steps: &[Step],
-) -> Result<Vec<u8>, Fail> {
-    let mut log = Log::new(alloc);
-    play(alloc, &mut log, me, before, script, steps)?;
-    log.finished()
-}
-
-fn play(
-    alloc: Global,
-    log: &mut Log,
-    me: u32,
-    before: &'static str,
-    script: &'static str,
-    steps: &[Step],
-) -> Result<(), Fail> {
-    let mut desk = Desk::new(alloc, me)?;
-    desk.play_script(log, before);
-    desk.play_script(log, script);
-    desk.play_all(log, steps);
-    Ok(())
-}
-
 impl Desk {
-    fn new(alloc: Global, me: u32) -> Result<Desk, Fail> {
+    /// The shelf of a provider before its first entry.
+    pub(crate) fn new(alloc: Global, me: u32) -> Result<Desk, Fail> {
         let directory = directory_of(alloc)?;
         Ok(Desk {
             alloc,
@@ -73,13 +46,8 @@ impl Desk {
         })
     }
 
-    fn play_all(&mut self, log: &mut Log, steps: &[Step]) {
-        for step in steps {
-            self.step(log, step);
-        }
-    }
-
-    fn play_script(&mut self, log: &mut Log, script: &'static str) {
+    /// Does the steps of a script, line by line.
+    pub(crate) fn play_script(&mut self, log: &mut Log, script: &'static str) {
         for line in script.split('\n') {
             if !line.is_empty() {
                 self.play_line(log, line);
@@ -87,14 +55,15 @@ impl Desk {
         }
     }
 
-    fn play_line(&mut self, log: &mut Log, line: &'static str) {
+    pub(crate) fn play_line(&mut self, log: &mut Log, line: &'static str) {
         match step_of(line) {
             Some(step) => self.step(log, &step),
             None => log.fail(),
         }
     }
 
-    fn step(&mut self, log: &mut Log, step: &Step) {
+    /// Does a step, and adds the lines that come of it.
+    pub(crate) fn step(&mut self, log: &mut Log, step: &Step) {
         match step {
             Step::Enter(moment, act) => self.enter(log, *moment, act),
             Step::Ask(question) => self.answer(log, question),
@@ -267,49 +236,4 @@ fn is_tick(act: &Act) -> bool {
         Act::Ticks => true,
         _ => false,
     }
-}
-
-/// A script on the shelf of a provider, and the lines that have to come of it. In these `I0` and `I1` are the first two
-/// messages of alfa, `J0` is beta's first.
-#[derive(Clone, Copy)]
-pub(crate) struct Case {
-    pub(crate) why: &'static str,
-    pub(crate) me: u32,
-    pub(crate) script: &'static str,
-    pub(crate) lines: &'static str,
-}
-
-/// What the first case is about that doesn't come as it says.
-pub(crate) fn first_wrong(alloc: Global, cases: &[Case]) -> Result<Option<&'static str>, Fail> {
-    for case in cases {
-        if !comes(alloc, case)? {
-            return Ok(Some(case.why));
-        }
-    }
-    Ok(None)
-}
-
-fn comes(alloc: Global, case: &Case) -> Result<bool, Fail> {
-    let log = played(alloc, case.me, "", case.script, &[])?;
-    let lines = written_out(alloc, case.lines)?;
-    Ok(log.as_slice() == lines.as_bytes())
-}
-
-/// Lines with the names of messages written out.
-fn written_out(alloc: Global, lines: &str) -> Result<String, AllocError> {
-    let mut text = String::from_str(alloc, lines)?;
-    for (word, name) in names() {
-        text = text.replace(alloc, word, name)?;
-    }
-    Ok(text)
-}
-
-static NAMES: [(&str, &str); 3] = [
-    ("I0", "pec.0000000@alfa.example"),
-    ("I1", "pec.0000001@alfa.example"),
-    ("J0", "pec.0000000@beta.example"),
-];
-
-fn names() -> &'static [(&'static str, &'static str)] {
-    &NAMES
 }
