@@ -73,15 +73,7 @@ fn with_message_marks(
         (filter_map (mark_at shelf.now.half now id accepted) recipients.now)) }
 {
     for recipient in recipients {
-        push_mark(
-            shelf,
-            &mut ready,
-            now,
-            id,
-            accepted,
-            sender,
-            recipient,
-        )?;
+        push_mark(shelf, &mut ready, now, id, accepted, sender, recipient)?;
     }
     Ok(ready)
 }

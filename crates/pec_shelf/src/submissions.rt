@@ -176,14 +176,7 @@ pub(crate) fn not_accepted(
         return Err(PrepareFault::NotAStep);
     }
     let row = refused_row(shelf, moment, sender, cause, path)?;
-    let ready = submitted(
-        shelf,
-        row,
-        sender,
-        Kind::NonAcceptance(cause),
-        id,
-        moment,
-    )?;
+    let ready = submitted(shelf, row, sender, Kind::NonAcceptance(cause), id, moment)?;
     Ok(ready)
 }
 

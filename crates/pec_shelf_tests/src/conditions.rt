@@ -135,12 +135,7 @@ fn first_step(
     Ok(None)
 }
 
-fn is_step(
-    alloc: Global,
-    me: u32,
-    before: &'static str,
-    line: &'static str,
-) -> Result<bool, Fail> {
+fn is_step(alloc: Global, me: u32, before: &'static str, line: &'static str) -> Result<bool, Fail> {
     if line.is_empty() {
         return Ok(false);
     }

@@ -47,13 +47,7 @@ impl Plain {
     }
 
     /// How many letters there are together with the envelopes, at most so many.
-    fn add_envelopes(
-        &self,
-        log: &mut Log,
-        to: u32,
-        room: usize,
-        before: usize,
-    ) -> usize {
+    fn add_envelopes(&self, log: &mut Log, to: u32, room: usize, before: usize) -> usize {
         let mut count = before;
         for number in 0..self.done.len() as u64 {
             if count < room && self.is_unheard((self.me, number), to) {
@@ -148,13 +142,7 @@ impl Plain {
         Some(came.moment)
     }
 
-    fn add_sent(
-        &self,
-        log: &mut Log,
-        sent: Option<u64>,
-        id: Id,
-        recipient: &str,
-    ) {
+    fn add_sent(&self, log: &mut Log, sent: Option<u64>, id: Id, recipient: &str) {
         if sent.is_none() {
             return log.add(b"- - - - -");
         }
@@ -169,13 +157,7 @@ impl Plain {
         log.add_moment(Some(learned));
     }
 
-    fn add_taken(
-        &self,
-        log: &mut Log,
-        taken: Option<u64>,
-        id: Id,
-        recipient: &str,
-    ) {
+    fn add_taken(&self, log: &mut Log, taken: Option<u64>, id: Id, recipient: &str) {
         if taken.is_none() {
             return log.add(b"- -");
         }
@@ -228,14 +210,7 @@ impl Plain {
         lines
     }
 
-    fn add_line(
-        &self,
-        log: &mut Log,
-        id: Id,
-        came: Came,
-        place: usize,
-        address: &str,
-    ) {
+    fn add_line(&self, log: &mut Log, id: Id, came: Came, place: usize, address: &str) {
         self.add_id(log, id);
         log.add(address.as_bytes());
         log.add(class(came.message, place).as_bytes());
@@ -270,14 +245,7 @@ impl Plain {
     }
 
     /// The item that an act placed with an account, where it placed one; `number` is that of the next own message.
-    fn add_item(
-        &self,
-        log: &mut Log,
-        done: &Done,
-        account: &str,
-        number: u64,
-        place: u64,
-    ) -> bool {
+    fn add_item(&self, log: &mut Log, done: &Done, account: &str, number: u64, place: u64) -> bool {
         match done.act {
             Act::Accepts(sender, _) => {
                 if sender != account {
@@ -309,25 +277,12 @@ impl Plain {
         }
     }
 
-    fn add_item_line(
-        &self,
-        log: &mut Log,
-        place: u64,
-        kind: &[u8],
-        id: Id,
-        recipient: &str,
-    ) {
+    fn add_item_line(&self, log: &mut Log, place: u64, kind: &[u8], id: Id, recipient: &str) {
         log.add_number(place);
         self.add_pair_line(log, kind, id, recipient);
     }
 
-    fn add_pair_line(
-        &self,
-        log: &mut Log,
-        kind: &[u8],
-        id: Id,
-        recipient: &str,
-    ) {
+    fn add_pair_line(&self, log: &mut Log, kind: &[u8], id: Id, recipient: &str) {
         log.add(kind);
         self.add_id(log, id);
         log.add(recipient.as_bytes());

@@ -105,13 +105,7 @@ fn accepted(alloc: Global, moment: Moment, sender: &str, message: Message) -> Op
     }
 }
 
-fn refused(
-    alloc: Global,
-    moment: Moment,
-    sender: &str,
-    cause: Cause,
-    path: &str,
-) -> Option<Entry> {
+fn refused(alloc: Global, moment: Moment, sender: &str, cause: Cause, path: &str) -> Option<Entry> {
     match (address_of(alloc, sender), addresses_of(alloc, path)) {
         (Some(sender), Some(path)) => Some(Entry::NotAccepted {
             moment,

@@ -244,12 +244,7 @@ fn comes(alloc: Global, run: &'static str) -> Result<bool, Fail> {
 }
 
 /// Does the steps of a run, and puts the lines that have to come of them beside those that do.
-fn play(
-    alloc: Global,
-    run: &'static str,
-    log: &mut Log,
-    wanted: &mut Log,
-) -> Result<(), Fail> {
+fn play(alloc: Global, run: &'static str, log: &mut Log, wanted: &mut Log) -> Result<(), Fail> {
     let mut desk = Desk::new(alloc, provider_of(run))?;
     for line in run.split('\n').skip(1) {
         play_line(&mut desk, line, log, wanted);

@@ -1,4 +1,4 @@
-use Rattle.std.proofs.Common.{◌≡◌, arith, length, length-append, sym, ap, ◌∙◌}
+use Rattle.std.proofs.Common.{arith, length, length-append, sym, ap, ◌∙◌}
 use Rattle.std.proofs.lemmas.List.{length-map}
 use Rattle.pec_shelf.specs.Prepared.{Prepared}
 use Rattle.pec_shelf.specs.Seen.{Seen}
