@@ -1,13 +1,11 @@
 //! The program: it makes the real objects and calls `run_pec`.
 #![tactic(auto)]
 
-mod adapters;
 mod screening;
 mod words;
 
-use adapters::{Input, Output};
 use pec_doors::{SystemTicks, TcpDoor};
-use pec_files::FileDepot;
+use pec_files::{FileDepot, Input, Output};
 use pec_top::Status;
 use screening::run_screened;
 use std::io;

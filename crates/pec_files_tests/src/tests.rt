@@ -1,9 +1,11 @@
-use pec_files::{FileDepot, FileDisk, journal_path};
+use pec_files::{FileDepot, FileDisk, Input, Output, journal_path};
 use pec_journal::Journal;
-use pec_outside::{Depot, Disk, Failed};
+use pec_outside::{Depot, Disk, Failed, Sink, Source, write_all};
 use std::alloc::Global;
 use std::fs;
 use std::fs::{File, OpenOptions};
+use std::io;
+use std::io::{Error, ErrorKind, Read, Write};
 use std::rt::Files;
 use std::test::Fail;
 
@@ -126,4 +128,50 @@ fn depot_of_an_empty_folder<'a>(
 fn depot_over<'a>(rt: &'a HostRuntime, folder: &str) -> Result<FileDepot<&'a HostRuntime>, Fail> {
     let folder = String::from_str(rt.alloc(), folder)?;
     Ok(FileDepot::new(rt, folder))
+}
+
+/// A reader and a writer that always fail.
+#[derive(Drop)]
+struct Broken;
+
+impl Read for Broken {
+    fn read(&mut self, _room: &mut [u8]) -> io::Result<usize> {
+        Err(Error::from(ErrorKind::BrokenPipe))
+    }
+}
+
+impl Write for Broken {
+    fn write(&mut self, _piece: &[u8]) -> io::Result<usize> {
+        Ok(0)
+    }
+
+    fn flush(&mut self) -> io::Result<()> {
+        Ok(())
+    }
+}
+
+#[test]
+fn a_reader_is_read_to_its_end_and_its_faults_are_counted(rt: HostRuntime) -> Result<(), Fail> {
+    let mut input = Input::new(b"abc".as_slice());
+    let mut room = [0u8; 2];
+    assert_eq!(rt; input.read(&mut room), Ok(2));
+    assert_eq!(rt; room, [b'a', b'b']);
+    assert_eq!(rt; input.read(&mut room), Ok(1));
+    assert_eq!(rt; input.read(&mut room), Ok(0));
+    assert_eq!(rt; input.faults(), 0);
+    let mut broken = Input::new(Broken);
+    assert_eq!(rt; broken.read(&mut room), Err(Failed));
+    assert_eq!(rt; broken.faults(), 1);
+    Ok(())
+}
+
+#[test]
+fn a_writer_takes_all_and_its_faults_are_counted(rt: HostRuntime) -> Result<(), Fail> {
+    let mut bytes = Vec::new(rt.alloc());
+    assert_eq!(rt; write_all(&mut Output::new(&mut bytes), b"abc"), Ok(()));
+    assert_eq!(rt; bytes.as_slice(), b"abc".as_slice());
+    let mut broken = Output::new(Broken);
+    assert_eq!(rt; broken.write(b"abc"), Err(Failed));
+    assert_eq!(rt; broken.faults(), 1);
+    Ok(())
 }

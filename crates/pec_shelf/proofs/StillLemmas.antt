@@ -20,7 +20,7 @@ use Rattle.pec_shelf.specs.declared.certified.Certified.{Certified}
 use Rattle.pec_shelf.proofs.WaitingLemmas.{all_that_comes, more_rows, still_done}
 use mathlib.Core.Logic.{⊎_elim}
 
-still_some : {X : Type 0} (a b : Option X) → is_some a ≡ true → is_some (option_or a b) ≡ true
+pub still_some : {X : Type 0} (a b : Option X) → is_some a ≡ true → is_some (option_or a b) ≡ true
 still_some None b e = absurd (false≢true e)
 still_some (Some x) b e = refl
 
@@ -65,7 +65,7 @@ all_outcomes half to decided places all =
 
 -- ---- envelopes
 
-or_grows : (a b c d : Bool) → (a ≡ true → c ≡ true) → (b ≡ true → d ≡ true) → a || b ≡ true → c || d ≡ true
+pub or_grows : (a b c d : Bool) → (a ≡ true → c ≡ true) → (b ≡ true → d ≡ true) → a || b ≡ true → c || d ≡ true
 or_grows true b c d f g e = ap (λ x. x || d) (f refl)
 or_grows false b c d f g e = rw (g e) (by c)
   where
@@ -90,7 +90,7 @@ answered_still charged charges known outcomes id certified e =
     ∙ still_some (known_in known id certified) (known_in outcomes id certified) k)
     e
 
-and_true : (a b : Bool) → a && b ≡ true → (a ≡ true) × (b ≡ true)
+pub and_true : (a b : Bool) → a && b ≡ true → (a ≡ true) × (b ≡ true)
 and_true true b e = (refl, e)
 and_true false b e = absurd (false≢true e)
 

@@ -13,6 +13,7 @@ ghost use Rattle.pec_shelf.specs.Sides.{certified_of_rows, messages_of};
 use crate::accounts::has_room;
 use crate::certified::Certified;
 use crate::drawers::Drawers;
+use crate::outbox::Outbox;
 use crate::owing::has_pairs_at;
 use crate::reading::recipients_here;
 use crate::rows::{ChargeRow, FateRow, KnownRow, MarkRow, MessageRow, PostedRow, TakenRow};
@@ -51,6 +52,18 @@ impl Shelf {
         ensures few { length result.now.rows ≤ MESSAGES }
     {
         self.outbox.messages()
+    }
+
+    /// The sender's side.
+    pub(crate) fn sent(&self) -> &Outbox
+        ensures me { result.now.me ≡ self.now.me }
+        ensures messages { messages_of result.now.messages ≡ self.now.half.messages }
+        ensures certified { certified_of_rows result.now.messages ≡ self.now.certified }
+        ensures marks { result.now.marks ≡ self.now.half.marks }
+        ensures known { result.now.known ≡ self.now.half.known }
+        ensures few { length result.now.messages ≤ MESSAGES }
+    {
+        &self.outbox
     }
 
     /// What a provider said of taking charge of a message.

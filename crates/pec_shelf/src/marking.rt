@@ -1,23 +1,23 @@
 ghost use Rattle.std.specs.Prelude.{◌≡◌, ◌≤◌, ◌∷◌, [], length, is_some, IfOk};
-ghost use Rattle.std.specs.List.{filter_map};
+ghost use Rattle.std.specs.List.{filter_map, flat_map};
 ghost use Rattle.pec_types.specs.LimitsReading.{due_of};
 ghost use Rattle.pec_types.specs.declared.messages.TheConstants.{MESSAGES};
 ghost use Rattle.pec_ledger.specs.Lookups.{charged_of, known_of, notice_of, submitter, warning_of};
 ghost use Rattle.pec_ledger.specs.Pairs.{pair_of};
 ghost use Rattle.pec_ledger.specs.Steps.{kind_of_due};
-ghost use Rattle.pec_shelf.specs.Drawers.{rows_in};
 ghost use Rattle.pec_shelf.specs.Lines.{mark_at, marks_rows};
 ghost use Rattle.pec_records.specs.declared.entries.Entry.TheVariants as entries;
 ghost use Rattle.pec_ledger.specs.Trade.{Trade};
 ghost use Rattle.pec_shelf.specs.Prepared.{Takes, nothing, with_marks};
 ghost use Rattle.pec_shelf.specs.Seen.{IsFor};
 ghost use Rattle.pec_shelf.specs.Sides.{messages_of};
+ghost use Rattle.pec_shelf.specs.Still.{marks_in};
 
 use crate::certified::Certified;
-use crate::drawers::Ranked;
 use crate::faults::PrepareFault;
+use crate::outbox::Outbox;
 use crate::ready::Ready;
-use crate::rows::{MarkRow, MessageRow, Placed, PostedRow};
+use crate::rows::{MarkRow, Placed, PostedRow};
 use crate::shelf::Shelf;
 use pec_types::{Address, Due, Kind, Mark, Moment, MsgId, NoMemory, timed};
 
@@ -25,34 +25,73 @@ use pec_types::{Address, Due, Kind, Mark, Moment, MsgId, NoMemory, timed};
 pub(crate) fn ticked(shelf: &Shelf, now: Moment) -> Result<Ready, PrepareFault>
     ensures { (trade : Trade) → IsFor trade shelf.now → Takes trade shelf.now.me shelf.now.half (entries.Ticked now) result }
 {
-    let ready = marks(shelf, now, shelf.messages().rows())?;
+    let ready = marks(shelf, shelf.sent(), now)?;
     Ok(ready)
 }
 
-/// The marks of a clock call, each with its notice.
-fn marks(shelf: &Shelf, now: Moment, rows: &[Ranked<MessageRow>]) -> Result<Ready, NoMemory>
-    requires all { messages_of (rows_in rows.now) ≡ shelf.now.half.messages }
-    requires few { length rows.now ≤ MESSAGES }
+/// The marks of a clock call, each with its notice, of the sender's side of this shelf.
+fn marks(shelf: &Shelf, outbox: &Outbox, now: Moment) -> Result<Ready, NoMemory>
+    requires few { length outbox.now.messages ≤ MESSAGES }
+    requires me { outbox.now.me ≡ shelf.now.me }
+    requires all { messages_of outbox.now.messages ≡ shelf.now.half.messages }
+    requires marks { outbox.now.marks ≡ shelf.now.half.marks }
+    requires known { outbox.now.known ≡ shelf.now.half.known }
     ensures { IfOk result (λ ready. ready ≡ with_marks shelf.now.half nothing
-        (marks_rows shelf.now.me shelf.now.half now 0 (rows_in rows.now))) }
+        (marks_rows shelf.now.me shelf.now.half now 0 outbox.now.messages)) }
 {
-    let mut ready = Ready::nothing(shelf.alloc);
-    for (number, ranked) in rows.iter().enumerate() {
-        let row = ranked.row();
-        let id = MsgId {
-            provider: shelf.me,
-            number: number as u64,
-        };
-        ready = with_message_marks(
-            shelf,
-            ready,
-            now,
-            id,
-            row.moment(),
-            row.sender(),
-            row.certified(),
-        )?;
+    let ready = Ready::nothing(shelf.alloc);
+    let ready = with_marks_of(shelf, ready, outbox, now, outbox.unsettled())?;
+    Ok(ready)
+}
+
+/// With the marks of the messages of these numbers.
+fn with_marks_of(
+    shelf: &Shelf,
+    mut ready: Ready,
+    outbox: &Outbox,
+    now: Moment,
+    numbers: &[u64],
+) -> Result<Ready, NoMemory>
+    requires few { length outbox.now.messages ≤ MESSAGES }
+    requires all { messages_of outbox.now.messages ≡ shelf.now.half.messages }
+    ensures { IfOk result (λ with. with ≡ with_marks shelf.now.half ready
+        (flat_map (marks_in shelf.now.me shelf.now.half now outbox.now.messages) numbers.now)) }
+{
+    for number in numbers {
+        ready = with_marks_at(shelf, ready, outbox, now, *number)?;
     }
+    Ok(ready)
+}
+
+/// With the marks of the message of a number.
+fn with_marks_at(
+    shelf: &Shelf,
+    ready: Ready,
+    outbox: &Outbox,
+    now: Moment,
+    number: u64,
+) -> Result<Ready, NoMemory>
+    requires few { length outbox.now.messages ≤ MESSAGES }
+    requires all { messages_of outbox.now.messages ≡ shelf.now.half.messages }
+    ensures { IfOk result (λ with. with ≡ with_marks shelf.now.half ready
+        (marks_in shelf.now.me shelf.now.half now outbox.now.messages number)) }
+{
+    let Some(row) = outbox.message(number) else {
+        return Ok(ready);
+    };
+    let id = MsgId {
+        provider: shelf.me,
+        number,
+    };
+    let ready = with_message_marks(
+        shelf,
+        ready,
+        now,
+        id,
+        row.moment(),
+        row.sender(),
+        row.certified(),
+    )?;
     Ok(ready)
 }
 

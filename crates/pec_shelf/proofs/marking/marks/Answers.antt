@@ -1,7 +1,7 @@
-use Rattle.pec_shelf.proofs.MarkLemmas.{submitter_is}
+use Rattle.pec_shelf.proofs.MarkLemmas.{marks_are}
 use Rattle.pec_shelf.proofs.marking.marks.Goals as goal
 
-pub with_message_marks-requires : goal.with_message_marks-requires
-with_message_marks-requires c =
-    submitter_is c.args.shelf.now.half c.args.rows.now c.loop-number.number c.index-rows-number.result c.row-row.result.now c.sender.result.now c.requires.all
-    c.loop-number-test.true c.index-rows-number.is c.row-row.ensures c.sender.ensures
+pub returns : goal.returns
+returns c =
+    marks_are c.args.shelf.now.me c.args.shelf.now.half c.args.now c.args.outbox.now.me c.args.outbox.now.messages c.args.outbox.now.marks c.args.outbox.now.known
+    c.unsettled.result.now c.nothing-ready.result c.in_ok-ready.ready c.requires.me c.requires.marks c.requires.known c.unsettled.ensures c.nothing-ready.ensures c.in_ok-ready.ensures

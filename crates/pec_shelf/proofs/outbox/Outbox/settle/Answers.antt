@@ -1,0 +1,27 @@
+use Rattle.std.proofs.Common.{◌≡◌, ℕ, ap, subst, arith}
+use Rattle.pec_types.specs.Message.{Id}
+use Rattle.pec_shelf.specs.Still.{IsSettled}
+use Rattle.pec_shelf.specs.Waiting.{IsDoneAt}
+use Rattle.pec_shelf.proofs.UndecidedLemmas.{closed_less, closed_within}
+use Rattle.pec_shelf.proofs.outbox.Outbox.settle.Goals as goal
+
+pub remove-requires : goal.remove-requires
+remove-requires c =
+    closed_within (IsSettled c.args.id.provider c.self.inside.marks.rows c.self.inside.known.rows) c.self.inside.messages.rows c.self.inside.unsettled.places c.in-Some.index c.in-Some.ensures
+
+pub invariant_of-self : goal.invariant_of-self
+invariant_of-self c =
+    let own : c.args.id.provider ≡ c.self.inside.me = omega (arith, ap (λ (i : Id). i.provider) c.id.view_is) in
+    record {
+      messages = omega arith;
+      charged = omega arith;
+      marks = omega arith;
+      known = omega arith;
+      places = omega arith;
+      further = omega arith;
+      unanswered = c.self.invariant.unanswered;
+      unsettled = closed_less (IsSettled c.self.inside.me c.self.inside.marks.rows c.self.inside.known.rows) c.self.inside.messages.rows c.self.inside.unsettled.places
+          c.remove.new.self.places c.in-Some.index c.self.invariant.unsettled
+          (subst (λ (me : ℕ). IsDoneAt (IsSettled me c.self.inside.marks.rows c.self.inside.known.rows) c.self.inside.messages.rows c.self.inside.unsettled.places c.in-Some.index) own c.in-Some.ensures)
+          c.remove.ensures.places;
+    }
