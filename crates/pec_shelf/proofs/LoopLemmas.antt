@@ -4,6 +4,7 @@ use Rattle.std.specs.List.{filter_map, find, flat_map}
 use Rattle.std.specs.Option.{option_or}
 use Rattle.std.proofs.Math.ListN.{drop_of_length-le}
 use Rattle.std.proofs.lemmas.List.{get_or_default, map-append, take_more}
+use Rattle.std.proofs.lemmas.Grind.{flat_map-append}
 use Rattle.std.proofs.lemmas.List.Folds.{find-append}
 use Rattle.std.proofs.lemmas.List.Elements.{filter_map-append}
 use Rattle.pec_ledger.specs.Half.{Half, Mark}
@@ -16,6 +17,15 @@ drop_at xs n x l e = rw (add-one n, drop-cons xs n x) (ap (λ y. y ∷ drop (suc
 
 pub take_one : {X : Type 0} (xs : List X) (n : ℕ) (x : X) → n < length xs → x ≡ get_or xs n x → take (n + 1) xs ≡ take n xs ++ x ∷ []
 take_one xs n x l e = take_more xs n x l ∙ ap (λ y. take n xs ++ y ∷ []) (sym e)
+
+-- what was there in front, with what one more item gives
+pub flat_behind : {X Y : Type 0} (f : X → List Y) (xs : List X) (n : ℕ) (d : X) (front now new : List Y) → n < length xs
+    → now ≡ front ++ flat_map f (take n xs) → new ≡ now ++ f (get_or xs n d) → new ≡ front ++ flat_map f (take (n + 1) xs)
+flat_behind f xs n d front now new l h more =
+    let x = get_or xs n d in
+    more ∙ ap (λ ys. ys ++ f x) h ∙ append_assoc front (flat_map f (take n xs)) (f x)
+    ∙ ap (λ ys. front ++ (flat_map f (take n xs) ++ ys)) (sym (append-nil (f x)))
+    ∙ ap (λ ys. front ++ ys) (sym (ap (flat_map f) (take_one xs n x l (get_or_default xs n d x l)) ∙ flat_map-append f (take n xs) (x ∷ [])))
 
 pub filter_map_joined : {X Y : Type 0} (h : X → Option Y) (xs ys : List X) → filter_map h (xs ++ ys) ≡ filter_map h xs ++ filter_map h ys
 filter_map_joined h xs ys = filter_map-append h xs ys

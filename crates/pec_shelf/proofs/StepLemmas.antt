@@ -1,16 +1,18 @@
 -- What is answered on an entry by the directory's own trade is so for each trade of the directory.
-use Rattle.std.proofs.Common.{◌≡◌, ℕ, ◌≤◌, true, List, length, refl, sym, ap, subst, ◌∙◌, Result, Ok, Err, Some}
+use Rattle.std.proofs.Common.{◌≡◌, ℕ, ◌+◌, ◌≤◌, arith, true, List, length, refl, sym, ap, subst, ◌∙◌, Result, Ok, Err, Some}
 use Rattle.std.specs.Str.{bytes_eq}
 use Rattle.std.specs.Cmp.Lexicographic.{bytes_decides}
 use Rattle.pec_types.specs.Bytes.{Bytes}
 use Rattle.pec_types.specs.declared.messages.Facts.{Facts}
+use Rattle.pec_types.specs.declared.messages.TheConstants.{MESSAGES}
 use Rattle.pec_records.specs.Entry.{most_addresses}
 use Rattle.pec_records.specs.declared.entries.Entry.{Entry}
+use Rattle.pec_records.specs.declared.entries.Entry.TheVariants as entries
 use Rattle.pec_directory.specs.Directory.{Kept}
 use Rattle.pec_ledger.specs.Half.{Half}
 use Rattle.pec_ledger.specs.OfDirectory.{IsOf, facts_in}
 use Rattle.pec_ledger.specs.Own.{IsFrom, Own}
-use Rattle.pec_ledger.specs.Steps.{moment_of, size_of}
+use Rattle.pec_ledger.specs.Steps.{messages_by, moment_of, size_of}
 use Rattle.pec_ledger.specs.Trade.{Trade}
 use Rattle.pec_shelf.specs.Prepared.{Prepared, Prepares, Takes, prepared, rows_of}
 use Rattle.pec_shelf.specs.Settled.{settled}
@@ -43,3 +45,17 @@ fault_is kept trade me half entry faults.NoMemory of never = tt
 pub from_is : (kept : List Kept) (trade : Trade) (me : ℕ) (sender message : Bytes) (facts : Facts) → facts_in message ≡ Some facts → bytes_eq facts.sender sender ≡ true
     → length facts.recipients ≤ most_addresses → IsFrom (settled kept trade) me sender message
 from_is kept trade me sender message facts are sent few = record { facts = facts; are = are; sent = (bytes_decides facts.sender sender).0 sent; few = few }
+
+-- there are still not too many messages behind an entry
+pub few_after : (trade : Trade) (me : ℕ) (half : Half) (entry : Entry) → Own trade me half entry → length half.messages ≤ MESSAGES
+    → length half.messages + length (messages_by trade me half entry) ≤ MESSAGES
+few_after trade me half (entries.Start number digest) own few = omega (arith, few)
+few_after trade me half (entries.Accepted moment sender message) own few = let less = own.0 in omega (arith, less)
+few_after trade me half (entries.NotAccepted moment sender cause path message) own few = let less = own.0 in omega (arith, less)
+few_after trade me half (entries.Took moment id message) own few = omega (arith, few)
+few_after trade me half (entries.Decided moment id recipient decision) own few = omega (arith, few)
+few_after trade me half (entries.Charged moment id by) own few = omega (arith, few)
+few_after trade me half (entries.Learned moment id recipient decision decided message) own few = omega (arith, few)
+few_after trade me half (entries.Acked moment id recipient) own few = omega (arith, few)
+few_after trade me half (entries.Ticked moment) own few = omega (arith, few)
+few_after trade me half (entries.Anomaly moment accounts message) own few = omega (arith, few)

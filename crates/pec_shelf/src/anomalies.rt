@@ -1,4 +1,4 @@
-ghost use Rattle.std.specs.Prelude.{◌≡◌, ◌++◌, ℕ, map, IfOk};
+ghost use Rattle.std.specs.Prelude.{◌≡◌, ◌++◌, ℕ, map, IfOk, OnOk};
 ghost use Rattle.pec_types.specs.Bytes.{Bytes};
 ghost use Rattle.pec_records.specs.declared.entries.Entry.TheVariants as entries;
 ghost use Rattle.pec_ledger.specs.Steps.{anomaly_by};
@@ -33,30 +33,37 @@ pub(crate) fn anomaly(
     if !have_room(shelf, directory, accounts) {
         return Err(PrepareFault::NotAStep);
     }
-    let ready = with_anomalies(shelf, Ready::nothing(shelf.alloc), moment, accounts)?;
+    let mut ready = Ready::nothing(shelf.alloc);
+    push_anomalies(shelf, &mut ready, moment, accounts)?;
     Ok(ready)
 }
 
-/// With an item for each of these accounts.
-fn with_anomalies(
+/// Adds an item for each of these accounts.
+fn push_anomalies(
     shelf: &Shelf,
-    mut ready: Ready,
+    ready: &mut Ready,
     moment: Moment,
     accounts: &[Address],
-) -> Result<Ready, NoMemory>
-    ensures { IfOk result (λ with. with ≡ record ready {
-      adds = record ready.adds {
-        items = ready.adds.items ++ map (anomaly_by shelf.now.half moment) accounts.now;
+) -> Result<(), NoMemory>
+    ensures { OnOk result (ready.new ≡ record ready.old {
+      adds = record ready.old.adds {
+        items = ready.old.adds.items ++ map (anomaly_by shelf.now.half moment) accounts.now;
       };
     }) }
 {
     for account in accounts {
-        let row = PostedRow {
-            account: account.copy(shelf.alloc)?,
-            item: Placed::Anomaly(moment),
-            entry: shelf.entries,
-        };
-        ready = ready.with_item(row)?;
+        ready.push_item(anomaly_in(shelf, moment, account)?)?;
     }
-    Ok(ready)
+    Ok(())
+}
+
+fn anomaly_in(shelf: &Shelf, moment: Moment, account: &Address) -> Result<PostedRow, NoMemory>
+    ensures { IfOk result (λ row. row ≡ anomaly_by shelf.now.half moment account.now) }
+{
+    let account = account.copy(shelf.alloc)?;
+    Ok(PostedRow {
+        account,
+        item: Placed::Anomaly(moment),
+        entry: shelf.entries,
+    })
 }

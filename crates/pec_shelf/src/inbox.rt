@@ -16,7 +16,6 @@ use std::alloc::Global;
 use std::marker::Model;
 
 /// The recipient's side of a provider: what it took, and what became of it here.
-#[derive(Drop)]
 pub(crate) struct Inbox {
     taken: Table<TakenRow>,
     decided: Table<FateRow>,
@@ -51,6 +50,20 @@ impl Model for Inbox {
       undecided : AllElseDone (IsDecided inbox.decided.rows) 0 inbox.taken.rows inbox.undecided.places;
       unheard : AllElseDone (IsHeard inbox.acked.rows) 0 inbox.decided.rows inbox.unheard.places;
     } };
+}
+
+// Written out, so that to drop it is one call, and not the drops of all its lists wherever a shelf is dropped.
+impl Drop for Inbox {
+    fn drop(self) {
+        let Inbox {
+            taken: _,
+            decided: _,
+            acked: _,
+            undecided: _,
+            unheard: _,
+            room: _,
+        } = self;
+    }
 }
 
 /// Rows for the recipient's side.

@@ -1,4 +1,4 @@
-ghost use Rattle.std.specs.Prelude.{◌≡◌, ◌≤◌, ◌∷◌, [], length, is_some, IfOk};
+ghost use Rattle.std.specs.Prelude.{◌≡◌, ◌≤◌, ◌∷◌, [], length, is_some, IfOk, OnOk};
 ghost use Rattle.std.specs.List.{filter_map, flat_map};
 ghost use Rattle.pec_types.specs.LimitsReading.{due_of};
 ghost use Rattle.pec_types.specs.declared.messages.TheConstants.{MESSAGES};
@@ -17,9 +17,11 @@ use crate::certified::Certified;
 use crate::faults::PrepareFault;
 use crate::outbox::Outbox;
 use crate::ready::Ready;
-use crate::rows::{MarkRow, Placed, PostedRow};
+use crate::receipts::receipt;
+use crate::rows::MarkRow;
 use crate::shelf::Shelf;
 use pec_types::{Address, Due, Kind, Mark, Moment, MsgId, NoMemory, timed};
+use std::alloc::Global;
 
 /// Ticked: nothing is asked of it. The marks that the time table has, each with its notice.
 pub(crate) fn ticked(shelf: &Shelf, now: Moment) -> Result<Ready, PrepareFault>
@@ -110,70 +112,80 @@ fn with_message_marks(
         (filter_map (mark_at shelf.now.half now id accepted) recipients.now)) }
 {
     for recipient in recipients {
-        ready = with_mark(shelf, ready, now, id, accepted, sender, recipient)?;
+        push_mark(shelf, &mut ready, now, id, accepted, sender, recipient)?;
     }
     Ok(ready)
 }
 
-/// With the mark of a certified recipient, if one is due.
-fn with_mark(
+/// Adds the mark of a certified recipient, if one is due.
+fn push_mark(
     shelf: &Shelf,
-    ready: Ready,
+    ready: &mut Ready,
     now: Moment,
     id: MsgId,
     accepted: Moment,
     sender: &Address,
     recipient: &Certified,
-) -> Result<Ready, NoMemory>
+) -> Result<(), NoMemory>
     requires { submitter shelf.now.half id.number ≡ sender.now }
-    ensures { IfOk result (λ with. with ≡ with_marks shelf.now.half ready
+    ensures { OnOk result (ready.new ≡ with_marks shelf.now.half ready.old
         (filter_map (mark_at shelf.now.half now id accepted) (recipient.now ∷ []))) }
 {
     let due = due(shelf, now, id, accepted, recipient);
     if due == Due::Nothing {
-        return Ok(ready);
+        return Ok(());
     }
-    let ready = with_due(shelf, ready, now, id, sender, recipient, due)?;
-    Ok(ready)
+    push_due(shelf, ready, now, id, sender, &recipient.address, due)?;
+    Ok(())
 }
 
-/// With what is due.
-fn with_due(
+/// Adds what is due, with its notice.
+fn push_due(
     shelf: &Shelf,
-    ready: Ready,
+    ready: &mut Ready,
     now: Moment,
     id: MsgId,
     sender: &Address,
-    recipient: &Certified,
+    recipient: &Address,
     due: Due,
-) -> Result<Ready, NoMemory>
+) -> Result<(), NoMemory>
     requires { submitter shelf.now.half id.number ≡ sender.now }
-    ensures { IfOk result (λ with. with ≡ with_marks shelf.now.half ready
-        (record { pair = pair_of id recipient.now.address; due = due; moment = now } ∷ [])) }
+    ensures { OnOk result (ready.new ≡ with_marks shelf.now.half ready.old
+        (record { pair = pair_of id recipient.now; due = due; moment = now } ∷ [])) }
 {
-    let mark = MarkRow {
+    let told = told_of(shelf.alloc, id, recipient, due)?;
+    let mark = mark_of(shelf.alloc, id, recipient, due, now)?;
+    ready.push_mark(mark, told)?;
+    let named = recipient.copy(shelf.alloc)?;
+    let item = receipt(shelf, sender, kind_of_due(due), id, Some(named), now)?;
+    ready.push_item(item)?;
+    Ok(())
+}
+
+fn mark_of(
+    alloc: Global,
+    id: MsgId,
+    recipient: &Address,
+    due: Due,
+    moment: Moment,
+) -> Result<MarkRow, NoMemory>
+    ensures { IfOk result (λ mark. mark ≡ record { pair = pair_of id recipient.now; due = due; moment = moment }) }
+{
+    let recipient = recipient.copy(alloc)?;
+    Ok(MarkRow {
         id,
-        recipient: recipient.address.copy(shelf.alloc)?,
+        recipient,
         due,
-        moment: now,
-    };
-    let told = Mark {
-        id,
-        recipient: recipient.address.copy(shelf.alloc)?,
-        due,
-    };
-    let item = PostedRow {
-        account: sender.copy(shelf.alloc)?,
-        item: Placed::Receipt {
-            kind: kind_of_due(due),
-            id,
-            recipient: Some(recipient.address.copy(shelf.alloc)?),
-            moment: now,
-        },
-        entry: shelf.entries,
-    };
-    let ready = ready.with_mark(mark, told)?.with_item(item)?;
-    Ok(ready)
+        moment,
+    })
+}
+
+/// What a clock call tells of a mark.
+fn told_of(alloc: Global, id: MsgId, recipient: &Address, due: Due) -> Result<Mark, NoMemory>
+    ensures { IfOk result (λ told. told ≡ record { id = id; recipient = recipient.now; due = due }) }
+{
+    let recipient = recipient.copy(alloc)?;
+    Ok(Mark { id, recipient, due })
 }
 
 /// The notice that a mark stands for; no mark stands for nothing due.

@@ -1,6 +1,7 @@
-ghost use Rattle.std.specs.Prelude.{◌≡◌, [], ◌∷◌, ◌++◌, IfOk};
+ghost use Rattle.std.specs.Prelude.{◌≡◌, [], ◌∷◌, ◌++◌, map, OnOk};
 ghost use Rattle.pec_shelf.specs.Prepared.{AreWithin, nothing, told};
 ghost use Rattle.pec_shelf.specs.Longest.{IsLongest};
+ghost use Rattle.pec_shelf.specs.Sides.{certified_of_rows, messages_of};
 
 use crate::inbox::ReceivedRows;
 use crate::outbox::SentRows;
@@ -12,7 +13,6 @@ use std::alloc::Global;
 use std::marker::Model;
 
 /// An entry that was prepared: contracts see what it adds to the half of a provider.
-#[derive(Drop)]
 pub struct Ready {
     pub(crate) moment: u64,
     pub(crate) size: u64,
@@ -48,6 +48,20 @@ impl Model for Ready {
     ghost invariant = { λ ready. ready.answer.items ≡ map told ready.sent.marks.items };
 }
 
+// Written out, so that to drop what was prepared is one call, and not the drops of all its lists wherever it is dropped.
+impl Drop for Ready {
+    fn drop(self) {
+        let Ready {
+            moment: _,
+            size: _,
+            sent: _,
+            received: _,
+            items: _,
+            answer: _,
+        } = self;
+    }
+}
+
 impl Ready {
     /// Nothing is added. It takes no memory.
     pub(crate) fn nothing(alloc: Global) -> Ready
@@ -71,76 +85,75 @@ impl Ready {
             answer: Vec::new(alloc),
         }
     }
-}
 
-impl Ready {
-    /// With one more message.
-    pub(crate) fn with_message(mut self, row: MessageRow) -> Result<Ready, NoMemory>
-        ensures { IfOk result (λ ready. ready ≡ record {
-          adds = record self.adds { messages = self.adds.messages ++ row.message ∷ [] };
-          certified = self.certified ++ row.certified ∷ [];
+    /// Adds a message.
+    pub(crate) fn push_message(&mut self, row: MessageRow) -> Result<(), NoMemory>
+        ensures { OnOk result (self.new ≡ record {
+          adds = record self.old.adds { messages = self.old.adds.messages ++ row.message ∷ [] };
+          certified = self.old.certified ++ row.certified ∷ [];
         }) }
     {
         self.sent.messages.push(row)?;
-        Ok(self)
+        Ok(())
     }
 
-    /// With one more charge.
-    pub(crate) fn with_charge(mut self, row: ChargeRow) -> Result<Ready, NoMemory>
-        ensures { IfOk result (λ ready. ready ≡ record self { adds = record self.adds { charged = self.adds.charged ++ row ∷ [] } }) }
+    /// Adds a charge.
+    pub(crate) fn push_charge(&mut self, row: ChargeRow) -> Result<(), NoMemory>
+        ensures { OnOk result (self.new ≡ record self.old { adds = record self.old.adds { charged = self.old.adds.charged ++ row ∷ [] } }) }
     {
         self.sent.charged.push(row)?;
-        Ok(self)
+        Ok(())
     }
 
-    /// With one more outcome that is known.
-    pub(crate) fn with_known(mut self, row: KnownRow) -> Result<Ready, NoMemory>
-        ensures { IfOk result (λ ready. ready ≡ record self { adds = record self.adds { known = self.adds.known ++ row ∷ [] } }) }
+    /// Adds an outcome that is known.
+    pub(crate) fn push_known(&mut self, row: KnownRow) -> Result<(), NoMemory>
+        ensures { OnOk result (self.new ≡ record self.old { adds = record self.old.adds { known = self.old.adds.known ++ row ∷ [] } }) }
     {
         self.sent.known.push(row)?;
-        Ok(self)
+        Ok(())
     }
 
-    /// With one more id that was taken.
-    pub(crate) fn with_taken(mut self, row: TakenRow) -> Result<Ready, NoMemory>
-        ensures { IfOk result (λ ready. ready ≡ record self { adds = record self.adds { taken = self.adds.taken ++ row ∷ [] } }) }
+    /// Adds an id that was taken.
+    pub(crate) fn push_taken(&mut self, row: TakenRow) -> Result<(), NoMemory>
+        ensures { OnOk result (self.new ≡ record self.old { adds = record self.old.adds { taken = self.old.adds.taken ++ row ∷ [] } }) }
     {
         self.received.taken.push(row)?;
-        Ok(self)
+        Ok(())
     }
 
-    /// With one more decision.
-    pub(crate) fn with_fate(mut self, row: FateRow) -> Result<Ready, NoMemory>
-        ensures { IfOk result (λ ready. ready ≡ record self { adds = record self.adds { decided = self.adds.decided ++ row ∷ [] } }) }
+    /// Adds a decision.
+    pub(crate) fn push_fate(&mut self, row: FateRow) -> Result<(), NoMemory>
+        ensures { OnOk result (self.new ≡ record self.old { adds = record self.old.adds { decided = self.old.adds.decided ++ row ∷ [] } }) }
     {
         self.received.decided.push(row)?;
-        Ok(self)
+        Ok(())
     }
 
-    /// With one more acknowledgement.
-    pub(crate) fn with_acked(mut self, row: AckedRow) -> Result<Ready, NoMemory>
-        ensures { IfOk result (λ ready. ready ≡ record self { adds = record self.adds { acked = self.adds.acked ++ row ∷ [] } }) }
+    /// Adds an acknowledgement.
+    pub(crate) fn push_acked(&mut self, row: AckedRow) -> Result<(), NoMemory>
+        ensures { OnOk result (self.new ≡ record self.old { adds = record self.old.adds { acked = self.old.adds.acked ++ row ∷ [] } }) }
     {
         self.received.acked.push(row)?;
-        Ok(self)
+        Ok(())
     }
 
-    /// With one more item.
-    pub(crate) fn with_item(mut self, row: PostedRow) -> Result<Ready, NoMemory>
-        ensures { IfOk result (λ ready. ready ≡ record self { adds = record self.adds { items = self.adds.items ++ row ∷ [] } }) }
+    /// Adds an item.
+    pub(crate) fn push_item(&mut self, row: PostedRow) -> Result<(), NoMemory>
+        ensures { OnOk result (self.new ≡ record self.old { adds = record self.old.adds { items = self.old.adds.items ++ row ∷ [] } }) }
     {
         self.items.push(row)?;
-        Ok(self)
+        Ok(())
     }
 
-    /// With one more mark.
-    pub(crate) fn with_mark(mut self, row: MarkRow, answer: Mark) -> Result<Ready, NoMemory>
+    /// Adds a mark, and what a clock call tells of it.
+    pub(crate) fn push_mark(&mut self, row: MarkRow, answer: Mark) -> Result<(), NoMemory>
         requires { answer ≡ told row }
-        ensures { IfOk result (λ ready. ready ≡ record self { adds = record self.adds { marks = self.adds.marks ++ row ∷ [] } }) }
+        ensures { OnOk result (self.new ≡ record self.old { adds = record self.old.adds { marks = self.old.adds.marks ++ row ∷ [] } }) }
     {
-        self.answer.push(answer)?;
+        self.answer.reserve(1)?;
         self.sent.marks.push(row)?;
-        Ok(self)
+        self.answer.push_reserved(answer);
+        Ok(())
     }
 
     /// At a moment, in seconds, and of so many bytes in the journal. It takes no memory.
@@ -150,6 +163,30 @@ impl Ready {
         self.moment = moment;
         self.size = size;
         self
+    }
+
+    /// Its lists: the rows of both sides, the items, and the answer. It takes no memory.
+    pub(crate) fn taken_apart(self) -> (SentRows, ReceivedRows, Vec<PostedRow>, Vec<Mark>)
+        ensures messages { messages_of result.0.messages.items ≡ self.adds.messages }
+        ensures certified { certified_of_rows result.0.messages.items ≡ self.certified }
+        ensures charged { result.0.charged.items ≡ self.adds.charged }
+        ensures marks { result.0.marks.items ≡ self.adds.marks }
+        ensures known { result.0.known.items ≡ self.adds.known }
+        ensures taken { result.1.taken.items ≡ self.adds.taken }
+        ensures decided { result.1.decided.items ≡ self.adds.decided }
+        ensures acked { result.1.acked.items ≡ self.adds.acked }
+        ensures items { result.2.items ≡ self.adds.items }
+        ensures answer { result.3.items ≡ map told self.adds.marks }
+    {
+        let Ready {
+            moment: _,
+            size: _,
+            sent,
+            received,
+            items,
+            answer,
+        } = self;
+        (sent, received, items, answer)
     }
 
     /// The length of its longest list. It takes no memory.

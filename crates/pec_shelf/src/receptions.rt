@@ -1,4 +1,4 @@
-ghost use Rattle.std.specs.Prelude.{◌≡◌, ◌↔◌, ℕ, [], ◌∷◌, ◌++◌, None, Some, IfOk, IsErrOf, IsTrue, slice_get};
+ghost use Rattle.std.specs.Prelude.{◌≡◌, ◌↔◌, ℕ, [], ◌∷◌, ◌++◌, None, Some, IfOk, OnOk, IsErrOf, IsTrue, slice_get};
 ghost use Rattle.pec_types.specs.Bytes.{Bytes};
 ghost use Rattle.pec_records.specs.declared.entries.Entry.TheVariants as entries;
 ghost use Rattle.pec_ledger.specs.Half.{ReceiptItem};
@@ -47,7 +47,8 @@ pub(crate) fn took(
         entry: shelf.entries,
         place: shelf.inbox.count_taken(),
     };
-    let ready = Ready::nothing(shelf.alloc).with_taken(row)?;
+    let mut ready = Ready::nothing(shelf.alloc);
+    ready.push_taken(row)?;
     Ok(ready)
 }
 
@@ -79,8 +80,9 @@ pub(crate) fn decided(
         moment,
         place: shelf.inbox.count_decided(),
     };
-    let ready = Ready::nothing(shelf.alloc).with_fate(row)?;
-    let ready = placed(shelf, ready, id, recipient, decision)?;
+    let mut ready = Ready::nothing(shelf.alloc);
+    ready.push_fate(row)?;
+    push_placed(shelf, &mut ready, id, recipient, decision)?;
     Ok(ready)
 }
 
@@ -94,30 +96,30 @@ fn is_taken(shelf: &Shelf, id: MsgId, recipient: &Address) -> bool
     }
 }
 
-/// With the envelope in the recipient's mailbox, where that was decided.
-fn placed(
+/// Adds the envelope in the recipient's mailbox, where that was decided.
+fn push_placed(
     shelf: &Shelf,
-    ready: Ready,
+    ready: &mut Ready,
     id: MsgId,
     recipient: &Address,
     decision: Decision,
-) -> Result<Ready, NoMemory>
-    ensures { IfOk result (λ with. with ≡ record ready {
-      adds = record ready.adds {
-        items = ready.adds.items ++ placed_by shelf.now.half id recipient.now decision;
+) -> Result<(), NoMemory>
+    ensures { OnOk result (ready.new ≡ record ready.old {
+      adds = record ready.old.adds {
+        items = ready.old.adds.items ++ placed_by shelf.now.half id recipient.now decision;
       };
     }) }
 {
     if decision != Decision::Placed {
-        return Ok(ready);
+        return Ok(());
     }
     let account = recipient.copy(shelf.alloc)?;
-    let ready = ready.with_item(PostedRow {
+    ready.push_item(PostedRow {
         account,
         item: Placed::Envelope(id),
         entry: shelf.entries,
     })?;
-    Ok(ready)
+    Ok(())
 }
 
 /// Charged: an accepted message of this provider, with pairs at the other one, which hasn't charged it.
@@ -135,7 +137,8 @@ pub(crate) fn charged(
     if !shelf.has_pairs(id.number, by) {
         return Err(PrepareFault::NotAStep);
     }
-    let ready = Ready::nothing(shelf.alloc).with_charge(ChargeRow { id, by, moment })?;
+    let mut ready = Ready::nothing(shelf.alloc);
+    ready.push_charge(ChargeRow { id, by, moment })?;
     Ok(ready)
 }
 
@@ -194,16 +197,15 @@ fn learn(
         Some(named),
         moment,
     )?;
-    let row = KnownRow {
+    let mut ready = Ready::nothing(shelf.alloc);
+    ready.push_item(item)?;
+    ready.push_known(KnownRow {
         id,
         recipient: recipient.copy(shelf.alloc)?,
         decision,
         decided,
         moment,
-    };
-    let ready = Ready::nothing(shelf.alloc)
-        .with_known(row)?
-        .with_item(item)?;
+    })?;
     Ok(ready)
 }
 
@@ -228,6 +230,7 @@ pub(crate) fn acked(shelf: &Shelf, id: MsgId, recipient: &Address) -> Result<Rea
         id,
         recipient: recipient.copy(shelf.alloc)?,
     };
-    let ready = Ready::nothing(shelf.alloc).with_acked(row)?;
+    let mut ready = Ready::nothing(shelf.alloc);
+    ready.push_acked(row)?;
     Ok(ready)
 }

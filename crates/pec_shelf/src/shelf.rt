@@ -131,10 +131,11 @@ impl Shelf {
         self.entries += 1;
         self.last = self.last.max(ready.moment);
         self.end += ready.size;
-        self.outbox.add(ready.sent);
-        self.inbox.add(ready.received);
-        self.boxes.add(ready.items);
-        ready.answer
+        let (sent, received, items, answer) = ready.taken_apart();
+        self.outbox.add(sent);
+        self.inbox.add(received);
+        self.boxes.add(items);
+        answer
     }
 
     /// The facts of this provider's accepted message of a number. It takes no memory.

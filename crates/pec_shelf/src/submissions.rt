@@ -1,13 +1,14 @@
-ghost use Rattle.std.specs.Prelude.{◌≡◌, ℕ, ◌<◌, List, [], None, Some, MatchOption, IfOk, IsTrue, length};
+ghost use Rattle.std.specs.Prelude.{◌≡◌, ℕ, ◌<◌, List, [], ◌∷◌, None, Some, MatchOption, IfOk, IsTrue, length};
 ghost use Rattle.pec_types.specs.Bytes.{Bytes};
 ghost use Rattle.pec_types.specs.declared.messages.TheConstants.{MESSAGES};
 ghost use Rattle.pec_records.specs.declared.entries.Entry.TheVariants as entries;
 ghost use Rattle.pec_directory.specs.Directory.{Kept, is_account_of, providers_of};
+ghost use Rattle.pec_ledger.specs.Half.{ReceiptItem};
 ghost use Rattle.pec_ledger.specs.OfDirectory.{facts_in};
 ghost use Rattle.pec_ledger.specs.Own.{IsFrom};
 ghost use Rattle.pec_ledger.specs.Pairs.{id_of};
 ghost use Rattle.pec_ledger.specs.Trade.{Trade};
-ghost use Rattle.pec_shelf.specs.Prepared.{Takes};
+ghost use Rattle.pec_shelf.specs.Prepared.{Takes, nothing};
 ghost use Rattle.pec_shelf.specs.Settled.{certified_among, settled};
 
 use crate::faults::PrepareFault;
@@ -60,10 +61,35 @@ pub(crate) fn accepted(
         return Err(PrepareFault::NotAStep);
     };
     let row = accepted_row(shelf, directory, moment, sender, facts)?;
-    let item = receipt(shelf, sender, Kind::Acceptance, id, None, moment)?;
-    let ready = Ready::nothing(shelf.alloc)
-        .with_message(row)?
-        .with_item(item)?;
+    let ready = submitted(shelf, row, sender, Kind::Acceptance, id, moment)?;
+    Ok(ready)
+}
+
+/// What a message adds: itself, and a receipt for its sender.
+fn submitted(
+    shelf: &Shelf,
+    row: MessageRow,
+    sender: &Address,
+    kind: Kind,
+    id: MsgId,
+    moment: Moment,
+) -> Result<Ready, NoMemory>
+    ensures { IfOk result (λ ready. ready ≡ record {
+      adds = record nothing.adds {
+        messages = row.message ∷ [];
+        items = record {
+          account = sender.now;
+          item = ReceiptItem kind id None moment;
+          entry = shelf.now.half.entries;
+        } ∷ [];
+      };
+      certified = row.certified ∷ [];
+    }) }
+{
+    let mut ready = Ready::nothing(shelf.alloc);
+    ready.push_message(row)?;
+    let item = receipt(shelf, sender, kind, id, None, moment)?;
+    ready.push_item(item)?;
     Ok(ready)
 }
 
@@ -150,10 +176,7 @@ pub(crate) fn not_accepted(
         return Err(PrepareFault::NotAStep);
     }
     let row = refused_row(shelf, moment, sender, cause, path)?;
-    let item = receipt(shelf, sender, Kind::NonAcceptance(cause), id, None, moment)?;
-    let ready = Ready::nothing(shelf.alloc)
-        .with_message(row)?
-        .with_item(item)?;
+    let ready = submitted(shelf, row, sender, Kind::NonAcceptance(cause), id, moment)?;
     Ok(ready)
 }
 

@@ -67,12 +67,7 @@ fn nth(list: &'static str, place: usize) -> Option<&'static str> {
     if list.is_empty() {
         return None;
     }
-    for (at, text) in list.split(',').enumerate() {
-        if at == place {
-            return Some(text);
-        }
-    }
-    None
+    list.split(',').nth(place)
 }
 
 /// Whether a message is for an address.

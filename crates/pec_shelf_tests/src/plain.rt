@@ -1,10 +1,11 @@
 //! A second shelf, of a provider of the two providers' directory: a plain list of what happened, and loops over it. It knows
 //! no clock calls, no refused messages and no anomalies.
 
+use crate::lines::Log;
 use crate::messages::{goes_to, home, is_account_of, is_named};
 use crate::steps::{Act, Id, Message, Step};
 use pec_types::{Decision, Refusal};
-use std::alloc::{AllocError, Global};
+use std::alloc::Global;
 
 /// An act that was a step.
 #[derive(Clone, Copy)]
@@ -39,16 +40,20 @@ impl Plain {
     }
 
     /// Does a step, and adds the lines that come of it.
-    pub(crate) fn play(&mut self, log: &mut Vec<u8>, step: &Step) -> Result<(), AllocError> {
+    pub(crate) fn play(&mut self, log: &mut Log, step: &Step) {
         match *step {
-            Step::Enter(moment, act) => {
-                if !self.follows(moment, &act) {
-                    return log.extend_from_slice(b"not-a-step\n");
-                }
-                self.done.push(Done { moment, act })?;
-                Ok(())
-            }
+            Step::Enter(moment, act) => self.enter(log, moment, act),
             Step::Ask(question) => self.answer(log, question),
+        }
+    }
+
+    fn enter(&mut self, log: &mut Log, moment: u64, act: Act) {
+        if !self.follows(moment, &act) {
+            return log.put(b"not-a-step\n");
+        }
+        match self.done.push(Done { moment, act }) {
+            Ok(()) => {}
+            Err(_) => log.fail(),
         }
     }
 
@@ -69,24 +74,22 @@ impl Plain {
     pub(crate) fn sent(&self, number: u64) -> Option<Came> {
         let mut count = 0u64;
         for (entry, done) in self.done.iter().enumerate() {
-            let Act::Accepts(_, message) = done.act else {
-                continue;
-            };
-            if count == number {
-                return Some(coming(entry, done, message));
+            let sent = sent_by(entry, done);
+            if sent.is_some() {
+                if count == number {
+                    return sent;
+                }
+                count = count.saturating_add(1);
             }
-            count = count.saturating_add(1);
         }
         None
     }
 
     pub(crate) fn taken(&self, id: Id) -> Option<Came> {
         for (entry, done) in self.done.iter().enumerate() {
-            let Act::Takes(other, message) = done.act else {
-                continue;
-            };
-            if is_same(id, other) {
-                return Some(coming(entry, done, message));
+            let taken = taken_by(entry, done, id);
+            if taken.is_some() {
+                return taken;
             }
         }
         None
@@ -94,10 +97,7 @@ impl Plain {
 
     pub(crate) fn charged(&self, id: Id, by: u32) -> Option<u64> {
         for done in &self.done {
-            let Act::Charges(other, provider) = done.act else {
-                continue;
-            };
-            if is_same(id, other) && provider == by {
+            if is_charge(done, id, by) {
                 return Some(done.moment);
             }
         }
@@ -107,11 +107,9 @@ impl Plain {
     /// The decision that was learned on a pair, its moment, and when it was learned.
     pub(crate) fn known(&self, id: Id, recipient: &str) -> Option<(Decision, u64, u64)> {
         for done in &self.done {
-            let Act::Learns(other, address, decision, decided) = done.act else {
-                continue;
-            };
-            if is_same(id, other) && address == recipient {
-                return Some((decision, decided, done.moment));
+            let known = known_by(done, id, recipient);
+            if known.is_some() {
+                return known;
             }
         }
         None
@@ -119,11 +117,9 @@ impl Plain {
 
     pub(crate) fn decided(&self, id: Id, recipient: &str) -> Option<(Decision, u64)> {
         for done in &self.done {
-            let Act::Decides(other, address, decision) = done.act else {
-                continue;
-            };
-            if is_same(id, other) && address == recipient {
-                return Some((decision, done.moment));
+            let decided = decided_by(done, id, recipient);
+            if decided.is_some() {
+                return decided;
             }
         }
         None
@@ -131,10 +127,7 @@ impl Plain {
 
     pub(crate) fn is_acked(&self, id: Id, recipient: &str) -> bool {
         for done in &self.done {
-            let Act::Acks(other, address) = done.act else {
-                continue;
-            };
-            if is_same(id, other) && address == recipient {
+            if is_ack(done, id, recipient) {
                 return true;
             }
         }
@@ -241,6 +234,67 @@ fn coming(entry: usize, done: &Done, message: Message) -> Came {
         moment: done.moment,
         message,
     }
+}
+
+fn sent_by(entry: usize, done: &Done) -> Option<Came> {
+    match done.act {
+        Act::Accepts(_, message) => Some(coming(entry, done, message)),
+        _ => None,
+    }
+}
+
+fn taken_by(entry: usize, done: &Done, id: Id) -> Option<Came> {
+    match done.act {
+        Act::Takes(other, message) => {
+            if is_same(id, other) {
+                return Some(coming(entry, done, message));
+            }
+            None
+        }
+        _ => None,
+    }
+}
+
+fn is_charge(done: &Done, id: Id, by: u32) -> bool {
+    match done.act {
+        Act::Charges(other, provider) => is_same(id, other) && provider == by,
+        _ => false,
+    }
+}
+
+fn known_by(done: &Done, id: Id, recipient: &str) -> Option<(Decision, u64, u64)> {
+    match done.act {
+        Act::Learns(other, address, decision, decided) => {
+            if is_pair(id, recipient, other, address) {
+                return Some((decision, decided, done.moment));
+            }
+            None
+        }
+        _ => None,
+    }
+}
+
+fn decided_by(done: &Done, id: Id, recipient: &str) -> Option<(Decision, u64)> {
+    match done.act {
+        Act::Decides(other, address, decision) => {
+            if is_pair(id, recipient, other, address) {
+                return Some((decision, done.moment));
+            }
+            None
+        }
+        _ => None,
+    }
+}
+
+fn is_ack(done: &Done, id: Id, recipient: &str) -> bool {
+    match done.act {
+        Act::Acks(other, address) => is_pair(id, recipient, other, address),
+        _ => false,
+    }
+}
+
+fn is_pair(id: Id, recipient: &str, other: Id, address: &str) -> bool {
+    is_same(id, other) && address == recipient
 }
 
 fn is_same(id: Id, other: Id) -> bool {

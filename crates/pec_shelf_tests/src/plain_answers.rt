@@ -1,73 +1,64 @@
 //! What a second shelf answers: the same lines as the shelf under test, by loops over its list.
 
-use crate::lines::{add, add_found, add_nothing, add_number, end};
+use crate::lines::Log;
 use crate::messages::{MOST, class, goes_to, home, is_named, recipient};
 use crate::plain::{Came, Done, Plain, is_placed};
 use crate::steps::{Act, Id, Message, Question};
 use pec_types::Decision;
-use std::alloc::AllocError;
 
 impl Plain {
     /// Adds the lines of an answer.
-    pub(crate) fn answer(&self, log: &mut Vec<u8>, question: Question) -> Result<(), AllocError> {
+    pub(crate) fn answer(&self, log: &mut Log, question: Question) {
         match question {
             Question::Due(to, room) => self.add_due(log, to, room),
             Question::Book(account) => self.add_book(log, account),
             Question::Items(account) => self.add_items(log, account),
             Question::Undecided => self.add_undecided(log),
             Question::Row(id, recipient) => self.add_row(log, id, recipient),
-            Question::Counted(account) => {
-                add_found(self.alloc, log, Some(self.counted(account)))
-            }
-            Question::Own(number) => add_found(self.alloc, log, entry_of(self.sent(number))),
-            Question::Took(id) => add_found(self.alloc, log, entry_of(self.taken(id))),
-            Question::Facts(_) | Question::Source(_, _) => Ok(()),
+            Question::Counted(account) => log.add_found(Some(self.counted(account))),
+            Question::Own(number) => log.add_found(entry_of(self.sent(number))),
+            Question::Took(id) => log.add_found(entry_of(self.taken(id))),
+            Question::Facts(_) | Question::Source(_, _) => {}
         }
     }
 
     /// Outcomes that nobody acknowledged, in order of decision, and then envelopes of which nothing was heard.
-    fn add_due(&self, log: &mut Vec<u8>, to: u32, room: usize) -> Result<(), AllocError> {
-        let outcomes = self.add_outcomes(log, to, room)?;
-        let count = self.add_envelopes(log, to, room, outcomes)?;
-        add(log, b"due")?;
-        add_number(self.alloc, log, count as u64)?;
-        end(log)
+    fn add_due(&self, log: &mut Log, to: u32, room: usize) {
+        let outcomes = self.add_outcomes(log, to, room);
+        let count = self.add_envelopes(log, to, room, outcomes);
+        log.add(b"due");
+        log.add_number(count as u64);
+        log.end();
     }
 
     /// How many outcomes there are, at most so many.
-    fn add_outcomes(&self, log: &mut Vec<u8>, to: u32, room: usize) -> Result<usize, AllocError> {
+    fn add_outcomes(&self, log: &mut Log, to: u32, room: usize) -> usize {
         let mut count = 0usize;
         for done in &self.done {
             let Act::Decides(id, recipient, _) = done.act else {
                 continue;
             };
             if count < room && id.0 == to && !self.is_acked(id, recipient) {
-                self.add_pair_line(log, b"outcome", id, recipient)?;
+                self.add_pair_line(log, b"outcome", id, recipient);
                 count = count.saturating_add(1);
             }
         }
-        Ok(count)
+        count
     }
 
     /// How many letters there are together with the envelopes, at most so many.
-    fn add_envelopes(
-        &self,
-        log: &mut Vec<u8>,
-        to: u32,
-        room: usize,
-        before: usize,
-    ) -> Result<usize, AllocError> {
+    fn add_envelopes(&self, log: &mut Log, to: u32, room: usize, before: usize) -> usize {
         let mut count = before;
         for number in 0..self.done.len() as u64 {
             if count < room && self.is_unheard((self.me, number), to) {
-                add(log, b"envelope")?;
-                self.add_id(log, (self.me, number))?;
-                add_number(self.alloc, log, u64::from(to))?;
-                end(log)?;
+                log.add(b"envelope");
+                self.add_id(log, (self.me, number));
+                log.add_number(u64::from(to));
+                log.end();
                 count = count.saturating_add(1);
             }
         }
-        Ok(count)
+        count
     }
 
     /// Whether a message goes to a provider of which neither a charge nor an outcome came.
@@ -90,18 +81,18 @@ impl Plain {
         false
     }
 
-    fn add_undecided(&self, log: &mut Vec<u8>) -> Result<(), AllocError> {
+    fn add_undecided(&self, log: &mut Log) {
         for done in &self.done {
             let Act::Takes(id, message) = done.act else {
                 continue;
             };
             if let Some(address) = self.undecided(id, message) {
-                self.add_id(log, id)?;
-                add(log, address.as_bytes())?;
-                return end(log);
+                self.add_id(log, id);
+                log.add(address.as_bytes());
+                return log.end();
             }
         }
-        add_nothing(log)
+        log.add_nothing();
     }
 
     /// The first recipient here of a message for whom nothing is decided.
@@ -115,16 +106,16 @@ impl Plain {
         None
     }
 
-    fn add_row(&self, log: &mut Vec<u8>, id: Id, recipient: &str) -> Result<(), AllocError> {
+    fn add_row(&self, log: &mut Log, id: Id, recipient: &str) {
         let sent = self.sent_here(id, recipient);
         let taken = self.taken_here(id, recipient);
         if sent.is_none() && taken.is_none() {
-            return add_nothing(log);
+            return log.add_nothing();
         }
-        self.add_sent(log, sent, id, recipient)?;
-        add(log, b"/")?;
-        self.add_taken(log, taken, id, recipient)?;
-        end(log)
+        self.add_sent(log, sent, id, recipient);
+        log.add(b"/");
+        self.add_taken(log, taken, id, recipient);
+        log.end();
     }
 
     /// When a pair of this provider's own messages was accepted.
@@ -151,47 +142,34 @@ impl Plain {
         Some(came.moment)
     }
 
-    fn add_sent(
-        &self,
-        log: &mut Vec<u8>,
-        sent: Option<u64>,
-        id: Id,
-        recipient: &str,
-    ) -> Result<(), AllocError> {
+    fn add_sent(&self, log: &mut Log, sent: Option<u64>, id: Id, recipient: &str) {
         if sent.is_none() {
-            return add(log, b"- - - - -");
+            return log.add(b"- - - - -");
         }
-        self.add_moment(log, sent)?;
-        self.add_moment(log, self.heard(id, recipient))?;
-        add(log, b"- -")?;
+        log.add_moment(sent);
+        log.add_moment(self.heard(id, recipient));
+        log.add(b"- -");
         let Some((decision, decided, learned)) = self.known(id, recipient) else {
-            return add(log, b"-");
+            return log.add(b"-");
         };
-        add(log, decision.word())?;
-        self.add_moment(log, Some(decided))?;
-        self.add_moment(log, Some(learned))
+        log.add(decision.word());
+        log.add_moment(Some(decided));
+        log.add_moment(Some(learned));
     }
 
-    fn add_taken(
-        &self,
-        log: &mut Vec<u8>,
-        taken: Option<u64>,
-        id: Id,
-        recipient: &str,
-    ) -> Result<(), AllocError> {
+    fn add_taken(&self, log: &mut Log, taken: Option<u64>, id: Id, recipient: &str) {
         if taken.is_none() {
-            return add(log, b"- -");
+            return log.add(b"- -");
         }
-        self.add_moment(log, taken)?;
+        log.add_moment(taken);
         let Some((decision, moment)) = self.decided(id, recipient) else {
-            return add(log, b"-");
+            return log.add(b"-");
         };
-        add(log, decision.word())?;
-        self.add_moment(log, Some(moment))?;
+        log.add(decision.word());
+        log.add_moment(Some(moment));
         if self.is_acked(id, recipient) {
-            add(log, b"acked")?;
+            log.add(b"acked");
         }
-        Ok(())
     }
 
     /// When the recipient's provider took charge of a message.
@@ -201,109 +179,95 @@ impl Plain {
     }
 
     /// A line for each message of an account and each certified recipient.
-    fn add_book(&self, log: &mut Vec<u8>, account: &str) -> Result<(), AllocError> {
+    fn add_book(&self, log: &mut Log, account: &str) {
         let mut count = 0u64;
         for number in 0..self.done.len() as u64 {
             let Some(came) = self.sent(number) else {
                 break;
             };
             if came.message.from == account {
-                let lines = self.add_lines(log, (self.me, number), came)?;
+                let lines = self.add_lines(log, (self.me, number), came);
                 count = count.saturating_add(lines);
             }
         }
-        add(log, b"book")?;
-        add_number(self.alloc, log, count)?;
-        end(log)
+        log.add(b"book");
+        log.add_number(count);
+        log.end();
     }
 
     /// The lines of a message, and how many they are.
-    fn add_lines(&self, log: &mut Vec<u8>, id: Id, came: Came) -> Result<u64, AllocError> {
+    fn add_lines(&self, log: &mut Log, id: Id, came: Came) -> u64 {
         let mut lines = 0u64;
         for place in 0..MOST {
             let Some(address) = recipient(came.message, place) else {
                 break;
             };
             if home(address).is_some() {
-                self.add_line(log, id, came, place, address)?;
+                self.add_line(log, id, came, place, address);
                 lines = lines.saturating_add(1);
             }
         }
-        Ok(lines)
+        lines
     }
 
-    fn add_line(
-        &self,
-        log: &mut Vec<u8>,
-        id: Id,
-        came: Came,
-        place: usize,
-        address: &str,
-    ) -> Result<(), AllocError> {
-        self.add_id(log, id)?;
-        add(log, address.as_bytes())?;
-        add(log, class(came.message, place).as_bytes())?;
-        self.add_moment(log, Some(came.moment))?;
-        self.add_moment(log, self.heard(id, address))?;
-        add(log, b"- -")?;
+    fn add_line(&self, log: &mut Log, id: Id, came: Came, place: usize, address: &str) {
+        self.add_id(log, id);
+        log.add(address.as_bytes());
+        log.add(class(came.message, place).as_bytes());
+        log.add_moment(Some(came.moment));
+        log.add_moment(self.heard(id, address));
+        log.add(b"- -");
         match self.known(id, address) {
             Some((decision, decided, _)) => {
-                add(log, decision.word())?;
-                self.add_moment(log, Some(decided))?;
+                log.add(decision.word());
+                log.add_moment(Some(decided));
             }
-            None => add(log, b"open")?,
+            None => log.add(b"open"),
         }
-        end(log)
+        log.end();
     }
 
     /// The items of an account, in order of placing.
-    fn add_items(&self, log: &mut Vec<u8>, account: &str) -> Result<(), AllocError> {
+    fn add_items(&self, log: &mut Log, account: &str) {
         let mut number = 0u64;
         let mut place = 0u64;
         for done in &self.done {
-            if self.add_item(log, done, account, number, place)? {
+            if self.add_item(log, done, account, number, place) {
                 place = place.saturating_add(1);
             }
             if matches!(done.act, Act::Accepts(_, _)) {
                 number = number.saturating_add(1);
             }
         }
-        add(log, b"mailbox")?;
-        add_number(self.alloc, log, place)?;
-        end(log)
+        log.add(b"mailbox");
+        log.add_number(place);
+        log.end();
     }
 
     /// The item that an act placed with an account, where it placed one; `number` is that of the next own message.
-    fn add_item(
-        &self,
-        log: &mut Vec<u8>,
-        done: &Done,
-        account: &str,
-        number: u64,
-        place: u64,
-    ) -> Result<bool, AllocError> {
+    fn add_item(&self, log: &mut Log, done: &Done, account: &str, number: u64, place: u64) -> bool {
         match done.act {
             Act::Accepts(sender, _) => {
                 if sender != account {
-                    return Ok(false);
+                    return false;
                 }
-                self.add_item_line(log, place, b"acceptance", (self.me, number), "-")?;
+                self.add_item_line(log, place, b"acceptance", (self.me, number), "-");
             }
             Act::Learns(id, recipient, decision, _) => {
                 if !self.is_by(id, account) {
-                    return Ok(false);
+                    return false;
                 }
-                self.add_item_line(log, place, kind(decision).as_bytes(), id, recipient)?;
+                self.add_item_line(log, place, kind(decision).as_bytes(), id, recipient);
             }
             Act::Decides(id, _, _) => {
                 if !is_placed(done, account) {
-                    return Ok(false);
+                    return false;
                 }
-                self.add_item_line(log, place, b"envelope", id, "-")?;
+                self.add_item_line(log, place, b"envelope", id, "-");
             }
-            _ => return Ok(false),
+            _ => return false,
         }
-        Ok(true)
+        true
     }
 
     fn is_by(&self, id: Id, account: &str) -> bool {
@@ -313,55 +277,42 @@ impl Plain {
         }
     }
 
-    fn add_item_line(
-        &self,
-        log: &mut Vec<u8>,
-        place: u64,
-        kind: &[u8],
-        id: Id,
-        recipient: &str,
-    ) -> Result<(), AllocError> {
-        add_number(self.alloc, log, place)?;
-        self.add_pair_line(log, kind, id, recipient)
+    fn add_item_line(&self, log: &mut Log, place: u64, kind: &[u8], id: Id, recipient: &str) {
+        log.add_number(place);
+        self.add_pair_line(log, kind, id, recipient);
     }
 
-    fn add_pair_line(
-        &self,
-        log: &mut Vec<u8>,
-        kind: &[u8],
-        id: Id,
-        recipient: &str,
-    ) -> Result<(), AllocError> {
-        add(log, kind)?;
-        self.add_id(log, id)?;
-        add(log, recipient.as_bytes())?;
-        end(log)
-    }
-
-    fn add_moment(&self, log: &mut Vec<u8>, moment: Option<u64>) -> Result<(), AllocError> {
-        match moment {
-            Some(moment) => add_number(self.alloc, log, moment),
-            None => add(log, b"-"),
-        }
+    fn add_pair_line(&self, log: &mut Log, kind: &[u8], id: Id, recipient: &str) {
+        log.add(kind);
+        self.add_id(log, id);
+        log.add(recipient.as_bytes());
+        log.end();
     }
 
     /// The name of a message: its number in at least seven digits, and its provider's domain.
-    fn add_id(&self, log: &mut Vec<u8>, id: Id) -> Result<(), AllocError> {
-        let digits = id.1.to_string(self.alloc)?;
-        log.extend_from_slice(b"pec.")?;
-        for _ in digits.len()..7 {
-            log.push(b'0')?;
+    fn add_id(&self, log: &mut Log, id: Id) {
+        log.put(b"pec.");
+        match id.1.to_string(self.alloc) {
+            Ok(digits) => put_seven(log, digits.as_bytes()),
+            Err(_) => log.fail(),
         }
-        log.extend_from_slice(digits.as_bytes())?;
-        add(
-            log,
-            if id.0 == 0 {
-                b"@alfa.example"
-            } else {
-                b"@beta.example"
-            },
-        )
+        log.add(domain(id.0));
     }
+}
+
+/// Adds digits, with zeros in front where they are fewer than seven.
+fn put_seven(log: &mut Log, digits: &[u8]) {
+    for _ in digits.len()..7 {
+        log.put(b"0");
+    }
+    log.put(digits);
+}
+
+fn domain(provider: u32) -> &'static [u8] {
+    if provider == 0 {
+        return b"@alfa.example";
+    }
+    b"@beta.example"
 }
 
 fn entry_of(came: Option<Came>) -> Option<u64> {

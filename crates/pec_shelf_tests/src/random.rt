@@ -1,12 +1,13 @@
 //! Entries in random order on the shelf of alfa, beside a plain list and loops over it.
 ghost use Rattle.std.specs.Prelude.{◌<◌};
 
+use crate::lines::Log;
 use crate::plain::Plain;
-use crate::playing::played;
+use crate::playing::Desk;
 use crate::steps::{Act, Id, Message, Question, Step};
 use pec_trial::two;
 use pec_types::{Decision, Refusal};
-use std::alloc::{AllocError, Global};
+use std::alloc::Global;
 use std::test::Fail;
 
 /// How many steps there are, of which each fourth asks something.
@@ -187,47 +188,34 @@ impl Chance {
     }
 }
 
-fn steps(alloc: Global) -> Result<Vec<Step>, AllocError> {
-    let mut chance = Chance {
-        state: 1_704_186_000,
-    };
-    let mut steps = Vec::new(alloc);
-    steps.push(Step::Enter(1_704_186_000, Act::Starts(0, two())))?;
-    for number in 0..STEPS {
-        steps.push(chance.step(number))?;
-    }
-    Ok(steps)
-}
-
 #[test]
 fn entries_in_random_order_come_to_what_a_plain_list_says(rt: HostRuntime) -> Result<(), Fail> {
-    let compared = compared(rt.alloc())?;
-    assert!(rt; compared.messages >= 1000);
-    assert!(rt; compared.is_same);
+    let mut plain = Plain::new(rt.alloc(), 0);
+    let is_same = is_same(rt.alloc(), &mut plain)?;
+    assert!(rt; is_same);
+    assert!(rt; plain.messages() >= 1000);
     Ok(())
 }
 
-/// How many messages came, and whether the shelf and the list say the same.
-#[derive(Clone, Copy)]
-struct Comparison {
-    messages: usize,
-    is_same: bool,
+/// Whether a shelf and the list say the same.
+fn is_same(alloc: Global, plain: &mut Plain) -> Result<bool, Fail> {
+    let mut log = Log::new(alloc);
+    let mut lines = Log::new(alloc);
+    let mut desk = Desk::new(alloc, 0)?;
+    play(&mut desk, &mut log, plain, &mut lines);
+    Ok(log.is_as(&lines))
 }
 
-fn compared(alloc: Global) -> Result<Comparison, Fail> {
-    let steps = steps(alloc)?;
-    let shelf = played(alloc, 0, "", "", &steps)?;
-    let (messages, log) = plainly(alloc, &steps)?;
-    let is_same = shelf.as_slice() == log.as_slice();
-    Ok(Comparison { messages, is_same })
-}
-
-/// What a plain list says, and how many messages it has.
-fn plainly(alloc: Global, steps: &[Step]) -> Result<(usize, Vec<u8>), AllocError> {
-    let mut plain = Plain::new(alloc, 0);
-    let mut log = Vec::new(alloc);
-    for step in steps {
-        plain.play(&mut log, step)?;
+fn play(desk: &mut Desk, log: &mut Log, plain: &mut Plain, lines: &mut Log) {
+    let mut chance = Chance {
+        state: 1_704_186_000,
+    };
+    let start = Step::Enter(1_704_186_000, Act::Starts(0, two()));
+    desk.step(log, &start);
+    plain.play(lines, &start);
+    for number in 0..STEPS {
+        let step = chance.step(number);
+        desk.step(log, &step);
+        plain.play(lines, &step);
     }
-    Ok((plain.messages(), log))
 }

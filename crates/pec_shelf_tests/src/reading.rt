@@ -79,63 +79,59 @@ fn kind_of(word: &str) -> Option<Kind> {
 }
 
 /// The step of a line: `KIND MOMENT ..` for an entry, or a question. Ids are `PROVIDER/NUMBER`, a comma stands between
-/// two addresses of a list, a hyphen is an empty list; words behind the last that is wanted aren't read.
+/// two addresses of a list, a hyphen is an empty list; words behind the last that is wanted aren't read. A word that is
+/// no number stands for the greatest, which is no moment and no message's.
 pub(crate) fn step_of(line: &'static str) -> Option<Step> {
     match kind_of(word(line, 0))? {
-        Kind::Enters(entry) => Some(Step::Enter(number(line, 1)?, act_of(entry, line)?)),
-        Kind::Asks(asked) => Some(Step::Ask(question_of(asked, line)?)),
+        Kind::Enters(entry) => Some(Step::Enter(number(line, 1), act_of(entry, line)?)),
+        Kind::Asks(asked) => Some(Step::Ask(question_of(asked, line))),
     }
 }
 
 fn act_of(entry: Entry, line: &'static str) -> Option<Act> {
     match entry {
-        Entry::Start => Some(Act::Starts(small(line, 2)?, directory(line))),
-        Entry::Accepted => Some(Act::Accepts(word(line, 2), message(line, 3))),
-        Entry::Refused => Some(Act::Refuses(word(line, 2), Cause::Bcc, list(line, 3))),
-        Entry::Anomaly => Some(Act::Anomaly(list(line, 2))),
-        Entry::Tick => Some(Act::Ticks),
-        named => act_on(named, line, id(line, 2)?),
+        Entry::Decided => decided(line),
+        Entry::Learned => learned(line),
+        other => Some(plain_act_of(other, line)),
     }
 }
 
-/// An act on the message that a line names.
-fn act_on(entry: Entry, line: &'static str, id: Id) -> Option<Act> {
+/// An act that says no decision.
+fn plain_act_of(entry: Entry, line: &'static str) -> Act {
     match entry {
-        Entry::Took => Some(Act::Takes(id, message(line, 3))),
-        Entry::Charged => Some(Act::Charges(id, small(line, 3)?)),
-        Entry::Acked => Some(Act::Acks(id, word(line, 3))),
-        Entry::Decided => Some(Act::Decides(id, word(line, 3), decision(line, 4)?)),
-        Entry::Learned => learned(id, line),
-        _ => None,
+        Entry::Start => Act::Starts(small(line, 2), directory(line)),
+        Entry::Accepted => Act::Accepts(word(line, 2), message(line, 3)),
+        Entry::Refused => Act::Refuses(word(line, 2), Cause::Bcc, list(line, 3)),
+        Entry::Anomaly => Act::Anomaly(list(line, 2)),
+        Entry::Took => Act::Takes(id(line, 2), message(line, 3)),
+        Entry::Charged => Act::Charges(id(line, 2), small(line, 3)),
+        Entry::Acked => Act::Acks(id(line, 2), word(line, 3)),
+        Entry::Tick | Entry::Decided | Entry::Learned => Act::Ticks,
     }
 }
 
-fn learned(id: Id, line: &'static str) -> Option<Act> {
+fn decided(line: &'static str) -> Option<Act> {
     let decision = decision(line, 4)?;
-    let decided = number(line, 5)?;
-    Some(Act::Learns(id, word(line, 3), decision, decided))
+    Some(Act::Decides(id(line, 2), word(line, 3), decision))
 }
 
-fn question_of(asked: Asked, line: &'static str) -> Option<Question> {
-    match asked {
-        Asked::Due => Some(Question::Due(small(line, 1)?, size(line, 2)?)),
-        Asked::Book => Some(Question::Book(word(line, 1))),
-        Asked::Items => Some(Question::Items(word(line, 1))),
-        Asked::Undecided => Some(Question::Undecided),
-        Asked::Counted => Some(Question::Counted(word(line, 1))),
-        Asked::Facts => Some(Question::Facts(number(line, 1)?)),
-        Asked::Source => Some(Question::Source(word(line, 1), small(line, 2)?)),
-        Asked::Own => Some(Question::Own(number(line, 1)?)),
-        named => question_on(named, line, id(line, 1)?),
-    }
+fn learned(line: &'static str) -> Option<Act> {
+    let decision = decision(line, 4)?;
+    Some(Act::Learns(id(line, 2), word(line, 3), decision, number(line, 5)))
 }
 
-/// A question about the message that a line names.
-fn question_on(asked: Asked, line: &'static str, id: Id) -> Option<Question> {
+fn question_of(asked: Asked, line: &'static str) -> Question {
     match asked {
-        Asked::Row => Some(Question::Row(id, word(line, 2))),
-        Asked::Taken => Some(Question::Took(id)),
-        _ => None,
+        Asked::Due => Question::Due(small(line, 1), size(line, 2)),
+        Asked::Book => Question::Book(word(line, 1)),
+        Asked::Items => Question::Items(word(line, 1)),
+        Asked::Undecided => Question::Undecided,
+        Asked::Counted => Question::Counted(word(line, 1)),
+        Asked::Facts => Question::Facts(number(line, 1)),
+        Asked::Source => Question::Source(word(line, 1), small(line, 2)),
+        Asked::Own => Question::Own(number(line, 1)),
+        Asked::Row => Question::Row(id(line, 1), word(line, 2)),
+        Asked::Taken => Question::Took(id(line, 1)),
     }
 }
 
@@ -173,23 +169,40 @@ fn decision(line: &'static str, place: usize) -> Option<Decision> {
     None
 }
 
-fn id(line: &'static str, place: usize) -> Option<Id> {
-    let (provider, number) = word(line, place).split_once('/')?;
-    let provider = provider.parse::<u32>().ok()?;
-    let number = number.parse::<u64>().ok()?;
-    Some((provider, number))
+fn id(line: &'static str, place: usize) -> Id {
+    match word(line, place).split_once('/') {
+        Some((provider, number)) => (small_of(provider), number_of(number)),
+        None => (u32::MAX, u64::MAX),
+    }
 }
 
-fn number(line: &'static str, place: usize) -> Option<u64> {
-    word(line, place).parse::<u64>().ok()
+fn number(line: &'static str, place: usize) -> u64 {
+    number_of(word(line, place))
 }
 
-fn small(line: &'static str, place: usize) -> Option<u32> {
-    word(line, place).parse::<u32>().ok()
+fn number_of(word: &str) -> u64 {
+    match word.parse::<u64>() {
+        Ok(number) => number,
+        Err(_) => u64::MAX,
+    }
 }
 
-fn size(line: &'static str, place: usize) -> Option<usize> {
-    word(line, place).parse::<usize>().ok()
+fn small(line: &'static str, place: usize) -> u32 {
+    small_of(word(line, place))
+}
+
+fn small_of(word: &str) -> u32 {
+    match word.parse::<u32>() {
+        Ok(number) => number,
+        Err(_) => u32::MAX,
+    }
+}
+
+fn size(line: &'static str, place: usize) -> usize {
+    match word(line, place).parse::<usize>() {
+        Ok(number) => number,
+        Err(_) => usize::MAX,
+    }
 }
 
 /// A list of addresses; none where there is a hyphen or no word.

@@ -3,8 +3,7 @@
 use pec_directory::Directory;
 use pec_records::Entry;
 use pec_types::{Address, Cause, Decision, Items, MESSAGES, Moment, MsgId, Text8};
-use std::alloc::{AllocError, Global};
-use std::test::Fail;
+use std::alloc::Global;
 
 /// An entry that is prepared and committed, or something that is asked.
 #[derive(Clone, Copy)]
@@ -57,9 +56,9 @@ pub(crate) enum Question {
     Source(&'static str, u32),
 }
 
-/// The entry that an act at a moment stands for.
-pub(crate) fn entry_of(alloc: Global, seconds: u64, act: &Act) -> Result<Entry, Fail> {
-    let moment = moment_of(seconds)?;
+/// The entry that an act at a moment stands for: none where something that it names isn't so, or for want of memory.
+pub(crate) fn entry_of(alloc: Global, seconds: u64, act: &Act) -> Option<Entry> {
+    let moment = Moment::new(seconds)?;
     match *act {
         Act::Starts(provider, directory) => start(alloc, provider, directory),
         Act::Accepts(sender, message) => accepted(alloc, moment, sender, message),
@@ -71,53 +70,58 @@ pub(crate) fn entry_of(alloc: Global, seconds: u64, act: &Act) -> Result<Entry, 
             learned(alloc, moment, id, recipient, decision, at)
         }
         Act::Acks(id, recipient) => acked(alloc, moment, id, recipient),
-        Act::Ticks => Ok(Entry::Ticked { moment }),
+        Act::Ticks => Some(Entry::Ticked { moment }),
         Act::Anomaly(accounts) => anomaly(alloc, moment, accounts),
     }
 }
 
-fn start(alloc: Global, provider: u32, directory: &str) -> Result<Entry, Fail> {
+fn start(alloc: Global, provider: u32, directory: &str) -> Option<Entry> {
     let digest = digest(alloc, directory)?;
-    Ok(Entry::Start { provider, digest })
+    Some(Entry::Start { provider, digest })
 }
 
-fn digest(alloc: Global, directory: &str) -> Result<[u8; 32], Fail> {
-    let directory = Directory::read(alloc, directory)?;
-    Ok(directory.digest(alloc)?)
+fn digest(alloc: Global, directory: &str) -> Option<[u8; 32]> {
+    match Directory::read(alloc, directory) {
+        Ok(directory) => digest_of(alloc, &directory),
+        Err(_) => None,
+    }
 }
 
-fn accepted(alloc: Global, moment: Moment, sender: &str, message: Message) -> Result<Entry, Fail> {
-    let sender = address_of(alloc, sender)?;
-    let message = text_of(alloc, message)?;
-    Ok(Entry::Accepted {
-        moment,
-        sender,
-        message,
-    })
+fn digest_of(alloc: Global, directory: &Directory) -> Option<[u8; 32]> {
+    match directory.digest(alloc) {
+        Ok(digest) => Some(digest),
+        Err(_) => None,
+    }
 }
 
-fn refused(
-    alloc: Global,
-    moment: Moment,
-    sender: &str,
-    cause: Cause,
-    path: &str,
-) -> Result<Entry, Fail> {
-    let sender = address_of(alloc, sender)?;
-    let path = addresses_of(alloc, path)?;
-    Ok(Entry::NotAccepted {
-        moment,
-        sender,
-        cause,
-        path: Items::of(path),
-        message: Text8::of(Vec::new(alloc)),
-    })
+fn accepted(alloc: Global, moment: Moment, sender: &str, message: Message) -> Option<Entry> {
+    match (address_of(alloc, sender), text_of(alloc, message)) {
+        (Some(sender), Some(message)) => Some(Entry::Accepted {
+            moment,
+            sender,
+            message,
+        }),
+        _ => None,
+    }
 }
 
-fn took(alloc: Global, moment: Moment, id: Id, message: Message) -> Result<Entry, Fail> {
+fn refused(alloc: Global, moment: Moment, sender: &str, cause: Cause, path: &str) -> Option<Entry> {
+    match (address_of(alloc, sender), addresses_of(alloc, path)) {
+        (Some(sender), Some(path)) => Some(Entry::NotAccepted {
+            moment,
+            sender,
+            cause,
+            path,
+            message: Text8::of(Vec::new(alloc)),
+        }),
+        _ => None,
+    }
+}
+
+fn took(alloc: Global, moment: Moment, id: Id, message: Message) -> Option<Entry> {
     let id = id_of(id)?;
     let message = text_of(alloc, message)?;
-    Ok(Entry::Took {
+    Some(Entry::Took {
         moment,
         id,
         message,
@@ -130,10 +134,10 @@ fn decided(
     id: Id,
     recipient: &str,
     decision: Decision,
-) -> Result<Entry, Fail> {
+) -> Option<Entry> {
     let id = id_of(id)?;
     let recipient = address_of(alloc, recipient)?;
-    Ok(Entry::Decided {
+    Some(Entry::Decided {
         moment,
         id,
         recipient,
@@ -141,9 +145,9 @@ fn decided(
     })
 }
 
-fn charged(moment: Moment, id: Id, by: u32) -> Result<Entry, Fail> {
+fn charged(moment: Moment, id: Id, by: u32) -> Option<Entry> {
     let id = id_of(id)?;
-    Ok(Entry::Charged { moment, id, by })
+    Some(Entry::Charged { moment, id, by })
 }
 
 fn learned(
@@ -153,11 +157,11 @@ fn learned(
     recipient: &str,
     decision: Decision,
     decided: u64,
-) -> Result<Entry, Fail> {
+) -> Option<Entry> {
     let id = id_of(id)?;
+    let decided = Moment::new(decided)?;
     let recipient = address_of(alloc, recipient)?;
-    let decided = moment_of(decided)?;
-    Ok(Entry::Learned {
+    Some(Entry::Learned {
         moment,
         id,
         recipient,
@@ -167,74 +171,83 @@ fn learned(
     })
 }
 
-fn acked(alloc: Global, moment: Moment, id: Id, recipient: &str) -> Result<Entry, Fail> {
+fn acked(alloc: Global, moment: Moment, id: Id, recipient: &str) -> Option<Entry> {
     let id = id_of(id)?;
     let recipient = address_of(alloc, recipient)?;
-    Ok(Entry::Acked {
+    Some(Entry::Acked {
         moment,
         id,
         recipient,
     })
 }
 
-fn anomaly(alloc: Global, moment: Moment, accounts: &str) -> Result<Entry, Fail> {
+fn anomaly(alloc: Global, moment: Moment, accounts: &str) -> Option<Entry> {
     let accounts = addresses_of(alloc, accounts)?;
-    Ok(Entry::Anomaly {
+    Some(Entry::Anomaly {
         moment,
-        accounts: Items::of(accounts),
+        accounts,
         message: Text8::of(Vec::new(alloc)),
     })
 }
 
 /// The bytes of a message, or of the envelope that has its fields.
-fn text_of(alloc: Global, message: Message) -> Result<Text8, AllocError> {
+fn text_of(alloc: Global, message: Message) -> Option<Text8> {
     let mut text = Vec::new(alloc);
-    add_field(&mut text, "From: ", message.from)?;
-    add_field(&mut text, "To: ", message.to)?;
-    add_field(&mut text, "Cc: ", message.cc)?;
-    text.extend_from_slice(b"\r\n")?;
-    Ok(Text8::of(text))
+    let is_whole = add_field(&mut text, "From: ", message.from)
+        && add_field(&mut text, "To: ", message.to)
+        && add_field(&mut text, "Cc: ", message.cc)
+        && text.extend_from_slice(b"\r\n").is_ok();
+    if is_whole {
+        return Some(Text8::of(text));
+    }
+    None
 }
 
-/// Adds a field, where it has a value.
-fn add_field(text: &mut Vec<u8>, name: &str, value: &str) -> Result<(), AllocError> {
-    if value.is_empty() {
-        return Ok(());
-    }
-    text.extend_from_slice(name.as_bytes())?;
-    text.extend_from_slice(value.as_bytes())?;
-    text.extend_from_slice(b"\r\n")?;
-    Ok(())
+/// Adds a field, where it has a value; tells whether there was memory for it.
+fn add_field(text: &mut Vec<u8>, name: &str, value: &str) -> bool {
+    value.is_empty()
+        || text.extend_from_slice(name.as_bytes()).is_ok()
+            && text.extend_from_slice(value.as_bytes()).is_ok()
+            && text.extend_from_slice(b"\r\n").is_ok()
 }
 
 /// The addresses of a list; none where it is empty.
-fn addresses_of(alloc: Global, list: &str) -> Result<Vec<Address>, Fail> {
+fn addresses_of(alloc: Global, list: &str) -> Option<Items<Address>> {
     let mut addresses = Vec::new(alloc);
-    if list.is_empty() {
-        return Ok(addresses);
+    if !list.is_empty() && !add_addresses(alloc, &mut addresses, list) {
+        return None;
     }
+    Some(Items::of(addresses))
+}
+
+/// Adds the addresses of a list; tells whether all of them are some, and there was memory for them.
+fn add_addresses(alloc: Global, addresses: &mut Vec<Address>, list: &str) -> bool {
     for text in list.split(',') {
-        addresses.push(address_of(alloc, text)?)?;
+        if !add_address(alloc, addresses, text) {
+            return false;
+        }
     }
-    Ok(addresses)
+    true
 }
 
-pub(crate) fn address_of(alloc: Global, text: &str) -> Result<Address, Fail> {
-    let address = Address::read(alloc, text.as_bytes())?;
-    Ok(address)
-}
-
-pub(crate) fn moment_of(seconds: u64) -> Result<Moment, Fail> {
-    match Moment::new(seconds) {
-        Some(moment) => Ok(moment),
-        None => Err("no moment".into()),
+fn add_address(alloc: Global, addresses: &mut Vec<Address>, text: &str) -> bool {
+    match address_of(alloc, text) {
+        Some(address) => addresses.push(address).is_ok(),
+        None => false,
     }
 }
 
-pub(crate) fn id_of(id: Id) -> Result<MsgId, Fail> {
+pub(crate) fn address_of(alloc: Global, text: &str) -> Option<Address> {
+    match Address::read(alloc, text.as_bytes()) {
+        Ok(address) => Some(address),
+        Err(_) => None,
+    }
+}
+
+pub(crate) fn id_of(id: Id) -> Option<MsgId> {
     let (provider, number) = id;
     if number >= MESSAGES {
-        return Err("no message has this number".into());
+        return None;
     }
-    Ok(MsgId { provider, number })
+    Some(MsgId { provider, number })
 }

@@ -1,5 +1,5 @@
 use Rattle.std.proofs.Common.{◌≡◌, ℕ, ◌<◌, true, length, None, ap, subst, ◌∙◌, rules, arith}
-use Rattle.pec_shelf.proofs.ListLemmas.{missing, not_empty, not_false}
+use Rattle.pec_shelf.proofs.ListLemmas.{missing, not_empty}
 use Rattle.std.specs.List.{filter}
 use Rattle.pec_types.specs.Bytes.{Bytes, Path}
 use Rattle.pec_types.specs.Message.{Id}
@@ -11,7 +11,7 @@ use Rattle.pec_shelf.proofs.receptions.took.Goals as goal
 pub returns : goal.returns
 returns c =
     λ trade.
-    let known : c.is_provider.result ≡ true = first_of (cc, search (rules, not_false), grind (arith, not_false)) in
+    let known : c.is_provider.result ≡ true = c.if-not-is_provider.false in
     let fresh : taken_of c.args.shelf.now.half c.args.id ≡ None = missing c.taken.result _ _ c.is_some.result c.taken.ensures c.is_some.ensures c.if-is_some.false in
     let here = c.in_ok-here.ensures
     ∙ ap (λ (me : ℕ). filter (λ (address : Bytes). is_home me (home_of (providers_of c.args.directory.now) address)) (recipients_named c.args.message.now)) c.me.ensures in
