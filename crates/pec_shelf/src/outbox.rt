@@ -69,6 +69,7 @@ impl Drop for Outbox {
             marks: _,
             known: _,
             unanswered: _,
+            unsettled: _,
             room: _,
         } = self;
     }
