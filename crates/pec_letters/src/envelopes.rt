@@ -224,9 +224,7 @@ fn on_behalf(alloc: Global, domain: &[u8], sender: &Address) -> Result<Vec<u8>, 
     ensures { IfOk result (λ text. text.items ≡ on_behalf sender.now (service_at domain.now)) }
 {
     let service = service_address(alloc, domain)?;
-    let room = service.len().saturating_add(sender.bytes().len());
-    let mut text = Vec::with_capacity(alloc, room.saturating_add(20))?;
-    text.extend_from_slice(b"\"Per conto di: ")?;
+    let mut text = Vec::from_slice(alloc, b"\"Per conto di: ")?;
     text.extend_from_slice(sender.bytes())?;
     text.extend_from_slice(b"\" <")?;
     text.extend_from_slice(service.as_slice())?;
