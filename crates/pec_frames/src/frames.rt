@@ -93,7 +93,10 @@ fn joined(alloc: Global, line: &[u8], message: &[u8]) -> Result<Vec<u8>, AllocEr
     ensures { IfOk result (λ bytes. bytes.items ≡ with_path line.now message.now) }
 {
     let framing = FRONT.len() + END.len();
-    let room = line.len().saturating_add(message.len()).saturating_add(framing);
+    let room = line
+        .len()
+        .saturating_add(message.len())
+        .saturating_add(framing);
     let mut bytes = Vec::with_capacity(alloc, room)?;
     bytes.extend_from_slice(FRONT)?;
     bytes.extend_from_slice(line)?;
