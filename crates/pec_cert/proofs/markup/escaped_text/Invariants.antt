@@ -4,7 +4,7 @@ use Rattle.pec_grammar.specs.Grammar.{many_at}
 use Rattle.pec_grammar.specs.Reading.{standing}
 use Rattle.pec_grammar.proofs.Repeats.{SoFar}
 use Rattle.pec_cert.specs.LinesReading.{char_at}
-use Rattle.pec_cert.proofs.markup.text.Given as goal
+use Rattle.pec_cert.proofs.markup.escaped_text.Given as goal
 
 abbrev pub invariant-bytes : goal.invariant-bytes
 invariant-bytes l = record {
