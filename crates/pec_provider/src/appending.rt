@@ -68,13 +68,12 @@ impl<D: Disk> Provider<D> {
             (D.faults self.new.chronicle.disk) }
         ensures later { D.faults self.old.chronicle.disk ≤ D.faults self.new.chronicle.disk }
     {
-        let marks = enter(
+        enter(
             alloc,
             house.directory,
             &mut self.chronicle,
             &mut self.shelf,
             &entry,
-        )?;
-        Ok(marks)
+        )
     }
 }
