@@ -178,11 +178,10 @@ impl Desk {
     }
 
     fn add_row(&self, log: &mut Log, id: Id, recipient: &Address) {
-        let row = match id_of(id) {
-            Some(id) => self.shelf.row(id, recipient),
-            None => None,
+        let Some(id) = id_of(id) else {
+            return log.fail();
         };
-        match row {
+        match self.shelf.row(id, recipient) {
             Some(row) => add_row(log, row),
             None => log.add_nothing(),
         }
