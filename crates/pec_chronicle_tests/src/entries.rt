@@ -1,5 +1,4 @@
 //! Entries that are made, appended, refused and opened again, on disks that fail at one of their calls.
-ghost use Rattle.std.specs.Prelude.{IfSome};
 ghost use Rattle.pec_records.specs.Entry.{IsWithinLimits};
 
 use pec_chronicle::{AppendFault, Chronicle, CreateFault, OpenFault};
@@ -244,7 +243,14 @@ fn append_acceptance<D: Disk>(
     alloc: Global,
     chronicle: &mut Chronicle<D>,
 ) -> Option<Option<AppendFault>> {
-    let entry = acceptance(alloc)?;
+    let moment = Moment::new(5)?;
+    let sender = Address::read(alloc, b"anna@alfa.example").ok()?;
+    let message = Vec::from_slice(alloc, b"ciao").ok()?;
+    let entry = Entry::Accepted {
+        moment,
+        sender,
+        message: Text8::of(message),
+    };
     append(alloc, chronicle, &entry)
 }
 
@@ -259,17 +265,4 @@ fn append<D: Disk>(
         Ok(encoded) => Some(chronicle.append(encoded).err()),
         Err(_) => None,
     }
-}
-
-fn acceptance(alloc: Global) -> Option<Entry>
-    ensures { IfSome result (λ entry. IsWithinLimits entry) }
-{
-    let moment = Moment::new(5)?;
-    let sender = Address::read(alloc, b"anna@alfa.example").ok()?;
-    let message = Vec::from_slice(alloc, b"ciao").ok()?;
-    Some(Entry::Accepted {
-        moment,
-        sender,
-        message: Text8::of(message),
-    })
 }
