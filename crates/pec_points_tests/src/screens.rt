@@ -104,10 +104,7 @@ fn screens_of(alloc: Global, counted: &Arc<AtomicU64, Global>) -> Result<Screens
     Ok(Screens::new(screens))
 }
 
-fn counter(
-    alloc: Global,
-    counted: &Arc<AtomicU64, Global>,
-) -> Result<Box<dyn Screen>, AllocError> {
+fn counter(alloc: Global, counted: &Arc<AtomicU64, Global>) -> Result<Box<dyn Screen>, AllocError> {
     let looks = Arc::try_clone(counted)?;
     let screen: Box<dyn Screen> = Box::new(alloc, Counting { looks, seen: 0 })?;
     Ok(screen)
