@@ -1,5 +1,5 @@
 -- How many numbers the lines of parts take: no more than they have digits where a number stands, and so no more than bytes.
-use Rattle.std.proofs.Common.{◌≡◌, ℕ, zero, suc, ◌+◌, ◌^◌, ◌<◌, ◌≤◌, Bool, true, false, ◌&&◌, ◌||◌, eqb, ltb, cond, List, [], ◌∷◌, ◌++◌, length, drop, refl, sym, ◌∙◌, ap, arith, add-zero, length-drop}
+use Rattle.std.proofs.Common.{◌≡◌, ℕ, zero, suc, ◌+◌, ◌^◌, ◌<◌, ◌≤◌, Bool, true, false, ◌&&◌, ◌||◌, eqb, ltb, cond, List, [], ◌∷◌, ◌++◌, length, drop, refl, sym, subst, ◌∙◌, ap, arith, add-zero, length-drop}
 use Rattle.std.proofs.lemmas.Bool.{eqb-true, ne_eqb}
 use Rattle.std.proofs.lemmas.List.Sums.{prefix_len-le-length, sum_by-append, sum_by-cons}
 use Rattle.std.specs.Char.{is_ascii_digit}
@@ -105,6 +105,16 @@ count_parts limit small parts =
 -- where all numbers below a limit are taken, the lines have room for so many
 pub all_taken : (parts : List (List ℕ)) (limit : ℕ) → limit ≤ 2 ^ 64 → ((k : ℕ) → k < limit → boundary_taken (boundary_number k) parts ≡ true) → limit ≤ room_for parts
 all_taken parts limit small taken = omega (arith, count_all (λ k. boundary_taken (boundary_number k) parts) limit taken, count_parts limit small parts)
+
+-- where they have room for none, the first number is free
+pub first_free : (parts : List (List ℕ)) → room_for parts ≡ 0 → boundary_taken (boundary_number 0) parts ≡ false
+first_free parts none = by_taken (boundary_taken (boundary_number 0) parts) refl
+  where
+    by_taken : (t : Bool) → boundary_taken (boundary_number 0) parts ≡ t → boundary_taken (boundary_number 0) parts ≡ false
+    by_taken true taken =
+        let one_of = λ (k : ℕ) (below : k < 1). let zeroth : 0 ≡ k = omega (arith, below) in subst (λ n. boundary_taken (boundary_number n) parts ≡ true) zeroth taken in
+        absurd (omega (arith, none, all_taken parts 1 (omega arith) one_of))
+    by_taken false free = free
 
 -- ---- the room is no more than there are bytes
 

@@ -16,6 +16,11 @@ use pec_heads::{
 use pec_types::{NoMemory, Text8};
 use std::alloc::{AllocError, Global};
 
+/// The most bytes of a boundary that is made here, and of a type with it.
+const BOUNDARY_LENGTH: usize = 26;
+
+const TYPE_LENGTH: usize = 54;
+
 /// The law of composing: by a head with the boundary, the body is read as the parts that were handed in, where there is
 /// one and each begins with a head.
 pub fn what_is_composed_is_read_again()
@@ -81,7 +86,8 @@ pub fn composed_type(alloc: Global, number: u64) -> Result<Vec<u8>, NoMemory>
     ensures { IfOk result (λ value. value.items ≡ composed_type number) }
 {
     let boundary = boundary(alloc, number)?;
-    let mut value = Vec::from_slice(alloc, b"multipart/mixed; boundary=\"".as_slice())?;
+    let mut value = Vec::with_capacity(alloc, TYPE_LENGTH)?;
+    value.extend_from_slice(b"multipart/mixed; boundary=\"".as_slice())?;
     value.extend_from_slice(boundary.as_slice())?;
     value.push(b'"')?;
     Ok(value)
@@ -103,8 +109,9 @@ fn slices(alloc: Global, parts: &[Text8]) -> Result<Vec<&[u8]>, AllocError>
 pub fn boundary(alloc: Global, number: u64) -> Result<Vec<u8>, NoMemory>
     ensures { IfOk result (λ bytes. bytes.items ≡ boundary_number number) }
 {
-    let mut bytes = Vec::from_slice(alloc, b"=_pec_".as_slice())?;
     let digits = number.to_string(alloc)?;
+    let mut bytes = Vec::with_capacity(alloc, BOUNDARY_LENGTH)?;
+    bytes.extend_from_slice(b"=_pec_".as_slice())?;
     bytes.extend_from_slice(digits.as_bytes())?;
     Ok(bytes)
 }

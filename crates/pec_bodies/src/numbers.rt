@@ -15,6 +15,10 @@ use std::alloc::Global;
 pub fn free_number(alloc: Global, parts: &[&[u8]]) -> Result<u64, NoMemory>
     ensures { IfOk result (λ n. IsLeastFree (map (λ part. part.now) parts.now) n) }
 {
+    // Where no line has room for a number, none is taken.
+    if let Some(1) = room(parts) {
+        return Ok(0);
+    }
     // One of the numbers that are looked at is free: there are more of them than the lines can take.
     let marks = numbers_taken(alloc, parts)?;
     let Some(number) = first_unmarked(marks.as_slice()) else {

@@ -1,101 +1,155 @@
 //! Composed bodies.
-use pec_bodies::{Parts, compose, composed_type};
+use pec_bodies::{compose, composed_type};
 use pec_types::Text8;
-use std::alloc::Global;
-use std::test::Fail;
+use std::alloc::{AllocError, Global};
+
+const BODIES: [(&[&str], &str); 2] = [
+    (
+        &["\na", "A: b\r\n\r\n"],
+        "--=_pec_0\r\n\na\r\n--=_pec_0\r\nA: b\r\n\r\n\r\n--=_pec_0--\r\n",
+    ),
+    (&[], "--=_pec_0--\r\n"), // no part at all
+];
+
+#[test]
+fn each_part_stands_behind_a_delimiter_and_before_a_line_end(rt: HostRuntime) {
+    assert_eq!(rt; first_other_body(rt.alloc(), &BODIES), None);
+}
+
+/// The first body that isn't composed of its parts, or not by the boundary of number 0; none where each is.
+fn first_other_body(alloc: Global, rows: &[(&[&str], &'static str)]) -> Option<&'static str> {
+    for (parts, wanted) in rows {
+        if !are_composed(alloc, parts, wanted) {
+            return Some(*wanted);
+        }
+    }
+    None
+}
+
+fn are_composed(alloc: Global, parts: &[&str], wanted: &str) -> bool {
+    match composed(alloc, parts) {
+        Some((number, body)) => number == 0 && body.as_slice() == wanted.as_bytes(),
+        None => false,
+    }
+}
 
 /// The number of the boundary and the body of these parts.
-fn composed(alloc: Global, parts: &[&str]) -> Result<(u64, Vec<u8>), Fail> {
+fn composed(alloc: Global, parts: &[&str]) -> Option<(u64, Vec<u8>)> {
+    let all = texts_of(alloc, parts)?;
+    compose(alloc, &all).ok()
+}
+
+fn texts_of(alloc: Global, parts: &[&str]) -> Option<Vec<Text8>> {
     let mut all = Vec::new(alloc);
     for part in parts {
-        all.push(Text8::of(Vec::from_slice(alloc, part.as_bytes())?))?;
+        put_part(alloc, &mut all, part).ok()?;
     }
-    Ok(compose(alloc, all.as_slice())?)
+    Some(all)
 }
 
-#[test]
-fn each_part_stands_behind_a_delimiter_and_before_a_line_end(rt: HostRuntime) -> Result<(), Fail> {
-    let rows: [(&[&str], &str); 2] = [
-        (
-            ["\na", "A: b\r\n\r\n"].as_slice(),
-            "--=_pec_0\r\n\na\r\n--=_pec_0\r\nA: b\r\n\r\n\r\n--=_pec_0--\r\n",
-        ),
-        ([].as_slice(), "--=_pec_0--\r\n"), // no part at all
-    ];
-    for (parts, want) in rows {
-        let (number, body) = composed(rt.alloc(), parts)?;
-        assert_eq!(rt; number, 0, "{want:?}");
-        assert_eq!(rt; body.as_slice(), want.as_bytes());
-    }
-    Ok(())
+fn put_part(alloc: Global, all: &mut Vec<Text8>, part: &str) -> Result<(), AllocError> {
+    let bytes = Vec::from_slice(alloc, part.as_bytes())?;
+    Ok(all.push(Text8::of(bytes))?)
 }
 
+// Parts, and the number of their boundary.
+const NUMBERS: [(&[&str], u64); 16] = [
+    (&["\nx\n--=_pec_0\ny"], 1),
+    (&["\n--=_pec_0"], 1), // the last piece counts as a line
+    (&["--=_pec_0x"], 1), // whatever stands behind it
+    (&["\n--=_pec_00 x\n--=_pec_12\n--=_pec_3"], 2), // 0 by its first digit, 1 by `12`, and 12 and 3
+    (&["\nx--=_pec_0\n--=_PEC_0"], 0), // not at the line's start; other letters
+    (&["\n --=_pec_0\n"], 0), // a blank in front
+    (&["\n--=_pec_0\n--=_pec_1\n--=_pec_2\n"], 3),
+    (&["\n--=_pec_12\n"], 0), // it takes 1 and 12
+    (&["\n--=_pec_0\n--=_pec_12\n"], 2),
+    (&["\n--=_pec_00\n"], 1), // a leading zero spells 0 alone
+    (&["\n--=_pec_01\r\n"], 1),
+    (&["\n--=_pec_\n"], 0), // no digit
+    (&["\n--=_pec_x0\n--=_pec_+0\n"], 0), // something else in front of it
+    // numbers that are too large to be looked at take their fronts
+    (
+        &["\n--=_pec_0\n--=_pec_4294967296\n--=_pec_18446744073709551616"],
+        2,
+    ),
+    (
+        &["\n--=_pec_0\n--=_pec_111111111111111111111111111111\n"],
+        2,
+    ),
+    // over all parts
+    (&["\n--=_pec_0\n", "\n--=_pec_2\n", "--=_pec_1x"], 3),
+];
+
 #[test]
-fn the_boundary_has_the_least_number_that_no_line_takes(rt: HostRuntime) -> Result<(), Fail> {
-    let rows: [(&[&str], u64); 16] = [
-        (["\nx\n--=_pec_0\ny"].as_slice(), 1),
-        (["\n--=_pec_0"].as_slice(), 1), // the last piece counts as a line
-        (["--=_pec_0x"].as_slice(), 1), // whatever stands behind it
-        (["\n--=_pec_00 x\n--=_pec_12\n--=_pec_3"].as_slice(), 2), // 0 by its first digit, 1 by `12`, and 12 and 3
-        (["\nx--=_pec_0\n--=_PEC_0"].as_slice(), 0), // not at the line's start; other letters
-        (["\n --=_pec_0\n"].as_slice(), 0), // a blank in front
-        (["\n--=_pec_0\n--=_pec_1\n--=_pec_2\n"].as_slice(), 3),
-        (["\n--=_pec_12\n"].as_slice(), 0), // it takes 1 and 12
-        (["\n--=_pec_0\n--=_pec_12\n"].as_slice(), 2),
-        (["\n--=_pec_00\n"].as_slice(), 1), // a leading zero spells 0 alone
-        (["\n--=_pec_01\r\n"].as_slice(), 1),
-        (["\n--=_pec_\n"].as_slice(), 0), // no digit
-        (["\n--=_pec_x0\n--=_pec_+0\n"].as_slice(), 0), // something else in front of it
-        // numbers that are too large to be looked at take their fronts
-        (
-            ["\n--=_pec_0\n--=_pec_4294967296\n--=_pec_18446744073709551616"].as_slice(),
-            2,
-        ),
-        (
-            ["\n--=_pec_0\n--=_pec_111111111111111111111111111111\n"].as_slice(),
-            2,
-        ),
-        // over all parts
-        (
-            ["\n--=_pec_0\n", "\n--=_pec_2\n", "--=_pec_1x"].as_slice(),
-            3,
-        ),
-    ];
-    for (parts, want) in rows {
-        let (number, _) = composed(rt.alloc(), parts)?;
-        assert_eq!(rt; number, want, "{parts:?}");
+fn the_boundary_has_the_least_number_that_no_line_takes(rt: HostRuntime) {
+    assert_eq!(rt; first_other_number(rt.alloc(), &NUMBERS), None);
+}
+
+/// The place of the first row whose parts have a boundary of another number, and that number; none where each have
+/// theirs.
+fn first_other_number(alloc: Global, rows: &[(&[&str], u64)]) -> Option<(usize, Option<u64>)> {
+    for (place, (parts, wanted)) in rows.iter().enumerate() {
+        let number = number_of(alloc, parts);
+        if number != Some(*wanted) {
+            return Some((place, number));
+        }
     }
-    Ok(())
+    None
+}
+
+fn number_of(alloc: Global, parts: &[&str]) -> Option<u64> {
+    match composed(alloc, parts) {
+        Some((number, _)) => Some(number),
+        None => None,
+    }
 }
 
 /// Lines that take the numbers below 20,000, one each.
 #[test]
-fn many_numbers_may_be_taken(rt: HostRuntime) -> Result<(), Fail> {
-    let mut part = Vec::from_slice(rt.alloc(), b"\n".as_slice())?;
-    for number in 0..20_000u32 {
-        part.extend_from_slice(b"--=_pec_".as_slice())?;
-        part.extend_from_slice(number.to_string(rt.alloc())?.as_bytes())?;
-        part.push(b'\n')?;
-    }
-    let mut all = Vec::new(rt.alloc());
-    all.push(Text8::of(part))?;
-    let (number, _) = compose(rt.alloc(), all.as_slice())?;
-    assert_eq!(rt; number, 20_000);
-    Ok(())
+fn many_numbers_may_be_taken(rt: HostRuntime) {
+    assert_eq!(rt; number_behind(rt.alloc(), 20_000), Some(20_000));
 }
 
-#[test]
-fn the_type_of_a_composed_body_names_its_boundary(rt: HostRuntime) -> Result<(), Fail> {
-    let rows: [(u64, &str); 2] = [
-        (0, "multipart/mixed; boundary=\"=_pec_0\""),
-        (
-            18_446_744_073_709_551_615,
-            "multipart/mixed; boundary=\"=_pec_18446744073709551615\"",
-        ),
-    ];
-    for (number, want) in rows {
-        let value = composed_type(rt.alloc(), number)?;
-        assert_eq!(rt; value.as_slice(), want.as_bytes());
+/// The number of the boundary of one part with a line for each number below this one.
+fn number_behind(alloc: Global, most: u32) -> Option<u64> {
+    let part = part_of_many(alloc, most).ok()?;
+    number_of(alloc, &[part.as_str()])
+}
+
+fn part_of_many(alloc: Global, most: u32) -> Result<String, AllocError> {
+    let mut part = String::from_str(alloc, "\n")?;
+    for number in 0..most {
+        write!(part, "--=_pec_{number}\n")?;
     }
-    Ok(())
+    Ok(part)
+}
+
+const TYPES: [(u64, &str); 2] = [
+    (0, "multipart/mixed; boundary=\"=_pec_0\""),
+    (
+        18_446_744_073_709_551_615,
+        "multipart/mixed; boundary=\"=_pec_18446744073709551615\"",
+    ),
+];
+
+#[test]
+fn the_type_of_a_composed_body_names_its_boundary(rt: HostRuntime) {
+    assert_eq!(rt; first_other_type(rt.alloc(), &TYPES), None);
+}
+
+/// The first number whose boundary is named otherwise; none where each is named as its row has it.
+fn first_other_type(alloc: Global, rows: &[(u64, &str)]) -> Option<u64> {
+    for (number, wanted) in rows {
+        if !is_type(alloc, *number, wanted) {
+            return Some(*number);
+        }
+    }
+    None
+}
+
+fn is_type(alloc: Global, number: u64, wanted: &str) -> bool {
+    match composed_type(alloc, number) {
+        Ok(value) => value.as_slice() == wanted.as_bytes(),
+        Err(_) => false,
+    }
 }

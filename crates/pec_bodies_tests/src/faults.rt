@@ -1,83 +1,104 @@
 //! Bodies that have no parts.
 use crate::parts::head_with;
 use pec_bodies::{BodyFault, Parts};
-use pec_heads::HeadFault;
+use pec_heads::{Head, HeadFault};
 use std::alloc::Global;
-use std::process::Abort;
-use std::test::Fail;
 
-/// Why a body has no parts, where it has none.
-fn fault_of(
-    rt: &impl Abort,
-    alloc: Global,
-    value: &str,
-    body: &str,
-) -> Result<Option<BodyFault>, BodyFault> {
-    let head = head_with(rt, alloc, value)?;
-    Ok(Parts::read(alloc, &head, body.as_bytes()).err())
-}
-
-#[test]
-fn the_first_fault_of_a_body_is_answered(rt: HostRuntime) -> Result<(), Fail> {
-    let rows: [(&str, BodyFault); 9] = [
-        ("", BodyFault::NoOpening),
-        // a delimiter ends in a line feed
-        ("--b", BodyFault::NoOpening),
-        // closing, another boundary, one dash, more than blanks
-        ("--b--\n--bb\n-b\n--b x\n", BodyFault::NoOpening),
-        ("--b\n", BodyFault::NoClosing),
-        // before the fault of a part
-        ("--b\nx\n--b\n--b", BodyFault::NoClosing),
-        // a carriage return in the last piece belongs to no line end
-        ("--b\n\na\n--b--\r", BodyFault::NoClosing),
-        // an empty part has no head
-        (
-            "--b\n\na\n--b\n--b--",
-            BodyFault::PartHead(1, HeadFault::NoEnd),
-        ),
-        // nor has one whose only line end is that of the delimiter
-        ("--b\n\n--b--", BodyFault::PartHead(0, HeadFault::NoEnd)),
-        // places count from the part's first byte
-        (
-            "--b\nA: b\r\nC\n\n--b--",
-            BodyFault::PartHead(0, HeadFault::NoColon(6)),
-        ),
-    ];
-    for (body, want) in rows {
-        let fault = fault_of(&rt, rt.alloc(), "multipart/x; boundary=\"b\"", body)?;
-        assert_eq!(rt; fault, Some(want), "{body:?}");
+/// Whether a body under a head of this type has this fault, or parts where none is wanted.
+fn has_fault(alloc: Global, value: &str, body: &str, wanted: Option<BodyFault>) -> bool {
+    match head_with(alloc, value) {
+        Some(head) => fault_in(alloc, &head, body) == wanted,
+        None => false,
     }
-    Ok(())
 }
 
-#[test]
-fn a_head_of_another_type_or_with_no_boundary_gives_no_parts(rt: HostRuntime) -> Result<(), Fail> {
-    let rows: [(&str, Option<BodyFault>); 5] = [
-        ("multipart/x; boundary=b", None),
-        ("text/x; boundary=b", Some(BodyFault::NoBoundary)),
-        ("multipart; boundary=b", Some(BodyFault::NoBoundary)), // no `/`
-        ("multipart/x", Some(BodyFault::NoBoundary)),
-        ("multipart/x; boundary=", Some(BodyFault::NoBoundary)), // an empty one
-    ];
-    for (value, want) in rows {
-        let fault = fault_of(&rt, rt.alloc(), value, "--b\n\n\n--b--")?;
-        assert_eq!(rt; fault, want, "{value:?}");
+fn fault_in(alloc: Global, head: &Head, body: &str) -> Option<BodyFault> {
+    match Parts::read(alloc, head, body.as_bytes()) {
+        Ok(_) => None,
+        Err(fault) => Some(fault),
     }
-    Ok(())
 }
 
+const FAULTS: [(&str, BodyFault); 9] = [
+    ("", BodyFault::NoOpening),
+    // a delimiter ends in a line feed
+    ("--b", BodyFault::NoOpening),
+    // closing, another boundary, one dash, more than blanks
+    ("--b--\n--bb\n-b\n--b x\n", BodyFault::NoOpening),
+    ("--b\n", BodyFault::NoClosing),
+    // before the fault of a part
+    ("--b\nx\n--b\n--b", BodyFault::NoClosing),
+    // a carriage return in the last piece belongs to no line end
+    ("--b\n\na\n--b--\r", BodyFault::NoClosing),
+    // an empty part has no head
+    (
+        "--b\n\na\n--b\n--b--",
+        BodyFault::PartHead(1, HeadFault::NoEnd),
+    ),
+    // nor has one whose only line end is that of the delimiter
+    ("--b\n\n--b--", BodyFault::PartHead(0, HeadFault::NoEnd)),
+    // places count from the part's first byte
+    (
+        "--b\nA: b\r\nC\n\n--b--",
+        BodyFault::PartHead(0, HeadFault::NoColon(6)),
+    ),
+];
+
 #[test]
-fn a_boundary_has_at_most_70_bytes(rt: HostRuntime) -> Result<(), Fail> {
-    for (bytes, want) in [
-        (70, BodyFault::NoOpening), // it is one, and the empty body has no delimiter
-        (71, BodyFault::NoBoundary),
-    ] {
-        let mut value = String::from_str(rt.alloc(), "multipart/x; boundary=")?;
-        for _ in 0..bytes {
-            value.push('b')?;
+fn the_first_fault_of_a_body_is_answered(rt: HostRuntime) {
+    assert_eq!(rt; first_other_fault(rt.alloc(), &FAULTS), None);
+}
+
+/// The first body that hasn't the fault of its row; none where each has.
+fn first_other_fault(alloc: Global, rows: &[(&'static str, BodyFault)]) -> Option<&'static str> {
+    for (body, fault) in rows {
+        if !has_fault(alloc, "multipart/x; boundary=\"b\"", body, Some(*fault)) {
+            return Some(*body);
         }
-        let fault = fault_of(&rt, rt.alloc(), value.as_str(), "")?;
-        assert_eq!(rt; fault, Some(want), "{bytes}");
     }
-    Ok(())
+    None
+}
+
+const TYPES: [(&str, Option<BodyFault>); 5] = [
+    ("multipart/x; boundary=b", None),
+    ("text/x; boundary=b", Some(BodyFault::NoBoundary)),
+    ("multipart; boundary=b", Some(BodyFault::NoBoundary)), // no `/`
+    ("multipart/x", Some(BodyFault::NoBoundary)),
+    ("multipart/x; boundary=", Some(BodyFault::NoBoundary)), // an empty one
+];
+
+#[test]
+fn a_head_of_another_type_or_with_no_boundary_gives_no_parts(rt: HostRuntime) {
+    assert_eq!(rt; first_other_type(rt.alloc(), &TYPES), None);
+}
+
+/// The first type under which a body hasn't the fault of its row; none where it has it under each.
+fn first_other_type(
+    alloc: Global,
+    rows: &[(&'static str, Option<BodyFault>)],
+) -> Option<&'static str> {
+    for (value, fault) in rows {
+        if !has_fault(alloc, value, "--b\n\n\n--b--", *fault) {
+            return Some(*value);
+        }
+    }
+    None
+}
+
+#[test]
+fn a_boundary_has_at_most_70_bytes(rt: HostRuntime) {
+    // it is one, and the empty body has no delimiter
+    assert!(rt; has_fault_of_length(rt.alloc(), 70, BodyFault::NoOpening));
+    assert!(rt; has_fault_of_length(rt.alloc(), 71, BodyFault::NoBoundary));
+}
+
+/// Whether an empty body under a boundary of so many bytes has this fault.
+fn has_fault_of_length(alloc: Global, bytes: usize, fault: BodyFault) -> bool {
+    match "b".repeat(alloc, bytes) {
+        Ok(boundary) => match "multipart/x; boundary=#".replace(alloc, "#", &boundary) {
+            Ok(value) => has_fault(alloc, &value, "", Some(fault)),
+            Err(_) => false,
+        },
+        Err(_) => false,
+    }
 }

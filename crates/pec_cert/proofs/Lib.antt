@@ -9,6 +9,7 @@ pub mod NumberLemmas
 pub mod PartLemmas
 pub mod Printable
 pub mod PutLemmas
+pub mod Runs
 pub mod Texts
 pub mod WholeLemmas
 pub mod ZoneLemmas

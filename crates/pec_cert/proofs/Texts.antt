@@ -17,14 +17,14 @@ not_or : (x y : Bool) → not (x || y) ≡ true → (x ≡ false) × (not y ≡ 
 not_or true y e = absurd (false≢true e)
 not_or false y e = (refl, e)
 
-record Plain (c : ℕ) : Type 0 where
-  printable : is_unprintable c ≡ false
-  amp : eqb c 38 ≡ false
-  lt : eqb c 60 ≡ false
-  gt : eqb c 62 ≡ false
-  quot : eqb c 34 ≡ false
+pub record Plain (c : ℕ) : Type 0 where
+  pub printable : is_unprintable c ≡ false
+  pub amp : eqb c 38 ≡ false
+  pub lt : eqb c 60 ≡ false
+  pub gt : eqb c 62 ≡ false
+  pub quot : eqb c 34 ≡ false
 
-plain_is : (c : ℕ) → is_plain c ≡ true → Plain c
+pub plain_is : (c : ℕ) → is_plain c ≡ true → Plain c
 plain_is c e =
     let a = not_or (is_unprintable c) (eqb c 38 || (eqb c 60 || (eqb c 62 || eqb c 34))) e in
     let b = not_or (eqb c 38) (eqb c 60 || (eqb c 62 || eqb c 34)) a.1 in
@@ -36,7 +36,7 @@ plain_is c e =
     last true e = absurd (false≢true e)
     last false e = refl
 
-plain_spelled : (c : ℕ) → is_plain c ≡ true → c ∷ [] ≡ escape c
+pub plain_spelled : (c : ℕ) → is_plain c ≡ true → c ∷ [] ≡ escape c
 plain_spelled c e = let p = plain_is c e in rw (p.amp, p.lt, p.gt, p.quot) refl
 
 -- an escape begins with `&`

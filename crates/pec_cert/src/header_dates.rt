@@ -27,7 +27,7 @@ pub fn header_date(alloc: Global, stamp: Stamp) -> Result<Vec<u8>, NoMemory>
     ensures exact { IfOk result (λ text. text.items ≡ header_date_of stamp) }
 {
     let shown = stamp.shown();
-    let mut out = Vec::new(alloc);
+    let mut out = Vec::with_capacity(alloc, 31)?;
     put_header_date(&mut out, weekday(shown.day), shown)?;
     Ok(out)
 }
@@ -47,7 +47,7 @@ pub fn read_header_date(text: &[u8]) -> Option<Stamp>
 pub fn day_line(alloc: Global, stamp: Stamp) -> Result<Vec<u8>, NoMemory>
     ensures { IfOk result (λ text. text.items ≡ day_line_of stamp) }
 {
-    let mut out = Vec::new(alloc);
+    let mut out = Vec::with_capacity(alloc, 38)?;
     put_day_line(&mut out, stamp.shown())?;
     Ok(out)
 }

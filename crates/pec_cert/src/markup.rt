@@ -1,4 +1,5 @@
-ghost use Rattle.std.specs.Prelude.{◌≡◌, IfOk};
+ghost use Rattle.std.specs.Prelude.{◌≡◌, ◌≤◌, IfOk, length};
+ghost use Rattle.std.specs.List.{prefix_len};
 ghost use Rattle.pec_types.specs.Text.{AllPrintable};
 ghost use Rattle.pec_grammar.specs.Grammar.{byte_at, many_at, optional_at};
 ghost use Rattle.pec_grammar.specs.Reading.{standing, Gives, MayGive};
@@ -16,11 +17,31 @@ fn plain(at: Cursor<'_>) -> Result<(u8, Cursor<'_>), Stop<'_>>
     let [b, rest @ ..] = at.rest else {
         return Err(at.stop());
     };
-    if *b < 0x20 || 0x7e < *b || *b == b'&' || *b == b'<' || *b == b'>' || *b == b'"' {
+    if !is_plain(*b) {
         return Err(at.stop());
     }
     let farthest = at.farthest;
     Ok((*b, Cursor { rest, farthest }))
+}
+
+/// Whether a byte stands for itself.
+fn is_plain(b: u8) -> bool
+    ensures { result ≡ is_plain b }
+{
+    !(b < 0x20 || 0x7e < b || b == b'&' || b == b'<' || b == b'>' || b == b'"')
+}
+
+/// How many bytes that stand for themselves a text begins with.
+pub(crate) fn plain_front(text: &[u8]) -> usize
+    ensures value { result ≡ prefix_len is_plain text.now }
+    ensures within { result ≤ length text.now }
+{
+    for (i, b) in text.iter().enumerate() {
+        if !is_plain(*b) {
+            return i;
+        }
+    }
+    text.len()
 }
 
 /// Reads a byte of a text: one that stands for itself, or one of the four escapes.
@@ -42,8 +63,24 @@ fn character(at: Cursor<'_>) -> Result<(u8, Cursor<'_>), Stop<'_>>
     Ok((b, after))
 }
 
-/// Reads a text up to the first byte that no text has there.
+/// Reads a text up to the first byte that no text has there. One without an escape is copied at once.
 fn text(alloc: Global, at: Cursor<'_>) -> Result<(Text, Cursor<'_>), ReadError<'_>>
+    ensures { MayGive (λ x. (x.0, standing x.1)) result (many_at char_at (standing at.entry)) }
+{
+    let front = plain_front(at.rest);
+    let behind = Cursor {
+        rest: &at.rest[front..],
+        farthest: at.farthest,
+    };
+    let Err(stop) = character(behind) else {
+        return escaped_text(alloc, at);
+    };
+    let text = printable(alloc, &at.rest[..front])?;
+    Ok((text, behind.tried(stop)))
+}
+
+/// Reads a text byte by byte, up to the first one that no text has there.
+fn escaped_text(alloc: Global, at: Cursor<'_>) -> Result<(Text, Cursor<'_>), ReadError<'_>>
     ensures { MayGive (λ x. (x.0, standing x.1)) result (many_at char_at (standing at.entry)) }
 {
     let mut bytes = Vec::new(alloc);

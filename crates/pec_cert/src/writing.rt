@@ -11,6 +11,7 @@ ghost use Rattle.pec_cert.specs.Markup.{escape, two_digits, four_digits, opening
 ghost use Rattle.pec_cert.specs.Shown.{sign_word, zone_text, day_text, time_text, HasDigits};
 
 use crate::certificates::{CertData, CertError, CertKind, CertRecipient};
+use crate::markup::plain_front;
 use crate::stamps::{Shown, ShownDay, ShownTime, ShownZone};
 use pec_types::{Address, NoMemory, Text, Wish};
 use std::alloc::{AllocError, Global};
@@ -30,7 +31,7 @@ fn write_text(alloc: Global, cert: &CertData) -> Result<Vec<u8>, AllocError>
     requires { 0 < length cert.now.recipients }
     ensures { IfOk result (λ text. IsCert cert.now text.items) }
 {
-    let mut out = Vec::new(alloc);
+    let mut out = Vec::with_capacity(alloc, room_for(cert))?;
     put_beginning(&mut out, cert.kind, cert.error, cert.sender.bytes())?;
     put_recipients(&mut out, cert.recipients.as_slice())?;
     put_middle(&mut out, &cert.reply, &cert.subject, &cert.provider)?;
@@ -46,6 +47,23 @@ fn write_text(alloc: Global, cert: &CertData) -> Result<Vec<u8>, AllocError>
     )?;
     out.extend_from_slice(b"</dati>\r\n</postacert>\r\n")?;
     Ok(out)
+}
+
+/// How much room is made for a certificate's text. A wrong guess would cost time alone.
+fn room_for(cert: &CertData) -> usize {
+    let subject = match &cert.subject {
+        Some(subject) => subject.bytes().len(),
+        None => 0,
+    };
+    let addresses = cert
+        .recipients
+        .as_slice()
+        .len()
+        .saturating_add(cert.received.as_slice().len());
+    addresses
+        .saturating_mul(128)
+        .saturating_add(subject)
+        .saturating_add(896)
 }
 
 /// Puts the first four lines.
@@ -335,6 +353,16 @@ pub(crate) fn put_element(
 }
 
 fn put_text(out: &mut Vec<u8>, text: &[u8]) -> Result<(), AllocError>
+    ensures { OnOk result (out.new.items ≡ out.old.items ++ flat_map escape text.now) }
+{
+    let front = plain_front(text);
+    out.extend_from_slice(&text[..front])?;
+    put_escaped(out, &text[front..])?;
+    Ok(())
+}
+
+/// Puts a text byte by byte.
+fn put_escaped(out: &mut Vec<u8>, text: &[u8]) -> Result<(), AllocError>
     ensures { OnOk result (out.new.items ≡ out.old.items ++ flat_map escape text.now) }
 {
     for b in text {

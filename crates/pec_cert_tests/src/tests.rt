@@ -1,7 +1,6 @@
 use pec_cert::*;
 use pec_types::{Moment, Text};
 use std::alloc::{AllocError, Global};
-use std::test::Fail;
 
 const ENVELOPE: &str = "<?xml version=\"1.0\" encoding=\"UTF-8\"?>\r\n\
     <postacert tipo=\"posta-certificata\" errore=\"nessuno\">\r\n\
@@ -97,14 +96,29 @@ const STAMPS: [(&str, u64, i32); 18] = [
 ];
 
 #[test]
-fn a_zone_stamps_with_whole_minutes(rt: HostRuntime) -> Result<(), Fail> {
-    for (rule, seconds, minutes) in STAMPS {
-        let stamp = stamped(rt.alloc(), rule, seconds).ok_or("a stamp")?;
-        assert_eq!(rt; stamp.minutes, minutes, "{rule} at {seconds}");
-        assert_eq!(rt; stamp.moment.seconds(), seconds, "{rule} at {seconds}");
+fn a_zone_stamps_with_whole_minutes(rt: HostRuntime) {
+    assert_eq!(rt; first_other_stamp(rt.alloc(), &STAMPS), None);
+    assert!(rt; zone_of(rt.alloc(), b"nonsense!").is_none());
+}
+
+/// The first rule and moment that has another stamp; none where each has that of its row.
+fn first_other_stamp(
+    alloc: Global,
+    rows: &[(&'static str, u64, i32)],
+) -> Option<(&'static str, u64)> {
+    for (rule, seconds, minutes) in rows {
+        if !is_stamp(stamped(alloc, rule, *seconds), *seconds, *minutes) {
+            return Some((*rule, *seconds));
+        }
     }
-    assert_eq!(rt; zone_of(rt.alloc(), b"nonsense!"), None);
-    Ok(())
+    None
+}
+
+fn is_stamp(found: Option<Stamp>, seconds: u64, minutes: i32) -> bool {
+    match found {
+        Some(stamp) => stamp.minutes == minutes && stamp.moment.seconds() == seconds,
+        None => false,
+    }
 }
 
 fn stamped(alloc: Global, rule: &str, seconds: u64) -> Option<Stamp> {
@@ -151,19 +165,54 @@ const DAY_LINES: [(&str, u64, &str); 5] = [
 ];
 
 #[test]
-fn a_stamp_is_printed_in_heads_and_texts(rt: HostRuntime) -> Result<(), Fail> {
-    for (rule, seconds, date) in HEADER_DATES {
-        let stamp = stamped(rt.alloc(), rule, seconds).ok_or("a stamp")?;
-        let printed = header_date(rt.alloc(), stamp)?;
-        assert_eq!(rt; printed.as_slice(), date.as_bytes(), "{date}");
-        assert_eq!(rt; read_header_date(date.as_bytes()), Some(stamp), "{date}");
+fn a_stamp_is_printed_in_heads_and_texts(rt: HostRuntime) {
+    assert_eq!(rt; first_other_date(rt.alloc(), &HEADER_DATES), None);
+    assert_eq!(rt; first_other_line(rt.alloc(), &DAY_LINES), None);
+}
+
+/// The first date that isn't that of its row's stamp; none where each is.
+fn first_other_date(alloc: Global, rows: &[(&str, u64, &'static str)]) -> Option<&'static str> {
+    for (rule, seconds, date) in rows {
+        if !is_date(alloc, rule, *seconds, date) {
+            return Some(*date);
+        }
     }
-    for (rule, seconds, line) in DAY_LINES {
-        let stamp = stamped(rt.alloc(), rule, seconds).ok_or("a stamp")?;
-        let printed = day_line(rt.alloc(), stamp)?;
-        assert_eq!(rt; printed.as_slice(), line.as_bytes(), "{line}");
+    None
+}
+
+/// Whether the stamp is printed as this date, which is read as it.
+fn is_date(alloc: Global, rule: &str, seconds: u64, date: &str) -> bool {
+    match stamped(alloc, rule, seconds) {
+        Some(stamp) => {
+            is_text(header_date(alloc, stamp).ok(), date)
+                && read_header_date(date.as_bytes()) == Some(stamp)
+        }
+        None => false,
     }
-    Ok(())
+}
+
+/// The first line that isn't that of its row's stamp; none where each is.
+fn first_other_line(alloc: Global, rows: &[(&str, u64, &'static str)]) -> Option<&'static str> {
+    for (rule, seconds, line) in rows {
+        if !is_line(alloc, rule, *seconds, line) {
+            return Some(*line);
+        }
+    }
+    None
+}
+
+fn is_line(alloc: Global, rule: &str, seconds: u64, line: &str) -> bool {
+    match stamped(alloc, rule, seconds) {
+        Some(stamp) => is_text(day_line(alloc, stamp).ok(), line),
+        None => false,
+    }
+}
+
+fn is_text(found: Option<Vec<u8>>, wanted: &str) -> bool {
+    match found {
+        Some(text) => text.as_slice() == wanted.as_bytes(),
+        None => false,
+    }
 }
 
 const NO_DATES: [&str; 17] = [
@@ -187,11 +236,10 @@ const NO_DATES: [&str; 17] = [
 ];
 
 #[test]
-fn other_spellings_are_no_dates(rt: HostRuntime) -> Result<(), Fail> {
-    for text in NO_DATES {
+fn other_spellings_are_no_dates(rt: HostRuntime) {
+    for text in &NO_DATES {
         assert_eq!(rt; read_header_date(text.as_bytes()), None, "{text}");
     }
-    Ok(())
 }
 
 fn zone_of(alloc: Global, rule: &[u8]) -> Option<Zone> {
@@ -199,8 +247,15 @@ fn zone_of(alloc: Global, rule: &[u8]) -> Option<Zone> {
     Zone::read(&rule).ok()
 }
 
+fn certificate(alloc: Global, text: &[u8]) -> Result<CertData, CertFault> {
+    read(alloc, text)
+}
+
 fn fault_of(alloc: Global, text: &[u8]) -> Option<CertFault> {
-    read(alloc, text).err()
+    match certificate(alloc, text) {
+        Ok(_) => None,
+        Err(fault) => Some(fault),
+    }
 }
 
 // The envelope's text with some bytes cut out at a place and others put there.
@@ -221,35 +276,42 @@ fn edited(alloc: Global, place: usize, cut: usize, put: &[u8]) -> Result<Vec<u8>
 }
 
 #[test]
-fn what_is_read_is_written_again(rt: HostRuntime) -> Result<(), Fail> {
+fn what_is_read_is_written_again(rt: HostRuntime) {
     assert!(rt; is_written_again(rt.alloc(), ENVELOPE));
     assert!(rt; is_written_again(rt.alloc(), FULL));
     assert!(rt; is_written_again(rt.alloc(), BARE));
-    let cert = read(rt.alloc(), FULL.as_bytes())
-        .ok()
-        .ok_or("a certificate")?;
-    assert_eq!(rt; cert.kind, CertKind::DelayNotice);
-    assert_eq!(rt; cert.error, CertError::Other);
-    assert_eq!(rt; cert.reply.bytes(), "<&>\"".as_bytes());
-    assert_eq!(rt; cert.stamp.moment.seconds(), 7199);
-    assert_eq!(rt; cert.stamp.minutes, -1559);
-    assert_eq!(rt; cert.stamp.shown().zone.hours, 25);
-    assert_eq!(rt; cert.received.as_slice().len(), 2);
-    Ok(())
+    assert!(rt; is_full(rt.alloc()));
 }
 
 // Whether the text is read, and what is read is written as the same text.
 fn is_written_again(alloc: Global, text: &str) -> bool {
-    let Ok(cert) = read(alloc, text.as_bytes()) else {
-        return false;
-    };
-    if cert.recipients.as_slice().is_empty() {
-        return false;
+    match certificate(alloc, text.as_bytes()) {
+        Ok(cert) => is_text(written(alloc, &cert), text),
+        Err(_) => false,
     }
-    let Ok(again) = write(alloc, &cert) else {
-        return false;
-    };
-    again.as_slice() == text.as_bytes()
+}
+
+fn written(alloc: Global, cert: &CertData) -> Option<Vec<u8>> {
+    if cert.recipients.as_slice().is_empty() {
+        return None;
+    }
+    write(alloc, cert).ok()
+}
+
+fn is_full(alloc: Global) -> bool {
+    match certificate(alloc, FULL.as_bytes()) {
+        Ok(cert) => says_all(&cert),
+        Err(_) => false,
+    }
+}
+
+fn says_all(cert: &CertData) -> bool {
+    cert.kind == CertKind::DelayNotice
+        && cert.error == CertError::Other
+        && cert.reply.bytes() == "<&>\"".as_bytes()
+        && is_stamp(Some(cert.stamp), 7199, -1559)
+        && cert.stamp.shown().zone.hours == 25
+        && cert.received.as_slice().len() == 2
 }
 
 // A byte or more of the envelope's text, by their place and number, what stands there instead, and the fault of that text.
@@ -303,6 +365,16 @@ const VALUES: [Row; 16] = [
     (365, 5, "+2560", CertFault::BadDate(365)),
 ];
 
+/// The first row whose text has another fault; none where each has that of its row.
+fn first_other_fault(alloc: Global, rows: &[Row]) -> Option<Row> {
+    for row in rows {
+        if fault_in(alloc, *row) != Some(row.3) {
+            return Some(*row);
+        }
+    }
+    None
+}
+
 // The fault of the text that a row says.
 fn fault_in(alloc: Global, (place, cut, put, _): Row) -> Option<CertFault> {
     let text = edited(alloc, place, cut, put.as_bytes()).ok()?;
@@ -310,34 +382,20 @@ fn fault_in(alloc: Global, (place, cut, put, _): Row) -> Option<CertFault> {
 }
 
 #[test]
-fn a_text_of_another_shape_has_its_first_fault(rt: HostRuntime) -> Result<(), Fail> {
-    for row in SHAPES {
-        assert_eq!(rt;
-            fault_in(rt.alloc(), row),
-            Some(row.3),
-            "{} {} {}",
-            row.0,
-            row.1,
-            row.2
-        );
-    }
+fn a_text_of_another_shape_has_its_first_fault(rt: HostRuntime) {
+    assert_eq!(rt; first_other_fault(rt.alloc(), &SHAPES), None);
     assert_eq!(rt; fault_of(rt.alloc(), b""), Some(CertFault::Syntax(0)));
-    Ok(())
 }
 
 #[test]
-fn a_wrong_value_has_its_place(rt: HostRuntime) -> Result<(), Fail> {
-    for row in VALUES {
-        assert_eq!(rt;
-            fault_in(rt.alloc(), row),
-            Some(row.3),
-            "{} {} {}",
-            row.0,
-            row.1,
-            row.2
-        );
+fn a_wrong_value_has_its_place(rt: HostRuntime) {
+    assert_eq!(rt; first_other_fault(rt.alloc(), &VALUES), None);
+    assert!(rt; has_the_farthest_zone(rt.alloc()));
+}
+
+fn has_the_farthest_zone(alloc: Global) -> bool {
+    match edited(alloc, 365, 5, b"+2500") {
+        Ok(text) => fault_of(alloc, &text).is_none(),
+        Err(_) => false,
     }
-    let farthest = edited(rt.alloc(), 365, 5, b"+2500")?;
-    assert_eq!(rt; fault_of(rt.alloc(), farthest.as_slice()), None);
-    Ok(())
 }

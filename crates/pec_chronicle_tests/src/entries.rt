@@ -1,5 +1,4 @@
 //! Entries that are made, appended, refused and opened again, on disks that fail at one of their calls.
-ghost use Rattle.std.specs.Prelude.{IfOk};
 ghost use Rattle.pec_records.specs.Entry.{IsWithinLimits};
 
 use pec_chronicle::{AppendFault, Chronicle, CreateFault, OpenFault};
@@ -7,7 +6,6 @@ use pec_outside::{Disk, MemDepot, MemDisk};
 use pec_records::Entry;
 use pec_types::{Address, Moment, Text8};
 use std::alloc::Global;
-use std::test::Fail;
 
 /// The number of a call of the disk that isn't made.
 const NEVER: u64 = 99;
@@ -59,43 +57,51 @@ const CUTS: [Cut; 5] = [
 ];
 
 #[test]
-fn an_entry_is_there_or_not_after_each_crash(rt: HostRuntime) -> Result<(), Fail> {
+fn an_entry_is_there_or_not_after_each_crash(rt: HostRuntime) {
     for cut in &CUTS {
-        assert!(rt; entries_after(rt.alloc(), cut, 0)? == cut.without);
-        assert!(rt; entries_after(rt.alloc(), cut, NEVER)? == cut.with);
+        assert_eq!(rt; entries_after(rt.alloc(), cut, 0), Some(cut.without));
+        assert_eq!(rt; entries_after(rt.alloc(), cut, NEVER), Some(cut.with));
     }
-    Ok(())
 }
 
 /// How many entries are there after the append of a row, a crash that keeps so many pending bytes, and a restart.
-fn entries_after(alloc: Global, cut: &Cut, kept: u64) -> Result<u64, Fail> {
+fn entries_after(alloc: Global, cut: &Cut, kept: u64) -> Option<u64> {
+    let kept = vec![in alloc; kept].ok()?;
     let chronicle = appended(alloc, cut)?;
-    let kept = vec![in alloc; kept]?;
+    entries_left(alloc, chronicle, kept)
+}
+
+fn entries_left(alloc: Global, chronicle: Chronicle<MemDisk>, kept: Vec<u64>) -> Option<u64> {
     let mut depot = MemDepot::new(alloc, Vec::new(alloc), kept);
     match chronicle.crash(&mut depot, 0).restart(alloc) {
-        Ok((chronicle, _, _)) => Ok(chronicle.entries()),
-        Err(_) => Err("it was not restarted".into()),
+        Ok((chronicle, _, _)) => Some(chronicle.entries()),
+        Err(_) => None,
     }
 }
 
 /// The entries to which a second was appended, with the answer of the row.
-fn appended(alloc: Global, cut: &Cut) -> Result<Chronicle<MemDisk>, Fail> {
-    let entry = tick()?;
-    let mut chronicle = made(alloc, cut.call)?.ok_or("no journal was made")?;
-    if append(alloc, &mut chronicle, &entry)? == cut.fault {
-        Ok(chronicle)
+fn appended(alloc: Global, cut: &Cut) -> Option<Chronicle<MemDisk>> {
+    let mut chronicle = made(alloc, cut.call).ok()?;
+    if append_tick(alloc, &mut chronicle) == Some(cut.fault) {
+        Some(chronicle)
     } else {
-        Err("another answer".into())
+        None
     }
 }
 
 #[test]
-fn a_fault_of_the_disk_makes_no_journal(rt: HostRuntime) -> Result<(), Fail> {
+fn a_fault_of_the_disk_makes_no_journal(rt: HostRuntime) {
     for call in 0..7 {
-        assert!(rt; made(rt.alloc(), call)?.is_none());
+        assert!(rt; fails_to_make(rt.alloc(), call), "call {call}");
     }
-    assert!(rt; made(rt.alloc(), 7)?.is_some());
-    Ok(())
+    assert!(rt; made(rt.alloc(), 7).is_ok());
+}
+
+fn fails_to_make(alloc: Global, call: u64) -> bool {
+    match made(alloc, call) {
+        Err(Some(CreateFault::DiskFault)) => true,
+        _ => false,
+    }
 }
 
 /// Bytes over which no entries are opened.
@@ -136,36 +142,62 @@ const FILES: [File; 5] = [
 ];
 
 #[test]
-fn bytes_that_are_no_entries_are_refused(rt: HostRuntime) -> Result<(), Fail> {
+fn bytes_that_are_no_entries_are_refused(rt: HostRuntime) {
     for file in &FILES {
-        assert!(rt; is_refused(rt.alloc(), file)?);
+        assert!(rt; is_refused(rt.alloc(), file));
     }
-    Ok(())
 }
 
 /// Whether no entries are opened over these bytes, for the fault and behind the entries of the row.
-fn is_refused(alloc: Global, file: &File) -> Result<bool, Fail> {
+fn is_refused(alloc: Global, file: &File) -> bool {
+    match disk_of(alloc, file.bytes) {
+        Some(disk) => match Chronicle::reopen(alloc, disk) {
+            Ok(_) => false,
+            Err(unopened) => {
+                unopened.fault == file.fault && unopened.entries.len() == file.entries
+            }
+        },
+        None => false,
+    }
+}
+
+fn disk_of(alloc: Global, bytes: &[u8]) -> Option<MemDisk> {
     let mut disk = MemDisk::new(alloc, Vec::new(alloc));
-    disk.write_at(0, file.bytes)?;
-    match Chronicle::reopen(alloc, disk) {
-        Ok(_) => Ok(false),
-        Err(unopened) => Ok(unopened.fault == file.fault && unopened.entries.len() == file.entries),
+    match disk.write_at(0, bytes) {
+        Ok(()) => Some(disk),
+        Err(_) => None,
     }
 }
 
 #[test]
-fn an_entry_lends_its_bytes_and_its_message(rt: HostRuntime) -> Result<(), Fail> {
-    let entry = acceptance(rt.alloc())?;
-    let mut chronicle = made(rt.alloc(), NEVER)?.ok_or("no journal was made")?;
-    assert!(rt; append(rt.alloc(), &mut chronicle, &entry)?.is_none());
-    assert!(rt; chronicle.entries() == 2);
-    assert!(rt; chronicle.end() == 91);
-    assert!(rt; !chronicle.is_down());
-    assert!(rt; is_lent(chronicle.body(1), b"ciao"));
-    assert!(rt; chronicle.body(0).is_none());
-    assert!(rt; size(chronicle.bytes(0)) == 37);
-    assert!(rt; chronicle.bytes(2).is_none());
-    Ok(())
+fn an_entry_lends_its_bytes_and_its_message(rt: HostRuntime) {
+    assert!(rt; lends_an_acceptance(rt.alloc()));
+}
+
+fn lends_an_acceptance(alloc: Global) -> bool {
+    match with_acceptance(alloc) {
+        Some(chronicle) => has_an_acceptance(&chronicle),
+        None => false,
+    }
+}
+
+fn with_acceptance(alloc: Global) -> Option<Chronicle<MemDisk>> {
+    let mut chronicle = made(alloc, NEVER).ok()?;
+    if append_acceptance(alloc, &mut chronicle) == Some(None) {
+        Some(chronicle)
+    } else {
+        None
+    }
+}
+
+fn has_an_acceptance(chronicle: &Chronicle<MemDisk>) -> bool {
+    chronicle.entries() == 2
+        && chronicle.end() == 91
+        && !chronicle.is_down()
+        && is_lent(chronicle.body(1), b"ciao")
+        && chronicle.body(0).is_none()
+        && size(chronicle.bytes(0)) == 37
+        && chronicle.bytes(2).is_none()
 }
 
 fn is_lent(found: Option<&[u8]>, wanted: &[u8]) -> bool {
@@ -183,50 +215,54 @@ fn size(found: Option<&[u8]>) -> usize {
     }
 }
 
-/// Entries on an empty disk that fails at this call, with a Start; none where the disk's fault comes back.
-fn made(alloc: Global, call: u64) -> Result<Option<Chronicle<MemDisk>>, Fail> {
-    let disk = MemDisk::new(alloc, vec![in alloc; call]?);
+/// Entries on an empty disk that fails at this call, with a Start; or the fault, none where memory is wanting.
+fn made(alloc: Global, call: u64) -> Result<Chronicle<MemDisk>, Option<CreateFault>> {
+    let Ok(failing) = vec![in alloc; call] else {
+        return Err(None);
+    };
     let start = Entry::Start {
         provider: 0,
         digest: [7; 32],
     };
-    match Chronicle::create(alloc, disk, &start) {
-        Ok(chronicle) => Ok(Some(chronicle)),
-        Err((CreateFault::DiskFault, _)) => Ok(None),
-        Err(_) => Err("another fault".into()),
+    match Chronicle::create(alloc, MemDisk::new(alloc, failing), &start) {
+        Ok(chronicle) => Ok(chronicle),
+        Err((fault, _)) => Err(Some(fault)),
     }
 }
 
-/// The fault for which an entry is not appended, if there is one.
-fn append(
+/// The fault for which the next entry is not appended, if there is one; none at all where memory is wanting.
+fn append_tick<D: Disk>(
     alloc: Global,
-    chronicle: &mut Chronicle<MemDisk>,
-    entry: &Entry,
-) -> Result<Option<AppendFault>, Fail>
-    requires { IsWithinLimits entry.now }
-{
-    let encoded = chronicle.reserve(alloc, entry)?;
-    Ok(chronicle.append(encoded).err())
+    chronicle: &mut Chronicle<D>,
+) -> Option<Option<AppendFault>> {
+    let moment = Moment::new(5)?;
+    append(alloc, chronicle, &Entry::Ticked { moment })
 }
 
-fn tick() -> Result<Entry, Fail>
-    ensures { IfOk result (λ entry. IsWithinLimits entry) }
-{
-    match Moment::new(5) {
-        Some(moment) => Ok(Entry::Ticked { moment }),
-        None => Err("no moment".into()),
-    }
-}
-
-fn acceptance(alloc: Global) -> Result<Entry, Fail>
-    ensures { IfOk result (λ entry. IsWithinLimits entry) }
-{
-    let moment = Moment::new(5).ok_or("no moment")?;
-    let sender = Address::read(alloc, b"anna@alfa.example")?;
-    let message = Vec::from_slice(alloc, b"ciao")?;
-    Ok(Entry::Accepted {
+fn append_acceptance<D: Disk>(
+    alloc: Global,
+    chronicle: &mut Chronicle<D>,
+) -> Option<Option<AppendFault>> {
+    let moment = Moment::new(5)?;
+    let sender = Address::read(alloc, b"anna@alfa.example").ok()?;
+    let message = Vec::from_slice(alloc, b"ciao").ok()?;
+    let entry = Entry::Accepted {
         moment,
         sender,
         message: Text8::of(message),
-    })
+    };
+    append(alloc, chronicle, &entry)
+}
+
+fn append<D: Disk>(
+    alloc: Global,
+    chronicle: &mut Chronicle<D>,
+    entry: &Entry,
+) -> Option<Option<AppendFault>>
+    requires { IsWithinLimits entry.now }
+{
+    match chronicle.reserve(alloc, entry) {
+        Ok(encoded) => Some(chronicle.append(encoded).err()),
+        Err(_) => None,
+    }
 }

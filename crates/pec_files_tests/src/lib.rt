@@ -1,5 +1,7 @@
-//! Tests of `pec_files` over its public calls: files in folders of the tests' own.
+//! Tests of `pec_files` over its public calls.
 #![tactic(auto)]
 
+#[cfg(test)]
+mod stream_tests;
 #[cfg(test)]
 mod tests;

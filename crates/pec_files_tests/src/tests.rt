@@ -1,46 +1,80 @@
-use pec_files::{FileDepot, FileDisk, Input, Output, journal_path};
+//! Disks and depots: files in folders of the tests' own.
+use pec_files::{FileDepot, FileDisk};
 use pec_journal::Journal;
-use pec_outside::{Depot, Disk, Failed, Sink, Source, write_all};
-use std::alloc::Global;
-use std::fs;
+use pec_outside::{Depot, Disk, Failed};
+use std::alloc::{AllocError, Global};
 use std::fs::{File, OpenOptions};
-use std::io;
-use std::io::{Error, ErrorKind, Read, Write};
-use std::rt::Files;
 use std::test::Fail;
+use std::{fs, io};
+
+// Where a piece is written, the piece, and the size then.
+const WRITES: [(u64, &[u8], u64); 5] = [
+    (0, b"abc", 3),
+    (1, b"XY", 3), // within
+    (2, b"zzz", 5), // over the end
+    (5, b"!", 6), // at the end
+    (3, b"", 6), // nothing
+];
+
+// Where four bytes are read, one row after another, how many there are, and the room then.
+const READS: [(u64, usize, &[u8]); 4] = [
+    (0, 4, b"aXzz"),
+    (4, 2, b"z!zz"), // over the end
+    (6, 0, b"z!zz"),
+    (9, 0, b"z!zz"),
+];
 
 #[test]
 fn a_file_reads_as_it_was_written(rt: HostRuntime) -> Result<(), Fail> {
     let folder = "pec_files_written";
-    let mut depot = depot_of_an_empty_folder(&rt, folder)?;
-    let mut disk = depot.disk(15)?;
-    let pieces: [(u64, &[u8], u64); 5] = [
-        (0, b"abc", 3),
-        (1, b"XY", 3), // within
-        (2, b"zzz", 5), // over the end
-        (5, b"!", 6), // at the end
-        (3, b"", 6), // nothing
-    ];
-    for (at, piece, size) in pieces {
-        assert_eq!(rt; disk.write_at(at, piece), Ok(()));
-        assert_eq!(rt; disk.size(), Ok(size));
-    }
-    let mut room = [b'-'; 4];
-    for (at, count, wanted) in [
-        (0, 4, b"aXzz"),
-        (4, 2, b"z!zz"), // over the end
-        (6, 0, b"z!zz"),
-        (9, 0, b"z!zz"),
-    ] {
-        assert_eq!(rt; disk.read_at(at, &mut room), Ok(count));
-        assert_eq!(rt; room, *wanted);
-    }
-    assert_eq!(rt; disk.sync(), Ok(()));
-    assert_eq!(rt; disk.faults(), 0);
-    let bytes = fs::read(&rt, "pec_files_written/pec-15.journal")?;
-    assert_eq!(rt; bytes.as_slice(), b"aXzzz!".as_slice());
+    make_empty(&rt, folder)?;
+    assert!(rt; reads_as_written(&rt, folder));
+    assert!(rt; has_bytes(&rt, "pec_files_written/pec-15.journal", b"aXzzz!"));
     fs::remove_dir_all(&rt, folder)?;
     Ok(())
+}
+
+fn reads_as_written(rt: &HostRuntime, folder: &str) -> bool {
+    match depot_over(rt, folder) {
+        Ok(mut depot) => match depot.disk(15) {
+            Ok(mut disk) => is_written_and_read(&mut disk),
+            Err(_) => false,
+        },
+        Err(_) => false,
+    }
+}
+
+fn is_written_and_read(disk: &mut FileDisk) -> bool {
+    let mut room = [b'-'; 4];
+    takes_all(disk, &WRITES)
+        && gives_all(disk, &mut room, &READS)
+        && disk.sync() == Ok(())
+        && disk.faults() == 0
+}
+
+fn takes_all(disk: &mut FileDisk, rows: &[(u64, &[u8], u64)]) -> bool {
+    for (at, piece, size) in rows {
+        if disk.write_at(*at, piece) != Ok(()) || disk.size() != Ok(*size) {
+            return false;
+        }
+    }
+    true
+}
+
+fn gives_all(disk: &mut FileDisk, room: &mut [u8], rows: &[(u64, usize, &[u8])]) -> bool {
+    for (at, count, wanted) in rows {
+        if disk.read_at(*at, room) != Ok(*count) || *room != **wanted {
+            return false;
+        }
+    }
+    true
+}
+
+fn has_bytes(rt: &HostRuntime, path: &str, wanted: &[u8]) -> bool {
+    match fs::read(rt, path) {
+        Ok(bytes) => bytes.as_slice() == wanted,
+        Err(_) => false,
+    }
 }
 
 // `/dev/full` has no size, reads as zeros, has no room for a write, and can't be synced.
@@ -50,128 +84,184 @@ fn a_disk_counts_its_faults(rt: HostRuntime) -> Result<(), Fail> {
         .read(true)
         .write(true)
         .open(&rt, "/dev/full")?;
-    let mut disk = FileDisk::new(full);
-    let mut room = [b'-'; 2];
-    assert_eq!(rt; disk.size(), Ok(0));
-    assert_eq!(rt; disk.read_at(7, &mut room), Ok(2));
-    assert_eq!(rt; room, *b"\0\0");
-    assert_eq!(rt; disk.faults(), 0);
-    assert_eq!(rt; disk.write_at(0, b"abc"), Err(Failed));
-    assert_eq!(rt; disk.faults(), 1);
-    assert_eq!(rt; disk.sync(), Err(Failed));
-    assert_eq!(rt; disk.faults(), 2);
-    // A folder can't be read as a file is.
-    let mut folder = FileDisk::new(fs::open(&rt, ".")?);
-    assert_eq!(rt; folder.read_at(0, &mut room), Err(Failed));
-    assert_eq!(rt; folder.faults(), 1);
+    assert!(rt; is_full(full));
+    let folder = fs::open(&rt, ".")?;
+    assert!(rt; is_no_file(folder));
     Ok(())
+}
+
+fn is_full(file: File) -> bool {
+    let mut disk = FileDisk::new(file);
+    reads_zeros(&mut disk) && fails_to_write(&mut disk)
+}
+
+fn reads_zeros(disk: &mut FileDisk) -> bool {
+    let mut room = [b'-'; 2];
+    disk.size() == Ok(0)
+        && disk.read_at(7, &mut room) == Ok(2)
+        && room == *b"\0\0"
+        && disk.faults() == 0
+}
+
+fn fails_to_write(disk: &mut FileDisk) -> bool {
+    disk.write_at(0, b"abc") == Err(Failed)
+        && disk.faults() == 1
+        && disk.sync() == Err(Failed)
+        && disk.faults() == 2
+}
+
+/// Whether it can't be read as a file is, since it's a folder.
+fn is_no_file(folder: File) -> bool {
+    let mut disk = FileDisk::new(folder);
+    let mut room = [b'-'; 2];
+    disk.read_at(0, &mut room) == Err(Failed) && disk.faults() == 1
 }
 
 #[test]
 fn a_depot_hands_out_what_was_kept(rt: HostRuntime) -> Result<(), Fail> {
     let folder = "pec_files_kept";
-    let mut depot = depot_of_an_empty_folder(&rt, folder)?;
-    // No file can be made in a folder that isn't there.
-    fs::remove_dir_all(&rt, folder)?;
-    assert!(rt; depot.disk(0).is_err());
-    assert_eq!(rt; depot.faults(), 1);
-    fs::create_dir(&rt, folder)?;
-    let mut disk = depot.disk(0)?;
-    disk.write_at(0, b"abc")?;
-    assert!(rt; depot.disk(0).is_err());
-    assert_eq!(rt; depot.faults(), 2);
-    // What was written is there after a crash that is played, and after the disk was at home.
-    let disk = depot.crash(0, disk);
-    depot.keep(0, disk);
-    let mut disk = depot.disk(0)?;
-    let mut room = [b'-'; 4];
-    assert_eq!(rt; disk.read_at(0, &mut room), Ok(3));
-    assert_eq!(rt; room, *b"abc-");
-    let mut other = depot.disk(1)?;
-    assert_eq!(rt; other.size(), Ok(0));
-    assert_eq!(rt; depot.faults(), 2);
+    make_empty(&rt, folder)?;
+    assert!(rt; hands_out_what_was_kept(&rt, folder));
     fs::remove_dir_all(&rt, folder)?;
     Ok(())
+}
+
+fn hands_out_what_was_kept(rt: &HostRuntime, folder: &str) -> bool {
+    match depot_over(rt, folder) {
+        Ok(mut depot) => {
+            fails_without_a_folder(rt, folder, &mut depot)
+                && keeps_a_written_disk(&mut depot)
+                && has_kept(&mut depot)
+                && depot.faults() == 2
+        }
+        Err(_) => false,
+    }
+}
+
+/// Whether no file can be made in a folder that isn't there. It is there again then.
+fn fails_without_a_folder(
+    rt: &HostRuntime,
+    folder: &str,
+    depot: &mut FileDepot<&HostRuntime>,
+) -> bool {
+    fs::remove_dir_all(rt, folder).is_ok()
+        && depot.disk(0).is_err()
+        && depot.faults() == 1
+        && fs::create_dir(rt, folder).is_ok()
+}
+
+/// Writes to a disk, which isn't handed out twice, crashes it and keeps it.
+fn keeps_a_written_disk(depot: &mut FileDepot<&HostRuntime>) -> bool {
+    match depot.disk(0) {
+        Ok(mut disk) => {
+            let is_out_once = disk.write_at(0, b"abc") == Ok(())
+                && depot.disk(0).is_err()
+                && depot.faults() == 2;
+            let disk = depot.crash(0, disk);
+            depot.keep(0, disk);
+            is_out_once
+        }
+        Err(_) => false,
+    }
+}
+
+/// Whether what was written is there after a crash that was played, and after the disk was at home. Another provider's
+/// disk is another.
+fn has_kept(depot: &mut FileDepot<&HostRuntime>) -> bool {
+    match depot.disk(0) {
+        Ok(mut disk) => reads_three(&mut disk) && has_an_empty_disk(depot),
+        Err(_) => false,
+    }
+}
+
+fn reads_three(disk: &mut FileDisk) -> bool {
+    let mut room = [b'-'; 4];
+    disk.read_at(0, &mut room) == Ok(3) && room == *b"abc-"
+}
+
+fn has_an_empty_disk(depot: &mut FileDepot<&HostRuntime>) -> bool {
+    match depot.disk(1) {
+        Ok(mut disk) => disk.size() == Ok(0),
+        Err(_) => false,
+    }
 }
 
 #[test]
 fn a_journal_is_opened_again_by_a_later_run(rt: HostRuntime) -> Result<(), Fail> {
-    let alloc = rt.alloc();
     let folder = "pec_files_journal";
-    let mut depot = depot_of_an_empty_folder(&rt, folder)?;
-    let Ok(mut journal) = Journal::create(depot.disk(2)?) else {
-        return Err("no journal was made".into());
-    };
-    journal.reserve(alloc, 3)?;
-    journal.append(b"abc")?;
-    depot.keep(2, journal.into_disk());
-    let mut later = depot_over(&rt, folder)?;
-    let Ok((mut journal, places)) = Journal::reopen(alloc, later.disk(2)?) else {
-        return Err("no journal was opened".into());
-    };
-    assert_eq!(rt; places.len(), 1);
-    let entry = journal.read(alloc, places[0])?;
-    assert_eq!(rt; entry.as_slice(), b"abc".as_slice());
+    make_empty(&rt, folder)?;
+    assert!(rt; is_opened_by_a_later_run(&rt, folder));
     fs::remove_dir_all(&rt, folder)?;
     Ok(())
 }
 
-fn depot_of_an_empty_folder<'a>(
+fn is_opened_by_a_later_run(rt: &HostRuntime, folder: &str) -> bool {
+    match depot_over(rt, folder) {
+        Ok(mut depot) => keeps_a_journal(rt.alloc(), &mut depot) && has_a_journal(rt, folder),
+        Err(_) => false,
+    }
+}
+
+fn keeps_a_journal(alloc: Global, depot: &mut FileDepot<&HostRuntime>) -> bool {
+    match depot.disk(2) {
+        Ok(disk) => match journal_on(alloc, disk) {
+            Some(journal) => {
+                depot.keep(2, journal.into_disk());
+                true
+            }
+            None => false,
+        },
+        Err(_) => false,
+    }
+}
+
+/// A journal of `abc`.
+fn journal_on(alloc: Global, disk: FileDisk) -> Option<Journal<FileDisk>> {
+    let mut journal = Journal::create(disk).ok()?;
+    if takes_entry(alloc, &mut journal, b"abc") {
+        Some(journal)
+    } else {
+        None
+    }
+}
+
+fn takes_entry<D: Disk>(alloc: Global, journal: &mut Journal<D>, entry: &[u8]) -> bool {
+    journal.reserve(alloc, entry.len()).is_ok() && journal.append(entry).is_ok()
+}
+
+fn has_a_journal(rt: &HostRuntime, folder: &str) -> bool {
+    match depot_over(rt, folder) {
+        Ok(mut later) => match later.disk(2) {
+            Ok(disk) => is_journal(rt.alloc(), disk),
+            Err(_) => false,
+        },
+        Err(_) => false,
+    }
+}
+
+/// Whether it has one entry, `abc`.
+fn is_journal<D: Disk + Drop>(alloc: Global, disk: D) -> bool {
+    match Journal::reopen(alloc, disk) {
+        Ok((mut journal, places)) => match places.as_slice() {
+            [place] => match journal.read(alloc, *place) {
+                Ok(entry) => entry.as_slice() == b"abc".as_slice(),
+                Err(_) => false,
+            },
+            _ => false,
+        },
+        Err(_) => false,
+    }
+}
+
+fn make_empty(rt: &HostRuntime, folder: &str) -> io::Result<()> {
+    let _ = fs::remove_dir_all(rt, folder);
+    fs::create_dir(rt, folder)
+}
+
+fn depot_over<'a>(
     rt: &'a HostRuntime,
     folder: &str,
-) -> Result<FileDepot<&'a HostRuntime>, Fail> {
-    let _ = fs::remove_dir_all(rt, folder);
-    fs::create_dir(rt, folder)?;
-    depot_over(rt, folder)
-}
-
-fn depot_over<'a>(rt: &'a HostRuntime, folder: &str) -> Result<FileDepot<&'a HostRuntime>, Fail> {
+) -> Result<FileDepot<&'a HostRuntime>, AllocError> {
     let folder = String::from_str(rt.alloc(), folder)?;
     Ok(FileDepot::new(rt, folder))
-}
-
-/// A reader and a writer that always fail.
-#[derive(Drop)]
-struct Broken;
-
-impl Read for Broken {
-    fn read(&mut self, _room: &mut [u8]) -> io::Result<usize> {
-        Err(Error::from(ErrorKind::BrokenPipe))
-    }
-}
-
-impl Write for Broken {
-    fn write(&mut self, _piece: &[u8]) -> io::Result<usize> {
-        Ok(0)
-    }
-
-    fn flush(&mut self) -> io::Result<()> {
-        Ok(())
-    }
-}
-
-#[test]
-fn a_reader_is_read_to_its_end_and_its_faults_are_counted(rt: HostRuntime) -> Result<(), Fail> {
-    let mut input = Input::new(b"abc".as_slice());
-    let mut room = [0u8; 2];
-    assert_eq!(rt; input.read(&mut room), Ok(2));
-    assert_eq!(rt; room, [b'a', b'b']);
-    assert_eq!(rt; input.read(&mut room), Ok(1));
-    assert_eq!(rt; input.read(&mut room), Ok(0));
-    assert_eq!(rt; input.faults(), 0);
-    let mut broken = Input::new(Broken);
-    assert_eq!(rt; broken.read(&mut room), Err(Failed));
-    assert_eq!(rt; broken.faults(), 1);
-    Ok(())
-}
-
-#[test]
-fn a_writer_takes_all_and_its_faults_are_counted(rt: HostRuntime) -> Result<(), Fail> {
-    let mut bytes = Vec::new(rt.alloc());
-    assert_eq!(rt; write_all(&mut Output::new(&mut bytes), b"abc"), Ok(()));
-    assert_eq!(rt; bytes.as_slice(), b"abc".as_slice());
-    let mut broken = Output::new(Broken);
-    assert_eq!(rt; broken.write(b"abc"), Err(Failed));
-    assert_eq!(rt; broken.faults(), 1);
-    Ok(())
 }

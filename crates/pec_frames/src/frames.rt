@@ -92,7 +92,13 @@ fn read_text(alloc: Global, frame: &[u8]) -> Result<(Vec<Address>, usize), Frame
 fn joined(alloc: Global, line: &[u8], message: &[u8]) -> Result<Vec<u8>, AllocError>
     ensures { IfOk result (λ bytes. bytes.items ≡ with_path line.now message.now) }
 {
-    let mut bytes = Vec::from_slice(alloc, FRONT)?;
+    let framing = FRONT.len() + END.len();
+    let room = line
+        .len()
+        .saturating_add(message.len())
+        .saturating_add(framing);
+    let mut bytes = Vec::with_capacity(alloc, room)?;
+    bytes.extend_from_slice(FRONT)?;
     bytes.extend_from_slice(line)?;
     bytes.extend_from_slice(END)?;
     bytes.extend_from_slice(message)?;

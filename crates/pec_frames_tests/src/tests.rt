@@ -1,71 +1,140 @@
 use pec_frames::{FRAME_LIMIT, FrameFault, FrameMade, frame_of, read_frame};
-use pec_types::Address;
-use std::test::Fail;
+use pec_types::{Address, Frame};
+use std::alloc::Global;
 
 /// Texts that are no frames, each with its fault.
+const FAULTS: [(&[u8], FrameFault); 9] = [
+    (b"", FrameFault::NoPath),
+    (b"per: bob@beta.example\r\nx", FrameFault::NoPath),
+    // A line feed alone ends no path.
+    (b"Per: bob@beta.example\nx", FrameFault::NoPath),
+    (b"Per: \r\nx", FrameFault::BadPath(5)),
+    (b"Per: bob\r\nx", FrameFault::BadPath(5)),
+    // Blanks round an address aren't passed over.
+    (b"Per: a@b, c@d\r\nx", FrameFault::BadPath(9)),
+    (b"Per: a@b,\r\nx", FrameFault::BadPath(9)),
+    (b"Per: a@b,c@d,@\r\nx", FrameFault::BadPath(13)),
+    // The first wrong one is the answer.
+    (b"Per: a@b,c,d\r\nx", FrameFault::BadPath(9)),
+];
+
 #[test]
-fn faults_stand_at_their_places(rt: HostRuntime) -> Result<(), Fail> {
-    let rows: [(&[u8], FrameFault); 9] = [
-        (b"", FrameFault::NoPath),
-        (b"per: bob@beta.example\r\nx", FrameFault::NoPath),
-        // A line feed alone ends no path.
-        (b"Per: bob@beta.example\nx", FrameFault::NoPath),
-        (b"Per: \r\nx", FrameFault::BadPath(5)),
-        (b"Per: bob\r\nx", FrameFault::BadPath(5)),
-        // Blanks round an address aren't passed over.
-        (b"Per: a@b, c@d\r\nx", FrameFault::BadPath(9)),
-        (b"Per: a@b,\r\nx", FrameFault::BadPath(9)),
-        (b"Per: a@b,c@d,@\r\nx", FrameFault::BadPath(13)),
-        // The first wrong one is the answer.
-        (b"Per: a@b,c,d\r\nx", FrameFault::BadPath(9)),
-    ];
+fn faults_stand_at_their_places(rt: HostRuntime) {
+    assert_eq!(rt; first_other_fault(rt.alloc(), &FAULTS), None);
+}
+
+/// The first text that hasn't the fault of its row; none where each has it.
+fn first_other_fault(alloc: Global, rows: &[(&'static [u8], FrameFault)]) -> Option<&'static [u8]> {
     for (frame, fault) in rows {
-        assert_eq!(rt; read_frame(rt.alloc(), frame).err(), Some(fault));
+        if fault_of(alloc, frame) != Some(*fault) {
+            return Some(*frame);
+        }
     }
-    Ok(())
+    None
+}
+
+fn fault_of(alloc: Global, frame: &[u8]) -> Option<FrameFault> {
+    match read(alloc, frame) {
+        Ok(_) => None,
+        Err(fault) => Some(fault),
+    }
+}
+
+fn read(alloc: Global, frame: &[u8]) -> Result<(Vec<Address>, usize), FrameFault> {
+    read_frame(alloc, frame)
 }
 
 /// The frame of docs/formats.md: its path has one address, and its message begins at 23. Capitals are read as small letters.
+const PATHS: [(&[u8], &[u8], usize); 2] = [
+    (
+        b"Per: bob@beta.example\r\nFrom: x@y.example\r\n\r\nciao",
+        b"bob@beta.example",
+        23,
+    ),
+    (b"Per: Bob@Beta.example\r\n", b"bob@beta.example", 23),
+];
+
 #[test]
-fn a_path_is_read_in_lower_case(rt: HostRuntime) -> Result<(), Fail> {
-    let rows: [(&[u8], &[u8], usize); 2] = [
-        (
-            b"Per: bob@beta.example\r\nFrom: x@y.example\r\n\r\nciao",
-            b"bob@beta.example",
-            23,
-        ),
-        (b"Per: Bob@Beta.example\r\n", b"bob@beta.example", 23),
-    ];
+fn a_path_is_read_in_lower_case(rt: HostRuntime) {
+    assert_eq!(rt; first_other_path(rt.alloc(), &PATHS), None);
+}
+
+/// The first frame that has another path or whose message begins elsewhere; none where each is read as its row has it.
+fn first_other_path(
+    alloc: Global,
+    rows: &[(&'static [u8], &[u8], usize)],
+) -> Option<&'static [u8]> {
     for (frame, address, place) in rows {
-        let (path, begin) = read_frame(rt.alloc(), frame)?;
-        assert_eq!(rt; path.len(), 1);
-        assert_eq!(rt; path[0].bytes(), address);
-        assert_eq!(rt; begin, place);
+        if !has_path(alloc, frame, address, *place) {
+            return Some(*frame);
+        }
     }
-    Ok(())
+    None
+}
+
+fn has_path(alloc: Global, frame: &[u8], address: &[u8], place: usize) -> bool {
+    match read(alloc, frame) {
+        Ok((path, begin)) => begin == place && is_one(&path, address),
+        Err(_) => false,
+    }
+}
+
+fn is_one(path: &[Address], wanted: &[u8]) -> bool {
+    match path {
+        [address] => address.bytes() == wanted,
+        _ => false,
+    }
 }
 
 #[test]
-fn a_frame_is_made_and_read_again(rt: HostRuntime) -> Result<(), Fail> {
-    let alloc = rt.alloc();
-    let bob = Address::read(alloc, b"bob@beta.example")?;
-    let eva = Address::read(alloc, b"eva@gamma.example")?;
-    let path = [bob, eva];
-    let frame = frame_of(alloc, &path, b"ciao")?;
-    assert_eq!(rt;
-        frame.bytes(),
-        b"Per: bob@beta.example,eva@gamma.example\r\nciao".as_slice()
-    );
-    let (read, begin) = read_frame(alloc, frame.bytes())?;
-    assert_eq!(rt; (read.as_slice() == path.as_slice(), begin), (true, 41));
-
+fn a_frame_is_made_and_read_again(rt: HostRuntime) {
+    assert!(rt; is_made_and_read(rt.alloc()));
     // The line takes 41 bytes.
-    let mut message = vec![in alloc; b'x'; FRAME_LIMIT - 41]?;
-    assert!(rt; frame_of(alloc, &path, &message).is_ok());
-    message.push(b'x')?;
+    assert_eq!(rt; made_of(rt.alloc(), FRAME_LIMIT - 41), Some(Ok(())));
     assert_eq!(rt;
-        frame_of(alloc, &path, &message).err(),
-        Some(FrameMade::TooLong)
+        made_of(rt.alloc(), FRAME_LIMIT - 40),
+        Some(Err(FrameMade::TooLong))
     );
-    Ok(())
+}
+
+fn is_made_and_read(alloc: Global) -> bool {
+    match path_of_two(alloc) {
+        Some(path) => match frame_of(alloc, &path, b"ciao") {
+            Ok(frame) => is_frame_to(alloc, &frame, &path),
+            Err(_) => false,
+        },
+        None => false,
+    }
+}
+
+fn is_frame_to(alloc: Global, frame: &Frame, path: &[Address]) -> bool {
+    frame.bytes() == b"Per: bob@beta.example,eva@gamma.example\r\nciao".as_slice()
+        && is_read_to(alloc, frame.bytes(), path)
+}
+
+fn is_read_to(alloc: Global, frame: &[u8], path: &[Address]) -> bool {
+    match read(alloc, frame) {
+        Ok((read, begin)) => begin == 41 && read.as_slice() == path,
+        Err(_) => false,
+    }
+}
+
+/// Whether a frame of two addresses and so many bytes is made; none where memory is wanting for them.
+fn made_of(alloc: Global, bytes: usize) -> Option<Result<(), FrameMade>> {
+    let path = path_of_two(alloc)?;
+    let message = vec![in alloc; b'x'; bytes].ok()?;
+    Some(made(alloc, &path, &message))
+}
+
+fn made(alloc: Global, path: &[Address; 2], message: &[u8]) -> Result<(), FrameMade> {
+    match frame_of(alloc, path, message) {
+        Ok(_) => Ok(()),
+        Err(fault) => Err(fault),
+    }
+}
+
+fn path_of_two(alloc: Global) -> Option<[Address; 2]> {
+    let bob = Address::read(alloc, b"bob@beta.example").ok()?;
+    let eva = Address::read(alloc, b"eva@gamma.example").ok()?;
+    Some([bob, eva])
 }

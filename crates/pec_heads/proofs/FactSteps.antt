@@ -1,15 +1,15 @@
 -- Texts that are printable, and what is printed of a value.
 use Rattle.std.proofs.Common.{◌≡◌, ℕ, ◌≤◌, ◌==◌, nat_lt, nat_le, List, [], ◌∷◌, ◌++◌, Bool, true, false, not, ◌&&◌, ◌||◌, cond, inl, inr, length, Some, None, codes, refl, sym, ◌∙◌, arith, lit≤}
-use Rattle.std.proofs.lemmas.Bool.{cond_both, and_parts, and_from, or_cases, or_from, not-true, not_from_false, leb-true, le-ltb, eqb-true}
-use Rattle.std.proofs.lemmas.List.{take-map}
+use Rattle.std.proofs.lemmas.Bool.{cond_both, both_ways, and_parts, and_from, or_cases, or_from, not-true, not_from_false, leb-true, le-ltb, eqb-true, ne_eqb}
+use Rattle.std.proofs.lemmas.List.{length-map, take-map}
 use Rattle.std.proofs.lemmas.List.Folds.{list_all-append}
 use Rattle.std.specs.List.{list_all, list_any}
 use Rattle.std.specs.Char.{is_ascii_alphanumeric}
 use Rattle.std.specs.Int.{is_in_range}
 use Rattle.pec_types.specs.Text.{is_unprintable, AllPrintable}
 use Rattle.pec_types.specs.Address.{is_atom_byte, IsLowerAddress}
-use Rattle.pec_heads.specs.Bytes.{NonePass, trimmed}
-use Rattle.pec_heads.specs.FactsOfHeads.{front_of, printed_byte, printed, short_text}
+use Rattle.pec_heads.specs.Bytes.{NonePass, before_cut, cut_blanks, is_blank, skip_blanks, trimmed}
+use Rattle.pec_heads.specs.FactsOfHeads.{front_of, printed_byte, printed, short_text, unless_nothing}
 use Rattle.pec_heads.specs.declared.TheConstants.{TEXT_LIMIT}
 use Rattle.pec_heads.proofs.Places.{none_of, no_place}
 use Rattle.pec_heads.proofs.AddressBytes.{Avoids, none_in}
@@ -48,20 +48,63 @@ front_printed value = sym (take-map printed_byte TEXT_LIMIT value)
 pub front_printable : (value : List ℕ) → AllPrintable (front_of (printed value))
 front_printable value = rw (← front_printed value) (printed_printable (front_of value))
 
--- what `print` and `trim` made of a value
-pub short_is : (value bytes text : List ℕ) → bytes ≡ printed (front_of value) → text ≡ trimmed bytes → AllPrintable text
-short_is value bytes text e f = rw (f, e) (trimmed_printable (printed (front_of value)) (printed_printable (front_of value)))
+-- what is printable already
+plain_byte : (b : ℕ) → is_unprintable b ≡ false → printed_byte b ≡ b
+plain_byte b fits =
+    cond_both (b == 9) 32 (cond (is_unprintable b) 63 b) (λ c. c ≡ b)
+    (λ t. absurd (both_ways (is_unprintable b) fits (rw (eqb-true b 9 t) refl)))
+    (λ t. rw fits refl)
 
-pub short_as : (value bytes text : List ℕ) → bytes ≡ printed (front_of value) → text ≡ trimmed bytes → text ≡ trimmed (front_of (printed value))
-short_as value bytes text e f = rw (f, e, front_printed value) refl
+plain_printed : (value : List ℕ) → NonePass is_unprintable value → printed value ≡ value
+plain_printed [] none = refl
+plain_printed (b ∷ bs) none =
+    let p = and_parts (not (is_unprintable b)) (list_all (λ x. not (is_unprintable x)) bs) none
+    in rw (plain_byte b (not-true _ p.0), plain_printed bs p.1) refl
 
-pub short_none : (value bytes text : List ℕ) → bytes ≡ printed (front_of value) → text ≡ trimmed bytes → (length text == 0) ≡ true → None ≡ short_text value
+pub printable_printed : (value : List ℕ) → AllPrintable value → printed value ≡ value
+printable_printed value all = plain_printed value (none_of is_unprintable value all)
+
+-- blanks stay blanks, and nothing else becomes one
+blank_printed : (b : ℕ) → is_blank (printed_byte b) ≡ is_blank b
+blank_printed b =
+    cond_both (b == 9) 32 (cond (is_unprintable b) 63 b) (λ c. is_blank c ≡ is_blank b)
+    (λ t. rw (eqb-true b 9 t) refl)
+    (λ t. cond_both (is_unprintable b) 63 b (λ c. is_blank c ≡ is_blank b) (λ u. sym (or_from (b == 32) (b == 9) (other b u) t)) (λ u. refl))
+  where
+    other : (b : ℕ) → is_unprintable b ≡ true → (b == 32) ≡ false
+    other b u = ne_eqb b 32 (λ e. both_ways (is_unprintable b) (rw e refl) u)
+
+skip_printed : (value : List ℕ) → skip_blanks (printed value) ≡ printed (skip_blanks value)
+skip_printed [] = refl
+skip_printed (b ∷ bs) =
+    rw (blank_printed b)
+    (cond_both (is_blank b) (skip_blanks bs) (b ∷ bs) (λ rest. cond (is_blank b) (skip_blanks (printed bs)) (printed (b ∷ bs)) ≡ printed rest)
+    (λ t. rw t (skip_printed bs))
+    (λ t. rw t refl))
+
+before_printed : (b : ℕ) (bs : List ℕ) → before_cut (printed_byte b) (printed bs) ≡ printed (before_cut b bs)
+before_printed b [] =
+    rw (blank_printed b) (cond_both (is_blank b) [] (b ∷ []) (λ rest. cond (is_blank b) [] (printed (b ∷ [])) ≡ printed rest) (λ t. rw t refl) (λ t. rw t refl))
+before_printed b (c ∷ bs) = refl
+
+cut_printed : (value : List ℕ) → cut_blanks (printed value) ≡ printed (cut_blanks value)
+cut_printed [] = refl
+cut_printed (b ∷ bs) = rw (cut_printed bs) (before_printed b (cut_blanks bs))
+
+trimmed_printed : (value : List ℕ) → trimmed (printed value) ≡ printed (trimmed value)
+unfolding trimmed
+trimmed_printed value = rw (skip_printed value) (cut_printed (skip_blanks value))
+
+-- a text is what is printed of the front of a value without its blanks
+pub short_as : (value : List ℕ) → short_text value ≡ unless_nothing (printed (trimmed (front_of value)))
 unfolding short_text
-short_none value bytes text e f none = sym (rw (← short_as value bytes text e f, none) refl)
+short_as value = rw (← front_printed value, trimmed_printed (front_of value)) refl
 
-pub short_some : (value bytes text : List ℕ) → bytes ≡ printed (front_of value) → text ≡ trimmed bytes → (length text == 0) ≡ false → Some text ≡ short_text value
-unfolding short_text
-short_some value bytes text e f some = sym (rw (← short_as value bytes text e f, some) refl)
+pub short_none : (value front : List ℕ) → front ≡ trimmed (front_of value) → (length front == 0) ≡ true → None ≡ short_text value
+short_none value front e none = sym (rw (short_as value, ← e, length-map front printed_byte, none) refl)
+
+pub short_some : (value front : List ℕ) → front ≡ trimmed (front_of value) → (length front == 0) ≡ false → Some (printed front) ≡ short_text value
+short_some value front e some = sym (rw (short_as value, ← e, length-map front printed_byte, some) refl)
 
 -- ---- addresses
 

@@ -6,6 +6,7 @@ pub mod FieldLemmas
 pub mod BlankLemmas
 pub mod LineRoles
 pub mod HeadLaws
+pub mod FirstCommas
 pub mod EntrySteps
 pub mod QuotingLaws
 pub mod EntryLaws

@@ -12,7 +12,7 @@ use crate::lists::list_named;
 use crate::lookups::{count, value};
 use crate::parts::at_most;
 use crate::recipients::recipients;
-use pec_types::{Address, Facts, Items, NoMemory, Text, Wish};
+use pec_types::{Address, Facts, Items, NoMemory, Text, Wish, first_unprintable};
 use std::alloc::{AllocError, Global};
 
 /// The facts of a head with these fields.
@@ -112,12 +112,12 @@ pub(crate) fn text(alloc: Global, fields: &Fields, name: &[u8]) -> Result<Option
 fn short_text(alloc: Global, value: &[u8]) -> Result<Option<Text>, NoMemory>
     ensures { IfOk result (λ found. found ≡ short_text value.now) }
 {
-    let bytes = print(alloc, front(value))?;
-    let bytes = trim(bytes.as_slice());
-    if bytes.is_empty() {
+    // What is printed has its blanks where the value has them.
+    let value = trim(front(value));
+    if value.is_empty() {
         return Ok(None);
     }
-    let text = Text::of_printable(alloc, bytes)?;
+    let text = print(alloc, value)?;
     Ok(Some(text))
 }
 
@@ -135,8 +135,7 @@ fn reply(alloc: Global, fields: &Fields, sender: &Address) -> Result<Text, NoMem
 {
     if let Some(value) = value(fields, b"Reply-To".as_slice(), 0) {
         if !is_all_blank(value) && value.len() <= TEXT_LIMIT {
-            let bytes = print(alloc, value)?;
-            let text = Text::of_printable(alloc, bytes.as_slice())?;
+            let text = print(alloc, value)?;
             return Ok(text);
         }
     }
@@ -145,7 +144,19 @@ fn reply(alloc: Global, fields: &Fields, sender: &Address) -> Result<Text, NoMem
 }
 
 /// The bytes with each tab made a space and each other byte that isn't printable a `?`.
-fn print(alloc: Global, value: &[u8]) -> Result<Vec<u8>, AllocError>
+fn print(alloc: Global, value: &[u8]) -> Result<Text, NoMemory>
+    ensures { IfOk result (λ text. text ≡ printed value.now) }
+{
+    if first_unprintable(value).is_none() {
+        let text = Text::of_printable(alloc, value)?;
+        return Ok(text);
+    }
+    let bytes = print_bytes(alloc, value)?;
+    let text = Text::of_printable(alloc, bytes.as_slice())?;
+    Ok(text)
+}
+
+fn print_bytes(alloc: Global, value: &[u8]) -> Result<Vec<u8>, AllocError>
     ensures { IfOk result (λ bytes. bytes.items ≡ printed value.now) }
 {
     value.iter().map(|b| print_byte(*b)).collect(alloc)

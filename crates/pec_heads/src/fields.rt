@@ -1,7 +1,14 @@
-ghost use Rattle.std.specs.Prelude.{◌≡◌, [], ◌∷◌, ◌++◌, ◌==◌, length, OnOk};
+ghost use Rattle.std.specs.Prelude.{◌≡◌, [], ◌∷◌, ◌++◌, ◌==◌, length, IfOk, OnOk};
 ghost use Rattle.pec_heads.specs.HeadReading.{onto_last};
 
 use std::alloc::{AllocError, Global};
+
+/// How many bytes the names and values of a head seldom exceed. Room for so many is made at once, and for more as they
+/// come.
+const USUAL_BYTES: usize = 1024;
+
+/// How many fields a head seldom exceeds.
+const USUAL_FIELDS: usize = 16;
 
 /// Where the name and the value of a field start. The name ends where its value starts, and that where the next field
 /// does.
@@ -22,14 +29,14 @@ pub(crate) struct Fields {
 impl Fields {
     ghost use Rattle.pec_heads.specs.Views.{AreStored, raw_fields};
 
-    pub(crate) fn new(alloc: Global) -> Fields
-        ensures none { raw_fields result ≡ [] }
-        ensures stored { AreStored result }
+    /// No fields, with room for those at the front of a text of this size.
+    pub(crate) fn new(alloc: Global, size: usize) -> Result<Fields, AllocError>
+        ensures none { IfOk result (λ fields. raw_fields fields ≡ []) }
+        ensures stored { IfOk result AreStored }
     {
-        Fields {
-            bytes: Vec::new(alloc),
-            starts: Vec::new(alloc),
-        }
+        let bytes = Vec::with_capacity(alloc, size.min(USUAL_BYTES))?;
+        let starts = Vec::with_capacity(alloc, USUAL_FIELDS)?;
+        Ok(Fields { bytes, starts })
     }
 
     pub(crate) fn is_empty(&self) -> bool

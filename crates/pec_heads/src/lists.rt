@@ -14,7 +14,7 @@ ghost use Rattle.pec_heads.specs.declared.quoting.Quoting.TheVariants as quoting
 use crate::blanks::{trim, trim_end};
 use crate::faults::ListFault;
 use crate::fields::{Fields, Start};
-use crate::lookups::{has_name, value_at};
+use crate::lookups::{has_name, only_value, value_at};
 use crate::quoting::{angle, comma};
 use pec_types::{Address, AddressFault};
 use std::alloc::{AllocError, Global};
@@ -27,6 +27,10 @@ pub(crate) fn list_named(
 ) -> Result<Vec<Address>, ListFault>
     ensures { Gives wrong.NoMemory (λ v. v.items) result (list_of (joined_values name.now (fields_shown fields.now))) }
 {
+    if let Some(value) = only_value(fields, name) {
+        let addresses = read_list(alloc, value)?;
+        return Ok(addresses);
+    }
     let text = joined(alloc, fields, name)?;
     let addresses = read_list(alloc, text.as_slice())?;
     Ok(addresses)

@@ -1,11 +1,12 @@
-ghost use Rattle.std.specs.Prelude.{◌≡◌, [], ◌∷◌, length, not, slice_get};
+ghost use Rattle.std.specs.Prelude.{◌≡◌, [], ◌∷◌, length, map, not, slice_get, IfNone, IfSome};
 ghost use Rattle.std.specs.List.{list_any};
 ghost use Rattle.std.specs.Option.{option_map};
 ghost use Rattle.std.specs.Str.{str_eq_ignore_ascii_case};
 ghost use Rattle.pec_heads.specs.Bytes.{part_of, trimmed};
+ghost use Rattle.pec_heads.specs.FactsReading.{only_one};
 ghost use Rattle.pec_heads.specs.Heads.{cut, values_of};
 ghost use Rattle.pec_heads.specs.Lists.{is_all_blank};
-ghost use Rattle.pec_heads.specs.Views.{end_before, field_at, fields_shown};
+ghost use Rattle.pec_heads.specs.Views.{end_before, field_at, fields_at, fields_shown};
 
 use crate::blanks::{is_all_blank, trim};
 use crate::fields::{Fields, Start};
@@ -40,6 +41,38 @@ pub(crate) fn value<'a>(fields: &'a Fields, name: &[u8], i: usize) -> Option<&'a
                 return Some(value_at(bytes, *start, behind));
             }
             before -= 1;
+        }
+        rest = behind;
+    }
+    None
+}
+
+/// The value of the field of this name, where there is one such field.
+pub(crate) fn only_value<'a>(fields: &'a Fields, name: &[u8]) -> Option<&'a [u8]>
+    ensures { option_map (λ v. v.now) result ≡ only_one (values_of name.now (fields_shown fields.now)) }
+{
+    let bytes = fields.bytes.as_slice();
+    let (value, behind) = next_value(bytes, fields.starts.as_slice(), name)?;
+    match next_value(bytes, behind, name) {
+        Some(_) => None,
+        None => Some(value),
+    }
+}
+
+/// The value of the first field of this name that starts there, and where those behind it start.
+fn next_value<'a>(
+    bytes: &'a [u8],
+    starts: &'a [Start],
+    name: &[u8],
+) -> Option<(&'a [u8], &'a [Start])>
+    ensures none { IfNone result (values_of name.now (map cut (fields_at bytes.now starts.now)) ≡ []) }
+    ensures some { IfSome result (λ found. values_of name.now (map cut (fields_at bytes.now starts.now))
+        ≡ found.0.now ∷ values_of name.now (map cut (fields_at bytes.now found.1.now))) }
+{
+    let mut rest = starts;
+    while let [start, behind @ ..] = rest {
+        if has_name(bytes, *start, name) {
+            return Some((value_at(bytes, *start, behind), behind));
         }
         rest = behind;
     }

@@ -1,7 +1,10 @@
-ghost use Rattle.std.specs.Prelude.{◌≡◌, ◌<◌, IfSome, Option, length};
-ghost use Rattle.pec_heads.specs.Lists.{is_phrase_byte};
+ghost use Rattle.std.specs.Prelude.{◌≡◌, ◌<◌, IfSome, Option, length, position};
+ghost use Rattle.pec_types.specs.Bytes.{is_quote};
+ghost use Rattle.pec_heads.specs.Lists.{is_comma, is_phrase_byte};
 ghost use Rattle.pec_heads.specs.ListReading.{angle_from, comma_from};
 ghost use Rattle.pec_heads.specs.declared.quoting.Quoting.TheVariants as quotings;
+
+use memchr::memchr;
 
 /// Where a byte of a list stands: outside double quotes, inside, or inside behind a backslash that takes it with it.
 #[derive(Clone, Copy)]
@@ -51,8 +54,33 @@ impl Quoting {
     }
 }
 
-/// The place of the first comma outside quotes.
+/// The place of the first comma outside quotes: that of the first of all, where no quote stands before it.
 pub(crate) fn comma(text: &[u8]) -> Option<usize>
+    ensures value { result ≡ comma_from quotings.Outside text.now }
+    ensures below { IfSome result (λ at. at < length text.now) }
+{
+    let first = first_comma(text)?;
+    match quote(&text[..first]) {
+        None => Some(first),
+        Some(_) => comma_outside(text),
+    }
+}
+
+fn first_comma(text: &[u8]) -> Option<usize>
+    ensures value { result ≡ position is_comma text.now }
+    ensures below { IfSome result (λ at. at < length text.now) }
+{
+    memchr(b',', text)
+}
+
+fn quote(text: &[u8]) -> Option<usize>
+    ensures { result ≡ position is_quote text.now }
+{
+    memchr(b'"', text)
+}
+
+/// As `comma`, byte by byte.
+fn comma_outside(text: &[u8]) -> Option<usize>
     ensures value { result ≡ comma_from quotings.Outside text.now }
     ensures below { IfSome result (λ at. at < length text.now) }
 {

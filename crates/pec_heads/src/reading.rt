@@ -1,4 +1,4 @@
-ghost use Rattle.std.specs.Prelude.{◌≡◌, ◌+◌, ◌<◌, ◌^◌, length, position, OnOk, IfSome};
+ghost use Rattle.std.specs.Prelude.{◌≡◌, ◌+◌, ◌<◌, ◌^◌, length, not, position, OnOk, IfSome};
 ghost use Rattle.std.specs.List.{list_all};
 ghost use Rattle.pec_heads.specs.Bytes.{begins_blank};
 ghost use Rattle.pec_heads.specs.Heads.{is_control, is_colon, is_name, is_name_byte};
@@ -18,7 +18,7 @@ use std::alloc::{AllocError, Global};
 pub(crate) fn read_fields(alloc: Global, message: &[u8]) -> Result<(Fields, usize), HeadFault>
     ensures { Gives faults.NoMemory (λ read. (raw_fields read.0, read.1)) result (head_of message.now) }
 {
-    let mut fields = Fields::new(alloc);
+    let mut fields = Fields::new(alloc, message.len())?;
     let mut place = 0;
     let mut rest = message;
     while let Some((line, behind)) = first_line(rest) {
@@ -111,8 +111,35 @@ fn control(line: &[u8]) -> Option<usize>
     ensures value { result ≡ position is_control line.now }
     ensures below { IfSome result (λ at. at < length line.now) }
 {
-    line.iter()
-        .position(|b| (*b < 32 && *b != b'\t') || *b == 127)
+    if is_plain(line) {
+        None
+    } else {
+        first_control(line)
+    }
+}
+
+/// Whether no byte is a control byte. All bytes are looked at, so that many are looked at at once.
+fn is_plain(line: &[u8]) -> bool
+    ensures { result ≡ list_all (λ b. not (is_control b)) line.now }
+{
+    let mut plain = true;
+    for byte in line {
+        plain &= !is_control(*byte);
+    }
+    plain
+}
+
+fn first_control(line: &[u8]) -> Option<usize>
+    ensures value { result ≡ position is_control line.now }
+    ensures below { IfSome result (λ at. at < length line.now) }
+{
+    line.iter().position(|b| is_control(*b))
+}
+
+fn is_control(b: u8) -> bool
+    ensures { result ≡ is_control b }
+{
+    (b < 32 && b != b'\t') || b == 127
 }
 
 fn colon(line: &[u8]) -> Option<usize>

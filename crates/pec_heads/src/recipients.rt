@@ -1,4 +1,6 @@
 ghost use Rattle.std.specs.Prelude.{◌≡◌, [], IfOk, OnOk};
+ghost use Rattle.std.specs.List.{list_any};
+ghost use Rattle.std.specs.Str.{bytes_eq};
 ghost use Rattle.pec_heads.specs.FactsOfHeads.{recipients_of};
 ghost use Rattle.pec_heads.specs.FactsReading.{with_recipient, with_recipients};
 ghost use Rattle.pec_heads.specs.Views.{AreKnown};
@@ -6,6 +8,9 @@ ghost use Rattle.pec_heads.specs.Views.{AreKnown};
 use pec_types::{Address, Class, NoMemory, Recipient};
 use std::alloc::Global;
 use std::collections::BTreeSet;
+
+/// Up to so many addresses of a list are compared with each other, and more are found in a tree.
+const FEW: usize = 8;
 
 /// Those of `To`, and then those of `Cc` that don't stand in `To`, each once.
 pub(crate) fn recipients(
@@ -15,6 +20,10 @@ pub(crate) fn recipients(
 ) -> Result<Vec<Recipient>, NoMemory>
     ensures { IfOk result (λ all. all.items ≡ recipients_of to.items copies.items) }
 {
+    if to.len() <= FEW && copies.len() <= FEW {
+        let all = few_recipients(alloc, to, copies)?;
+        return Ok(all);
+    }
     let mut gathered = Gathered::new(alloc);
     gathered.add_all(alloc, to, Class::Primary)?;
     gathered.add_all(alloc, copies, Class::Copy)?;
@@ -70,4 +79,44 @@ impl Gathered {
         self.all.push(Recipient { address, class })?;
         Ok(())
     }
+}
+
+/// As `recipients`, where each address is compared with all those before it.
+fn few_recipients(
+    alloc: Global,
+    to: Vec<Address>,
+    copies: Vec<Address>,
+) -> Result<Vec<Recipient>, NoMemory>
+    ensures { IfOk result (λ all. all.items ≡ recipients_of to.items copies.items) }
+{
+    let mut all = Vec::new(alloc);
+    add_few(&mut all, to, Class::Primary)?;
+    add_few(&mut all, copies, Class::Copy)?;
+    Ok(all)
+}
+
+fn add_few(all: &mut Vec<Recipient>, addresses: Vec<Address>, class: Class) -> Result<(), NoMemory>
+    ensures { OnOk result (all.new.items ≡ with_recipients class all.old.items addresses.items) }
+{
+    for address in addresses {
+        add_one(all, address, class)?;
+    }
+    Ok(())
+}
+
+/// Adds a recipient, unless its address is there.
+fn add_one(all: &mut Vec<Recipient>, address: Address, class: Class) -> Result<(), NoMemory>
+    ensures { OnOk result (all.new.items ≡ with_recipient class all.old.items address) }
+{
+    if has_address(all.as_slice(), address.bytes()) {
+        return Ok(());
+    }
+    all.push(Recipient { address, class })?;
+    Ok(())
+}
+
+fn has_address(all: &[Recipient], address: &[u8]) -> bool
+    ensures { result ≡ list_any (λ r. bytes_eq r.address address.now) all.now }
+{
+    all.iter().any(|r| r.address.bytes() == address)
 }

@@ -1,9 +1,10 @@
 use crate::dealt::Dealt;
-use pec_journal::{AppendFault, CreateFault, ENTRY_LIMIT, JOURNAL_LIMIT, Journal};
+use pec_journal::{AppendFault, CreateFault, ENTRY_LIMIT, JOURNAL_LIMIT, Journal, OpenFault};
 use pec_outside::{Depot, Disk, MemDepot, MemDisk};
 use pec_types::Place;
-use std::alloc::Global;
-use std::test::Fail;
+use std::alloc::{AllocError, Global};
+
+type Answer = Result<Place, AppendFault>;
 
 // A journal of `ab`, an entry of no bytes, and `cde`.
 const FILE: [u8; 29] = *b"PECJRN1\n\x01\0\0\0\x02ab\x01\0\0\0\0\x01\0\0\0\x03cde\0";
@@ -29,12 +30,26 @@ const FILES: [(&[u8], &str); 16] = [
 ];
 
 #[test]
-fn a_journal_opens_over_its_file_alone(rt: HostRuntime) -> Result<(), Fail> {
-    for (bytes, wanted) in FILES {
-        let disk = disk_of(rt.alloc(), bytes, &[])?;
-        assert_eq!(rt; told(rt.alloc(), disk)?.as_str(), wanted);
+fn a_journal_opens_over_its_file_alone(rt: HostRuntime) {
+    assert_eq!(rt; first_mistold(rt.alloc(), &FILES), None);
+}
+
+/// The first bytes over which something else is told; none where each row's is.
+fn first_mistold(alloc: Global, rows: &[(&'static [u8], &str)]) -> Option<&'static [u8]> {
+    for (bytes, wanted) in rows {
+        if !tells(alloc, bytes, wanted) {
+            return Some(*bytes);
+        }
     }
-    Ok(())
+    None
+}
+
+/// Whether reopening a disk that holds these bytes tells this.
+fn tells(alloc: Global, bytes: &[u8], wanted: &str) -> bool {
+    match disk_of(alloc, bytes, &[]) {
+        Some(disk) => is_told(alloc, disk, wanted),
+        None => false,
+    }
 }
 
 // For each place, where a file that is cut off there isn't one.
@@ -80,75 +95,159 @@ const FLIPS: [&str; 29] = [
 ];
 
 #[test]
-fn each_cut_and_each_turned_bit_is_told(rt: HostRuntime) -> Result<(), Fail> {
-    for (at, place) in CUTS.iter().enumerate() {
-        let disk = disk_of(rt.alloc(), &FILE[..at], &[])?;
-        let wanted = format!(in rt.alloc(); "NotAJournal({place})")?;
-        assert_eq!(rt; told(rt.alloc(), disk)?, wanted, "cut at {at}");
+fn each_cut_and_each_turned_bit_is_told(rt: HostRuntime) {
+    assert_eq!(rt; first_wrong_cut(rt.alloc(), &CUTS), None);
+    assert_eq!(rt; first_wrong_flip(rt.alloc(), &FLIPS), None);
+}
+
+fn first_wrong_cut(alloc: Global, places: &[u64]) -> Option<usize> {
+    for (at, place) in places.iter().enumerate() {
+        if !is_cut_told(alloc, at, *place) {
+            return Some(at);
+        }
     }
-    for (at, wanted) in FLIPS.iter().enumerate() {
-        let mut bytes = FILE;
-        bytes[at] ^= 1;
-        let disk = disk_of(rt.alloc(), &bytes, &[])?;
-        assert_eq!(rt; told(rt.alloc(), disk)?.as_str(), *wanted, "bit {at}");
+    None
+}
+
+fn is_cut_told(alloc: Global, at: usize, place: u64) -> bool {
+    match no_journal(alloc, place) {
+        Ok(wanted) => match FILE.get(..at) {
+            Some(bytes) => tells(alloc, bytes, wanted.as_str()),
+            None => false,
+        },
+        Err(_) => false,
     }
-    Ok(())
+}
+
+fn no_journal(alloc: Global, place: u64) -> Result<String, AllocError> {
+    format!(in alloc; "NotAJournal({place})")
+}
+
+fn first_wrong_flip(alloc: Global, rows: &[&str]) -> Option<usize> {
+    for (at, wanted) in rows.iter().enumerate() {
+        if !is_flip_told(alloc, at, wanted) {
+            return Some(at);
+        }
+    }
+    None
+}
+
+fn is_flip_told(alloc: Global, at: usize, wanted: &str) -> bool {
+    let mut bytes = FILE;
+    match bytes.get_mut(at) {
+        Some(byte) => *byte ^= 1,
+        None => return false,
+    }
+    tells(alloc, &bytes, wanted)
 }
 
 // Calls of the disk: three to make a journal, four for each entry, one to read one.
 #[test]
-fn a_journal_is_made_and_grows_by_these_bytes(rt: HostRuntime) -> Result<(), Fail> {
-    let alloc = rt.alloc();
-    let disk = fresh(alloc, &[])?.into_disk();
-    assert_eq!(rt; disk.calls(), 3);
-    let mut journal = opened(alloc, disk)?;
-    assert_eq!(rt; (journal.end(), journal.spent()), (8, false));
-    let place = append(alloc, &mut journal, b"ab")?;
-    assert_eq!(rt; place, Ok(Place { at: 13, length: 2 }));
-    assert_eq!(rt; journal.end(), 15);
-    assert_eq!(rt;
-        journal.read(alloc, Place { at: 13, length: 2 })?.as_slice(),
-        b"ab".as_slice()
-    );
-    let mut disk = journal.into_disk();
-    assert_eq!(rt; disk.calls(), 12, "4 to open it, 4 to append, 1 to read");
-    let mut room = [b'-'; 20];
-    assert_eq!(rt; disk.read_at(0, &mut room), Ok(16));
-    assert_eq!(rt; room, *b"PECJRN1\n\x01\0\0\0\x02ab\0----");
+fn a_journal_is_made_and_grows_by_these_bytes(rt: HostRuntime) {
+    assert!(rt; is_made_and_grows(rt.alloc()));
+}
 
-    // No journal is made over it, and it stays.
-    let Err((fault, disk)) = Journal::create(disk) else {
-        return Err("a journal was made".into());
-    };
-    assert_eq!(rt; fault, CreateFault::NotEmpty);
-    assert_eq!(rt; told(alloc, disk)?.as_str(), "ab;");
-    Ok(())
+fn is_made_and_grows(alloc: Global) -> bool {
+    match grown(alloc) {
+        Some(mut disk) => {
+            let holds = holds_one_entry(&mut disk);
+            let stays = stays_as_it_is(alloc, disk);
+            holds && stays
+        }
+        None => false,
+    }
+}
+
+/// The disk of a journal that was made, opened again, and grew by `ab`.
+fn grown(alloc: Global) -> Option<MemDisk> {
+    let disk = fresh(alloc, &[])?.into_disk();
+    if disk.calls() != 3 {
+        return None;
+    }
+    let mut journal = opened(alloc, disk)?;
+    if grows(alloc, &mut journal) {
+        Some(journal.into_disk())
+    } else {
+        None
+    }
+}
+
+fn grows<D: Disk>(alloc: Global, journal: &mut Journal<D>) -> bool {
+    let place = Place { at: 13, length: 2 };
+    journal.end() == 8
+        && !journal.spent()
+        && append(alloc, journal, b"ab") == Some(Ok(place))
+        && journal.end() == 15
+        && is_entry(alloc, journal, place, b"ab")
+}
+
+fn is_entry<D: Disk>(alloc: Global, journal: &mut Journal<D>, place: Place, wanted: &[u8]) -> bool {
+    match journal.read(alloc, place) {
+        Ok(entry) => entry.as_slice() == wanted,
+        Err(_) => false,
+    }
+}
+
+fn holds_one_entry(disk: &mut MemDisk) -> bool {
+    let mut room = [b'-'; 20];
+    // four to open it, four to append, one to read
+    disk.calls() == 12
+        && disk.read_at(0, &mut room) == Ok(16)
+        && room == *b"PECJRN1\n\x01\0\0\0\x02ab\0----"
+}
+
+/// Whether no journal is made over it, and it tells its entry then.
+fn stays_as_it_is(alloc: Global, disk: MemDisk) -> bool {
+    match Journal::create(disk) {
+        Err((CreateFault::NotEmpty, disk)) => is_told(alloc, disk, "ab;"),
+        _ => false,
+    }
 }
 
 // The append of `cd` behind `ab` is cut off: its calls of the disk are 7 to 10, and call 11 is the first of the append
 // behind it. Pending are then seven bytes or fewer.
 #[test]
-fn an_entry_is_there_or_not_after_each_crash(rt: HostRuntime) -> Result<(), Fail> {
+fn an_entry_is_there_or_not_after_each_crash(rt: HostRuntime) {
     for call in 7..12 {
-        for kept in 0..8 {
-            let mut journal = fresh(rt.alloc(), &[call])?;
-            assert!(rt; append(rt.alloc(), &mut journal, b"ab")?.is_ok());
-            let answer = append(rt.alloc(), &mut journal, b"cd")?;
-            let next = append(rt.alloc(), &mut journal, b"")?;
-            assert_eq!(rt; (answer, next), answered(call), "call {call}");
-            assert!(rt; journal.spent(), "call {call}");
-            let list = crashed(rt.alloc(), journal.into_disk(), kept)?;
-            assert_eq!(rt;
-                list.as_str(),
-                left_by(call, kept),
-                "call {call}, {kept} kept"
-            );
-        }
+        assert_eq!(rt; first_wrong_crash(rt.alloc(), call), None, "call {call}");
     }
-    Ok(())
 }
 
-type Answer = Result<Place, AppendFault>;
+/// The first number of pending bytes whose crash goes otherwise where this call fails; none where each goes so.
+fn first_wrong_crash(alloc: Global, call: u64) -> Option<u64> {
+    for kept in 0..8 {
+        if !is_there_or_not(alloc, call, kept) {
+            return Some(kept);
+        }
+    }
+    None
+}
+
+fn is_there_or_not(alloc: Global, call: u64, kept: u64) -> bool {
+    match fresh(alloc, &[call]) {
+        Some(mut journal) => {
+            let fails = fails_at(alloc, &mut journal, call);
+            let is_left = leaves(alloc, journal.into_disk(), kept, left_by(call, kept));
+            fails && is_left
+        }
+        None => false,
+    }
+}
+
+fn fails_at<D: Disk>(alloc: Global, journal: &mut Journal<D>, call: u64) -> bool {
+    let (answer, next) = answered(call);
+    is_taken(append(alloc, journal, b"ab"))
+        && append(alloc, journal, b"cd") == Some(answer)
+        && append(alloc, journal, b"") == Some(next)
+        && journal.spent()
+}
+
+fn is_taken(answer: Option<Answer>) -> bool {
+    match answer {
+        Some(answer) => answer.is_ok(),
+        None => false,
+    }
+}
 
 // The answers of the two appends where this call failed.
 fn answered(call: u64) -> (Answer, Answer) {
@@ -169,126 +268,199 @@ fn left_by(call: u64, kept: u64) -> &'static str {
     }
 }
 
+/// Whether reopening a disk tells this after a crash that keeps so many pending bytes.
+fn leaves(alloc: Global, disk: MemDisk, kept: u64, wanted: &str) -> bool {
+    match Vec::from_slice(alloc, &[kept]) {
+        Ok(kept) => is_told(alloc, crashed(alloc, disk, kept), wanted),
+        Err(_) => false,
+    }
+}
+
+fn crashed(alloc: Global, disk: MemDisk, kept: Vec<u64>) -> MemDisk {
+    let mut depot = MemDepot::new(alloc, Vec::new(alloc), kept);
+    depot.crash(0, disk)
+}
+
 #[test]
-fn a_disk_that_fails_gives_no_journal(rt: HostRuntime) -> Result<(), Fail> {
+fn a_disk_that_fails_gives_no_journal(rt: HostRuntime) {
     for call in 0..4 {
-        let made = Journal::create(disk_of_nothing(rt.alloc(), &[call])?);
-        assert_eq!(rt; made.is_err(), call < 3, "call {call} of create");
+        assert_eq!(rt;
+            is_made(rt.alloc(), call),
+            Some(3 <= call),
+            "call {call} of create"
+        );
     }
     // Two calls make the file, then a sync, the size, the header and the two gates are asked for.
     for call in 2..8 {
-        let disk = disk_of(rt.alloc(), b"PECJRN1\n\x01\0\0\0\x02ab\0", &[call])?;
-        let opened = Journal::reopen(rt.alloc(), disk);
-        assert_eq!(rt; opened.is_err(), call < 7, "call {call} of reopen");
+        assert_eq!(rt;
+            is_reopened(rt.alloc(), call),
+            Some(7 <= call),
+            "call {call} of reopen"
+        );
     }
-    Ok(())
+}
+
+fn is_made(alloc: Global, call: u64) -> Option<bool> {
+    let disk = disk_of_nothing(alloc, &[call])?;
+    Some(Journal::create(disk).is_ok())
+}
+
+fn is_reopened(alloc: Global, call: u64) -> Option<bool> {
+    let disk = disk_of(alloc, b"PECJRN1\n\x01\0\0\0\x02ab\0", &[call])?;
+    Some(Journal::reopen(alloc, disk).is_ok())
 }
 
 // 255 entries of 4,294,967,295 bytes and one more bring the end to seven bytes before the limit.
 #[test]
-fn a_journal_ends_at_its_limit(rt: HostRuntime) -> Result<(), Fail> {
-    let alloc = rt.alloc();
-    let mut lengths = vec![in alloc; u32::MAX; 255]?;
-    lengths.push(4_294_966_256)?;
-    let mut journal = opened(alloc, Dealt::new(lengths))?;
-    assert_eq!(rt; journal.end(), 1_099_511_627_769);
-    assert_eq!(rt;
-        append(alloc, &mut journal, b"abc")?,
-        Err(AppendFault::Full)
-    );
-    let place = append(alloc, &mut journal, b"ab")?;
-    assert_eq!(rt;
-        place,
-        Ok(Place {
-            at: 1_099_511_627_774,
-            length: 2
-        })
-    );
-    assert_eq!(rt; journal.end(), JOURNAL_LIMIT);
-    assert_eq!(rt; append(alloc, &mut journal, b"")?, Err(AppendFault::Full));
-    Ok(())
+fn a_journal_ends_at_its_limit(rt: HostRuntime) {
+    assert!(rt; ends_at_its_limit(rt.alloc()));
+}
+
+fn ends_at_its_limit(alloc: Global) -> bool {
+    match almost_full(alloc) {
+        Some(mut journal) => is_filled_up(alloc, &mut journal),
+        None => false,
+    }
+}
+
+fn almost_full(alloc: Global) -> Option<Journal<Dealt>> {
+    let mut lengths = vec![in alloc; u32::MAX; 255].ok()?;
+    lengths.push(4_294_966_256).ok()?;
+    opened(alloc, Dealt::new(lengths))
+}
+
+fn is_filled_up<D: Disk>(alloc: Global, journal: &mut Journal<D>) -> bool {
+    let place = Place {
+        at: 1_099_511_627_774,
+        length: 2,
+    };
+    journal.end() == 1_099_511_627_769
+        && append(alloc, journal, b"abc") == Some(Err(AppendFault::Full))
+        && append(alloc, journal, b"ab") == Some(Ok(place))
+        && journal.end() == JOURNAL_LIMIT
+        && append(alloc, journal, b"") == Some(Err(AppendFault::Full))
 }
 
 #[test]
-fn an_entry_has_at_most_64_mebibytes(rt: HostRuntime) -> Result<(), Fail> {
-    let alloc = rt.alloc();
-    let mut journal = opened(alloc, Dealt::new(Vec::new(alloc)))?;
-    let mut entry = vec![in alloc; b'x'; ENTRY_LIMIT]?;
-    let place = append(alloc, &mut journal, &entry)?;
-    assert_eq!(rt;
-        place,
-        Ok(Place {
-            at: 13,
-            length: 67_108_864
-        })
-    );
-    entry.push(b'x')?;
-    assert_eq!(rt;
-        append(alloc, &mut journal, &entry)?,
-        Err(AppendFault::TooLong)
-    );
-    assert_eq!(rt; journal.end(), 67_108_877);
-    Ok(())
+fn an_entry_has_at_most_64_mebibytes(rt: HostRuntime) {
+    assert!(rt; has_a_longest_entry(rt.alloc()));
 }
 
-fn disk_of_nothing(alloc: Global, failing: &[u64]) -> Result<MemDisk, Fail> {
-    let failing = Vec::from_slice(alloc, failing)?;
-    Ok(MemDisk::new(alloc, failing))
+fn has_a_longest_entry(alloc: Global) -> bool {
+    match opened(alloc, Dealt::new(Vec::new(alloc))) {
+        Some(mut journal) => takes_the_longest(alloc, &mut journal)
+            && refuses_a_longer(alloc, &mut journal),
+        None => false,
+    }
+}
+
+fn takes_the_longest<D: Disk>(alloc: Global, journal: &mut Journal<D>) -> bool {
+    let place = Place {
+        at: 13,
+        length: 67_108_864,
+    };
+    append_long(alloc, journal, ENTRY_LIMIT) == Some(Ok(place))
+}
+
+fn refuses_a_longer<D: Disk>(alloc: Global, journal: &mut Journal<D>) -> bool {
+    append_long(alloc, journal, ENTRY_LIMIT + 1) == Some(Err(AppendFault::TooLong))
+        && journal.end() == 67_108_877
+}
+
+/// What the append of so many bytes answers.
+fn append_long<D: Disk>(alloc: Global, journal: &mut Journal<D>, length: usize) -> Option<Answer> {
+    let entry = vec![in alloc; b'x'; length].ok()?;
+    append(alloc, journal, &entry)
+}
+
+fn disk_of_nothing(alloc: Global, failing: &[u64]) -> Option<MemDisk> {
+    let failing = Vec::from_slice(alloc, failing).ok()?;
+    Some(MemDisk::new(alloc, failing))
 }
 
 /// A disk that holds these bytes, by two calls of it, and fails at these.
-fn disk_of(alloc: Global, bytes: &[u8], failing: &[u64]) -> Result<MemDisk, Fail> {
+fn disk_of(alloc: Global, bytes: &[u8], failing: &[u64]) -> Option<MemDisk> {
     let mut disk = disk_of_nothing(alloc, failing)?;
-    disk.write_at(0, bytes)?;
-    disk.sync()?;
-    Ok(disk)
+    if holds_then(&mut disk, bytes) {
+        Some(disk)
+    } else {
+        None
+    }
+}
+
+fn holds_then<D: Disk>(disk: &mut D, bytes: &[u8]) -> bool {
+    disk.write_at(0, bytes).is_ok() && disk.sync().is_ok()
 }
 
 /// A journal of no entries on a disk that fails at these calls.
-fn fresh(alloc: Global, failing: &[u64]) -> Result<Journal<MemDisk>, Fail> {
-    match Journal::create(disk_of_nothing(alloc, failing)?) {
-        Ok(journal) => Ok(journal),
-        Err(_) => Err("no journal was made".into()),
-    }
+fn fresh(alloc: Global, failing: &[u64]) -> Option<Journal<MemDisk>> {
+    let disk = disk_of_nothing(alloc, failing)?;
+    Journal::create(disk).ok()
 }
 
-fn opened<D: Disk + Drop>(alloc: Global, disk: D) -> Result<Journal<D>, Fail> {
+fn opened<D: Disk + Drop>(alloc: Global, disk: D) -> Option<Journal<D>> {
     match Journal::reopen(alloc, disk) {
-        Ok((journal, _)) => Ok(journal),
-        Err(_) => Err("no journal was opened".into()),
+        Ok((journal, _)) => Some(journal),
+        Err(_) => None,
     }
 }
 
-fn append<D: Disk>(alloc: Global, journal: &mut Journal<D>, entry: &[u8]) -> Result<Answer, Fail> {
-    journal.reserve(alloc, entry.len())?;
-    Ok(journal.append(entry))
+/// What the append of an entry answers; none where memory is wanting.
+fn append<D: Disk>(alloc: Global, journal: &mut Journal<D>, entry: &[u8]) -> Option<Answer> {
+    match journal.reserve(alloc, entry.len()) {
+        Ok(()) => Some(journal.append(entry)),
+        Err(_) => None,
+    }
 }
 
-/// What reopening a disk tells after a crash that keeps so many pending bytes.
-fn crashed(alloc: Global, disk: MemDisk, kept: u64) -> Result<String, Fail> {
-    let kept = Vec::from_slice(alloc, &[kept])?;
-    let mut depot = MemDepot::new(alloc, Vec::new(alloc), kept);
-    told(alloc, depot.crash(0, disk))
+fn is_told(alloc: Global, disk: MemDisk, wanted: &str) -> bool {
+    match told(alloc, disk) {
+        Some(text) => text.as_str() == wanted,
+        None => false,
+    }
 }
 
 /// What reopening a disk tells: each entry with a semicolon behind it, or the fault.
-fn told(alloc: Global, disk: MemDisk) -> Result<String, Fail> {
+fn told<D: Disk + Drop>(alloc: Global, disk: D) -> Option<String> {
     match Journal::reopen(alloc, disk) {
-        Ok((mut journal, places)) => {
-            let mut text = String::new(alloc);
-            for place in &places {
-                put_entry(&mut text, &journal.read(alloc, *place)?)?;
-            }
-            Ok(text)
-        }
-        Err((fault, _)) => Ok(format!(in alloc; "{fault:?}")?),
+        Ok((mut journal, places)) => entries_of(alloc, &mut journal, &places),
+        Err((fault, _)) => name_of(alloc, fault),
     }
 }
 
-fn put_entry(text: &mut String, entry: &[u8]) -> Result<(), Fail> {
+fn name_of(alloc: Global, fault: OpenFault) -> Option<String> {
+    format!(in alloc; "{fault:?}").ok()
+}
+
+fn entries_of<D: Disk>(
+    alloc: Global,
+    journal: &mut Journal<D>,
+    places: &[Place],
+) -> Option<String> {
+    let mut text = String::new(alloc);
+    for place in places {
+        if !put_next(alloc, &mut text, journal, *place) {
+            return None;
+        }
+    }
+    Some(text)
+}
+
+fn put_next<D: Disk>(
+    alloc: Global,
+    text: &mut String,
+    journal: &mut Journal<D>,
+    place: Place,
+) -> bool {
+    match journal.read(alloc, place) {
+        Ok(entry) => put_entry(text, &entry).is_ok(),
+        Err(_) => false,
+    }
+}
+
+fn put_entry(text: &mut String, entry: &[u8]) -> Result<(), AllocError> {
     for b in entry {
         text.push(char::from(*b))?;
     }
-    text.push(';')?;
-    Ok(())
+    text.push(';')
 }

@@ -1,5 +1,5 @@
 -- What is made of parts that are equal is equal.
-use Rattle.std.proofs.Common.{◌≡◌, List, [], ◌∷◌, ap, ◌∙◌}
+use Rattle.std.proofs.Common.{◌≡◌, List, [], ◌∷◌, Option, refl, ap, ◌∙◌}
 use Rattle.pec_types.specs.Bytes.{Bytes}
 use Rattle.pec_types.specs.declared.messages.Facts.{Facts}
 use Rattle.pec_cert.specs.Stamp.{Instant}
@@ -31,6 +31,22 @@ pub made_alike : (report : Report) (stamp : Instant) (issuer issuer' id id' : By
 made_alike report stamp issuer issuer' id id' recipients recipients' facts facts' a b c d =
     ap (λ (x : Bytes). made report stamp x id recipients facts) a ∙ ap (λ (x : Bytes). made report stamp issuer' x recipients facts) b
     ∙ ap (λ (x : List CertRecipient). made report stamp issuer' id' x facts) c ∙ ap (λ (x : Facts). made report stamp issuer' id' recipients' x) d
+
+-- facts of which what a certificate repeats was copied
+abbrev pub copied : Facts → Bytes → Bytes → Option Bytes → Option Bytes → Facts
+copied facts sender reply subject reference = record {
+  sender = sender;
+  recipients = facts.recipients;
+  wish = facts.wish;
+  subject = subject;
+  reference = reference;
+  reply = reply;
+}
+
+pub copied_alike : (facts : Facts) (sender reply : Bytes) (subject reference : Option Bytes)
+    → sender ≡ facts.sender → reply ≡ facts.reply → subject ≡ facts.subject → reference ≡ facts.reference
+    → copied facts sender reply subject reference ≡ facts
+copied_alike facts sender reply subject reference a b c d = rw (a, b, c, d) refl
 
 pub lines_alike : (a a' b b' c c' d d' e : Bytes) → a ≡ a' → b ≡ b' → c ≡ c' → d ≡ d' → lines_text (a ∷ b ∷ c ∷ d ∷ e ∷ []) ≡ lines_text (a' ∷ b' ∷ c' ∷ d' ∷ e ∷ [])
 lines_alike a a' b b' c c' d d' e p q r s =

@@ -42,23 +42,36 @@ pub fn certificate(
     let id = name(alloc, directory, id)?;
     let provider = issuer.copy(alloc)?;
     let recipients = typed(alloc, directory, facts.recipients.as_slice())?;
-    let facts = facts.copy(alloc)?;
+    let sender = facts.sender.copy(alloc)?;
+    let reply = facts.reply.copy(alloc)?;
+    let subject = copied(alloc, &facts.subject)?;
+    let reference = copied(alloc, &facts.reference)?;
     Ok(CertData {
         kind: report.kind,
         error: report.error,
-        sender: facts.sender,
+        sender,
         recipients: Items::of(recipients),
-        reply: facts.reply,
-        subject: facts.subject,
+        reply,
+        subject,
         provider,
         stamp,
         id,
-        reference: facts.reference,
+        reference,
         wish: report.wish,
         delivered: report.delivered,
         received: report.received,
         detail: report.detail,
     })
+}
+
+fn copied(alloc: Global, text: &Option<Text>) -> Result<Option<Text>, NoMemory>
+    ensures { IfOk result (λ copy. copy ≡ text.now) }
+{
+    let Some(text) = text else {
+        return Ok(None);
+    };
+    let copy = text.copy(alloc)?;
+    Ok(Some(copy))
 }
 
 /// The name of a message of a provider of the directory, `pec.NNNNNNN@DOMAIN`.
@@ -147,7 +160,8 @@ pub fn service_address(alloc: Global, domain: &[u8]) -> Result<Vec<u8>, NoMemory
 pub fn angled(alloc: Global, name: &[u8]) -> Result<Vec<u8>, NoMemory>
     ensures { IfOk result (λ text. text.items ≡ angled name.now) }
 {
-    let mut text = Vec::from_slice(alloc, b"<")?;
+    let mut text = Vec::with_capacity(alloc, name.len().saturating_add(2))?;
+    text.extend_from_slice(b"<")?;
     text.extend_from_slice(name)?;
     text.extend_from_slice(b">")?;
     Ok(text)
@@ -156,7 +170,8 @@ pub fn angled(alloc: Global, name: &[u8]) -> Result<Vec<u8>, NoMemory>
 fn joined(alloc: Global, front: &[u8], back: &[u8]) -> Result<Vec<u8>, AllocError>
     ensures { IfOk result (λ text. text.items ≡ front.now ++ back.now) }
 {
-    let mut text = Vec::from_slice(alloc, front)?;
+    let mut text = Vec::with_capacity(alloc, front.len().saturating_add(back.len()))?;
+    text.extend_from_slice(front)?;
     text.extend_from_slice(back)?;
     Ok(text)
 }

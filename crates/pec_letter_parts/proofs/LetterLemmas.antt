@@ -1,6 +1,6 @@
 -- What is read of letters is told exactly by the functions that read them, from the laws of seals, heads, parts and certification
 -- texts.
-use Rattle.std.proofs.Common.{◌≡◌, ◌⊎◌, ◌↔◌, ℕ, zero, suc, ◌+◌, List, [], ◌∷◌, true, false, cond, drop, find, option_map, slice_get, add-one, Result, Ok, Err, Option, None, Some, inl, inr, refl, ap, sym, ◌∙◌, subst}
+use Rattle.std.proofs.Common.{◌≡◌, ◌⊎◌, ◌↔◌, ℕ, zero, suc, ◌+◌, List, [], ◌∷◌, true, false, cond, drop, find, option_map, slice_get, add-one, Ok, Err, Option, None, Some, inl, inr, refl, ap, sym, ◌∙◌, subst}
 use Rattle.std.proofs.lemmas.Option.{same_Some}
 use Rattle.pec_types.specs.Answers.{TellsExactly}
 use Rattle.pec_types.specs.Bytes.{Bytes}

@@ -41,13 +41,22 @@ pub struct Contents<'a> {
 pub fn join_lines(alloc: Global, lines: &[&[u8]]) -> Result<Vec<u8>, NoMemory>
     ensures { IfOk result (λ text. text.items ≡ lines_text (map (λ line. line.now) lines.now)) }
 {
-    let mut text = Vec::new(alloc);
+    let mut text = Vec::with_capacity(alloc, room_for(lines))?;
     let mut rest = lines;
     while let [line, behind @ ..] = rest {
         add_line(&mut text, line, behind.is_empty())?;
         rest = behind;
     }
     Ok(text)
+}
+
+/// How much room is made for lines and their ends. A wrong guess would cost time alone.
+fn room_for(lines: &[&[u8]]) -> usize {
+    let mut room: usize = 0;
+    for line in lines {
+        room = room.saturating_add(line.len()).saturating_add(2);
+    }
+    room
 }
 
 fn add_line(text: &mut Vec<u8>, line: &[u8], is_last: bool) -> Result<(), AllocError>

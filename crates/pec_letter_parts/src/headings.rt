@@ -167,7 +167,8 @@ pub(crate) fn put_multipart(alloc: Global, out: &mut Vec<u8>, number: u64) -> Re
 pub(crate) fn angled(alloc: Global, name: &[u8]) -> Result<Vec<u8>, AllocError>
     ensures { IfOk result (λ text. text.items ≡ angled name.now) }
 {
-    let mut text = Vec::from_slice(alloc, b"<")?;
+    let mut text = Vec::with_capacity(alloc, name.len().saturating_add(2))?;
+    text.extend_from_slice(b"<")?;
     text.extend_from_slice(name)?;
     text.extend_from_slice(b">")?;
     Ok(text)

@@ -57,13 +57,35 @@ fn compose_text<S: Sealer>(
 {
     let number = number_of(alloc, contents)?;
     let boundary = boundary(alloc, number)?;
-    let mut letter = Vec::new(alloc);
+    let mut letter = Vec::with_capacity(alloc, room_for(heading, contents))?;
     put_heading(alloc, &mut letter, heading)?;
     put_multipart(alloc, &mut letter, number)?;
     end_head(&mut letter)?;
     put_body(&mut letter, boundary.as_slice(), contents)?;
     let text = seal(alloc, sealer, provider, letter.as_slice())?;
     Ok(text)
+}
+
+/// How much room is made for the heads and the delimiters of a letter, without its subject and its addressees.
+const HEADS_LENGTH: usize = 1024;
+
+/// How much room is made for a letter. A wrong guess would cost time alone.
+fn room_for(heading: &Heading<'_>, contents: &Contents<'_>) -> usize {
+    let addresses = heading.to.len().saturating_add(heading.copies.len());
+    addresses
+        .saturating_mul(64)
+        .saturating_add(heading.subject.len())
+        .saturating_add(contents.text.len())
+        .saturating_add(length_of(contents.message))
+        .saturating_add(length_of(contents.certificate))
+        .saturating_add(HEADS_LENGTH)
+}
+
+fn length_of(text: Option<&[u8]>) -> usize {
+    match text {
+        Some(text) => text.len(),
+        None => 0,
+    }
 }
 
 /// The number of the least boundary that no part takes. Heads and bodies of parts are looked at where they stand.
@@ -80,7 +102,7 @@ fn number_of(alloc: Global, contents: &Contents<'_>) -> Result<u64, NoMemory>
 fn pieces<'a>(alloc: Global, contents: &Contents<'a>) -> Result<Vec<&'a [u8]>, AllocError>
     ensures { IfOk result (λ pieces. map (λ piece. piece.now) pieces.items ≡ pieces_of (contents_shown contents.now)) }
 {
-    let mut pieces = Vec::new(alloc);
+    let mut pieces = Vec::with_capacity(alloc, 6)?;
     add_pieces(&mut pieces, PartKind::Text, Some(contents.text))?;
     add_pieces(&mut pieces, PartKind::Message, contents.message)?;
     add_pieces(&mut pieces, PartKind::Certificate, contents.certificate)?;

@@ -1,125 +1,197 @@
+//! Disks and depots in memory: what is read of what was written, calls that fail, and crashes.
 use pec_outside::{Depot, Disk, Failed, MemDepot, MemDisk};
 use std::alloc::Global;
-use std::test::Fail;
 
-fn bytes_of<D: Disk>(alloc: Global, disk: &mut D) -> Result<Vec<u8>, Fail> {
-    let mut bytes = Vec::new(alloc);
-    bytes.resize(40, 0)?;
-    let count = disk.read_at(0, bytes.as_mut_slice())?;
-    bytes.truncate(count);
-    Ok(bytes)
-}
+// Where a piece is written, the piece, and what the disk holds then.
+const WRITES: [(u64, &[u8], &[u8]); 5] = [
+    (0, b"abc", b"abc"),
+    (1, b"XY", b"aXY"), // within
+    (2, b"zzz", b"aXzzz"), // over the end
+    (5, b"!", b"aXzzz!"), // at the end
+    (3, b"", b"aXzzz!"), // nothing
+];
+
+// Where four bytes are read, one row after another, how many there are, and the room then.
+const READS: [(u64, usize, &[u8]); 4] = [
+    (0, 4, b"aXzz"),
+    (4, 2, b"z!zz"),
+    (6, 0, b"z!zz"),
+    (9, 0, b"z!zz"),
+];
 
 #[test]
-fn a_disk_reads_as_it_was_written(rt: HostRuntime) -> Result<(), Fail> {
-    let alloc = rt.alloc();
+fn a_disk_reads_as_it_was_written(rt: HostRuntime) {
+    assert!(rt; reads_as_written(rt.alloc()));
+}
+
+fn reads_as_written(alloc: Global) -> bool {
     let mut disk = MemDisk::new(alloc, Vec::new(alloc));
-    let rows: [(u64, &[u8], &[u8]); 5] = [
-        (0, b"abc", b"abc"),
-        (1, b"XY", b"aXY"), // within
-        (2, b"zzz", b"aXzzz"), // over the end
-        (5, b"!", b"aXzzz!"), // at the end
-        (3, b"", b"aXzzz!"), // nothing
-    ];
-    for (at, piece, wanted) in rows {
-        assert_eq!(rt; disk.write_at(at, piece), Ok(()));
-        assert_eq!(rt; bytes_of(alloc, &mut disk)?.as_slice(), wanted, "at {at}");
-        assert_eq!(rt; disk.size(), Ok(wanted.len() as u64), "at {at}");
-    }
     let mut room = [b'-'; 4];
-    for (at, count, wanted) in [
-        (0, 4, b"aXzz"),
-        (4, 2, b"z!zz"),
-        (6, 0, b"z!zz"),
-        (9, 0, b"z!zz"),
-    ] {
-        assert_eq!(rt; disk.read_at(at, &mut room), Ok(count), "from {at}");
-        assert_eq!(rt; room, *wanted, "from {at}");
+    takes_all(&mut disk, &WRITES) && gives_all(&mut disk, &mut room, &READS)
+}
+
+fn takes_all<D: Disk>(disk: &mut D, rows: &[(u64, &[u8], &[u8])]) -> bool {
+    for (at, piece, wanted) in rows {
+        if !takes(disk, *at, piece, wanted) {
+            return false;
+        }
     }
-    Ok(())
+    true
+}
+
+fn takes<D: Disk>(disk: &mut D, at: u64, piece: &[u8], wanted: &[u8]) -> bool {
+    disk.write_at(at, piece) == Ok(())
+        && holds(disk, wanted)
+        && disk.size() == Ok(wanted.len() as u64)
+}
+
+/// Whether these bytes are what the disk holds, up to 40.
+fn holds<D: Disk>(disk: &mut D, wanted: &[u8]) -> bool {
+    let mut room = [0; 40];
+    match disk.read_at(0, &mut room) {
+        Ok(count) => match room.get(..count) {
+            Some(bytes) => bytes == wanted,
+            None => false,
+        },
+        Err(_) => false,
+    }
+}
+
+fn gives_all<D: Disk>(disk: &mut D, room: &mut [u8], rows: &[(u64, usize, &[u8])]) -> bool {
+    for (at, count, wanted) in rows {
+        if disk.read_at(*at, room) != Ok(*count) || *room != **wanted {
+            return false;
+        }
+    }
+    true
 }
 
 // A write that fails changes nothing that is read, and each call is counted, those too that fail.
 #[test]
-fn each_call_of_a_disk_can_fail(rt: HostRuntime) -> Result<(), Fail> {
-    let alloc = rt.alloc();
+fn each_call_of_a_disk_can_fail(rt: HostRuntime) {
     for number in 0..4 {
-        let mut disk = MemDisk::new(alloc, Vec::from_slice(alloc, &[number])?);
-        assert_eq!(rt;
-            disk.write_at(0, b"abc").is_err(),
-            number == 0,
-            "call {number}"
-        );
-        assert_eq!(rt; disk.sync().is_err(), number == 1, "call {number}");
-        assert_eq!(rt; disk.size().is_err(), number == 2, "call {number}");
-        let mut room = [0; 8];
-        assert_eq!(rt;
-            disk.read_at(0, &mut room).is_err(),
-            number == 3,
-            "call {number}"
-        );
-        assert_eq!(rt; disk.calls(), 4, "call {number}");
-        let wanted = if number == 0 { 0 } else { 3 };
-        assert_eq!(rt; disk.size(), Ok(wanted), "call {number}");
+        assert!(rt; fails_once(rt.alloc(), number), "call {number}");
     }
-    Ok(())
+}
+
+fn fails_once(alloc: Global, number: u64) -> bool {
+    match Vec::from_slice(alloc, &[number]) {
+        Ok(failing) => {
+            let mut disk = MemDisk::new(alloc, failing);
+            fails_at(&mut disk, number)
+                && disk.calls() == 4
+                && disk.size() == Ok(if number == 0 { 0 } else { 3 })
+        }
+        Err(_) => false,
+    }
+}
+
+fn fails_at<D: Disk>(disk: &mut D, number: u64) -> bool {
+    let mut room = [0; 8];
+    disk.write_at(0, b"abc").is_err() == (number == 0)
+        && disk.sync().is_err() == (number == 1)
+        && disk.size().is_err() == (number == 2)
+        && disk.read_at(0, &mut room).is_err() == (number == 3)
 }
 
 // `abcdef` is durable. Then XY is written at 1, a write at 4 fails, and Z is written at 6: pending are the places 1, 2, 4
 // and 6.
-#[test]
-fn a_crash_keeps_the_first_pending_bytes(rt: HostRuntime) -> Result<(), Fail> {
-    let alloc = rt.alloc();
-    let rows: [(u64, &[u8]); 6] = [
-        (0, b"a\xff\xffd\xfff\xff"),
-        (1, b"aX\xffd\xfff\xff"),
-        (2, b"aXYd\xfff\xff"),
-        (3, b"aXYdef\xff"),
-        (4, b"aXYdefZ"),
-        (9, b"aXYdefZ"),
-    ];
-    for (kept, wanted) in rows {
-        let mut failing = Vec::new(alloc);
-        failing.push(Vec::from_slice(alloc, &[3])?)?;
-        let mut depot = MemDepot::new(alloc, failing, Vec::from_slice(alloc, &[kept])?);
-        let mut disk = depot.disk(0)?;
-        assert_eq!(rt; disk.write_at(0, b"abcdef"), Ok(()));
-        assert_eq!(rt; disk.sync(), Ok(()));
-        assert_eq!(rt; disk.write_at(1, b"XY"), Ok(()));
-        assert_eq!(rt; disk.write_at(4, b"!"), Err(Failed));
-        assert_eq!(rt; disk.write_at(6, b"Z"), Ok(()));
-        let mut disk = depot.crash(0, disk);
-        assert_eq!(rt;
-            bytes_of(alloc, &mut disk)?.as_slice(),
-            wanted,
-            "{kept} kept"
-        );
+const CRASHES: [(u64, &[u8]); 6] = [
+    (0, b"a\xff\xffd\xfff\xff"),
+    (1, b"aX\xffd\xfff\xff"),
+    (2, b"aXYd\xfff\xff"),
+    (3, b"aXYdef\xff"),
+    (4, b"aXYdefZ"),
+    (9, b"aXYdefZ"),
+];
 
-        // Nothing is pending now, and past the end of the list nothing would be kept.
-        let mut disk = depot.crash(0, disk);
-        assert_eq!(rt;
-            bytes_of(alloc, &mut disk)?.as_slice(),
-            wanted,
-            "{kept} kept, then none"
-        );
+#[test]
+fn a_crash_keeps_the_first_pending_bytes(rt: HostRuntime) {
+    assert_eq!(rt; first_wrong_crash(rt.alloc(), &CRASHES), None);
+}
+
+/// The first number of pending bytes whose crash leaves something else; none where each leaves what its row has.
+fn first_wrong_crash(alloc: Global, rows: &[(u64, &[u8])]) -> Option<u64> {
+    for (kept, wanted) in rows {
+        if !keeps_first(alloc, *kept, wanted) {
+            return Some(*kept);
+        }
     }
-    Ok(())
+    None
+}
+
+fn keeps_first(alloc: Global, kept: u64, wanted: &[u8]) -> bool {
+    match depot_keeping(alloc, kept) {
+        Some(mut depot) => is_left_by_crashes(&mut depot, wanted),
+        None => false,
+    }
+}
+
+/// A depot whose first disk fails at its call 3, and whose first crash keeps so many pending bytes.
+fn depot_keeping(alloc: Global, kept: u64) -> Option<MemDepot> {
+    let calls = Vec::from_slice(alloc, &[3]).ok()?;
+    let failing = vec![in alloc; calls].ok()?;
+    let kept = Vec::from_slice(alloc, &[kept]).ok()?;
+    Some(MemDepot::new(alloc, failing, kept))
+}
+
+fn is_left_by_crashes<D: Disk + Drop, P: Depot<D = D>>(depot: &mut P, wanted: &[u8]) -> bool {
+    match depot.disk(0) {
+        Ok(mut disk) => {
+            let is_written = is_written(&mut disk);
+            let mut disk = depot.crash(0, disk);
+            let is_left = holds(&mut disk, wanted);
+            // Nothing is pending now, and past the end of the list nothing would be kept.
+            let mut disk = depot.crash(0, disk);
+            is_written && is_left && holds(&mut disk, wanted)
+        }
+        Err(_) => false,
+    }
+}
+
+fn is_written<D: Disk>(disk: &mut D) -> bool {
+    disk.write_at(0, b"abcdef") == Ok(())
+        && disk.sync() == Ok(())
+        && disk.write_at(1, b"XY") == Ok(())
+        && disk.write_at(4, b"!") == Err(Failed)
+        && disk.write_at(6, b"Z") == Ok(())
 }
 
 #[test]
-fn a_depot_gives_the_disk_that_was_kept(rt: HostRuntime) -> Result<(), Fail> {
-    let alloc = rt.alloc();
+fn a_depot_gives_the_disk_that_was_kept(rt: HostRuntime) {
+    assert!(rt; gives_what_was_kept(rt.alloc()));
+}
+
+fn gives_what_was_kept(alloc: Global) -> bool {
     let mut depot = MemDepot::new(alloc, Vec::new(alloc), Vec::new(alloc));
-    let mut disk = depot.disk(15)?;
-    assert_eq!(rt; disk.write_at(0, b"fifteen"), Ok(()));
-    assert!(rt; depot.disk(15).is_err(), "it is out");
-    let mut other = depot.disk(0)?;
-    assert_eq!(rt; other.size(), Ok(0), "another provider's is another");
-    depot.keep(15, disk);
-    let mut disk = depot.disk(15)?;
-    assert_eq!(rt;
-        bytes_of(alloc, &mut disk)?.as_slice(),
-        b"fifteen".as_slice()
-    );
-    Ok(())
+    keeps_a_written_disk(&mut depot) && has_kept(&mut depot)
+}
+
+/// Writes to a disk, which isn't handed out twice, and keeps it.
+fn keeps_a_written_disk<D: Disk + Drop, P: Depot<D = D>>(depot: &mut P) -> bool {
+    match depot.disk(15) {
+        Ok(mut disk) => {
+            let is_out_once = disk.write_at(0, b"fifteen") == Ok(())
+                && depot.disk(15).is_err()
+                && has_an_empty_disk(depot);
+            depot.keep(15, disk);
+            is_out_once
+        }
+        Err(_) => false,
+    }
+}
+
+/// Whether another provider's disk is another.
+fn has_an_empty_disk<D: Disk + Drop, P: Depot<D = D>>(depot: &mut P) -> bool {
+    match depot.disk(0) {
+        Ok(mut other) => other.size() == Ok(0),
+        Err(_) => false,
+    }
+}
+
+fn has_kept<D: Disk + Drop, P: Depot<D = D>>(depot: &mut P) -> bool {
+    match depot.disk(15) {
+        Ok(mut disk) => holds(&mut disk, b"fifteen"),
+        Err(_) => false,
+    }
 }

@@ -1,5 +1,7 @@
 //! Admission. The answers were worked out by hand from the admission table of RFC 6109 and from this project's profile.
 
+ghost use Rattle.std.specs.Prelude.{◌<◌, length};
+
 use pec_directory::Directory;
 use pec_points::{Admission, admit};
 use pec_screen::{Judge, NoScreens};
@@ -17,7 +19,8 @@ key = \"101112131415161718191a1b1c1d1e1f\"\nzone = \"UTC0\"\n";
 /// The limit of the first provider, a path and a message, and the cause for which it isn't accepted.
 pub(crate) type Row = (&'static str, &'static str, &'static str, Option<Cause>);
 
-const CAUSES: [Row; 16] = [
+/// A row each, and what is equal in its eyes.
+static CAUSES: [Row; 16] = [
     // A first line without a colon; no empty line.
     ("1000", "b@b", "From a@a|To: b@b||", Some(Cause::Head)),
     ("1000", "b@b", "From: a@a|To: b@b|", Some(Cause::Head)),
@@ -83,14 +86,8 @@ const CAUSES: [Row; 16] = [
     ("1000", "B@B C@C", "FROM: <A@A>|TO: B@B|CC: C@C||X", None),
 ];
 
-#[test]
-fn each_row_refuses_for_its_cause(rt: HostRuntime) -> Result<(), Fail> {
-    assert_eq!(rt; first_wrong(rt.alloc(), 0, &CAUSES)?, None);
-    Ok(())
-}
-
 /// In each of these messages all rows from one on apply, as far as they can together.
-const ALL_FROM_ONE: [Row; 8] = [
+static ALL_FROM_ONE: [Row; 8] = [
     ("1", "c@c", "Bcc: x|Cc:|", Some(Cause::Head)),
     ("1", "c@c", "Bcc: x|Cc:||", Some(Cause::From)),
     ("1", "c@c", "From: c@a|Bcc: x|Cc:||", Some(Cause::To)),
@@ -116,14 +113,8 @@ const ALL_FROM_ONE: [Row; 8] = [
     ("1", "b@b", "From: a@a|To: b@b||", Some(Cause::Size)),
 ];
 
-#[test]
-fn of_all_rows_that_apply_the_first_is_the_cause(rt: HostRuntime) -> Result<(), Fail> {
-    assert_eq!(rt; first_wrong(rt.alloc(), 0, &ALL_FROM_ONE)?, None);
-    Ok(())
-}
-
 /// Without a head no other row applies, and without a sender and recipients no size is over.
-const PAIRS: [Row; 13] = [
+static PAIRS: [Row; 13] = [
     ("99", "b@b", "Subject: x||", Some(Cause::From)), // rows 2, 3
     ("99", "b@b", "To: b@b||", Some(Cause::From)), // rows 2, 4
     ("99", "c@c", "From: a@a, a@a|To: b@b||", Some(Cause::From)), // rows 2, 5
@@ -149,13 +140,8 @@ const PAIRS: [Row; 13] = [
     ("1", "b@b", "From: a@a|To: b@b|Bcc: x||", Some(Cause::Bcc)), // rows 6, 7
 ];
 
-#[test]
-fn of_two_rows_that_apply_the_earlier_is_the_cause(rt: HostRuntime) -> Result<(), Fail> {
-    assert_eq!(rt; first_wrong(rt.alloc(), 0, &PAIRS)?, None);
-    Ok(())
-}
-
-const SIZES: [Row; 8] = [
+/// The bytes count once for each different recipient.
+static SIZES: [Row; 8] = [
     // 19 bytes for one recipient, and a byte more.
     ("19", "b@b", "From: a@a|To: b@b||", None),
     ("18", "b@b", "From: a@a|To: b@b||", Some(Cause::Size)),
@@ -184,27 +170,36 @@ const SIZES: [Row; 8] = [
     ),
 ];
 
-#[test]
-fn the_bytes_count_once_for_each_different_recipient(rt: HostRuntime) -> Result<(), Fail> {
-    assert_eq!(rt; first_wrong(rt.alloc(), 0, &SIZES)?, None);
-    Ok(())
-}
-
 /// A message that is too long for the first provider.
-const LONG: [Row; 1] = [("19", "b@b", "From: a@a|To: b@b||X", Some(Cause::Size))];
+static LONG: [Row; 1] = [("19", "b@b", "From: a@a|To: b@b||X", Some(Cause::Size))];
 
 /// The same message at the second one, which gives no limit of its own.
-const ELSEWHERE: [Row; 1] = [("19", "b@b", "From: a@a|To: b@b||X", None)];
+static ELSEWHERE: [Row; 1] = [("19", "b@b", "From: a@a|To: b@b||X", None)];
+
+/// What a table shows, the provider that is asked, and the rows; by a function without a clause: the proof of the test is
+/// spared their texts.
+fn tables() -> [(&'static str, u32, &'static [Row]); 6] {
+    [
+        ("each row refuses for its cause", 0, &CAUSES),
+        ("of all that apply it is the first", 0, &ALL_FROM_ONE),
+        ("of two that apply it is the earlier", 0, &PAIRS),
+        ("bytes count for each different recipient", 0, &SIZES),
+        ("the limit is that of the provider", 0, &LONG),
+        ("and of no other", 1, &ELSEWHERE),
+    ]
+}
 
 #[test]
-fn the_limit_is_that_of_the_provider(rt: HostRuntime) -> Result<(), Fail> {
-    assert_eq!(rt; first_wrong(rt.alloc(), 0, &LONG)?, None);
-    assert_eq!(rt; first_wrong(rt.alloc(), 1, &ELSEWHERE)?, None);
+fn a_message_is_refused_for_its_cause(rt: HostRuntime) -> Result<(), Fail> {
+    for (why, provider, rows) in tables() {
+        let wrong = first_wrong(rt.alloc(), provider, rows)?;
+        assert!(rt; wrong.is_none(), "{why}: {wrong:?}");
+    }
     Ok(())
 }
 
 /// A message that is accepted.
-const ACCEPTED: Row = (
+static ACCEPTED: Row = (
     "1000",
     "c@c b@b",
     "From: a@a|To: b@b|Cc: c@c|Subject: Ciao||",
@@ -213,11 +208,17 @@ const ACCEPTED: Row = (
 
 #[test]
 fn an_accepted_message_comes_with_its_facts(rt: HostRuntime) -> Result<(), Fail> {
-    match answer(rt.alloc(), 0, &ACCEPTED)? {
-        Admission::Accepted(facts) => assert!(rt; says(&facts)),
-        Admission::Not(_) => return Err("an acceptance".into()),
-    }
+    let accepted = is_accepted(rt.alloc())?;
+    assert!(rt; accepted);
     Ok(())
+}
+
+/// Whether [`ACCEPTED`] is accepted with its facts.
+fn is_accepted(alloc: Global) -> Result<bool, Fail> {
+    match answer(alloc, 0, &ACCEPTED, &mut NoScreens)? {
+        Admission::Accepted(facts) => Ok(says(&facts)),
+        Admission::Not(_) => Ok(false),
+    }
 }
 
 /// Whether these are the sender and the recipients of [`ACCEPTED`].
@@ -238,78 +239,90 @@ fn is(recipient: &Recipient, address: &[u8], class: Class) -> bool {
 /// is.
 fn first_wrong(alloc: Global, provider: u32, rows: &[Row]) -> Result<Option<usize>, Fail> {
     for (place, row) in rows.iter().enumerate() {
-        let admission = answer(alloc, provider, row)?;
-        if cause_of(&admission) != row.3 {
+        if cause(alloc, provider, row, &mut NoScreens)? != row.3 {
             return Ok(Some(place));
         }
     }
     Ok(None)
 }
 
-/// The cause for which a message isn't accepted, if there is one.
-pub(crate) fn cause_of(admission: &Admission) -> Option<Cause> {
-    match admission {
-        Admission::Accepted(_) => None,
-        Admission::Not(cause) => Some(*cause),
+/// The cause for which the provider of a number doesn't accept the message of a row, if there is one.
+pub(crate) fn cause<J: Judge>(
+    alloc: Global,
+    provider: u32,
+    row: &Row,
+    screens: &mut J,
+) -> Result<Option<Cause>, Fail> {
+    match answer(alloc, provider, row, screens)? {
+        Admission::Accepted(_) => Ok(None),
+        Admission::Not(cause) => Ok(Some(cause)),
     }
 }
 
-/// What the provider of a number answers on the message of a row, whose lines end with `|`, without screens.
-fn answer(alloc: Global, provider: u32, row: &Row) -> Result<Admission, Fail> {
-    let mut none = NoScreens;
-    answer_under(alloc, provider, row, &mut none)
-}
-
-/// The same under screens.
-pub(crate) fn answer_under<J: Judge>(
+/// What it answers on this message, whose lines end with `|`.
+fn answer<J: Judge>(
     alloc: Global,
     provider: u32,
     row: &Row,
     screens: &mut J,
 ) -> Result<Admission, Fail> {
-    let (limit, path, message, _) = *row;
-    let directory = directory_of(alloc, limit)?;
-    let path = path_of(alloc, path)?;
-    let message = message.replace(alloc, "|", "\n")?;
-    admitted(
+    let directory = directory_of(alloc, row.0)?;
+    if provider >= directory.count() {
+        return Err("no such provider".into());
+    }
+    answer_in(alloc, &directory, provider, row, screens)
+}
+
+fn answer_in<J: Judge>(
+    alloc: Global,
+    directory: &Directory,
+    provider: u32,
+    row: &Row,
+    screens: &mut J,
+) -> Result<Admission, Fail>
+    requires { provider < length directory.now }
+{
+    let path = path_of(alloc, row.1)?;
+    let message = row.2.replace(alloc, "|", "\n")?;
+    let answer = answer_to(
         alloc,
-        &directory,
+        directory,
         provider,
-        path.as_slice(),
+        &path,
         message.as_bytes(),
         screens,
-    )
+    )?;
+    Ok(answer)
 }
 
 /// What it answers on a message of the account a@a.
-fn admitted<J: Judge>(
+fn answer_to<J: Judge>(
     alloc: Global,
     directory: &Directory,
     provider: u32,
     path: &[Address],
     message: &[u8],
     screens: &mut J,
-) -> Result<Admission, Fail> {
-    if provider >= directory.count() {
-        return Err("no such provider".into());
-    }
+) -> Result<Admission, Fail>
+    requires { provider < length directory.now }
+{
     let sender = Address::read(alloc, b"A@a")?;
-    let admission = admit(alloc, directory, provider, &sender, path, message, screens)?;
-    Ok(admission)
+    match admit(alloc, directory, provider, &sender, path, message, screens) {
+        Ok(admission) => Ok(admission),
+        Err(_) => Err("no memory".into()),
+    }
 }
 
 fn directory_of(alloc: Global, limit: &str) -> Result<Directory, Fail> {
     let text = DIRECTORY.replace(alloc, "LIMIT", limit)?;
-    let directory = Directory::read(alloc, text.as_str())?;
-    Ok(directory)
+    Ok(Directory::read(alloc, text.as_str())?)
 }
 
 /// The addresses of a path, which are parted by spaces.
 fn path_of(alloc: Global, text: &str) -> Result<Vec<Address>, Fail> {
     let mut path = Vec::new(alloc);
-    for address in text.as_bytes().split(|b| *b == b' ') {
-        let address = Address::read(alloc, address)?;
-        path.push(address)?;
+    for address in text.split(' ') {
+        path.push(Address::read(alloc, address.as_bytes())?)?;
     }
     Ok(path)
 }

@@ -241,63 +241,65 @@ fn changed(seen: Seen, change: Change) -> Seen {
 }
 
 /// A fitting frame of this kind, two things that are otherwise, and what is done with it.
-type Row = (Kind, [Change; 2], Reception);
+type Row = (Kind, Change, Change, Reception);
 
-const NEAR_MISSES: [Row; 30] = [
+static NEAR_MISSES: [Row; 30] = [
     // Rows 2 and 3: an envelope, and the same again. Nothing need be there before, and a provider may write to itself.
-    (Kind::Envelope, [Nothing, Nothing], Reception::Take),
-    (Kind::Envelope, [Again, Nothing], Reception::Repeat),
-    (Kind::Envelope, [Unknown, Nothing], Reception::Take),
-    (Kind::Envelope, [SealedBy(ME), Of(ME)], Reception::Take),
+    (Kind::Envelope, Nothing, Nothing, Reception::Take),
+    (Kind::Envelope, Again, Nothing, Reception::Repeat),
+    (Kind::Envelope, Unknown, Nothing, Reception::Take),
+    (Kind::Envelope, SealedBy(ME), Of(ME), Reception::Take),
     // Not the provider of the id sealed it; the path isn't that of the recipients here.
-    (Kind::Envelope, [SealedBy(2), Nothing], Reception::Drop),
-    (Kind::Envelope, [Astray, Nothing], Reception::Drop),
-    (Kind::Envelope, [Astray, Again], Reception::Drop),
+    (Kind::Envelope, SealedBy(2), Nothing, Reception::Drop),
+    (Kind::Envelope, Astray, Nothing, Reception::Drop),
+    (Kind::Envelope, Astray, Again, Reception::Drop),
     // Rows 4 and 5: a charge, and the same again.
-    (Kind::Charge, [Nothing, Nothing], Reception::Charge),
-    (Kind::Charge, [Again, Nothing], Reception::Repeat),
+    (Kind::Charge, Nothing, Nothing, Reception::Charge),
+    (Kind::Charge, Again, Nothing, Reception::Repeat),
     // In another's name; of another's message; without pairs there; not to the receipt address.
-    (Kind::Charge, [SealedBy(ME), Nothing], Reception::Drop),
-    (Kind::Charge, [Of(2), Nothing], Reception::Drop),
-    (Kind::Charge, [Unknown, Nothing], Reception::Drop),
-    (Kind::Charge, [Astray, Nothing], Reception::Drop),
+    (Kind::Charge, SealedBy(ME), Nothing, Reception::Drop),
+    (Kind::Charge, Of(2), Nothing, Reception::Drop),
+    (Kind::Charge, Unknown, Nothing, Reception::Drop),
+    (Kind::Charge, Astray, Nothing, Reception::Drop),
     // Rows 6 and 7: an outcome, and the same again.
-    (Kind::Outcome, [Nothing, Nothing], Reception::Outcome),
-    (Kind::Outcome, [Again, Nothing], Reception::Repeat),
+    (Kind::Outcome, Nothing, Nothing, Reception::Outcome),
+    (Kind::Outcome, Again, Nothing, Reception::Repeat),
     // Not the recipient's provider sealed it, or there is none; of another's message; of no pair; not to the sender.
-    (Kind::Outcome, [SealedBy(1), Nothing], Reception::Drop),
-    (Kind::Outcome, [SealedBy(ME), Nothing], Reception::Drop),
-    (Kind::Outcome, [ForOneAt(None), Nothing], Reception::Drop),
-    (Kind::Outcome, [Of(1), Nothing], Reception::Drop),
-    (Kind::Outcome, [Unknown, Nothing], Reception::Drop),
-    (Kind::Outcome, [Astray, Nothing], Reception::Drop),
+    (Kind::Outcome, SealedBy(1), Nothing, Reception::Drop),
+    (Kind::Outcome, SealedBy(ME), Nothing, Reception::Drop),
+    (Kind::Outcome, ForOneAt(None), Nothing, Reception::Drop),
+    (Kind::Outcome, Of(1), Nothing, Reception::Drop),
+    (Kind::Outcome, Unknown, Nothing, Reception::Drop),
+    (Kind::Outcome, Astray, Nothing, Reception::Drop),
     // Rows 8 and 9: an acknowledgement, and the same again.
-    (Kind::Ack, [Nothing, Nothing], Reception::Ack),
-    (Kind::Ack, [Again, Nothing], Reception::Repeat),
+    (Kind::Ack, Nothing, Nothing, Reception::Ack),
+    (Kind::Ack, Again, Nothing, Reception::Repeat),
     // Not the provider of the id sealed it; for a recipient elsewhere; not decided; not to the receipt address.
-    (Kind::Ack, [SealedBy(2), Nothing], Reception::Drop),
-    (Kind::Ack, [ForOneAt(Some(1)), Nothing], Reception::Drop),
-    (Kind::Ack, [Unknown, Nothing], Reception::Drop),
-    (Kind::Ack, [Astray, Nothing], Reception::Drop),
+    (Kind::Ack, SealedBy(2), Nothing, Reception::Drop),
+    (Kind::Ack, ForOneAt(Some(1)), Nothing, Reception::Drop),
+    (Kind::Ack, Unknown, Nothing, Reception::Drop),
+    (Kind::Ack, Astray, Nothing, Reception::Drop),
     // Rows 10 and 11: anything else, with room and without.
-    (Kind::Other, [WithRoom, Nothing], Reception::Anomaly),
-    (Kind::Envelope, [Astray, WithRoom], Reception::Anomaly),
-    (Kind::Other, [Nothing, Nothing], Reception::Drop),
+    (Kind::Other, WithRoom, Nothing, Reception::Anomaly),
+    (Kind::Envelope, Astray, WithRoom, Reception::Anomaly),
+    (Kind::Other, Nothing, Nothing, Reception::Drop),
 ];
+
+/// The table, by a function without a clause: the proof of the test is spared its rows.
+fn near_misses() -> &'static [Row] {
+    &NEAR_MISSES
+}
 
 #[test]
 fn each_row_answers_and_its_near_misses_fall_to_the_last_two(rt: HostRuntime) -> Result<(), Fail> {
-    assert_eq!(rt; first_wrong(rt.alloc(), &NEAR_MISSES)?, None);
+    for row in near_misses() {
+        let reception = reception_of(rt.alloc(), seen_in(row))?;
+        assert!(rt; reception == row.3, "{:?}", row.3);
+    }
     Ok(())
 }
 
-/// The place of the first row with whose frame something else is done; none where there is none.
-fn first_wrong(alloc: Global, rows: &[Row]) -> Result<Option<usize>, Fail> {
-    for (place, (kind, [first, second], reception)) in rows.iter().enumerate() {
-        let seen = changed(changed(fitting(*kind), *first), *second);
-        if reception_of(alloc, seen)? != *reception {
-            return Ok(Some(place));
-        }
-    }
-    Ok(None)
+/// What is seen of the frame of a row.
+fn seen_in(row: &Row) -> Seen {
+    changed(changed(fitting(row.0), row.1), row.2)
 }

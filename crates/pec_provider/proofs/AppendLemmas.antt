@@ -1,24 +1,27 @@
 -- What the append of an entry leaves of a provider.
-use Rattle.std.proofs.Common.{◌≡◌, ℕ, ◌+◌, ◌<◌, ◌≤◌, Bool, true, false, not, List, refl, sym, subst, ◌∙◌, arith, Option}
-use Rattle.std.proofs.Common.{Ok, Err}
-use Rattle.std.specs.Prelude.{nat_lt}
+use Rattle.std.proofs.Common.{◌≡◌, ℕ, ◌+◌, ◌<◌, ◌≤◌, Bool, true, false, not, List, map, refl, ap, sym, subst, ◌∙◌, arith}
+use Rattle.std.proofs.Common.{Global, Option, Ok, Err, Result, Vec}
+use Rattle.std.specs.Prelude.{IfErr, IfOk, OnOk, nat_lt}
 use Rattle.pec_types.specs.declared.letters.Letter.{Letter}
+use Rattle.pec_types.specs.declared.mailboxes.Mark.{Mark}
 use Rattle.pec_types.specs.declared.turns.ProviderFault.{ProviderFault}
 use Rattle.pec_types.specs.declared.turns.ProviderFault.TheVariants as faults
 use Rattle.pec_directory.specs.Directory.{Kept}
 use Rattle.pec_records.specs.declared.entries.Entry.{Entry}
+use Rattle.pec_ledger.specs.Half.{Half}
 use Rattle.pec_ledger.specs.OfDirectory.{IsOf}
-use Rattle.pec_ledger.specs.Steps.{half, size_of}
+use Rattle.pec_ledger.specs.Steps.{half, marks_by, size_of}
 use Rattle.pec_ledger.specs.Trade.{Trade}
+use Rattle.pec_plays.specs.Commands.{told_mark}
 use Rattle.pec_plays.specs.Steps.{has_no_room, longest_journal}
 use Rattle.pec_chronicle.specs.Chronicle.{ChronicleState}
 use Rattle.pec_shelf.specs.Seen.{Seen}
-use Rattle.pec_stock.specs.Entering.{Entered, Failed, Same, Torn}
+use Rattle.pec_stock.specs.Entering.{AreMarks, Entered, Failed, Same, Torn}
 use Rattle.pec_stock.specs.Stock.{Agree}
 use Rattle.pec_provider.specs.Appending.{Appends, entered}
 use Rattle.pec_provider.specs.Provider.{Desk, ProviderState, Runs, desk_of}
 use Rattle.pec_provider.specs.Working.{broken}
-use Rattle.pec_provider.proofs.RunLemmas.{end_runs}
+use Rattle.pec_provider.proofs.RunLemmas.{end_runs, half_runs}
 
 -- ---- numbers
 
@@ -116,3 +119,24 @@ module _ {D : Type 0} (kept : List Kept) (me : ℕ) (inside old : ProviderState 
   left_err X fault failed = subst (λ (p : ProviderState D). Appends {X = X} trade me entry (desk_of p) left
       (Err fault)) view
       (appends_err inside.chronicle new inside.shelf after inside.owed places trade me entry ends X fault failed)
+
+  pub left_any : {X : Type 0} (r : Result X ProviderFault) → OnOk r (Entered inside.chronicle new entry)
+      → IfErr r (Failed inside.chronicle new entry) → Appends trade me entry (desk_of old) left r
+  left_any (Ok x) came failed = left_ok x came
+  left_any {X} (Err fault) came failed = left_err X fault failed
+
+-- the marks of an entry, by the half that a provider's entries come to
+module _ {D : Type 0} (kept : List Kept) (me : ℕ) (inside old : ProviderState D) (view : inside ≡ old) (entry : Entry)
+    (runs : Runs kept me old) (trade : Trade) (of : IsOf kept trade) where
+  marks_so : (marks : List Mark) → AreMarks kept inside.shelf entry marks
+      → marks ≡ map told_mark (marks_by trade me (half trade me old.chronicle.entries) entry)
+  marks_so marks are =
+      subst (λ (p : ProviderState D). AreMarks kept p.shelf entry marks) view are trade of
+      ∙ ap (λ (n : ℕ). map told_mark (marks_by trade n old.shelf.half entry)) runs.is
+      ∙ ap (λ (h : Half). map told_mark (marks_by trade me h entry)) (half_runs kept me old trade runs of)
+
+  pub marks_any : (r : Result (Vec Mark Global) ProviderFault)
+      → IfOk r (λ marks. AreMarks kept inside.shelf entry marks.items)
+      → IfOk r (λ marks. marks.items ≡ map told_mark (marks_by trade me (half trade me old.chronicle.entries) entry))
+  marks_any (Ok marks) are = marks_so marks.items are
+  marks_any (Err fault) are = tt

@@ -77,7 +77,7 @@ impl<D: Disk> Provider<D> {
         a_house_is_a_trade(house);
         stands_still(&self.chronicle);
         let (entry, answer) = self.admitted(alloc, house, moment, sender, path, message, screens)?;
-        self.append(alloc, house, &entry)?;
+        self.append(alloc, house, entry)?;
         Ok(answer)
     }
 
@@ -107,7 +107,7 @@ impl<D: Disk> Provider<D> {
         what_a_provider_does_may_follow();
         stands_still(&self.chronicle);
         self.at_work(moment)?;
-        let marks = self.append(alloc, house, &Entry::Ticked { moment })?;
+        let marks = self.append(alloc, house, Entry::Ticked { moment })?;
         Ok(marks)
     }
 }

@@ -136,7 +136,7 @@ impl<D: Disk> Provider<D> {
         let Received { entry, event, owed } = received;
         stands_still(&self.chronicle);
         self.owed.reserve(1)?;
-        self.append_any(alloc, house, &entry)?;
+        self.append_any(alloc, house, entry)?;
         self.owe(owed);
         Ok(event)
     }
@@ -146,17 +146,17 @@ impl<D: Disk> Provider<D> {
         &mut self,
         alloc: Global,
         house: &House<'_, S>,
-        entry: &Option<Entry>,
+        entry: Option<Entry>,
     ) -> Result<(), ProviderFault>
         requires up { self.old.chronicle.down ≡ false }
         requires runs { Runs house.now.directory.now house.now.me self.old }
-        requires limits { IfSome entry.now IsWithinLimits }
-        requires step { IfSome entry.now (MayEnter house.now.directory.now house.now.me self.old.chronicle.entries) }
+        requires limits { IfSome entry IsWithinLimits }
+        requires step { IfSome entry (MayEnter house.now.directory.now house.now.me self.old.chronicle.entries) }
         ensures appends { (trade : Trade) → IsOf house.now.directory.now trade
-            → AppendsAny trade house.now.me entry.now (desk_of self.old) (desk_of self.new) result }
+            → AppendsAny trade house.now.me entry (desk_of self.old) (desk_of self.new) result }
         ensures owed { (self.new.owed ≡ self.old.owed) × (self.new.places ≡ self.old.places) }
         ensures runs { Runs house.now.directory.now house.now.me self.new }
-        ensures carries { D.tells → CarriesOn D.sight (OnlyMay self.old.chronicle.entries entry.now) self.old.chronicle
+        ensures carries { D.tells → CarriesOn D.sight (OnlyMay self.old.chronicle.entries entry) self.old.chronicle
             self.new.chronicle }
         ensures disk_fault { IsErrOf result faults.DiskFault → HasRisen (D.faults self.old.chronicle.disk)
             (D.faults self.new.chronicle.disk) }

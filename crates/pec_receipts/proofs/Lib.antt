@@ -3,7 +3,6 @@ mod AgainLemmas
 mod ComposeLemmas
 mod GivingLemmas
 mod LawLemmas
-mod NameLemmas
 mod OtherLemmas
 mod SeenLemmas
 mod StandLemmas

@@ -1,4 +1,4 @@
-ghost use Rattle.std.specs.Prelude.{◌≡◌, Some, find};
+ghost use Rattle.std.specs.Prelude.{◌≡◌, ◌==◌, ◌&&◌, Some, find};
 ghost use Rattle.std.specs.List.{list_any};
 ghost use Rattle.std.specs.Option.{option_map};
 ghost use Rattle.pec_directory.specs.Directory.{providers_of};
@@ -69,15 +69,25 @@ fn is_of(letter: &Letter<'_>, kind: Kind) -> bool
 fn says(letter: &Letter<'_>, said: Option<Said>) -> bool
     ensures { result ≡ says (letter_shown letter.now) (option_map said_shown said) }
 {
-    match said {
-        Some(said) => {
-            is_marked(&letter.head, said.word)
-                && kind_number(letter.cert.kind) == kind_number(said.kind)
-                && error_number(letter.cert.error) == error_number(said.error)
-                && is_detail(said.detail, &letter.cert.detail)
-        }
-        None => false,
+    let Some(said) = said else {
+        return false;
+    };
+    // The head is looked at last: that takes longest.
+    if !certifies(letter, &said) {
+        return false;
     }
+    is_marked(&letter.head, said.word)
+}
+
+/// Whether the kind, the error and its words are those of a row.
+fn certifies(letter: &Letter<'_>, said: &Said) -> bool
+    ensures { result ≡ (kind_number letter.now.cert.kind == kind_number said.now.kind
+        && error_number letter.now.cert.error == error_number said.now.error
+        && is_detail (option_map (λ text. text.now) said.now.detail) letter.now.cert.detail) }
+{
+    kind_number(letter.cert.kind) == kind_number(said.kind)
+        && error_number(letter.cert.error) == error_number(said.error)
+        && is_detail(said.detail, &letter.cert.detail)
 }
 
 /// Whether a head says that it is a receipt's, by this word.

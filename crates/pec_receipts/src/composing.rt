@@ -269,6 +269,9 @@ fn marked_wish(receipt: &Receipt, said: &Said) -> Option<Wish>
     }
 }
 
+/// How much room is made for an acknowledgement. A wrong guess would cost time alone.
+const ACK_LENGTH: usize = 1024;
+
 /// An acknowledgement: a head and one line.
 fn acknowledge<S: Sealer>(
     alloc: Global,
@@ -286,7 +289,7 @@ fn acknowledge<S: Sealer>(
         unreachable!();
     };
     let stamp = issuer.zone().stamp(receipt.moment);
-    let mut letter = Vec::new(alloc);
+    let mut letter = Vec::with_capacity(alloc, ACK_LENGTH)?;
     put_ack_head(alloc, &mut letter, directory, receipt, stamp, row)?;
     letter.extend_from_slice(b"\r\nricevuto\r\n")?;
     let text = seal(alloc, sealer, receipt.by, letter.as_slice())?;

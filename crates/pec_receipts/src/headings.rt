@@ -1,6 +1,5 @@
-ghost use Rattle.std.specs.Prelude.{◌≡◌, ◌<◌, ◌≤◌, length, map, take, drop, option_map, IfOk};
+ghost use Rattle.std.specs.Prelude.{◌≡◌, ◌<◌, length, map, option_map, IfOk};
 ghost use Rattle.std.specs.List.{flat_map};
-ghost use Rattle.pec_types.specs.Words.{seven_digits};
 ghost use Rattle.pec_directory.specs.Directory.{providers_of};
 ghost use Rattle.pec_receipts.specs.Receipts.{ack_value, addressee_of, alone, place_text, receipt_name, receipts_at};
 ghost use Rattle.pec_receipts.specs.Views.{row_shown};
@@ -9,7 +8,7 @@ use crate::kinds::{Addressee, Row};
 use crate::receipts::Receipt;
 use pec_directory::Directory;
 use pec_letter_facts::{angled, name, service_address, with_subject};
-use pec_types::{Address, MsgId, NoMemory, id_text};
+use pec_types::{Address, MsgId, NoMemory, seven_digits};
 use std::alloc::{AllocError, Global};
 
 /// What the head of a receipt repeats of other texts.
@@ -60,7 +59,7 @@ fn receipt_name(
     ensures { IfOk result (λ name. name.items ≡ receipt_name tag.now id place domain.now) }
 {
     let provider = id.provider.to_string(alloc)?;
-    let number = seven_digits(alloc, id.number)?;
+    let number = seven_digits(id.number);
     let place = place_text(alloc, place)?;
     let pieces: [&[u8]; 8] = [
         tag,
@@ -74,23 +73,6 @@ fn receipt_name(
     ];
     let name = joined(alloc, &pieces)?;
     Ok(name)
-}
-
-/// A number in seven digits, as in the name of a message.
-fn seven_digits(alloc: Global, number: u64) -> Result<Vec<u8>, NoMemory>
-    ensures { IfOk result (λ digits. digits.items ≡ seven_digits number) }
-{
-    let name = id_text(alloc, b"", number)?;
-    let digits = Vec::from_slice(alloc, digits_in(name.as_slice()))?;
-    Ok(digits)
-}
-
-/// The seven bytes behind the first four.
-fn digits_in(name: &[u8]) -> &[u8]
-    requires { 11 ≤ length name.now }
-    ensures { result.now ≡ take 7 (drop 4 name.now) }
-{
-    &name[4..11]
 }
 
 fn place_text(alloc: Global, place: Option<usize>) -> Result<Vec<u8>, AllocError>
@@ -170,9 +152,18 @@ fn receipts_at(directory: &Directory, number: u32) -> Option<&Address>
 pub(crate) fn joined(alloc: Global, pieces: &[&[u8]]) -> Result<Vec<u8>, AllocError>
     ensures { IfOk result (λ text. text.items ≡ flat_map (λ piece. piece.now) pieces.now) }
 {
-    let mut text = Vec::new(alloc);
+    let mut text = Vec::with_capacity(alloc, room_for(pieces))?;
     for piece in pieces {
         text.extend_from_slice(piece)?;
     }
     Ok(text)
+}
+
+/// How much room is made for pieces. A wrong guess would cost time alone.
+fn room_for(pieces: &[&[u8]]) -> usize {
+    let mut room: usize = 0;
+    for piece in pieces {
+        room = room.saturating_add(piece.len());
+    }
+    room
 }

@@ -194,7 +194,8 @@ fn behind<'a>(text: &'a [u8], front: &[u8]) -> Option<&'a [u8]>
 fn with_space(alloc: Global, name: &[u8]) -> Result<Vec<u8>, AllocError>
     ensures { IfOk result (λ text. text.items ≡ name.now ++ codes " ") }
 {
-    let mut text = Vec::from_slice(alloc, name)?;
+    let mut text = Vec::with_capacity(alloc, name.len().saturating_add(1))?;
+    text.extend_from_slice(name)?;
     text.extend_from_slice(b" ")?;
     Ok(text)
 }

@@ -1,10 +1,9 @@
-ghost use Rattle.std.specs.Prelude.{◌<◌, ◌^◌, length, IfOk};
-ghost use Rattle.pec_records.specs.Entry.{HasCounts};
-
-use pec_records::{Entry, EntryFault, decode, encode};
-use pec_types::{Address, Cause, Decision, Items, Moment, MsgId, Refusal, Text8};
-use std::alloc::Global;
-use std::test::Fail;
+//! Entries and their bytes, which were written out by hand.
+use crate::entries::encoded;
+use crate::shown::shown;
+use pec_records::{Entry, EntryFault, decode};
+use pec_types::Address;
+use std::alloc::{AllocError, Global};
 
 // Each kind of entry, by its tag: its bytes written out by hand, field by field, and what they say.
 const ENTRIES: [(&str, &str); 10] = [
@@ -48,27 +47,87 @@ const ENTRIES: [(&str, &str); 10] = [
 ];
 
 #[test]
-fn each_kind_of_entry_is_its_bytes(rt: HostRuntime) -> Result<(), Fail> {
-    for (tag, (bytes, said)) in ENTRIES.iter().enumerate() {
-        let bytes = bytes_of(rt.alloc(), bytes)?;
-        let entry = entry_of(rt.alloc(), tag)?;
-        assert_eq!(rt; encode(rt.alloc(), &entry)?, bytes, "{said}");
-        let read = decode(rt.alloc(), &bytes)?;
-        assert_eq!(rt; shown(rt.alloc(), &read)?.as_str(), *said);
+fn each_kind_of_entry_is_its_bytes(rt: HostRuntime) {
+    assert_eq!(rt; first_wrong(rt.alloc(), &ENTRIES), None);
+}
+
+/// What the first entry says that has other bytes, or whose bytes are read otherwise; none where each is its bytes.
+fn first_wrong(alloc: Global, rows: &[(&'static str, &'static str)]) -> Option<&'static str> {
+    for (tag, (digits, said)) in rows.iter().enumerate() {
+        if !is_its_bytes(alloc, tag, digits, said) {
+            return Some(*said);
+        }
     }
-    Ok(())
+    None
+}
+
+fn is_its_bytes(alloc: Global, tag: usize, digits: &str, said: &str) -> bool {
+    match bytes_of(alloc, digits) {
+        Some(bytes) => is_written(alloc, tag, &bytes) && says(alloc, &bytes, said),
+        None => false,
+    }
+}
+
+fn is_written(alloc: Global, tag: usize, wanted: &[u8]) -> bool {
+    match encoded(alloc, tag) {
+        Some(bytes) => bytes.as_slice() == wanted,
+        None => false,
+    }
+}
+
+fn says(alloc: Global, bytes: &[u8], said: &str) -> bool {
+    match text_of(alloc, bytes) {
+        Some(text) => text.as_str() == said,
+        None => false,
+    }
+}
+
+/// What the entry of these bytes says.
+fn text_of(alloc: Global, bytes: &[u8]) -> Option<String> {
+    match read(alloc, bytes) {
+        Ok(entry) => shown(alloc, &entry),
+        Err(_) => None,
+    }
+}
+
+fn read(alloc: Global, bytes: &[u8]) -> Result<Entry, EntryFault> {
+    decode(alloc, bytes)
+}
+
+fn fault_of(alloc: Global, bytes: &[u8]) -> Option<EntryFault> {
+    read(alloc, bytes).err()
 }
 
 #[test]
-fn what_is_cut_off_ends_too_early(rt: HostRuntime) -> Result<(), Fail> {
-    for (bytes, said) in ENTRIES {
-        let bytes = bytes_of(rt.alloc(), bytes)?;
-        for n in 0..bytes.len() {
-            let fault = decode(rt.alloc(), &bytes[..n]).err();
-            assert_eq!(rt; fault, Some(EntryFault::Syntax(n)), "{said} cut at {n}");
+fn what_is_cut_off_ends_too_early(rt: HostRuntime) {
+    assert_eq!(rt; first_read(rt.alloc(), &ENTRIES), None);
+}
+
+/// What the first entry says that has another answer where it is cut off somewhere; none where each ends too early.
+fn first_read(alloc: Global, rows: &[(&str, &'static str)]) -> Option<&'static str> {
+    for (digits, said) in rows {
+        if !ends_too_early(alloc, digits) {
+            return Some(*said);
         }
     }
-    Ok(())
+    None
+}
+
+fn ends_too_early(alloc: Global, digits: &str) -> bool {
+    match bytes_of(alloc, digits) {
+        Some(bytes) => has_no_front(alloc, &bytes),
+        None => false,
+    }
+}
+
+/// Whether the bytes end too early wherever they are cut off.
+fn has_no_front(alloc: Global, bytes: &[u8]) -> bool {
+    for n in 0..bytes.len() {
+        if fault_of(alloc, &bytes[..n]) != Some(EntryFault::Syntax(n)) {
+            return false;
+        }
+    }
+    true
 }
 
 // Bytes that are no entry, and the place of the first with which no entry goes on.
@@ -118,357 +177,77 @@ const FAULTS: [(&str, usize); 33] = [
 ];
 
 #[test]
-fn faults_stand_at_the_first_wrong_byte(rt: HostRuntime) -> Result<(), Fail> {
-    for (text, place) in FAULTS {
-        let bytes = bytes_of(rt.alloc(), text)?;
-        let fault = decode(rt.alloc(), &bytes).err();
-        assert_eq!(rt; fault, Some(EntryFault::Syntax(place)), "{text}");
+fn faults_stand_at_the_first_wrong_byte(rt: HostRuntime) {
+    assert_eq!(rt; first_wrong_fault(rt.alloc(), &FAULTS), None);
+}
+
+/// The first bytes whose fault is another; none where each have the fault of their row.
+fn first_wrong_fault(alloc: Global, rows: &[(&'static str, usize)]) -> Option<&'static str> {
+    for (digits, place) in rows {
+        if !has_fault_at(alloc, digits, *place) {
+            return Some(*digits);
+        }
     }
-    Ok(())
+    None
+}
+
+fn has_fault_at(alloc: Global, digits: &str, place: usize) -> bool {
+    match bytes_of(alloc, digits) {
+        Some(bytes) => fault_of(alloc, &bytes) == Some(EntryFault::Syntax(place)),
+        None => false,
+    }
 }
 
 // A path of 1,001 addresses, and an address of 254 bytes.
 #[test]
-fn long_lists_and_addresses_are_read(rt: HostRuntime) -> Result<(), Fail> {
-    let mut bytes = bytes_of(rt.alloc(), "09 000000006593d090 000003e9")?;
+fn long_lists_and_addresses_are_read(rt: HostRuntime) {
+    assert!(rt; is_long_read(rt.alloc()));
+}
+
+fn is_long_read(alloc: Global) -> bool {
+    match long_bytes(alloc) {
+        Ok(bytes) => is_long_list(alloc, &bytes),
+        Err(_) => false,
+    }
+}
+
+fn is_long_list(alloc: Global, bytes: &[u8]) -> bool {
+    match read(alloc, bytes) {
+        Ok(
+            Entry::Anomaly {
+                accounts,
+                message,
+                ..
+            },
+        ) => are_long(accounts.as_slice()) && message.bytes() == b"!".as_slice(),
+        _ => false,
+    }
+}
+
+fn are_long(accounts: &[Address]) -> bool {
+    match accounts.last() {
+        Some(last) => accounts.len() == 1001 && last.bytes().len() == 254,
+        None => false,
+    }
+}
+
+fn long_bytes(alloc: Global) -> Result<Vec<u8>, AllocError> {
+    let mut bytes = Vec::from_slice(alloc, b"\x09\0\0\0\0\x65\x93\xd0\x90\0\0\x03\xe9")?;
+    put_accounts(&mut bytes)?;
+    Ok(bytes)
+}
+
+fn put_accounts(bytes: &mut Vec<u8>) -> Result<(), AllocError> {
     for _ in 0..1000 {
         bytes.extend_from_slice(b"\x00\x03a@b")?;
     }
     bytes.extend_from_slice(b"\x00\xfe")?;
     bytes.extend_from_slice(&[b'a'; 252])?;
-    bytes.extend_from_slice(b"@b\x00\x00\x00\x01!")?;
-    let Entry::Anomaly {
-        accounts,
-        message,
-        ..
-    } = decode(rt.alloc(), &bytes)?
-    else {
-        return Err("another kind of entry".into());
-    };
-    assert_eq!(rt; message.bytes(), b"!".as_slice());
-    let accounts = accounts.into_vec();
-    assert_eq!(rt; accounts.len(), 1001);
-    assert_eq!(rt; accounts[1000].bytes().len(), 254);
-    Ok(())
+    bytes.extend_from_slice(b"@b\x00\x00\x00\x01!")
 }
 
 /// The bytes that hexadecimal digits stand for, blanks left out.
-fn bytes_of(alloc: Global, digits: &str) -> Result<Vec<u8>, Fail> {
-    let mut text = Vec::new(alloc);
-    for digit in digits.as_bytes() {
-        if *digit != b' ' {
-            text.push(*digit)?;
-        }
-    }
-    let Ok(bytes) = hex::decode(alloc, text.as_slice()) else {
-        return Err("no hexadecimal digits".into());
-    };
-    Ok(bytes)
-}
-
-/// The entry of this tag that `ENTRIES` has.
-fn entry_of(alloc: Global, tag: usize) -> Result<Entry, Fail>
-    ensures { IfOk result HasCounts }
-{
-    let moment = Moment::new(1_704_186_000).ok_or("a moment")?;
-    match tag {
-        0 => Ok(Entry::Start {
-            provider: 7,
-            digest: DIGEST,
-        }),
-        1 => accepted(alloc, moment),
-        2 => not_accepted(alloc, moment),
-        3 => took(alloc, moment),
-        4 => decided(alloc, moment),
-        5 => charged(),
-        6 => learned(alloc, moment),
-        7 => acked(alloc, moment),
-        8 => Ok(Entry::Ticked { moment }),
-        _ => anomaly(alloc, moment),
-    }
-}
-
-const DIGEST: [u8; 32] = [
-    0, 1, 2, 3, 4, 5, 6, 7, 8, 9, 10, 11, 12, 13, 14, 15, 16, 17, 18, 19, 20, 21, 22, 23, 24, 25,
-    26, 27, 28, 29, 30, 31,
-];
-
-fn accepted(alloc: Global, moment: Moment) -> Result<Entry, Fail>
-    ensures { IfOk result HasCounts }
-{
-    let sender = address(alloc, b"a@b")?;
-    let message = text8(alloc, b"Salve")?;
-    let entry = Entry::Accepted {
-        moment,
-        sender,
-        message,
-    };
-    Ok(entry)
-}
-
-fn not_accepted(alloc: Global, moment: Moment) -> Result<Entry, Fail>
-    ensures { IfOk result HasCounts }
-{
-    let sender = address(alloc, b"a@b")?;
-    let mut path = Vec::new(alloc);
-    path.push(address(alloc, b"bob@beta.example")?)?;
-    path.push(address(alloc, b"a@b")?)?;
-    let message = text8(alloc, &[0, 255])?;
-    let entry = Entry::NotAccepted {
-        moment,
-        sender,
-        cause: Cause::Virus,
-        path: Items::of(path),
-        message,
-    };
-    Ok(entry)
-}
-
-fn took(alloc: Global, moment: Moment) -> Result<Entry, Fail>
-    ensures { IfOk result HasCounts }
-{
-    let id = MsgId {
-        provider: 1,
-        number: 2,
-    };
-    let message = text8(alloc, b"")?;
-    let entry = Entry::Took {
-        moment,
-        id,
-        message,
-    };
-    Ok(entry)
-}
-
-fn decided(alloc: Global, moment: Moment) -> Result<Entry, Fail>
-    ensures { IfOk result HasCounts }
-{
-    let id = MsgId {
-        provider: 4_294_967_295,
-        number: 999_999,
-    };
-    let recipient = address(alloc, b"bob@beta.example")?;
-    let decision = Decision::Refused(Refusal::MailboxFull);
-    let entry = Entry::Decided {
-        moment,
-        id,
-        recipient,
-        decision,
-    };
-    Ok(entry)
-}
-
-fn charged() -> Result<Entry, Fail>
-    ensures { IfOk result HasCounts }
-{
-    let moment = Moment::new(4_102_444_799).ok_or("a moment")?;
-    let id = MsgId {
-        provider: 1,
-        number: 2,
-    };
-    let entry = Entry::Charged { moment, id, by: 3 };
-    Ok(entry)
-}
-
-fn learned(alloc: Global, moment: Moment) -> Result<Entry, Fail>
-    ensures { IfOk result HasCounts }
-{
-    let id = MsgId {
-        provider: 0,
-        number: 0,
-    };
-    let recipient = address(alloc, b"a@b")?;
-    let decided = Moment::new(0).ok_or("a moment")?;
-    let message = text8(alloc, b"Salve")?;
-    let entry = Entry::Learned {
-        moment,
-        id,
-        recipient,
-        decision: Decision::Placed,
-        decided,
-        message,
-    };
-    Ok(entry)
-}
-
-fn acked(alloc: Global, moment: Moment) -> Result<Entry, Fail>
-    ensures { IfOk result HasCounts }
-{
-    let id = MsgId {
-        provider: 1,
-        number: 2,
-    };
-    let recipient = address(alloc, b"a@b")?;
-    let entry = Entry::Acked {
-        moment,
-        id,
-        recipient,
-    };
-    Ok(entry)
-}
-
-fn anomaly(alloc: Global, moment: Moment) -> Result<Entry, Fail>
-    ensures { IfOk result HasCounts }
-{
-    let accounts = Items::of(Vec::new(alloc));
-    let message = text8(alloc, &[0, 255])?;
-    let entry = Entry::Anomaly {
-        moment,
-        accounts,
-        message,
-    };
-    Ok(entry)
-}
-
-fn text8(alloc: Global, bytes: &[u8]) -> Result<Text8, Fail>
-    ensures { IfOk result (λ text. length text < 2 ^ 32) }
-{
-    if bytes.len() > 5 {
-        return Err("a short message".into());
-    }
-    let bytes = Vec::from_slice(alloc, bytes)?;
-    Ok(Text8::of(bytes))
-}
-
-fn address(alloc: Global, bytes: &[u8]) -> Result<Address, Fail> {
-    let address = Address::read(alloc, bytes)?;
-    Ok(address)
-}
-
-/// What an entry says, in words.
-fn shown(alloc: Global, entry: &Entry) -> Result<String, Fail> {
-    let mut text = String::new(alloc);
-    match entry {
-        Entry::Start { provider, digest } => {
-            write!(text, "start {provider} ")?;
-            put_bytes(&mut text, digest)?;
-        }
-        Entry::Accepted {
-            moment,
-            sender,
-            message,
-        } => {
-            write!(text, "accepted {} ", moment.seconds())?;
-            put_address(&mut text, sender)?;
-            put_bytes(&mut text, message.bytes())?;
-        }
-        Entry::NotAccepted {
-            moment,
-            sender,
-            cause,
-            path,
-            message,
-        } => {
-            write!(text, "not accepted {} ", moment.seconds())?;
-            put_address(&mut text, sender)?;
-            write!(text, "{cause:?} ")?;
-            put_addresses(&mut text, path.as_slice())?;
-            put_bytes(&mut text, message.bytes())?;
-        }
-        Entry::Took {
-            moment,
-            id,
-            message,
-        } => {
-            write!(
-                text,
-                "took {} {} {} ",
-                moment.seconds(),
-                id.provider,
-                id.number
-            )?;
-            put_bytes(&mut text, message.bytes())?;
-        }
-        Entry::Decided {
-            moment,
-            id,
-            recipient,
-            decision,
-        } => {
-            write!(
-                text,
-                "decided {} {} {} ",
-                moment.seconds(),
-                id.provider,
-                id.number
-            )?;
-            put_address(&mut text, recipient)?;
-            write!(text, "{decision:?}")?;
-        }
-        Entry::Charged { moment, id, by } => {
-            write!(
-                text,
-                "charged {} {} {} {by}",
-                moment.seconds(),
-                id.provider,
-                id.number
-            )?;
-        }
-        Entry::Learned {
-            moment,
-            id,
-            recipient,
-            decision,
-            decided,
-            message,
-        } => {
-            write!(
-                text,
-                "learned {} {} {} ",
-                moment.seconds(),
-                id.provider,
-                id.number
-            )?;
-            put_address(&mut text, recipient)?;
-            write!(text, "{decision:?} {} ", decided.seconds())?;
-            put_bytes(&mut text, message.bytes())?;
-        }
-        Entry::Acked {
-            moment,
-            id,
-            recipient,
-        } => {
-            write!(
-                text,
-                "acked {} {} {} ",
-                moment.seconds(),
-                id.provider,
-                id.number
-            )?;
-            put_address(&mut text, recipient)?;
-        }
-        Entry::Ticked { moment } => write!(text, "ticked {}", moment.seconds())?,
-        Entry::Anomaly {
-            moment,
-            accounts,
-            message,
-        } => {
-            write!(text, "anomaly {} ", moment.seconds())?;
-            put_addresses(&mut text, accounts.as_slice())?;
-            put_bytes(&mut text, message.bytes())?;
-        }
-    }
-    Ok(text)
-}
-
-fn put_addresses(text: &mut String, addresses: &[Address]) -> Result<(), Fail> {
-    for address in addresses {
-        put_address(text, address)?;
-    }
-    Ok(())
-}
-
-fn put_address(text: &mut String, address: &Address) -> Result<(), Fail> {
-    for b in address.bytes() {
-        text.push(*b as char)?;
-    }
-    text.push(' ')?;
-    Ok(())
-}
-
-fn put_bytes(text: &mut String, bytes: &[u8]) -> Result<(), Fail> {
-    for b in bytes {
-        write!(text, "{b:02x}")?;
-    }
-    Ok(())
+fn bytes_of(alloc: Global, digits: &str) -> Option<Vec<u8>> {
+    let text = digits.replace(alloc, " ", "").ok()?;
+    hex::decode(alloc, text.as_bytes()).ok()
 }

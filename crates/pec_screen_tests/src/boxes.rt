@@ -3,80 +3,140 @@
 use crate::counting::Counting;
 use crate::patterns::screen_of;
 use pec_screen::{ReplaceFault, Screen, Screens};
-use std::alloc::{AllocError, Global};
+use std::alloc::Global;
 use std::sync::Arc;
 use std::sync::atomic::{AtomicU64, Ordering};
-use std::test::Fail;
+
+type Verdict = Option<(u32, u32)>;
 
 /// The screens of two boxes with these patterns each.
-fn screens_of(alloc: Global, first: [&[u8]; 2], second: [&[u8]; 2]) -> Result<Screens, AllocError> {
-    let first: Box<dyn Screen> = Box::new(alloc, screen_of(alloc, first[0], first[1])?)?;
-    let second: Box<dyn Screen> = Box::new(alloc, screen_of(alloc, second[0], second[1])?)?;
-    Ok(Screens::new(vec![in alloc; first, second]?))
+fn screens_of(alloc: Global, first: [&[u8]; 2], second: [&[u8]; 2]) -> Option<Screens> {
+    let first = box_of(alloc, first[0], first[1])?;
+    let second = box_of(alloc, second[0], second[1])?;
+    let boxes = vec![in alloc; first, second].ok()?;
+    Some(Screens::new(boxes))
 }
 
+fn box_of(alloc: Global, first: &[u8], second: &[u8]) -> Option<Box<dyn Screen>> {
+    let screen = screen_of(alloc, first, second).ok()?;
+    let boxed: Box<dyn Screen> = Box::new(alloc, screen).ok()?;
+    Some(boxed)
+}
+
+const VERDICTS: [(&[u8], Verdict); 5] = [
+    (b"a", Some((0, 1))), // both boxes find; the first one's rule
+    (b"b", Some((1, 1))), // the second box alone
+    (b"ab", Some((0, 1))), // each finds another pattern
+    (b"c", Some((0, 0))),
+    (b"d", None), // none
+];
+
 #[test]
-fn the_verdict_is_of_the_first_box_that_finds(rt: HostRuntime) -> Result<(), Fail> {
-    let rows: [(&[u8], Option<(u32, u32)>); 5] = [
-        (b"a", Some((0, 1))), // both boxes find; the first one's rule
-        (b"b", Some((1, 1))), // the second box alone
-        (b"ab", Some((0, 1))), // each finds another pattern
-        (b"c", Some((0, 0))),
-        (b"d", None), // none
-    ];
-    let mut screens = screens_of(rt.alloc(), [b"c", b"a"], [b"a", b"b"])?;
-    for (message, want) in rows {
-        assert_eq!(rt; screens.judge(message), want);
+fn the_verdict_is_of_the_first_box_that_finds(rt: HostRuntime) {
+    assert_eq!(rt; first_other_verdict(rt.alloc(), &VERDICTS), None);
+    assert_eq!(rt; verdict_of_no_box(rt.alloc()), None);
+}
+
+/// The first message on which the verdict of two boxes is another; none where it is that of each row.
+fn first_other_verdict(alloc: Global, rows: &[(&'static [u8], Verdict)]) -> Option<&'static [u8]> {
+    match screens_of(alloc, [b"c", b"a"], [b"a", b"b"]) {
+        Some(mut screens) => first_judged_otherwise(&mut screens, rows),
+        None => Some(b"no screens"),
     }
-    let mut none = Screens::new(Vec::new(rt.alloc()));
-    assert_eq!(rt; none.judge(b"a"), None);
-    Ok(())
 }
 
-#[test]
-fn every_box_looks_once_also_behind_one_that_found(rt: HostRuntime) -> Result<(), Fail> {
-    let looks = Arc::new(rt.alloc(), AtomicU64::new(0))?;
-    let first: Box<dyn Screen> = Box::new(rt.alloc(), screen_of(rt.alloc(), b"a", b"b")?)?;
-    let counting = Counting {
-        looks: Arc::try_clone(&looks)?,
-        seen: 0,
-    };
-    let second: Box<dyn Screen> = Box::new(rt.alloc(), counting)?;
-    let mut screens = Screens::new(vec![in rt.alloc(); first, second]?);
-    assert_eq!(rt; screens.judge(b"a"), Some((0, 0)));
-    assert_eq!(rt; looks.load(Ordering::SeqCst), 1);
-    assert_eq!(rt; screens.judge(b"c"), None);
-    assert_eq!(rt; looks.load(Ordering::SeqCst), 2);
-    Ok(())
-}
-
-#[test]
-fn a_box_takes_the_place_of_one_that_is_no_longer_asked(rt: HostRuntime) -> Result<(), Fail> {
-    // The place; the verdict on `n`, which the new box alone finds, and on `a` and `b`, each a box's own.
-    type Verdict = Option<(u32, u32)>;
-    let rows: [(usize, [Verdict; 3]); 4] = [
-        (0, [Some((0, 1)), None, Some((1, 0))]),
-        (1, [Some((1, 1)), Some((0, 0)), None]), // the last place
-        (2, [None, Some((0, 0)), Some((1, 0))]), // behind it: all as it was
-        (usize::MAX, [None, Some((0, 0)), Some((1, 0))]),
-    ];
-    for (place, want) in rows {
-        let mut screens = screens_of(rt.alloc(), [b"a", b"-"], [b"b", b"-"])?;
-        let next: Box<dyn Screen> = Box::new(rt.alloc(), screen_of(rt.alloc(), b"m", b"n")?)?;
-        match screens.replace(place, next) {
-            Ok(()) => assert_eq!(rt; place < 2, true),
-            Err((mut back, fault)) => {
-                assert_eq!(rt; 2 <= place, true);
-                assert_eq!(rt; fault, ReplaceFault::NoSuchPlace);
-                assert_eq!(rt; back.look(b"n"), Some(1)); // the new box itself
-            }
+fn first_judged_otherwise(
+    screens: &mut Screens,
+    rows: &[(&'static [u8], Verdict)],
+) -> Option<&'static [u8]> {
+    for (message, wanted) in rows {
+        if screens.judge(message) != *wanted {
+            return Some(*message);
         }
-        let told = [
-            screens.judge(b"n"),
-            screens.judge(b"a"),
-            screens.judge(b"b"),
-        ];
-        assert_eq!(rt; told, want);
     }
-    Ok(())
+    None
+}
+
+fn verdict_of_no_box(alloc: Global) -> Verdict {
+    let mut none = Screens::new(Vec::new(alloc));
+    none.judge(b"a")
+}
+
+#[test]
+fn every_box_looks_once_also_behind_one_that_found(rt: HostRuntime) {
+    assert!(rt; looks_once(rt.alloc()));
+}
+
+fn looks_once(alloc: Global) -> bool {
+    match Arc::new(alloc, AtomicU64::new(0)) {
+        Ok(looks) => match counted_screens(alloc, &looks) {
+            Some(mut screens) => are_all_asked(&mut screens, &looks),
+            None => false,
+        },
+        Err(_) => false,
+    }
+}
+
+fn counted_screens(alloc: Global, looks: &Arc<AtomicU64, Global>) -> Option<Screens> {
+    let first = box_of(alloc, b"a", b"b")?;
+    let looks = Arc::try_clone(looks).ok()?;
+    let second: Box<dyn Screen> = Box::new(alloc, Counting { looks, seen: 0 }).ok()?;
+    let boxes = vec![in alloc; first, second].ok()?;
+    Some(Screens::new(boxes))
+}
+
+fn are_all_asked(screens: &mut Screens, looks: &AtomicU64) -> bool {
+    screens.judge(b"a") == Some((0, 0))
+        && looks.load(Ordering::SeqCst) == 1
+        && screens.judge(b"c").is_none()
+        && looks.load(Ordering::SeqCst) == 2
+}
+
+// The place; the verdict on `n`, which the new box alone finds, and on `a` and `b`, each a box's own.
+const PLACES: [(usize, [Verdict; 3]); 4] = [
+    (0, [Some((0, 1)), None, Some((1, 0))]),
+    (1, [Some((1, 1)), Some((0, 0)), None]), // the last place
+    (2, [None, Some((0, 0)), Some((1, 0))]), // behind it: all as it was
+    (usize::MAX, [None, Some((0, 0)), Some((1, 0))]),
+];
+
+#[test]
+fn a_box_takes_the_place_of_one_that_is_no_longer_asked(rt: HostRuntime) {
+    assert_eq!(rt; first_other_place(rt.alloc(), &PLACES), None);
+}
+
+/// The first place at which a new box is taken otherwise; none where it is taken at each as its row has it.
+fn first_other_place(alloc: Global, rows: &[(usize, [Verdict; 3])]) -> Option<usize> {
+    for (place, wanted) in rows {
+        if !is_taken(alloc, *place, *wanted) {
+            return Some(*place);
+        }
+    }
+    None
+}
+
+fn is_taken(alloc: Global, place: usize, wanted: [Verdict; 3]) -> bool {
+    match screens_of(alloc, [b"a", b"-"], [b"b", b"-"]) {
+        Some(mut screens) => takes(alloc, &mut screens, place) && judge(&mut screens, wanted),
+        None => false,
+    }
+}
+
+/// Puts a new box into the place. Whether it is taken where the place is one of two, and comes back elsewhere.
+fn takes(alloc: Global, screens: &mut Screens, place: usize) -> bool {
+    match box_of(alloc, b"m", b"n") {
+        Some(next) => match screens.replace(place, next) {
+            Ok(()) => place < 2,
+            Err((mut back, fault)) => {
+                2 <= place && fault == ReplaceFault::NoSuchPlace && back.look(b"n") == Some(1)
+            }
+        },
+        None => false,
+    }
+}
+
+fn judge(screens: &mut Screens, wanted: [Verdict; 3]) -> bool {
+    screens.judge(b"n") == wanted[0]
+        && screens.judge(b"a") == wanted[1]
+        && screens.judge(b"b") == wanted[2]
 }

@@ -1,5 +1,6 @@
 pub mod Seals
 pub mod Hmac
 pub mod HmacLaw
+pub mod Pads
 pub mod Opening
 pub mod Views

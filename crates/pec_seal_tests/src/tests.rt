@@ -1,32 +1,9 @@
-ghost use Rattle.std.specs.Prelude.{◌≡◌, IsSome, IfOk, [], ◌∷◌};
-ghost use Rattle.pec_types.specs.Text.{AllPrintable};
+ghost use Rattle.std.specs.Prelude.{◌≡◌, All, IfSome, vec_len, [], ◌∷◌};
 ghost use Rattle.pec_seal.specs.Hmac.{hmac_seals, IsKey};
 
 use pec_seal::{HmacSealer, SealFault, Sealer, Text8, opened, seal};
 use pec_types::Text;
-use std::alloc::Global;
-use std::process::Abort;
-use std::test::Fail;
-
-/// One provider of this name, with this key.
-fn sealer_of(alloc: Global, name: &[u8], key: &[u8]) -> Result<HmacSealer, Fail>
-    requires { IsKey key.now }
-    ensures { IfOk result (λ sealer. ⟦<HmacSealer as Sealer>⟧.seals sealer ≡ hmac_seals (name.now ∷ []) (key.now ∷ [])) }
-{
-    let mut names = Vec::new(alloc);
-    names.push(Text::new(alloc, name)?)?;
-    let mut keys = Vec::new(alloc);
-    keys.push(Text8::of(Vec::from_slice(alloc, key)?))?;
-    Ok(HmacSealer::new(names, keys))
-}
-
-fn hexadecimal(alloc: Global, bytes: &[u8]) -> Result<String, Fail> {
-    let mut text = String::new(alloc);
-    for byte in bytes {
-        write!(text, "{byte:02x}")?;
-    }
-    Ok(text)
-}
+use std::alloc::{AllocError, Global};
 
 /// Keys, texts and their tags: of RFC 4231, part 4, the test cases whose keys have at most the 64 bytes of a block, and
 /// a key of a whole block, by another program.
@@ -64,14 +41,55 @@ const TAGS: [(&[u8], &[u8], &str); 5] = [
 ];
 
 #[test]
-fn a_tag_is_that_of_the_standard(rt: HostRuntime) -> Result<(), Fail> {
-    for (key, text, tag) in TAGS {
-        assert!(rt; 1 <= key.len() && key.len() <= 64);
-        let sealer = sealer_of(rt.alloc(), b"alfa", key)?;
-        let shown = hexadecimal(rt.alloc(), &sealer.tag(0, text))?;
-        assert_eq!(rt; shown.as_str(), tag);
+fn a_tag_is_that_of_the_standard(rt: HostRuntime) {
+    assert_eq!(rt; first_other_tag(rt.alloc(), &TAGS), None);
+}
+
+/// The first tag that isn't the one of its row's key and text; none where each is.
+fn first_other_tag(alloc: Global, rows: &[(&[u8], &[u8], &'static str)]) -> Option<&'static str> {
+    for (key, text, tag) in rows {
+        if !is_tag(alloc, key, text, tag) {
+            return Some(*tag);
+        }
     }
-    Ok(())
+    None
+}
+
+fn is_tag(alloc: Global, key: &[u8], text: &[u8], wanted: &str) -> bool {
+    if key.is_empty() || key.len() > 64 {
+        return false;
+    }
+    match sealer_of(alloc, b"alfa", key) {
+        Some(sealer) => is_hexadecimal(alloc, &sealer.tag(0, text), wanted),
+        None => false,
+    }
+}
+
+fn is_hexadecimal(alloc: Global, bytes: &[u8], wanted: &str) -> bool {
+    match hexadecimal(alloc, bytes) {
+        Ok(text) => text.as_str() == wanted,
+        Err(_) => false,
+    }
+}
+
+fn hexadecimal(alloc: Global, bytes: &[u8]) -> Result<String, AllocError> {
+    let mut text = String::new(alloc);
+    for byte in bytes {
+        write!(text, "{byte:02x}")?;
+    }
+    Ok(text)
+}
+
+/// One provider of this name, with this key.
+fn sealer_of(alloc: Global, name: &[u8], key: &[u8]) -> Option<HmacSealer>
+    requires { IsKey key.now }
+    ensures { IfSome result (λ sealer. ⟦<HmacSealer as Sealer>⟧.seals sealer ≡ hmac_seals (name.now ∷ []) (key.now ∷ [])) }
+{
+    let name = Text::new(alloc, name).ok()?;
+    let names = vec![in alloc; name].ok()?;
+    let key = Vec::from_slice(alloc, key).ok()?;
+    let keys = vec![in alloc; Text8::of(key)].ok()?;
+    Some(HmacSealer::new(names, keys))
 }
 
 /// The text of test case 2 under its tag, which another program wrote in base64.
@@ -79,12 +97,30 @@ const KNOWN: &[u8] =
     b"X-Sigillo: alfa; W9zBRr9gdU5qBCQmCJV1x1oAPwidJzmDnexYuWTsOEM=\r\nwhat do ya want for nothing?";
 
 #[test]
-fn a_seal_is_one_line_before_the_text(rt: HostRuntime) -> Result<(), Fail> {
-    let sealer = sealer_of(rt.alloc(), b"alfa", b"Jefe")?;
-    assert!(rt; sealer.name(0).is_some());
-    let sealed = seal(rt.alloc(), &sealer, 0, b"what do ya want for nothing?")?;
-    assert_eq!(rt; sealed.as_slice(), KNOWN);
-    Ok(())
+fn a_seal_is_one_line_before_the_text(rt: HostRuntime) {
+    assert!(rt; seals_as_known(rt.alloc()));
+}
+
+fn seals_as_known(alloc: Global) -> bool {
+    match sealer_of(alloc, b"alfa", b"Jefe") {
+        Some(sealer) => is_known(sealed(alloc, &sealer, 0, b"what do ya want for nothing?")),
+        None => false,
+    }
+}
+
+fn is_known(sealed: Option<Vec<u8>>) -> bool {
+    match sealed {
+        Some(text) => text.as_slice() == KNOWN,
+        None => false,
+    }
+}
+
+/// The bytes under the seal of a provider; none where there is no such provider.
+fn sealed<S: Sealer>(alloc: Global, sealer: &S, provider: u32, bytes: &[u8]) -> Option<Vec<u8>> {
+    if sealer.name(provider).is_none() {
+        return None;
+    }
+    seal(alloc, sealer, provider, bytes).ok()
 }
 
 /// What is no seal of `alfa` under the key of [`KNOWN`], each beside its fault.
@@ -129,26 +165,36 @@ const FAULTS: [(&[u8], SealFault); 9] = [
 ];
 
 #[test]
-fn what_is_no_seal_has_the_fault_that_comes_first(rt: HostRuntime) -> Result<(), Fail> {
-    let sealer = sealer_of(rt.alloc(), b"alfa", b"Jefe")?;
-    for (text, fault) in FAULTS {
-        assert_eq!(rt; opened(&sealer, text), Err(fault));
+fn what_is_no_seal_has_the_fault_that_comes_first(rt: HostRuntime) {
+    assert_eq!(rt; first_other_fault(rt.alloc(), &FAULTS), None);
+}
+
+/// The first text that hasn't the fault of its row; none where each has it.
+fn first_other_fault(alloc: Global, rows: &[(&'static [u8], SealFault)]) -> Option<&'static [u8]> {
+    match sealer_of(alloc, b"alfa", b"Jefe") {
+        Some(sealer) => first_without(&sealer, rows),
+        None => Some(b"no sealer"),
     }
-    Ok(())
+}
+
+fn first_without<S: Sealer>(
+    sealer: &S,
+    rows: &[(&'static [u8], SealFault)],
+) -> Option<&'static [u8]> {
+    for (text, fault) in rows {
+        if opened(sealer, text) != Err(*fault) {
+            return Some(*text);
+        }
+    }
+    None
 }
 
 /// Seals as any sealer does, and opens what it sealed.
-fn seals_and_opens<S: Sealer>(
-    rt: &impl Abort,
-    alloc: Global,
-    sealer: &S,
-    provider: u32,
-    bytes: &[u8],
-) -> Result<(), Fail> {
-    assert!(rt; sealer.name(provider).is_some());
-    let sealed = seal(alloc, sealer, provider, bytes)?;
-    assert_eq!(rt; opened(sealer, sealed.as_slice()), Ok((provider, bytes)));
-    Ok(())
+fn seals_and_opens<S: Sealer>(alloc: Global, sealer: &S, provider: u32, bytes: &[u8]) -> bool {
+    match sealed(alloc, sealer, provider, bytes) {
+        Some(text) => opened(sealer, &text) == Ok((provider, bytes)),
+        None => false,
+    }
 }
 
 /// A name, and a text that is sealed under it.
@@ -163,30 +209,61 @@ const SEALED: [(&[u8], &[u8]); 7] = [
 ];
 
 #[test]
-fn what_was_sealed_is_opened_whatever_name_and_text(rt: HostRuntime) -> Result<(), Fail> {
-    for (name, bytes) in SEALED {
-        let sealer = sealer_of(rt.alloc(), name, b"Jefe")?;
-        seals_and_opens(&rt, rt.alloc(), &sealer, 0, bytes)?;
+fn what_was_sealed_is_opened_whatever_name_and_text(rt: HostRuntime) {
+    assert_eq!(rt; first_unopened(rt.alloc(), &SEALED), None);
+}
+
+/// The first name and text that isn't opened again; none where each is.
+fn first_unopened(
+    alloc: Global,
+    rows: &[(&'static [u8], &'static [u8])],
+) -> Option<(&'static [u8], &'static [u8])> {
+    for (name, bytes) in rows {
+        if !is_opened_again(alloc, name, bytes) {
+            return Some((*name, *bytes));
+        }
     }
-    Ok(())
+    None
+}
+
+fn is_opened_again(alloc: Global, name: &[u8], bytes: &[u8]) -> bool {
+    match sealer_of(alloc, name, b"Jefe") {
+        Some(sealer) => seals_and_opens(alloc, &sealer, 0, bytes),
+        None => false,
+    }
 }
 
 #[test]
-fn each_provider_has_its_own_name_and_key(rt: HostRuntime) -> Result<(), Fail> {
-    let alloc = rt.alloc();
+fn each_provider_has_its_own_name_and_key(rt: HostRuntime) {
+    assert!(rt; has_two_providers(rt.alloc()));
+}
+
+fn has_two_providers(alloc: Global) -> bool {
+    match two_providers(alloc) {
+        Some(sealer) => are_two(&sealer) && seals_and_opens(alloc, &sealer, 1, KNOWN),
+        None => false,
+    }
+}
+
+fn are_two<S: Sealer>(sealer: &S) -> bool {
+    sealer.number(b"beta") == Some(1)
+        && sealer.number(b"gamma").is_none()
+        && sealer.name(2).is_none()
+        && opened(sealer, KNOWN) == Ok((0, b"what do ya want for nothing?".as_slice()))
+}
+
+fn two_providers(alloc: Global) -> Option<HmacSealer> {
     let mut names = Vec::new(alloc);
-    names.push(Text::new(alloc, b"alfa")?)?;
-    names.push(Text::new(alloc, b"beta")?)?;
-    let mut keys = Vec::new(alloc);
-    keys.push(Text8::of(Vec::from_slice(alloc, b"Jefe")?))?;
-    keys.push(Text8::of(Vec::from_slice(alloc, b"k")?))?;
-    let sealer = HmacSealer::new(names, keys);
-    assert_eq!(rt; sealer.number(b"beta"), Some(1));
-    assert_eq!(rt; sealer.number(b"gamma"), None);
-    assert_eq!(rt; sealer.name(2), None);
-    assert_eq!(rt;
-        opened(&sealer, KNOWN),
-        Ok((0, b"what do ya want for nothing?".as_slice()))
-    );
-    seals_and_opens(&rt, alloc, &sealer, 1, KNOWN)
+    names.push(Text::new(alloc, b"alfa").ok()?).ok()?;
+    names.push(Text::new(alloc, b"beta").ok()?).ok()?;
+    let keys = two_keys(alloc)?;
+    Some(HmacSealer::new(names, keys))
+}
+
+fn two_keys(alloc: Global) -> Option<Vec<Text8>>
+    ensures { IfSome result (λ keys. (vec_len keys ≡ 2) × All IsKey keys.items) }
+{
+    let first = Vec::from_slice(alloc, b"Jefe").ok()?;
+    let second = Vec::from_slice(alloc, b"k").ok()?;
+    vec![in alloc; Text8::of(first), Text8::of(second)].ok()
 }

@@ -94,45 +94,20 @@ start 0 0 one # of another directory
 
 #[test]
 fn an_entry_that_misses_a_condition_is_no_step(rt: HostRuntime) -> Result<(), Fail> {
-    let step = any_step(rt.alloc())?;
-    assert_eq!(rt; step, None);
-    Ok(())
+    no_step(rt.alloc(), 0, "", NOT_FIRST)?;
+    no_step(rt.alloc(), 0, "start 0 0 two", "start 0 0 two # twice")?;
+    no_step(rt.alloc(), 0, SENT, NOT_SENT)?;
+    no_step(rt.alloc(), 1, RECEIVED, NOT_RECEIVED)
 }
 
-/// The first of all these lines that is a step.
-fn any_step(alloc: Global) -> Result<Option<&'static str>, Fail> {
-    for case in 0..4 {
-        let step = step_in(alloc, case)?;
-        if step.is_some() {
-            return Ok(step);
-        }
-    }
-    Ok(None)
-}
-
-/// The first line of a case that is a step: the cases have a provider, lines before, and lines of which none is a step.
-fn step_in(alloc: Global, case: usize) -> Result<Option<&'static str>, Fail> {
-    match case {
-        0 => first_step(alloc, 0, "", NOT_FIRST),
-        1 => first_step(alloc, 0, "start 0 0 two", "start 0 0 two # twice"),
-        2 => first_step(alloc, 0, SENT, NOT_SENT),
-        _ => first_step(alloc, 1, RECEIVED, NOT_RECEIVED),
-    }
-}
-
-/// The first line that is a step of a provider behind those before, or behind which one of these isn't.
-fn first_step(
-    alloc: Global,
-    me: u32,
-    before: &'static str,
-    lines: &'static str,
-) -> Result<Option<&'static str>, Fail> {
+/// Fails by the first line that is a step of a provider behind those before, or behind which one of these isn't.
+fn no_step(alloc: Global, me: u32, before: &'static str, lines: &'static str) -> Result<(), Fail> {
     for line in lines.split('\n') {
         if is_step(alloc, me, before, line)? {
-            return Ok(Some(line));
+            return Err(line.into());
         }
     }
-    Ok(None)
+    Ok(())
 }
 
 fn is_step(alloc: Global, me: u32, before: &'static str, line: &'static str) -> Result<bool, Fail> {

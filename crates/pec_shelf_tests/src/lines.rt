@@ -45,6 +45,14 @@ impl Log {
         }
     }
 
+    /// Adds a text as it is, where there was memory for it.
+    pub(crate) fn put_text<E: Drop>(&mut self, text: Result<Vec<u8>, E>) {
+        match text {
+            Ok(text) => self.put(&text),
+            Err(_) => self.has_failed = true,
+        }
+    }
+
     /// Adds a word, and the space behind it.
     pub(crate) fn add(&mut self, word: &[u8]) {
         self.put(word);

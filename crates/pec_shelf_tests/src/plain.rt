@@ -74,22 +74,24 @@ impl Plain {
     pub(crate) fn sent(&self, number: u64) -> Option<Came> {
         let mut count = 0u64;
         for (entry, done) in self.done.iter().enumerate() {
-            let sent = sent_by(entry, done);
-            if sent.is_some() {
-                if count == number {
-                    return sent;
-                }
-                count = count.saturating_add(1);
+            let Act::Accepts(_, message) = done.act else {
+                continue;
+            };
+            if count == number {
+                return Some(coming(entry, done, message));
             }
+            count = count.saturating_add(1);
         }
         None
     }
 
     pub(crate) fn taken(&self, id: Id) -> Option<Came> {
         for (entry, done) in self.done.iter().enumerate() {
-            let taken = taken_by(entry, done, id);
-            if taken.is_some() {
-                return taken;
+            let Act::Takes(other, message) = done.act else {
+                continue;
+            };
+            if is_same(id, other) {
+                return Some(coming(entry, done, message));
             }
         }
         None
@@ -97,7 +99,10 @@ impl Plain {
 
     pub(crate) fn charged(&self, id: Id, by: u32) -> Option<u64> {
         for done in &self.done {
-            if is_charge(done, id, by) {
+            let Act::Charges(other, provider) = done.act else {
+                continue;
+            };
+            if is_same(id, other) && provider == by {
                 return Some(done.moment);
             }
         }
@@ -107,9 +112,11 @@ impl Plain {
     /// The decision that was learned on a pair, its moment, and when it was learned.
     pub(crate) fn known(&self, id: Id, recipient: &str) -> Option<(Decision, u64, u64)> {
         for done in &self.done {
-            let known = known_by(done, id, recipient);
-            if known.is_some() {
-                return known;
+            let Act::Learns(other, address, decision, decided) = done.act else {
+                continue;
+            };
+            if is_same(id, other) && address == recipient {
+                return Some((decision, decided, done.moment));
             }
         }
         None
@@ -117,9 +124,11 @@ impl Plain {
 
     pub(crate) fn decided(&self, id: Id, recipient: &str) -> Option<(Decision, u64)> {
         for done in &self.done {
-            let decided = decided_by(done, id, recipient);
-            if decided.is_some() {
-                return decided;
+            let Act::Decides(other, address, decision) = done.act else {
+                continue;
+            };
+            if is_same(id, other) && address == recipient {
+                return Some((decision, done.moment));
             }
         }
         None
@@ -127,7 +136,10 @@ impl Plain {
 
     pub(crate) fn is_acked(&self, id: Id, recipient: &str) -> bool {
         for done in &self.done {
-            if is_ack(done, id, recipient) {
+            let Act::Acks(other, address) = done.act else {
+                continue;
+            };
+            if is_same(id, other) && address == recipient {
                 return true;
             }
         }
@@ -234,67 +246,6 @@ fn coming(entry: usize, done: &Done, message: Message) -> Came {
         moment: done.moment,
         message,
     }
-}
-
-fn sent_by(entry: usize, done: &Done) -> Option<Came> {
-    match done.act {
-        Act::Accepts(_, message) => Some(coming(entry, done, message)),
-        _ => None,
-    }
-}
-
-fn taken_by(entry: usize, done: &Done, id: Id) -> Option<Came> {
-    match done.act {
-        Act::Takes(other, message) => {
-            if is_same(id, other) {
-                return Some(coming(entry, done, message));
-            }
-            None
-        }
-        _ => None,
-    }
-}
-
-fn is_charge(done: &Done, id: Id, by: u32) -> bool {
-    match done.act {
-        Act::Charges(other, provider) => is_same(id, other) && provider == by,
-        _ => false,
-    }
-}
-
-fn known_by(done: &Done, id: Id, recipient: &str) -> Option<(Decision, u64, u64)> {
-    match done.act {
-        Act::Learns(other, address, decision, decided) => {
-            if is_pair(id, recipient, other, address) {
-                return Some((decision, decided, done.moment));
-            }
-            None
-        }
-        _ => None,
-    }
-}
-
-fn decided_by(done: &Done, id: Id, recipient: &str) -> Option<(Decision, u64)> {
-    match done.act {
-        Act::Decides(other, address, decision) => {
-            if is_pair(id, recipient, other, address) {
-                return Some((decision, done.moment));
-            }
-            None
-        }
-        _ => None,
-    }
-}
-
-fn is_ack(done: &Done, id: Id, recipient: &str) -> bool {
-    match done.act {
-        Act::Acks(other, address) => is_pair(id, recipient, other, address),
-        _ => false,
-    }
-}
-
-fn is_pair(id: Id, recipient: &str, other: Id, address: &str) -> bool {
-    is_same(id, other) && address == recipient
 }
 
 fn is_same(id: Id, other: Id) -> bool {

@@ -12,7 +12,7 @@ use pec_records::Entry;
 use pec_script::{book_text, items_text, marks_text};
 use pec_shelf::{PrepareFault, Shelf, a_directory_has_a_trade, what_is_kept_goes_on};
 use pec_trial::two;
-use pec_types::{Address, BookLine, ItemLine, Mark, MsgId, NoMemory};
+use pec_types::{Address, Mark, NoMemory};
 use std::alloc::Global;
 use std::test::Fail;
 
@@ -86,12 +86,8 @@ impl Desk {
     }
 
     fn add_marks(&self, log: &mut Log, act: &Act, marks: &[Mark]) {
-        if marks.is_empty() && !is_tick(act) {
-            return;
-        }
-        match marks_text(self.alloc, &self.directory, marks) {
-            Ok(text) => log.put(&text),
-            Err(_) => log.fail(),
+        if !marks.is_empty() || is_tick(act) {
+            log.put_text(marks_text(self.alloc, &self.directory, marks));
         }
     }
 
@@ -109,20 +105,34 @@ impl Desk {
     fn answer(&self, log: &mut Log, question: &Question) {
         match *question {
             Question::Due(to, room) => self.add_due(log, to, room),
-            Question::Book(account) => self.add_book_of(log, account),
-            Question::Items(account) => self.add_items_of(log, account),
             Question::Undecided => self.add_undecided(log),
             Question::Facts(number) => self.add_facts(log, number),
-            Question::Row(id, recipient) => self.add_row_of(log, id, recipient),
-            Question::Counted(account) => self.add_counted_of(log, account),
-            Question::Own(number) => self.add_own(log, number),
+            Question::Own(number) => log.add_found(self.shelf.own(number)),
             Question::Took(id) => self.add_took(log, id),
-            Question::Source(account, place) => self.add_source_of(log, account, place),
+            Question::Book(account)
+            | Question::Items(account)
+            | Question::Counted(account)
+            | Question::Source(account, _)
+            | Question::Row(_, account) => self.answer_of(log, account, question),
         }
     }
 
-    fn add_own(&self, log: &mut Log, number: u64) {
-        log.add_found(self.shelf.own(number));
+    /// Adds the lines of an answer on an account or a recipient.
+    fn answer_of(&self, log: &mut Log, account: &str, question: &Question) {
+        match address_of(self.alloc, account) {
+            Some(account) => self.answer_on(log, &account, question),
+            None => log.fail(),
+        }
+    }
+
+    fn answer_on(&self, log: &mut Log, account: &Address, question: &Question) {
+        match *question {
+            Question::Book(_) => self.add_book(log, account),
+            Question::Items(_) => self.add_items(log, account),
+            Question::Source(_, place) => log.add_found(self.shelf.source(account, place)),
+            Question::Row(id, _) => self.add_row(log, id, account),
+            _ => log.add_found(Some(self.shelf.counted(account))),
+        }
     }
 
     fn add_took(&self, log: &mut Log, id: Id) {
@@ -139,44 +149,16 @@ impl Desk {
         }
     }
 
-    fn add_book_of(&self, log: &mut Log, account: &str) {
-        match address_of(self.alloc, account) {
-            Some(account) => self.add_book(log, &account),
-            None => log.fail(),
-        }
-    }
-
     fn add_book(&self, log: &mut Log, account: &Address) {
         match self.shelf.book(account) {
-            Ok(lines) => self.put_book(log, &lines),
+            Ok(lines) => log.put_text(book_text(self.alloc, &self.directory, &lines)),
             Err(_) => log.fail(),
-        }
-    }
-
-    fn put_book(&self, log: &mut Log, lines: &[BookLine]) {
-        match book_text(self.alloc, &self.directory, lines) {
-            Ok(text) => log.put(&text),
-            Err(_) => log.fail(),
-        }
-    }
-
-    fn add_items_of(&self, log: &mut Log, account: &str) {
-        match address_of(self.alloc, account) {
-            Some(account) => self.add_items(log, &account),
-            None => log.fail(),
         }
     }
 
     fn add_items(&self, log: &mut Log, account: &Address) {
         match self.shelf.items(account) {
-            Ok(lines) => self.put_items(log, &lines),
-            Err(_) => log.fail(),
-        }
-    }
-
-    fn put_items(&self, log: &mut Log, lines: &[ItemLine]) {
-        match items_text(self.alloc, &self.directory, lines) {
-            Ok(text) => log.put(&text),
+            Ok(lines) => log.put_text(items_text(self.alloc, &self.directory, &lines)),
             Err(_) => log.fail(),
         }
     }
@@ -195,31 +177,13 @@ impl Desk {
         }
     }
 
-    fn add_row_of(&self, log: &mut Log, id: Id, recipient: &str) {
-        match (id_of(id), address_of(self.alloc, recipient)) {
-            (Some(id), Some(recipient)) => self.add_row(log, id, &recipient),
-            _ => log.fail(),
-        }
-    }
-
-    fn add_row(&self, log: &mut Log, id: MsgId, recipient: &Address) {
+    fn add_row(&self, log: &mut Log, id: Id, recipient: &Address) {
+        let Some(id) = id_of(id) else {
+            return log.fail();
+        };
         match self.shelf.row(id, recipient) {
             Some(row) => add_row(log, row),
             None => log.add_nothing(),
-        }
-    }
-
-    fn add_counted_of(&self, log: &mut Log, account: &str) {
-        match address_of(self.alloc, account) {
-            Some(account) => log.add_found(Some(self.shelf.counted(&account))),
-            None => log.fail(),
-        }
-    }
-
-    fn add_source_of(&self, log: &mut Log, account: &str, place: u32) {
-        match address_of(self.alloc, account) {
-            Some(account) => log.add_found(self.shelf.source(&account, place)),
-            None => log.fail(),
         }
     }
 }

@@ -22,7 +22,7 @@ use Rattle.pec_turns.proofs.StepLemmas.{short_of, took_at_work, took_down, took_
 abbrev ended_turn : Site → List Event → ProviderFault → Turned
 ended_turn site events fault = record { site = site; events = events; out = []; ended = Some fault }
 
-abbrev told_turn : ℕ → List Event → List (ℕ × ℕ) → Option ProviderFault → Turn
+abbrev pub told_turn : ℕ → List Event → List (ℕ × ℕ) → Option ProviderFault → Turn
 told_turn me events sent ended = record { provider = me; events = events; sent = sent; ended = ended }
 
 -- want of memory, where it is the one cause

@@ -6,5 +6,5 @@ use Rattle.pec_cert.proofs.header_dates.day_line.Goals as goal
 
 pub returns : goal.returns
 returns c =
-    put_first c.new-out.result.items c.put_day_line.new.out.items (line_text c.shown.result) (line_text (shown_of c.args.stamp)) c.new-out.ensures.items c.in_ok-put_day_line.ensures
+    put_first c.in_ok-out.out.items c.put_day_line.new.out.items (line_text c.shown.result) (line_text (shown_of c.args.stamp)) c.in_ok-out.ensures.items c.in_ok-put_day_line.ensures
     (ap line_text c.shown.ensures.exact)

@@ -11,7 +11,7 @@ returns-clause-date c =
     record {
       shown = shown;
       shows = c.shown-shown.ensures.shown;
-      spelled = put_first c.new-out.result.items c.put_header_date.new.out.items (header_date_text (monday_zero c.weekday.result) shown) (header_date_text (weekday_of shown.day) shown) c.new-out.ensures.items
+      spelled = put_first c.in_ok-out.out.items c.put_header_date.new.out.items (header_date_text (monday_zero c.weekday.result) shown) (header_date_text (weekday_of shown.day) shown) c.in_ok-out.ensures.items
           c.in_ok-put_header_date.ensures (ap (λ n. header_date_text n shown) c.weekday.ensures);
     }
 

@@ -33,7 +33,7 @@ returns c =
     let names = id ++ (reference ++ wish) in
     let out = c.extend_from_slice.new.self.items in
     let put =
-    put_more c.new-out.result.items c.put_beginning.new.out.items out (front ++ sender) (recipients ++ (middle ++ (shown ++ (names ++ (delivered ++ (received ++ (detail ++ end)))))))
+    put_more c.in_ok-out.out.items c.put_beginning.new.out.items out (front ++ sender) (recipients ++ (middle ++ (shown ++ (names ++ (delivered ++ (received ++ (detail ++ end)))))))
     (rw c.bytes.ensures.value at c.in_ok-put_beginning.ensures)
     (put_more c.put_beginning.new.out.items c.put_recipients.new.out.items out recipients (middle ++ (shown ++ (names ++ (delivered ++ (received ++ (detail ++ end))))))
     (rw c.as_slice.ensures at c.in_ok-put_recipients.ensures.lines)
@@ -61,5 +61,5 @@ returns c =
         received = rw c.as_slice-2.ensures at c.in_ok-put_received.ensures.lower;
         detail = c.in_ok-put_optional.ensures.printable;
       };
-      spelled = put_first c.new-out.result.items out _ (text_of (lines_of cert c.shown.result)) c.new-out.ensures.items put lines;
+      spelled = put_first c.in_ok-out.out.items out _ (text_of (lines_of cert c.shown.result)) c.in_ok-out.ensures.items put lines;
     }

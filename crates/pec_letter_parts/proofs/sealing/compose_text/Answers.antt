@@ -17,9 +17,9 @@ returns g c =
     in let n = c.in_ok-number.number
     in let body = joined_parts (boundary_number n) parts
     in let letter : c.put_body.new.out.items ≡ with_head (letter_fields h n) body =
-    put_letter c.new-letter.result.items c.put_heading.new.out.items c.put_multipart.new.out.items c.end_head.new.out.items c.put_body.new.out.items
+    put_letter c.in_ok-letter.letter.items c.put_heading.new.out.items c.put_multipart.new.out.items c.end_head.new.out.items c.put_body.new.out.items
     (heading_fields h) (multipart_fields n) (carriage_return ∷ line_feed ∷ []) body
-    c.new-letter.ensures.items c.in_ok-put_heading.ensures c.in_ok-put_multipart.ensures c.in_ok-end_head.ensures
+    c.in_ok-letter.ensures.items c.in_ok-put_heading.ensures c.in_ok-put_multipart.ensures c.in_ok-end_head.ensures
     (c.in_ok-put_body.ensures ∙ ap (λ boundary. c.end_head.new.out.items ++ joined_parts boundary parts) (c.as_slice.ensures.value ∙ c.in_ok-boundary.ensures))
     in record {
       number = n;

@@ -16,7 +16,7 @@ returns g c =
     in let r = c.args.receipt.now
     in let fields = λ (stamp : Instant). heading_fields (ack_heading providers r stamp (row_shown c.args.row.now))
     in let put : c.put_ack_head.new.out.items ≡ head_text (fields c.stamp-stamp.result) =
-    c.in_ok-put_ack_head.ensures ∙ ap (λ text. text ++ head_text (fields c.stamp-stamp.result)) c.new-letter.ensures.items
+    c.in_ok-put_ack_head.ensures ∙ ap (λ text. text ++ head_text (fields c.stamp-stamp.result)) c.in_ok-letter.ensures.items
     in let letter : c.as_slice.result.now ≡ with_head (fields c.stamp-stamp.result) ack_body =
     c.as_slice.ensures.value ∙ c.in_ok-extend_from_slice.ensures.items ∙ ap (λ text. text ++ codes "\r\nricevuto\r\n") put
     in record {
