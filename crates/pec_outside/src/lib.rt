@@ -18,8 +18,6 @@ mod mem_source;
 mod mem_ticks;
 mod replies;
 mod streams;
-#[cfg(test)]
-mod tests;
 mod ticks;
 mod unread;
 mod writing;

@@ -1,4 +1,4 @@
-//! Tests of `pec_outside` over its public calls: disks, depots, clocks and doors in memory.
+//! Tests of `pec_outside` over its public calls: sources, sinks, disks, depots, clocks and doors in memory.
 #![tactic(auto)]
 
 #[cfg(test)]
@@ -7,3 +7,5 @@ mod clock_tests;
 mod disk_tests;
 #[cfg(test)]
 mod door_tests;
+#[cfg(test)]
+mod stream_tests;

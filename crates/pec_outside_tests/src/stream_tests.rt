@@ -1,4 +1,4 @@
-use super::*;
+use pec_outside::{Failed, MemSink, MemSource, Sink, Source, write_all};
 use std::alloc::{AllocError, Global};
 use std::test::Fail;
 
