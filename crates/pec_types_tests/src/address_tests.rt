@@ -4,10 +4,8 @@ use std::test::Fail;
 #[test]
 fn finds_the_faults(rt: HostRuntime) -> Result<(), Fail> {
     let label: &[u8; 65] = b"a@bbbbbbbbbbbbbbbbbbbbbbbbbbbbbbbbbbbbbbbbbbbbbbbbbbbbbbbbbbbbbbb";
-    let longer: &[u8; 66] =
-        b"a@bbbbbbbbbbbbbbbbbbbbbbbbbbbbbbbbbbbbbbbbbbbbbbbbbbbbbbbbbbbbbbbb";
-    let hyphen: &[u8; 66] =
-        b"a@bbbbbbbbbbbbbbbbbbbbbbbbbbbbbbbbbbbbbbbbbbbbbbbbbbbbbbbbbbbbbb-b";
+    let longer: &[u8; 66] = b"a@bbbbbbbbbbbbbbbbbbbbbbbbbbbbbbbbbbbbbbbbbbbbbbbbbbbbbbbbbbbbbbbb";
+    let hyphen: &[u8; 66] = b"a@bbbbbbbbbbbbbbbbbbbbbbbbbbbbbbbbbbbbbbbbbbbbbbbbbbbbbbbbbbbbbb-b";
     let cases: [(&[u8], Option<AddressFault>); 16] = [
         (b"", Some(AddressFault::Empty)),
         (b"a", Some(AddressFault::NoAt)),
