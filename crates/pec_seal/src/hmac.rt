@@ -1,13 +1,12 @@
 ghost use Rattle.std.specs.Prelude.{◌≡◌, ◌≢◌, ℕ, ◌<◌, ◌≤◌, ◌^◌, ◌↔◌, List, [], length, vec_len, All, AllPairs, IsTrue, IfSome, slice_index_or, position};
 ghost use Rattle.std.specs.Str.{bytes_eq};
 ghost use Rattle.pec_types.specs.Text.{AllPrintable};
-ghost use Rattle.pec_seal.specs.Hmac.{hmac_seals, IsKey};
+ghost use Rattle.pec_seal.specs.Hmac.{hmac, hmac_seals, key_block, padded, IsKey};
 ghost use Rattle.pec_seal.specs.HmacLaw.{hmac_lawful};
-ghost use Rattle.pec_seal.specs.Pads.{AreOfKeys, AreOfKeys-prop};
 
-use crate::pads::Pads;
 use crate::sealers::Sealer;
 use pec_types::{Text, Text8};
+use sha2::{Digest, Sha256};
 
 /// Providers that seal by HMAC-SHA-256 (RFC 2104 over FIPS 180-4), each under a key of its own of 1 to 64 bytes. A
 /// provider's number is its place in the list of names. The tag under a number without a provider is that of an empty key.
@@ -15,14 +14,11 @@ use pec_types::{Text, Text8};
 pub struct HmacSealer {
     names: Vec<Text>,
     keys: Vec<Text8>,
-    /// The pads of the first keys, as many as there was memory for. A tag under another key hashes its pads anew.
-    pads: Vec<Pads>,
     ghost paired: { vec_len names ≡ vec_len keys },
     ghost few: { vec_len names < 2 ^ 32 },
     ghost different: { AllPairs ◌≢◌ names.items },
     ghost printable: { All AllPrintable names.items },
     ghost sizes: { All IsKey keys.items },
-    ghost kept: { AreOfKeys keys.items pads.items } by { AreOfKeys-prop keys.items pads.items },
 }
 
 impl HmacSealer {
@@ -38,8 +34,7 @@ impl HmacSealer {
         for name in &names {
             name.bytes();
         }
-        let pads = pads_of(&keys);
-        HmacSealer { names, keys, pads }
+        HmacSealer { names, keys }
     }
 
     /// The key of this provider, and an empty one where there is no such provider.
@@ -71,29 +66,12 @@ impl Sealer for HmacSealer {
     }
 
     fn tag(&self, provider: u32, bytes: &[u8]) -> [u8; 32] {
-        match self.pads.get(provider as usize) {
-            Some(pads) => pads.tag(bytes),
-            None => Pads::of(self.key(provider)).tag(bytes),
-        }
+        hmac_sha256(self.key(provider), bytes)
     }
 
     fn agrees(&self, provider: u32, bytes: &[u8], tag: &[u8; 32]) -> bool {
         is_same(&self.tag(provider, bytes), tag)
     }
-}
-
-/// The pads of the first keys, as many as there is memory for.
-fn pads_of(keys: &Vec<Text8>) -> Vec<Pads>
-    requires { All IsKey keys.now.items }
-    ensures { AreOfKeys keys.now.items result.items }
-{
-    let mut pads = Vec::new(*keys.allocator());
-    for key in keys {
-        if pads.push(Pads::of(key.bytes())).is_err() {
-            return pads;
-        }
-    }
-    pads
 }
 
 /// The place of a name in a list.
@@ -113,4 +91,46 @@ fn is_same(one: &[u8; 32], other: &[u8; 32]) -> bool
         same &= one[place] == other[place];
     }
     same
+}
+
+/// The pads of RFC 2104, section 2.
+const INNER_PAD: u8 = 0x36;
+
+const OUTER_PAD: u8 = 0x5c;
+
+/// HMAC-SHA-256 of a text, which is hashed where it stands.
+#[tactic(auto, unfolding(crate::specs::Hmac::hmac))]
+fn hmac_sha256(key: &[u8], text: &[u8]) -> [u8; 32]
+    requires { length key.now ≤ 64 }
+    ensures { result ≡ hmac key.now text.now }
+{
+    let block = key_block(key);
+    let mut inner = Sha256::new();
+    inner.update(padded(block, INNER_PAD));
+    inner.update(text);
+    let mut outer = Sha256::new();
+    outer.update(padded(block, OUTER_PAD));
+    outer.update(inner.finalize());
+    outer.finalize()
+}
+
+/// The key, filled with zeros to a block of the hash.
+#[tactic(auto, unfolding(crate::specs::Hmac::key_block))]
+fn key_block(key: &[u8]) -> [u8; 64]
+    requires { length key.now ≤ 64 }
+    ensures { result ≡ key_block key.now }
+{
+    let mut block = [0; 64];
+    block[..key.len()].copy_from_slice(key);
+    block
+}
+
+/// The block, with this pad in exclusive or with each of its bytes.
+fn padded(mut block: [u8; 64], pad: u8) -> [u8; 64]
+    ensures { result ≡ padded block pad }
+{
+    for byte in block.iter_mut() {
+        *byte ^= pad;
+    }
+    block
 }

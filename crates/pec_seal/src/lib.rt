@@ -4,7 +4,6 @@
 
 mod hmac;
 mod lines;
-mod pads;
 mod sealers;
 mod seals;
 
