@@ -24,23 +24,12 @@ pub(crate) fn run_screened<S: Source, W: Sink, P: Depot, T: Ticks, R: Door>(
     ticks: &mut T,
     door: &mut R,
 ) -> Result<Status, AllocError> {
-    let screens = screens(alloc)?;
-    Ok(run_pec(alloc, words, input, out, depot, ticks, door, screens))
-}
-
-/// A list of one screen for each of the first providers.
-fn screens(alloc: Global) -> Result<Vec<Screens>, AllocError> {
     let mut screens = Vec::new(alloc);
     for _ in 0..LISTS {
-        screens.push(list_of_one(alloc)?)?;
+        let pattern = Text8::of(Vec::from_slice(alloc, PATTERN)?);
+        let screen = PatternScreen::new(vec![in alloc; pattern]?);
+        let screen: Box<dyn Screen> = Box::new(alloc, screen)?;
+        screens.push(Screens::new(vec![in alloc; screen]?))?;
     }
-    Ok(screens)
-}
-
-/// One screen, of one pattern.
-fn list_of_one(alloc: Global) -> Result<Screens, AllocError> {
-    let pattern = Text8::of(Vec::from_slice(alloc, PATTERN)?);
-    let screen = PatternScreen::new(vec![in alloc; pattern]?);
-    let screen: Box<dyn Screen> = Box::new(alloc, screen)?;
-    Ok(Screens::new(vec![in alloc; screen]?))
+    Ok(run_pec(alloc, words, input, out, depot, ticks, door, screens))
 }
