@@ -5,3 +5,4 @@ mod PlaceLemmas
 mod RowLemmas
 mod AnomalyLemmas
 mod BehindLemmas
+mod EnclosedLemmas

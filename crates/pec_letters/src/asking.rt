@@ -71,7 +71,7 @@ pub(crate) fn facts_in(
 }
 
 /// The facts of the head that a message begins with.
-fn facts_read(alloc: Global, message: &[u8]) -> Result<Option<Facts>, NoMemory>
+pub(crate) fn facts_read(alloc: Global, message: &[u8]) -> Result<Option<Facts>, NoMemory>
     ensures { IfOk result (λ found. found ≡ facts_read (read_of message.now)) }
 {
     match Head::read(alloc, message) {

@@ -6,7 +6,6 @@ use Rattle.pec_cert.specs.Zone.{stamp_of}
 use Rattle.pec_directory.specs.Directory.{first_of}
 use Rattle.pec_directory.specs.Fields.{service_at}
 use Rattle.pec_letter_parts.specs.Contents.{Contents, lines_text}
-use Rattle.pec_letter_parts.specs.Headings.{Heading}
 use Rattle.pec_letter_parts.specs.Views.{contents_shown, heading_shown}
 use Rattle.pec_letter_facts.specs.Certifying.{with_subject}
 use Rattle.pec_letters.proofs.TextLemmas.{anomaly_alike, same_letter}

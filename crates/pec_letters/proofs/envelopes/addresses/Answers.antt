@@ -1,5 +1,5 @@
 -- The recipient at hand goes from what is left to what was added.
-use Rattle.std.proofs.Common.{◌≡◌, ◌++◌, ◌∷◌, [], List, ◌-◌, take, drop, length, map, sym, ap, ◌∙◌}
+use Rattle.std.proofs.Common.{◌≡◌, ◌++◌, ◌∷◌, List, ◌-◌, take, drop, length, map, sym, ap, ◌∙◌}
 use Rattle.pec_types.specs.Bytes.{Path}
 use Rattle.pec_types.specs.declared.messages.Recipient.{Recipient}
 use Rattle.pec_heads.specs.BoundedFacts.{addresses_where}

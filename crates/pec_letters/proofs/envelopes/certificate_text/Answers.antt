@@ -1,5 +1,5 @@
 -- The certificate has the recipients of the facts.
-use Rattle.std.proofs.Common.{◌≡◌, ◌<◌, length, map, subst, sym, ap, ◌∙◌, arith}
+use Rattle.std.proofs.Common.{◌≡◌, length, map, ap, arith}
 use Rattle.std.proofs.lemmas.List.{length-map}
 use Rattle.pec_cert.specs.declared.certificates.CertData.{CertData}
 use Rattle.pec_directory.specs.Directory.{providers_of}

@@ -1,6 +1,6 @@
 -- What was composed is the envelope of the provider of the message.
-use Rattle.std.proofs.Common.{◌≡◌, ℕ, Option, Some, map, option_map, slice_get, ap, subst, sym, ◌∙◌}
-use Rattle.pec_types.specs.Bytes.{Bytes, Path}
+use Rattle.std.proofs.Common.{◌≡◌, Some, map, option_map, slice_get, ap, subst, sym, ◌∙◌}
+use Rattle.pec_types.specs.Bytes.{Bytes}
 use Rattle.pec_types.specs.Message.{Id}
 use Rattle.pec_heads.specs.BoundedFacts.{addresses_where, is_copy, is_primary}
 use Rattle.pec_cert.specs.Certificate.{IsCert}

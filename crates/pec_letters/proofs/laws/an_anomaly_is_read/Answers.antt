@@ -1,5 +1,5 @@
 -- The heading of an anomaly may stand.
-use Rattle.std.proofs.Common.{◌≤◌, codes, length, subst, sym, ap, ◌∙◌}
+use Rattle.std.proofs.Common.{◌≤◌, codes, length, subst, ap}
 use Rattle.pec_types.specs.Address.{IsLowerAddress}
 use Rattle.pec_types.specs.Bytes.{Bytes}
 use Rattle.pec_types.specs.Text.{AllPrintable}
