@@ -11,6 +11,7 @@ pub mod GuaranteeLemmas
 pub mod Beginning
 pub mod Backing
 pub mod Originals
+pub mod Envelopes
 pub mod Moments
 pub mod Arrivals
 pub mod TableLemmas

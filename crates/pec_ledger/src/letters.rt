@@ -1,4 +1,4 @@
-ghost use Rattle.std.specs.Prelude.{◌≡◌, ℕ, ◌⊎◌, List, Contains, IsSome, Option, Some, None};
+ghost use Rattle.std.specs.Prelude.{◌≡◌, ℕ, ◌⊎◌, List, Contains, IsSome, Option, Some, None, slice_get};
 ghost use Rattle.pec_types.specs.Bytes.{Bytes};
 ghost use Rattle.pec_types.specs.Message.{Id};
 ghost use Rattle.pec_types.specs.declared.letters.Letter.{Letter as SomeLetter};
@@ -6,6 +6,7 @@ ghost use Rattle.pec_types.specs.declared.letters.Letter.TheVariants as letters;
 ghost use Rattle.pec_types.specs.declared.messages.Decision.{Decision as SomeDecision};
 ghost use Rattle.pec_types.specs.declared.receipts.Kind.TheVariants as kinds;
 ghost use Rattle.pec_records.specs.declared.entries.Entry.{Entry};
+ghost use Rattle.pec_records.specs.declared.entries.Entry.TheVariants as entries;
 ghost use Rattle.pec_ledger.specs.Half.{Fate, Known, Posted, Taken};
 ghost use Rattle.pec_ledger.specs.Items.{IsItemText, item_text};
 ghost use Rattle.pec_ledger.specs.Ledger.{accepted_in, body_at, Fit, HasOriginal, IsAckText, IsChargeText, IsDecidedSo, IsEnvelopeText, IsLicensed, IsLicensedText, IsOutcomeText, Journals, ledger};
@@ -54,6 +55,13 @@ pub fn an_accepted_message_has_its_original()
     ensures { (trade : Trade) (provider : ℕ) (journal : List Entry) (number : ℕ) (message : Accepted)
         → accepted_at (half trade provider journal) number ≡ Some message
         → (original : Bytes) × (body_at journal message.entry ≡ Some original) × (trade.facts original ≡ Some message.facts) }
+{}
+
+/// In every journal, whatever else it holds, a message that was taken has its envelope at its entry.
+pub fn a_taken_message_has_its_envelope()
+    ensures { (trade : Trade) (provider : ℕ) (journal : List Entry) (id : Id) (row : Taken)
+        → taken_of (half trade provider journal) id ≡ Some row
+        → (moment : ℕ) × (envelope : Bytes) × (slice_get journal row.entry ≡ Some (entries.Took moment id envelope)) }
 {}
 
 /// What a reader sees in a licensed text is its letter, with the moment of its row. The text of an item is that of a

@@ -16,7 +16,8 @@ pub use examples::{
 };
 pub use guarantees::the_guarantees;
 pub use letters::{
-    an_accepted_message_has_its_original, arrivals_are_true, rows_have_their_texts, texts_are_seen,
+    a_taken_message_has_its_envelope, an_accepted_message_has_its_original, arrivals_are_true,
+    rows_have_their_texts, texts_are_seen,
 };
 pub use licences::licences_stand;
 pub use tables::{

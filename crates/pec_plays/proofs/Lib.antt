@@ -23,3 +23,4 @@ pub mod ShortLemmas
 pub mod ToldLemmas
 pub mod TurnLemmas
 pub mod ComposedLemmas
+pub mod EnvelopeLemmas

@@ -12,3 +12,4 @@ pub mod Steps
 pub mod TableSight
 pub mod Told
 pub mod Turns
+pub mod Envelopes
