@@ -5,4 +5,5 @@
 mod places;
 mod tables;
 
+pub use places::Places;
 pub use tables::{Numbered, Sought, Table};

@@ -14,7 +14,7 @@ struct Link {
 
 /// A list of numbers that tells, of each number, the places at which it stands, from the last one back.
 #[derive(Drop)]
-pub(crate) struct Places {
+pub struct Places {
     last: HashMap<u64, usize>,
     links: Vec<Link>,
     room: usize,
@@ -39,7 +39,7 @@ impl Model for Places {
 
 impl Places {
     /// No number yet. It takes no memory.
-    pub(crate) fn new(alloc: Global) -> Places
+    pub fn new(alloc: Global) -> Places
         ensures { result ≡ record { numbers = []; room = 0 } }
     {
         Places {
@@ -50,7 +50,7 @@ impl Places {
     }
 
     /// Makes room for so many further numbers.
-    pub(crate) fn reserve(&mut self, more: usize) -> Result<(), AllocError>
+    pub fn reserve(&mut self, more: usize) -> Result<(), AllocError>
         ensures room { OnOk result (more ≤ self.new.room) }
         ensures kept { self.old.room ≤ self.new.room }
         ensures most { self.new.room ≤ max self.old.room more }
@@ -66,7 +66,7 @@ impl Places {
     }
 
     /// Adds a number for which there is room. It takes no memory.
-    pub(crate) fn push(&mut self, number: u64)
+    pub fn push(&mut self, number: u64)
         requires { 0 < self.old.room }
         ensures numbers { self.new.numbers ≡ self.old.numbers ++ number ∷ [] }
         ensures room { self.new.room + 1 ≡ self.old.room }
@@ -79,14 +79,14 @@ impl Places {
     }
 
     /// The last place at which a number stands.
-    pub(crate) fn last(&self, number: u64) -> Option<usize>
+    pub fn last(&self, number: u64) -> Option<usize>
         ensures { result ≡ last_place number self.now.numbers }
     {
         self.last.get(&number).copied()
     }
 
     /// The place before this one at which the same number stands.
-    pub(crate) fn before(&self, place: usize) -> Option<usize>
+    pub fn before(&self, place: usize) -> Option<usize>
         requires { place < length self.now.numbers }
         ensures { result ≡ last_place (slice_index self.now.numbers place) (take place self.now.numbers) }
     {

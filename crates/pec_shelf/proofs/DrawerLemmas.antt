@@ -1,9 +1,9 @@
 -- Rows of accounts and their ranks: one row more, and the row of a rank.
 use Rattle.std.proofs.Common.{◌≡◌, ℕ, zero, suc, ◌+◌, ◌<◌, ◌≤◌, ◌==◌, Bool, true, false, cond, ◌&&◌, List, [], ◌∷◌, ◌++◌, length, map, take, find, refl, sym, ap, subst, ◌∙◌, arith, append_assoc, append-nil, length-append, Option, Some, None, slice_get}
 use Rattle.std.specs.List.{filter, flat_map}
-use Rattle.std.specs.Option.{option_map}
+use Rattle.std.specs.Option.{option_map, option_or}
 use Rattle.std.specs.Cmp.Lexicographic.{bytes_decides}
-use Rattle.std.proofs.lemmas.Bool.{false≢true}
+use Rattle.std.proofs.lemmas.Bool.{and_from, eq-eqb, false≢true}
 use Rattle.std.proofs.lemmas.Bool.Decides.{nat_tests}
 use Rattle.std.proofs.lemmas.Grind.{flat_map-append}
 use Rattle.std.proofs.lemmas.List.{length-map, map-append, take_more}
@@ -11,6 +11,9 @@ use Rattle.std.proofs.lemmas.List.Elements.{filter-append}
 use Rattle.std.proofs.lemmas.Option.{get_or_from_slice_get, slice_get-map, slice_get_within}
 use Rattle.std.proofs.Math.Seq.{take-length}
 use Rattle.pec_types.specs.Bytes.{Bytes}
+use Rattle.pec_places.specs.Places.{last_place}
+use Rattle.pec_shelf.specs.Keys.{number_of_owned, number_of_rank, owners_in}
+use Rattle.pec_shelf.specs.KeyLaws.{of_owned}
 use Rattle.pec_shelf.specs.Drawers.{AreRanked, IsRankOf, RankedRow, counted_of, is_own, own_numbered, own_rows, placed_row, rows_in}
 
 none_some : {X Y : Type 0} (x : X) → None ≡ Some x → Y
@@ -268,3 +271,91 @@ no_place own rank found none e = past_none own rank (sym e ∙ ap (option_map pl
 
 pub rows_long : {R : Type 0} (ranked : List (RankedRow R)) (rows : List R) → rows_in ranked ≡ rows → length ranked ≡ length rows
 rows_long {R} ranked rows e = sym (length-map ranked (λ (r : RankedRow R). r.row)) ∙ ap (λ (rs : List R). length rs) e
+
+-- ---- the last row of an account
+
+module _ {R : Type 0} (owner : R → Option Bytes) (counts : R → Bool) (account : Bytes) where
+  abbrev here : ℕ
+  here = number_of_rank account 0
+
+  -- an own row has the account's number
+  own_number : (x : RankedRow R) → is_own account (owner x.row) ≡ true → (here == number_of_owned (owner x.row) 0) ≡ true
+  own_number x own = eq-eqb here (number_of_owned (owner x.row) 0)
+      (sym (of_owned account (owner x.row) 0 0 (and_from (is_own account (owner x.row)) (0 == 0) own refl)))
+
+  -- where the number stands nowhere there is no own row
+  none_own : (xs : List (RankedRow R)) → last_place here (owners_in owner xs) ≡ None → own_rows owner account (rows_in xs) ≡ []
+  none_own [] e = refl
+  none_own (x ∷ xs) e =
+      by (last_place here (owners_in owner xs)) (λ r. none_own xs r) refl e (is_own account (owner x.row)) refl
+    where
+      by : (o : Option ℕ) → (last_place here (owners_in owner xs) ≡ None → own_rows owner account (rows_in xs) ≡ [])
+          → last_place here (owners_in owner xs) ≡ o
+          → option_or (option_map suc o) (cond (here == number_of_owned (owner x.row) 0) (Some 0) None) ≡ None
+          → (b : Bool) → is_own account (owner x.row) ≡ b
+          → cond b (x.row ∷ own_rows owner account (rows_in xs)) (own_rows owner account (rows_in xs)) ≡ []
+      by (Some k) more r e b own = absurd cc
+      by None more r e true own =
+          absurd (none_some 0 (sym e ∙ ap (λ (b : Bool). cond b (Some 0) None) (own_number x own)))
+      by None more r e false own = more r
+
+  -- rows behind that are another's change nothing
+  own_before : (front : List R) (row : R) (rest : List R) → own_rows owner account rest ≡ []
+      → own_rows owner account (front ++ row ∷ rest) ≡ own_rows owner account (front ++ row ∷ [])
+  own_before front row rest none =
+      ap (own_rows owner account) (sym (append_assoc front (row ∷ []) rest))
+      ∙ filter-append (λ r. is_own account (owner r)) (front ++ row ∷ []) rest
+      ∙ ap (λ (rows : List R). own_rows owner account (front ++ row ∷ []) ++ rows) none
+      ∙ append-nil (own_rows owner account (front ++ row ∷ []))
+
+  -- the last row of an account tells how many rows it has, and how many are counted
+  pub record IsLast (rows : List R) (ranked : RankedRow R) : Type 0 where
+    pub rank : ranked.rank + 1 ≡ length (own_rows owner account rows)
+    pub counted : ranked.counted ≡ counted_of owner counts account rows
+
+  last_here : (front : List R) (x : RankedRow R) (rest : List R) → IsRankOf owner counts front x
+      → is_own account (owner x.row) ≡ true → own_rows owner account rest ≡ []
+      → IsLast (front ++ x.row ∷ rest) x
+  last_here front x rest is own none =
+      let mine = owner_is account (owner x.row) own in
+      let same = own_before front x.row rest none in
+      let longer : length (own_rows owner account (front ++ x.row ∷ [])) ≡ length (own_rows owner account front) + 1 =
+      ap length (own_at owner account front x.row true own) ∙ length-append (own_rows owner account front) (x.row ∷ []) in
+      let rank = is.rank account mine in
+      let all = ap (λ (rows : List R). length rows) same in record {
+        rank = omega (arith, rank, longer, all);
+        counted = is.counted account mine ∙ ap (λ (rows : List R). length (filter counts rows)) (sym same);
+      }
+
+  pub last_is : (front : List R) (xs : List (RankedRow R)) (place : ℕ) (x : RankedRow R) → AreRanked owner counts front xs
+      → last_place here (owners_in owner xs) ≡ Some place → slice_get xs place ≡ Some x → is_own account (owner x.row) ≡ true
+      → IsLast (front ++ rows_in xs) x
+  last_is front [] place x are e at own = absurd cc
+  last_is front (y ∷ ys) place x are e at own =
+      by (last_place here (owners_in owner ys)) (λ k r there. last_is (front ++ y.row ∷ []) ys k x are.1 r there own) refl e
+    where
+      first : (k : ℕ) → Some k ≡ Some place → slice_get (y ∷ ys) k ≡ Some x
+      first k same = ap (slice_get (y ∷ ys)) (same_some k place same) ∙ at
+
+      by_test : last_place here (owners_in owner ys) ≡ None → (b : Bool) → cond b (Some 0) None ≡ Some place
+          → IsLast (front ++ rows_in (y ∷ ys)) x
+      by_test none true e =
+          let same : y ≡ x = same_some y x (first 0 e) in
+          subst (λ (z : RankedRow R). IsLast (front ++ rows_in (y ∷ ys)) z) same
+          (last_here front y (rows_in ys) are.0 (ap (λ (z : RankedRow R). is_own account (owner z.row)) same ∙ own) (none_own ys none))
+      by_test none false e = none_some place e
+
+      by : (o : Option ℕ)
+          → ((k : ℕ) → last_place here (owners_in owner ys) ≡ Some k → slice_get ys k ≡ Some x → IsLast ((front ++ y.row ∷ []) ++ rows_in ys) x)
+          → last_place here (owners_in owner ys) ≡ o
+          → option_or (option_map suc o) (cond (here == number_of_owned (owner y.row) 0) (Some 0) None) ≡ Some place
+          → IsLast (front ++ rows_in (y ∷ ys)) x
+      by (Some k) more r e =
+          subst (λ (rows : List R). IsLast rows x) (append_assoc front (y.row ∷ []) (rows_in ys)) (more k r (first (suc k) e))
+      by None more r e = by_test r (here == number_of_owned (owner y.row) 0) e
+
+-- the numbers of accounts, with those of one row more
+pub owners_more : {R : Type 0} (owner : R → Option Bytes) (ranked : List (RankedRow R)) (row : RankedRow R)
+    → owners_in owner (ranked ++ row ∷ []) ≡ owners_in owner ranked ++ number_of_owned (owner row.row) 0 ∷ []
+owners_more owner [] row = refl
+owners_more owner (x ∷ xs) row = ap (λ (ns : List ℕ). number_of_owned (owner x.row) 0 ∷ ns) (owners_more owner xs row)

@@ -10,5 +10,6 @@ pub mod Seen
 pub mod Settled
 pub mod Sides
 pub mod Still
+pub mod Tallies
 pub mod Undecided
 pub mod Waiting

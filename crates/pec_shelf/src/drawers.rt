@@ -1,12 +1,13 @@
 ghost use Rattle.std.specs.Prelude.{◌≡◌, ℕ, Bool, ◌==◌, ◌&&◌, ◌+◌, ◌^◌, ◌<◌, ◌≤◌, [], ◌∷◌, ◌++◌, length, max, option_map, slice_get, Option, OnOk, if◌then◌else◌};
-ghost use Rattle.std.specs.Option.{option_and_then};
+ghost use Rattle.std.specs.Option.{IfSome, option_and_then};
 ghost use Rattle.pec_types.specs.Bytes.{Bytes};
 ghost use Rattle.pec_shelf.specs.Drawers.{IsRankOf, RankedRow, counted_of, is_own, own_numbered, own_rows, placed_row, rows_in};
+ghost use Rattle.pec_shelf.specs.Tallies.{IsTallyOf};
 ghost use Rattle.pec_shelf.specs.Keys.{number_of_rank, number_of_owned};
 ghost use Rattle.pec_shelf.specs.KeyLaws.{of_owned};
 
 use crate::keys::number_of_rank;
-use pec_places::{Numbered, Sought, Table};
+use pec_places::{Numbered, Places, Sought, Table};
 use pec_types::{Address, NoMemory};
 use std::alloc::Global;
 use std::marker::Model;
@@ -51,6 +52,18 @@ impl<R> Ranked<R> {
     }
 }
 
+impl<R: Owned> Ranked<R> {
+    /// Whether it is the account's own.
+    fn is_of(&self, account: &Address) -> bool
+        ensures { result ≡ is_own account.now (R.owner_of self.now.row) }
+    {
+        match self.row.owner() {
+            Some(owner) => account.bytes() == owner.bytes(),
+            None => false,
+        }
+    }
+}
+
 impl<R> Model for Ranked<R> {
     ghost use Rattle.pec_shelf.specs.Drawers.{RankedRow};
 
@@ -72,6 +85,13 @@ struct Rank {
     counted: u64,
 }
 
+/// How many rows an account has, and how many of these are counted.
+#[derive(Clone, Copy)]
+struct Tally {
+    rows: u64,
+    counted: u64,
+}
+
 /// An account, and the rank of one of its rows.
 #[derive(Clone, Copy)]
 struct OfRank<'a> {
@@ -83,10 +103,17 @@ impl<R: Owned> Numbered for Ranked<R> {
     ghost number_of = { λ (ranked : RankedRow R). number_of_owned (R.owner_of ranked.row) ranked.rank };
 
     fn number(&self) -> u64 {
-        match self.row.owner() {
-            Some(account) => number_of_rank(account, self.rank),
-            None => 0,
-        }
+        number_of_owned(&self.row, self.rank)
+    }
+}
+
+/// The number of a row of this rank among those of its account; 0 where it is nobody's.
+fn number_of_owned<R: Owned>(row: &R, rank: u64) -> u64
+    ensures { result ≡ number_of_owned (R.owner_of row.now) rank }
+{
+    match row.owner() {
+        Some(account) => number_of_rank(account, rank),
+        None => 0,
     }
 }
 
@@ -103,10 +130,7 @@ impl<R: Owned> Sought<Ranked<R>> for OfRank<'_> {
     }
 
     fn finds(&self, ranked: &Ranked<R>) -> bool {
-        match ranked.row.owner() {
-            Some(owner) => self.account.bytes() == owner.bytes() && self.rank == ranked.rank,
-            None => false,
-        }
+        ranked.is_of(self.account) && self.rank == ranked.rank
     }
 }
 
@@ -114,18 +138,25 @@ impl<R: Owned> Sought<Ranked<R>> for OfRank<'_> {
 #[derive(Drop)]
 pub(crate) struct Drawers<R: Owned> {
     table: Table<Ranked<R>>,
+    /// The numbers of the rows' accounts, so that an account's last row is found at once.
+    owners: Places,
 }
 
 impl<R: Owned> Model for Drawers<R> {
-    ghost use Rattle.std.specs.Prelude.{[]};
+    ghost use Rattle.std.specs.Prelude.{◌≡◌, ◌≤◌, []};
     ghost use Rattle.pec_places.specs.Rows.{Rows};
     ghost use Rattle.pec_shelf.specs.Drawers.{AreRanked, rows_in};
+    ghost use Rattle.pec_shelf.specs.Keys.{owners_in};
 
     ghost Value = { Rows R };
 
     ghost view = { λ drawers. record { rows = rows_in drawers.table.rows; room = drawers.table.room } };
 
-    ghost invariant = { λ drawers. AreRanked R.owner_of R.counts_in [] drawers.table.rows };
+    ghost invariant = { λ drawers. record {
+      ranked : AreRanked R.owner_of R.counts_in [] drawers.table.rows;
+      room : drawers.table.room ≤ drawers.owners.room;
+      owners : drawers.owners.numbers ≡ owners_in R.owner_of drawers.table.rows;
+    } };
 }
 
 impl<R: Owned + Drop> Drawers<R> {
@@ -135,6 +166,7 @@ impl<R: Owned + Drop> Drawers<R> {
     {
         Drawers {
             table: Table::new(alloc),
+            owners: Places::new(alloc),
         }
     }
 
@@ -145,6 +177,7 @@ impl<R: Owned + Drop> Drawers<R> {
         ensures most { self.new.room ≤ max self.old.room more }
         ensures rows { self.new.rows ≡ self.old.rows }
     {
+        self.owners.reserve(more)?;
         self.table.reserve(more)?;
         Ok(())
     }
@@ -156,6 +189,7 @@ impl<R: Owned + Drop> Drawers<R> {
         ensures room { self.new.room + 1 ≡ self.old.room }
     {
         let at = self.rank_of(&row);
+        self.owners.push(number_of_owned(&row, 0));
         self.table.push(Ranked {
             row,
             place: at.place,
@@ -224,7 +258,28 @@ impl<R: Owned + Drop> Drawers<R> {
         ensures value { result ≡ length (own_rows R.owner_of account.now self.now.rows) }
         ensures below { result < 2 ^ 63 }
     {
-        self.count_between(account, 0, self.len())
+        let all = self.len();
+        match self.last(account) {
+            Some(tally) => tally.rows,
+            None => self.count_between(account, 0, all),
+        }
+    }
+
+    /// How many rows an account has and how many are counted, as its last row tells. None where that isn't found at once,
+    /// since the account has no row or another one has its number.
+    fn last(&self, account: &Address) -> Option<Tally>
+        ensures { IfSome result (IsTallyOf R.owner_of R.counts_in account.now self.now.rows) }
+    {
+        let place = self.owners.last(number_of_rank(account, 0))?;
+        let ranked = self.table.rows().get(place)?;
+        if !ranked.is_of(account) {
+            return None;
+        }
+        let rows = ranked.rank.checked_add(1)?;
+        Some(Tally {
+            rows,
+            counted: ranked.counted,
+        })
     }
 
     /// How many rows are an account's, where that is known to be between two numbers.
@@ -249,6 +304,17 @@ impl<R: Owned + Drop> Drawers<R> {
         ensures below { result < 2 ^ 63 }
     {
         let count = self.count(account);
+        match self.last(account) {
+            Some(tally) => tally.counted,
+            None => self.counted_among(account, count),
+        }
+    }
+
+    /// How many rows of an account are counted, which has so many.
+    fn counted_among(&self, account: &Address, count: u64) -> u64
+        requires { count ≡ length (own_rows R.owner_of account.now self.now.rows) }
+        ensures { result ≡ counted_of R.owner_of R.counts_in account.now self.now.rows }
+    {
         if count == 0 {
             return 0;
         }

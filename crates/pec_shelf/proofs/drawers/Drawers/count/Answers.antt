@@ -5,14 +5,24 @@ use Rattle.pec_shelf.proofs.drawers.Drawers.count.Goals as goal
 
 pub count_between-requires-clause-high : goal.count_between-requires-clause-high
 count_between-requires-clause-high g c =
-    omega (arith, c.len.ensures.value, filter_short (λ (row : g.row.R.Denot). is_own c.args.account.now (g.R.Owned.owner_of row)) c.args.self.now.rows)
+    omega (arith, c.len-all.ensures.value, filter_short (λ (row : g.row.R.Denot). is_own c.args.account.now (g.R.Owned.owner_of row)) c.args.self.now.rows)
 
-pub returns-clause-below : goal.returns-clause-below
-returns-clause-below g c =
+pub returns-in-Some-clause-below : goal.returns-in-Some-clause-below
+returns-in-Some-clause-below g c =
+    omega (
+      arith,
+      c.in-Some.ensures.rows_are,
+      c.len-all.ensures.value,
+      c.len-all.ensures.below,
+      filter_short (λ (row : g.row.R.Denot). is_own c.args.account.now (g.R.Owned.owner_of row)) c.args.self.now.rows,
+    )
+
+pub returns-in-None-clause-below : goal.returns-in-None-clause-below
+returns-in-None-clause-below g c =
     omega (
       arith,
       c.count_between.ensures,
-      c.len.ensures.value,
-      c.len.ensures.below,
+      c.len-all.ensures.value,
+      c.len-all.ensures.below,
       filter_short (λ (row : g.row.R.Denot). is_own c.args.account.now (g.R.Owned.owner_of row)) c.args.self.now.rows,
     )
