@@ -72,7 +72,8 @@ impl Model for Desk {
 
     ghost view = { λ desk. desk.provider };
 
-    ghost invariant = { λ desk. Runs desk.home.directory desk.me desk.provider };
+    ghost invariant = { λ desk. Runs desk.home.directory (⟦<HmacSealer as Sealer>⟧.seals desk.home.sealer) desk.me
+        desk.provider };
 }
 
 impl Drop for Desk {

@@ -50,7 +50,7 @@ pub(crate) fn hand_in<D: Disk, S: Sealer, J: Judge>(
 }
 
 /// A network has the providers of its directory.
-fn as_many_providers<D, S>(network: &Network<D, S>)
+fn as_many_providers<D, S: Sealer>(network: &Network<D, S>)
     ensures { length network.now.providers ≡ length network.now.kept }
 {
     network.directory();

@@ -10,6 +10,7 @@ use Rattle.pec_directory.specs.Lawful.{IsLawful}
 use Rattle.pec_ledger.specs.Network.{Site}
 use Rattle.pec_posts.specs.Arrivals.{Waiting, waiting_for}
 use Rattle.pec_provider.specs.Provider.{Desk, ProviderState, Runs, desk_of, fresh, site_of}
+use Rattle.pec_seal.specs.Seals.{Seals}
 use Rattle.pec_network.specs.Beginning.{AllBegun, IsAbout, IsBegun, IsRefused, NoneFell, all_rested, journals_had, rested}
 use Rattle.pec_network.specs.Homes.{AllAt}
 use Rattle.pec_network.specs.Network.{IsOfDirectory, sites_of}
@@ -71,8 +72,8 @@ module _ {D : Type 0} (front : List (ProviderState D)) (me : ℕ) (here : length
       subst (λ (l : List (ProviderState D)). (number : ℕ) (other : ProviderState D) → number < length l → Said number (get_or l number other)) (sym next)
       (each_more Said front provider so_far (subst (λ (n : ℕ). Said n provider) (sym here) this))
 
-  pub runs_next : (kept : List Kept) → AllRun kept front → Runs kept me provider → AllRun kept all
-  runs_next kept so_far this = each_next (λ n p. Runs kept n p) so_far this
+  pub runs_next : {seals : Seals} (kept : List Kept) → AllRun kept seals front → Runs kept seals me provider → AllRun kept seals all
+  runs_next {seals} kept so_far this = each_next (λ n p. Runs kept seals n p) so_far this
 
   pub begun_next : (tells reads : Type 0) (sight : D → Sight) (kept : List Kept) (form : Form) (start mid : ℕ → Option D)
       → AllBegun tells reads sight kept form start front → (tells → AllAt (λ (p : ProviderState D). None) start mid front)
@@ -119,11 +120,11 @@ module _ {D : Type 0} where
       ∙ rested_one_by_one providers count desks
       ∙ ap (λ (n : ℕ). map (rested n) (journals_had providers)) (sym all)
 
-  pub of_directory : (kept : List Kept) (providers : List (ProviderState D)) (waiting : List Waiting) (count : ℕ) → count ≡ length kept
-      → length providers ≡ length kept → waiting ≡ replicate count (replicate count []) → AllRun kept providers
+  pub of_directory : {seals : Seals} (kept : List Kept) (providers : List (ProviderState D)) (waiting : List Waiting) (count : ℕ) → count ≡ length kept
+      → length providers ≡ length kept → waiting ≡ replicate count (replicate count []) → AllRun kept seals providers
       → ((number : ℕ) (other : ProviderState D) → number < length providers
       → desk_of (get_or providers number other) ≡ fresh (get_or providers number other).chronicle.entries)
-      → IsOfDirectory kept providers waiting
+      → IsOfDirectory kept seals providers waiting
   of_directory kept providers waiting count size all links runs desks =
       let none : Waiting = replicate count [] in
       let many : length waiting ≡ count = ap (λ (w : List Waiting). length w) links ∙ length-replicate count none in record {

@@ -16,6 +16,7 @@ use Rattle.pec_chronicle.specs.Chronicle.{ChronicleState, Stands}
 use Rattle.pec_provider.specs.Following.{MayFollow}
 use Rattle.pec_provider.specs.Playing.{Plays}
 use Rattle.pec_provider.specs.Provider.{ProviderState, Runs, desk_of, site_of}
+use Rattle.pec_seal.specs.Seals.{Seals}
 use Rattle.pec_network.specs.Carrying.{AllCarryOn, NoneFalls}
 use Rattle.pec_network.specs.Changing.{HasRisenAt, StandsAt}
 use Rattle.pec_network.specs.Network.{IsOfDirectory, NetworkState, sites_of}
@@ -24,8 +25,8 @@ use Rattle.pec_network.proofs.ProviderLemmas.{carries_at, falls_at, played_so, w
 use Rattle.pec_network.proofs.SiteLemmas.{provider_changes, site_is}
 
 -- a number of the directory is one of a provider
-pub number_within : {D S : Type 0} (inside now : NetworkState D S) → inside ≡ now
-    → IsOfDirectory inside.kept inside.providers inside.waiting → (number : ℕ) → number < length now.kept → number < length inside.providers
+pub number_within : {D S : Type 0} {seals : Seals} (inside now : NetworkState D S) → inside ≡ now
+    → IsOfDirectory inside.kept seals inside.providers inside.waiting → (number : ℕ) → number < length now.kept → number < length inside.providers
 number_within {D} {S} inside now view whole number within =
     let count = whole.count in
     let same = ap (λ (n : NetworkState D S). length n.kept) view in
@@ -44,14 +45,14 @@ module _ {D : Type 0} (providers : List (ProviderState D)) (number : ℕ) (old n
   pub at_new : (other : ProviderState D) → get_or (set providers number new) number other ≡ new
   at_new other = get_or-set_same providers number new other within
 
-  pub runs_from : (kept : List Kept) (waiting : List Waiting) → IsOfDirectory kept providers waiting → Runs kept number old
-  runs_from kept waiting whole = subst (λ (p : ProviderState D). Runs kept number p) (at_old old) (whole.runs number old within)
+  pub runs_from : {seals : Seals} (kept : List Kept) (waiting : List Waiting) → IsOfDirectory kept seals providers waiting → Runs kept seals number old
+  runs_from {seals} kept waiting whole = subst (λ (p : ProviderState D). Runs kept seals number p) (at_old old) (whole.runs number old within)
 
-  pub owed_from : (kept : List Kept) (waiting : List Waiting) → IsOfDirectory kept providers waiting → old.owed ≡ []
+  pub owed_from : {seals : Seals} (kept : List Kept) (waiting : List Waiting) → IsOfDirectory kept seals providers waiting → old.owed ≡ []
   owed_from kept waiting whole = ap (λ (p : ProviderState D). p.owed) here ∙ whole.nothing_owed number old within
 
-  pub whole_from : (kept : List Kept) (waiting : List Waiting) → IsOfDirectory kept providers waiting → Runs kept number new → new.owed ≡ old.owed
-      → IsOfDirectory kept (set providers number new) waiting
+  pub whole_from : {seals : Seals} (kept : List Kept) (waiting : List Waiting) → IsOfDirectory kept seals providers waiting → Runs kept seals number new → new.owed ≡ old.owed
+      → IsOfDirectory kept seals (set providers number new) waiting
   whole_from kept waiting whole runs owed =
       whole_at providers number new within kept waiting whole runs (owed ∙ owed_from kept waiting whole)
 

@@ -12,6 +12,7 @@ use Rattle.pec_plays.specs.Commands.{Inject, Injected, Lose, Lost, Luck, Repeat,
 use Rattle.pec_plays.specs.Rounds.{link_size}
 use Rattle.pec_posts.specs.Arrivals.{Waiting, waiting_for, waiting_from, with_link, without}
 use Rattle.pec_provider.specs.Provider.{ProviderState}
+use Rattle.pec_seal.specs.Seals.{Seals}
 use Rattle.pec_network.specs.Network.{IsOfDirectory, NetworkState, sites_of}
 use Rattle.pec_network.specs.Playing.{IsPlayedOnLink}
 use Rattle.pec_network.proofs.LinkLemmas.{injected_so, lost_so, repeated_so, swapped_so}
@@ -19,8 +20,8 @@ use Rattle.pec_network.proofs.ProviderLemmas.{whole_with}
 use Rattle.pec_network.proofs.SiteLemmas.{waiting_changes}
 
 -- a number of the directory is one of a provider for which frames wait
-pub link_within : {D S : Type 0} (inside now : NetworkState D S) → inside ≡ now
-    → IsOfDirectory inside.kept inside.providers inside.waiting → (to : ℕ) → to < length now.kept → to < length inside.waiting
+pub link_within : {D S : Type 0} {seals : Seals} (inside now : NetworkState D S) → inside ≡ now
+    → IsOfDirectory inside.kept seals inside.providers inside.waiting → (to : ℕ) → to < length now.kept → to < length inside.waiting
 link_within {D} {S} inside now view whole to within =
     let count = whole.links in
     let same = ap (λ (n : NetworkState D S). length n.kept) view in
@@ -32,8 +33,8 @@ same_links (w ∷ ws) zero links l here = sym here
 same_links (w ∷ ws) (suc to) links l here = same_links ws to links (omega arith) here
 
 -- the links of one provider are from all
-pub senders_of : {D S : Type 0} (inside now : NetworkState D S) → inside ≡ now
-    → IsOfDirectory inside.kept inside.providers inside.waiting → (from to : ℕ) (links : Waiting) → from < length now.kept
+pub senders_of : {D S : Type 0} {seals : Seals} (inside now : NetworkState D S) → inside ≡ now
+    → IsOfDirectory inside.kept seals inside.providers inside.waiting → (from to : ℕ) (links : Waiting) → from < length now.kept
     → to < length inside.waiting → links ≡ get_or inside.waiting to links → from < length links
 senders_of {D} {S} inside now view whole from to links within there here =
     let same = ap (λ (n : NetworkState D S). length n.kept) view in
@@ -41,9 +42,9 @@ senders_of {D} {S} inside now view whole from to links within there here =
     let size = ap (λ (w : Waiting). length w) (same_links inside.waiting to links there here) in
     omega arith
 
-pub whole_on_link : {D : Type 0} (kept : List Kept) (providers : List (ProviderState D)) (waiting : List Waiting) (to : ℕ) (links after : Waiting)
-    → IsOfDirectory kept providers waiting → to < length waiting → links ≡ get_or waiting to links → length after ≡ length links
-    → IsOfDirectory kept providers (set waiting to after)
+pub whole_on_link : {D : Type 0} {seals : Seals} (kept : List Kept) (providers : List (ProviderState D)) (waiting : List Waiting) (to : ℕ) (links after : Waiting)
+    → IsOfDirectory kept seals providers waiting → to < length waiting → links ≡ get_or waiting to links → length after ≡ length links
+    → IsOfDirectory kept seals providers (set waiting to after)
 whole_on_link kept providers waiting to links after whole within here same =
     whole_with kept providers waiting to after whole within
     (same ∙ ap (λ (w : Waiting). length w) (sym (same_links waiting to links within here)))

@@ -28,6 +28,7 @@ use Rattle.pec_posts.specs.Arrivals.{CanBeDelivered, Waiting, deliveries, room_o
 use Rattle.pec_provider.specs.Following.{MayFollow}
 use Rattle.pec_provider.specs.Provider.{ProviderState, Runs, desk_of, site_of}
 use Rattle.pec_turns.specs.Turning.{CarriesFrames, StopsShort, Took, cut_told, room_in, told_of, turn_of}
+use Rattle.pec_seal.specs.Seals.{Seals}
 use Rattle.pec_network.specs.Carrying.{AllCarryOn, AllStand, NoneFalls}
 use Rattle.pec_network.specs.Network.{IsOfDirectory, sites_of}
 use Rattle.pec_network.specs.Rounds.{AreRooms, BlamesDisks, FramesAreGenuine, IsRound, StopsWithin}
@@ -57,8 +58,8 @@ room_small from arrivals rooms to is =
           omega (arith, e)
     ]
 
-module _ {D : Type 0} (Tells : Type 0) (sight : D → Sight) (count : D → ℕ) (kept : List Kept) (trade : Trade)
-    (moment : ℕ)
+module _ {D : Type 0} (Tells : Type 0) (sight : D → Sight) (count : D → ℕ) (kept : List Kept) (seals : Seals)
+    (trade : Trade) (moment : ℕ)
     (old : List (ProviderState D)) (waited : List Waiting) where
   -- the state as the round began
   abbrev before : List Site
@@ -67,7 +68,7 @@ module _ {D : Type 0} (Tells : Type 0) (sight : D → Sight) (count : D → ℕ)
   -- The turns of the providers before a number were taken, and told so.
   pub record TurnsSoFar (number : ℕ) (now : List (ProviderState D)) (waiting : List Waiting) (turns : List Turn)
       (outs : List (List (List Bytes))) : Type 0 where
-    pub whole : IsOfDirectory kept now waiting
+    pub whole : IsOfDirectory kept seals now waiting
     pub told : length turns ≡ number
     pub puts : length outs ≡ number
     pub next : (k : ℕ) (other : ProviderState D) → number ≤ k → get_or now k other ≡ get_or old k other
@@ -80,7 +81,7 @@ module _ {D : Type 0} (Tells : Type 0) (sight : D → Sight) (count : D → ℕ)
     pub blames : BlamesDisks count turns old now
     pub later : NoneFalls count old now
 
-  pub begun : IsOfDirectory kept old waited
+  pub begun : IsOfDirectory kept seals old waited
       → (Tells → (state : ChronicleState D) → CarriesOn sight NothingMay state state)
       → TurnsSoFar 0 old waited [] []
   begun whole rests = record {
@@ -99,7 +100,7 @@ module _ {D : Type 0} (Tells : Type 0) (sight : D → Sight) (count : D → ℕ)
     later = λ k other l. omega arith;
   }
 
-  module _ (whole_before : IsOfDirectory kept old waited) (all_of : trade.providers ≡ length kept) where
+  module _ (whole_before : IsOfDirectory kept seals old waited) (all_of : trade.providers ≡ length kept) where
     same_before : length waited ≡ length old
     same_before = whole_before.links ∙ sym whole_before.count
 
@@ -133,8 +134,8 @@ module _ {D : Type 0} (Tells : Type 0) (sight : D → Sight) (count : D → ℕ)
           ∙ ap (λ (p : ProviderState D). site_of (desk_of p) (waiting_for waited number)) (was_old was)
           ∙ ap (λ (w : Waiting). site_of (desk_of was) w) links_old)
 
-      pub runs_now : Runs kept number was
-      runs_now = subst (λ (p : ProviderState D). Runs kept number p) (sym here) (so_far.whole.runs number was within)
+      pub runs_now : Runs kept seals number was
+      runs_now = subst (λ (p : ProviderState D). Runs kept seals number p) (sym here) (so_far.whole.runs number was within)
 
       pub owes_nothing : was.owed ≡ []
       owes_nothing = ap (λ (p : ProviderState D). p.owed) here ∙ so_far.whole.nothing_owed number was within
@@ -151,8 +152,8 @@ module _ {D : Type 0} (Tells : Type 0) (sight : D → Sight) (count : D → ℕ)
       sites_more : sites_of later_now later_waiting ≡ set (sites_of now waiting) number behind
       sites_more = both_change now waiting number new left within as_many
 
-      pub whole_more : Runs kept number new → new.owed ≡ [] → length left ≡ length links
-          → IsOfDirectory kept later_now later_waiting
+      pub whole_more : Runs kept seals number new → new.owed ≡ [] → length left ≡ length links
+          → IsOfDirectory kept seals later_now later_waiting
       whole_more runs owed same =
           whole_at now number new within kept later_waiting
           (whole_with kept now waiting number left so_far.whole (let e = as_many in omega arith)
@@ -282,7 +283,7 @@ module _ {D : Type 0} (Tells : Type 0) (sight : D → Sight) (count : D → ℕ)
             → turn ≡ told_of number (turn_of behind turn out)
             → ((to : ℕ) → length (get_or out to []) ≤ room_in rooms to)
             → (turn.ended ≡ Some faults.NoMemory → ⊥)
-            → Runs kept number new → new.owed ≡ [] → length left ≡ length links
+            → Runs kept seals number new → new.owed ≡ [] → length left ≡ length links
             → (Tells → CarriesFrames trade number moment sight was.chronicle links new.chronicle left)
             → (Tells → Stands sight was.chronicle → Stands sight new.chronicle)
             → (turn.ended ≡ Some faults.DiskFault → HasRisen (count was.chronicle.disk) (count new.chronicle.disk))
@@ -384,10 +385,10 @@ deliveries_links outs to [] k l m = absurd (omega arith)
 deliveries_links outs to (links ∷ waiting) zero l m = delivered_links to outs links m
 deliveries_links outs to (links ∷ waiting) (suc k) l m = deliveries_links outs (to + 1) waiting k (omega arith) m
 
-pub whole_delivered : {D : Type 0} (kept : List Kept) (providers : List (ProviderState D)) (waiting : List Waiting)
+pub whole_delivered : {D : Type 0} {seals : Seals} (kept : List Kept) (providers : List (ProviderState D)) (waiting : List Waiting)
     (outs : List (List (List Bytes)))
-    → IsOfDirectory kept providers waiting → CanBeDelivered outs waiting
-    → IsOfDirectory kept providers (deliveries outs 0 waiting)
+    → IsOfDirectory kept seals providers waiting → CanBeDelivered outs waiting
+    → IsOfDirectory kept seals providers (deliveries outs 0 waiting)
 whole_delivered kept providers waiting outs whole can =
     let size = deliveries_count outs 0 waiting in record {
       count = whole.count;

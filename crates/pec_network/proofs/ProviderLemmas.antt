@@ -18,6 +18,7 @@ use Rattle.pec_chronicle.specs.Chronicle.{ChronicleState}
 use Rattle.pec_provider.specs.Following.{MayFollow}
 use Rattle.pec_provider.specs.Playing.{PlaysOn}
 use Rattle.pec_provider.specs.Provider.{ProviderState, Runs}
+use Rattle.pec_seal.specs.Seals.{Seals}
 use Rattle.pec_network.specs.Carrying.{AllCarryOn, NoneFalls}
 use Rattle.pec_network.specs.Network.{IsOfDirectory}
 use Rattle.pec_network.specs.Playing.{IsPlayed}
@@ -72,17 +73,17 @@ module _ {D : Type 0} (old : List (ProviderState D)) (number : ℕ) (new : Provi
       ]
 
   -- they are the directory's as before
-  pub whole_at : (kept : List Kept) (waiting : List Waiting) → IsOfDirectory kept old waiting → Runs kept number new → new.owed ≡ []
-      → IsOfDirectory kept (set old number new) waiting
-  whole_at kept waiting whole runs owed = record {
+  pub whole_at : {seals : Seals} (kept : List Kept) (waiting : List Waiting) → IsOfDirectory kept seals old waiting → Runs kept seals number new → new.owed ≡ []
+      → IsOfDirectory kept seals (set old number new) waiting
+  whole_at {seals} kept waiting whole runs owed = record {
     count = length-set old number new ∙ whole.count;
     links = whole.links;
     senders = whole.senders;
     runs = λ k other l.
         elim (cases_eq k number) [
-          | inl same ↦ subst (λ (n : ℕ). Runs kept n (get_or (set old number new) n other)) (sym same)
-              (subst (λ (p : ProviderState D). Runs kept number p) (sym (get_or-set_same old number new other within)) runs)
-          | inr differs ↦ subst (λ (p : ProviderState D). Runs kept k p) (sym (get_or-set_other old number k new other differs))
+          | inl same ↦ subst (λ (n : ℕ). Runs kept seals n (get_or (set old number new) n other)) (sym same)
+              (subst (λ (p : ProviderState D). Runs kept seals number p) (sym (get_or-set_same old number new other within)) runs)
+          | inr differs ↦ subst (λ (p : ProviderState D). Runs kept seals k p) (sym (get_or-set_other old number k new other differs))
               (whole.runs k other (let e = length-set old number new in omega arith))
         ];
     nothing_owed = λ k other l.
@@ -95,9 +96,9 @@ module _ {D : Type 0} (old : List (ProviderState D)) (number : ℕ) (new : Provi
   }
 
 -- other frames wait, on as many links
-pub whole_with : {D : Type 0} (kept : List Kept) (providers : List (ProviderState D)) (waiting : List Waiting) (to : ℕ) (links : Waiting)
-    → IsOfDirectory kept providers waiting → to < length waiting → length links ≡ length (waiting_for waiting to)
-    → IsOfDirectory kept providers (set waiting to links)
+pub whole_with : {D : Type 0} {seals : Seals} (kept : List Kept) (providers : List (ProviderState D)) (waiting : List Waiting) (to : ℕ) (links : Waiting)
+    → IsOfDirectory kept seals providers waiting → to < length waiting → length links ≡ length (waiting_for waiting to)
+    → IsOfDirectory kept seals providers (set waiting to links)
 whole_with kept providers waiting to links whole within same = record {
   count = whole.count;
   links = length-set waiting to links ∙ whole.links;

@@ -20,6 +20,7 @@ use Rattle.pec_stock.specs.Stock.{IsOwn}
 use Rattle.pec_stock.specs.declared.faults.ReopenFault.{ReopenFault}
 use Rattle.pec_stock.specs.declared.faults.ReopenFault.TheVariants as reopen
 use Rattle.pec_provider.specs.Provider.{Desk, ProviderState, Runs, desk_of, fresh}
+use Rattle.pec_seal.specs.Seals.{Seals}
 use Rattle.pec_network.specs.Beginning.{IsAbout, IsAsItWas, IsBack, IsBegun, IsLeft, Says}
 use Rattle.pec_network.specs.Starting.{unmade_as, unopened_as}
 use Rattle.pec_network.specs.declared.faults.StartFault.{StartFault}
@@ -96,7 +97,7 @@ module _ {D : Type 0} (tells reads : Type 0) (sight : D → Sight) (kept : List 
       }
 
   -- one was opened
-  pub opened_so : (disk : D) (provider : ProviderState D) → Runs kept me provider
+  pub opened_so : {seals : Seals} (disk : D) (provider : ProviderState D) → Runs kept seals me provider
       → desk_of provider ≡ fresh provider.chronicle.entries
       → (reads → IsJournalOf provider.chronicle.entries (sight disk).seen × Stands sight provider.chronicle)
       → IsBegun tells reads sight kept forms.Open me (Some disk) provider

@@ -4,6 +4,7 @@ use Rattle.std.specs.Prelude.{◌≡◌, ℕ, ◌<◌, List, [], ◌∷◌, leng
 use Rattle.pec_directory.specs.Directory.{Kept}
 use Rattle.pec_ledger.specs.Network.{Site}
 use Rattle.pec_posts.specs.Arrivals.{Waiting, waiting_for}
+use Rattle.pec_seal.specs.Seals.{Seals}
 use Rattle.pec_provider.specs.Provider.{ProviderState, Runs, desk_of, site_of}
 
 -- Providers with their numbers from 0, and for each the frames that wait for it, a list for each sender; the directory, and
@@ -24,10 +25,11 @@ sites_of (provider ∷ providers) (links ∷ waiting) = site_of (desk_of provide
 abbrev pub sites : {D S : Type 0} → NetworkState D S → List Site
 sites network = sites_of network.providers network.waiting
 
--- These are the providers of the directory, each with links from all of them, and nobody owes an answer.
-pub record IsOfDirectory {D : Type 0} (kept : List Kept) (providers : List (ProviderState D)) (waiting : List Waiting) : Type 0 where
+-- These are the providers of the directory, for which these seals are, each with links from all of them, and nobody owes an
+-- answer.
+pub record IsOfDirectory {D : Type 0} (kept : List Kept) (seals : Seals) (providers : List (ProviderState D)) (waiting : List Waiting) : Type 0 where
   pub count : length providers ≡ length kept
   pub links : length waiting ≡ length kept
   pub senders : (to : ℕ) → to < length waiting → length (waiting_for waiting to) ≡ length kept
-  pub runs : (number : ℕ) (other : ProviderState D) → number < length providers → Runs kept number (slice_index_or providers number other)
+  pub runs : (number : ℕ) (other : ProviderState D) → number < length providers → Runs kept seals number (slice_index_or providers number other)
   pub nothing_owed : (number : ℕ) (other : ProviderState D) → number < length providers → (slice_index_or providers number other).owed ≡ []

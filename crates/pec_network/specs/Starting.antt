@@ -5,6 +5,7 @@ use Rattle.pec_chronicle.specs.declared.faults.CreateFault.{CreateFault}
 use Rattle.pec_chronicle.specs.declared.faults.CreateFault.TheVariants as create
 use Rattle.pec_stock.specs.declared.faults.ReopenFault.{ReopenFault}
 use Rattle.pec_stock.specs.declared.faults.ReopenFault.TheVariants as reopen
+use Rattle.pec_seal.specs.Seals.{Seals}
 use Rattle.pec_provider.specs.Provider.{ProviderState, Runs}
 use Rattle.pec_network.specs.declared.faults.NotFit.TheVariants as unfits
 use Rattle.pec_network.specs.declared.faults.StartFault.{StartFault}
@@ -24,8 +25,8 @@ unopened_as me (reopen.OtherDirectory kept given) = faults.NotFit me (unfits.Oth
 unopened_as me (reopen.BadEntry number) = faults.NotFit me (unfits.BadEntry number)
 unopened_as me reopen.NoMemory = faults.NoMemory
 
--- These are providers of a directory, from number 0 on.
-abbrev pub AllRun : {D : Type 0} → List Kept → List (ProviderState D) → Type 0
-AllRun {D} kept providers =
+-- These are providers of a directory, for which these seals are, from number 0 on.
+abbrev pub AllRun : {D : Type 0} → List Kept → Seals → List (ProviderState D) → Type 0
+AllRun {D} kept seals providers =
     (number : ℕ) (other : ProviderState D) → number < length providers
-    → Runs kept number (slice_index_or providers number other)
+    → Runs kept seals number (slice_index_or providers number other)

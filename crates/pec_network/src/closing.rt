@@ -6,8 +6,9 @@ use crate::laws::few_providers;
 use crate::network::Network;
 use pec_outside::{Depot, Disk};
 use pec_provider::Provider;
+use pec_seal::Sealer;
 
-impl<D: Disk, S: Drop> Network<D, S> {
+impl<D: Disk, S: Sealer + Drop> Network<D, S> {
     /// Ends the network: each provider's disk is kept in the depot, as it is. It takes no memory.
     pub fn close<P: Depot<D = D>>(self, depot: &mut P)
         ensures kept { P.tells → AllAt (λ provider. Some provider.chronicle.disk)

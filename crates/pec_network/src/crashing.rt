@@ -16,9 +16,10 @@ use crate::laws::{few_providers, what_rests_carries_on};
 use crate::network::Network;
 use pec_outside::{Depot, Disk};
 use pec_provider::House;
+use pec_seal::Sealer;
 use std::alloc::Global;
 
-impl<D: Disk, S> Network<D, S> {
+impl<D: Disk, S: Sealer> Network<D, S> {
     /// Crashes a provider, by its number: it is down, over the disk that the depot gives for its own. Its interrupted
     /// entry is kept, and the frames that wait for it stay. It takes no memory.
     pub fn crash<P: Depot<D = D>>(&mut self, provider: u32, depot: &mut P)

@@ -16,6 +16,7 @@ use pec_directory::Directory;
 use pec_outside::{Depot, Disk};
 use pec_posts::Arrivals;
 use pec_provider::{House, Provider};
+use pec_seal::Sealer;
 use pec_types::NoMemory;
 use std::alloc::Global;
 
@@ -30,7 +31,7 @@ pub enum Form {
 
 /// A network begins with what the disks hold that a depot has at home. It asks for them from provider 0 on, until one
 /// comes to nothing, and keeps each of those again then.
-impl<D: Disk, S: Drop> Network<D, S> {
+impl<D: Disk, S: Sealer + Drop> Network<D, S> {
     /// A network on empty disks: each provider's journal is made, with its Start. It is refused where the depot doesn't
     /// hand out a disk or the disk fails (`DiskFault`), where one holds a byte (`NotEmpty`), and for want of memory. A
     /// disk on which a journal was being made may hold bytes then.
@@ -149,7 +150,7 @@ fn no_frames(alloc: Global, count: u32) -> Result<Vec<Arrivals>, NoMemory>
 
 /// All providers of a directory, each over the disk that the depot hands out for it. Where one's comes to nothing, each
 /// disk is kept again.
-fn begin_all<D: Disk, S, P: Depot<D = D>>(
+fn begin_all<D: Disk, S: Sealer, P: Depot<D = D>>(
     alloc: Global,
     form: Form,
     directory: &Directory,
@@ -157,7 +158,7 @@ fn begin_all<D: Disk, S, P: Depot<D = D>>(
     depot: &mut P,
 ) -> Result<Vec<Provider<D>>, StartFault>
     ensures all { IfOk result (λ providers. length providers.items ≡ length directory.now) }
-    ensures runs { IfOk result (λ providers. AllRun directory.now providers.items) }
+    ensures runs { IfOk result (λ providers. AllRun directory.now (S.seals sealer.now) providers.items) }
     ensures begun { IfOk result (λ providers.
         AllBegun P.tells D.tells D.sight directory.now form (P.home depot.old) providers.items) }
     ensures out { P.tells → IfOk result (λ providers.
@@ -184,7 +185,7 @@ fn begin_all<D: Disk, S, P: Depot<D = D>>(
 }
 
 /// Puts the providers of a directory into a list that has room for them, up to the first whose disk comes to nothing.
-fn begin_each<D: Disk, S, P: Depot<D = D>>(
+fn begin_each<D: Disk, S: Sealer, P: Depot<D = D>>(
     alloc: Global,
     form: Form,
     directory: &Directory,
@@ -197,7 +198,7 @@ fn begin_each<D: Disk, S, P: Depot<D = D>>(
 
     // On every answer the list has those that have begun.
     ensures count { length providers.new.items ≤ length directory.now }
-    ensures runs { AllRun directory.now providers.new.items }
+    ensures runs { AllRun directory.now (S.seals sealer.now) providers.new.items }
     ensures begun { AllBegun P.tells D.tells D.sight directory.now form (P.home depot.old) providers.new.items }
     ensures counts { NoneFell D.faults (P.last depot.old) providers.new.items }
     ensures later { P.faults depot.old ≤ P.faults depot.new }

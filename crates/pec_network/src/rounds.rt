@@ -81,7 +81,7 @@ fn take_turns<D: Disk, S: Sealer>(
     arrivals: &mut Vec<Arrivals>,
     moment: Moment,
 ) -> Result<Pass, NoMemory>
-    requires whole { IsOfDirectory directory.now providers.old.items arrivals.old.items }
+    requires whole { IsOfDirectory directory.now (S.seals sealer.now) providers.old.items arrivals.old.items }
     requires fits { Fits (S.seals sealer.now) (providers_of directory.now) }
 
     // It is a round, once what was put is delivered.
@@ -91,7 +91,7 @@ fn take_turns<D: Disk, S: Sealer>(
     ensures can { IfOk result (λ pass. CanBeDelivered pass.outs.items arrivals.new.items) }
     ensures stops { OnErr result (StopsWithin (trade_of directory.now (S.seals sealer.now)) moment
         (sites_of providers.old.items arrivals.old.items) (sites_of providers.new.items arrivals.new.items)) }
-    ensures whole { IsOfDirectory directory.now providers.new.items arrivals.new.items }
+    ensures whole { IsOfDirectory directory.now (S.seals sealer.now) providers.new.items arrivals.new.items }
     ensures carries { D.tells → (journals : Journals)
         → Fit (trade_of directory.now (S.seals sealer.now)) journals
         → FramesAreGenuine (trade_of directory.now (S.seals sealer.now)) journals

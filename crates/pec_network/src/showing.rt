@@ -79,7 +79,7 @@ impl<D, S: Sealer> Network<D, S> {
 }
 
 /// Figures.
-impl<D, S> Network<D, S> {
+impl<D, S: Sealer> Network<D, S> {
     /// How many entries the journal of a provider has, by its number, also while it is down. It takes no memory.
     pub fn entries(&self, provider: u32) -> u64
         requires { provider < length self.now.kept }

@@ -12,17 +12,18 @@ use crate::laws::few_providers;
 use crate::opening::Form;
 use pec_outside::{Depot, Disk};
 use pec_provider::{CreateFault, House, Provider, ReopenFault};
+use pec_seal::Sealer;
 use std::alloc::Global;
 
 /// A provider over the disk that the depot hands out for it. Where that comes to nothing, it is kept again.
-pub(crate) fn begin_next<D: Disk, S, P: Depot<D = D>>(
+pub(crate) fn begin_next<D: Disk, S: Sealer, P: Depot<D = D>>(
     alloc: Global,
     form: Form,
     house: &House<'_, S>,
     depot: &mut P,
 ) -> Result<Provider<D>, StartFault>
     requires { house.now.me < length house.now.directory.now }
-    ensures runs { IfOk result (Runs house.now.directory.now house.now.me) }
+    ensures runs { IfOk result (Runs house.now.directory.now (S.seals house.now.sealer.now) house.now.me) }
     ensures begun { IfOk result (IsBegun P.tells D.tells D.sight house.now.directory.now form house.now.me
         (P.home depot.old house.now.me)) }
     ensures out { P.tells → OnOk result (OnlyAt (P.home depot.old) (P.home depot.new) house.now.me None) }
@@ -56,14 +57,14 @@ pub(crate) fn begin_next<D: Disk, S, P: Depot<D = D>>(
 }
 
 /// A provider over a disk. With a fault the disk comes back.
-fn begin_one<D: Disk, S>(
+fn begin_one<D: Disk, S: Sealer>(
     alloc: Global,
     form: Form,
     house: &House<'_, S>,
     disk: D,
 ) -> Result<Provider<D>, (StartFault, D)>
     requires { house.now.me < length house.now.directory.now }
-    ensures runs { IfOk result (Runs house.now.directory.now house.now.me) }
+    ensures runs { IfOk result (Runs house.now.directory.now (S.seals house.now.sealer.now) house.now.me) }
     ensures begun { IfOk result
         (IsBegun D.tells D.tells D.sight house.now.directory.now form house.now.me (Some disk)) }
     ensures later { IfOk result (λ provider. D.faults disk ≤ D.faults provider.chronicle.disk) }
@@ -81,13 +82,13 @@ fn begin_one<D: Disk, S>(
 }
 
 /// A provider on an empty disk, where its journal is made. With a fault the disk comes back.
-fn make<D: Disk, S>(
+fn make<D: Disk, S: Sealer>(
     alloc: Global,
     house: &House<'_, S>,
     disk: D,
 ) -> Result<Provider<D>, (StartFault, D)>
     requires { house.now.me < length house.now.directory.now }
-    ensures runs { IfOk result (Runs house.now.directory.now house.now.me) }
+    ensures runs { IfOk result (Runs house.now.directory.now (S.seals house.now.sealer.now) house.now.me) }
     ensures begun { IfOk result
         (IsBegun D.tells D.tells D.sight house.now.directory.now forms.Make house.now.me (Some disk)) }
     ensures later { IfOk result (λ provider. D.faults disk ≤ D.faults provider.chronicle.disk) }
@@ -109,13 +110,13 @@ fn make<D: Disk, S>(
 }
 
 /// The provider whose journal is on a disk. With a fault the disk comes back.
-fn open<D: Disk, S>(
+fn open<D: Disk, S: Sealer>(
     alloc: Global,
     house: &House<'_, S>,
     disk: D,
 ) -> Result<Provider<D>, (StartFault, D)>
     requires { house.now.me < length house.now.directory.now }
-    ensures runs { IfOk result (Runs house.now.directory.now house.now.me) }
+    ensures runs { IfOk result (Runs house.now.directory.now (S.seals house.now.sealer.now) house.now.me) }
     ensures begun { IfOk result
         (IsBegun D.tells D.tells D.sight house.now.directory.now forms.Open house.now.me (Some disk)) }
     ensures later { IfOk result (λ provider. D.faults disk ≤ D.faults provider.chronicle.disk) }

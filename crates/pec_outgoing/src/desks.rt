@@ -13,4 +13,6 @@ pub(crate) struct Desk<'a, S: Sealer> {
     pub(crate) sealer: &'a S,
     pub(crate) shelf: &'a Shelf,
     pub(crate) entries: &'a [Encoded],
+    /// Each entry from this number on that takes a message holds an envelope of it that was seen under these seals.
+    pub(crate) seen_from: u64,
 }

@@ -6,6 +6,7 @@ ghost use Rattle.pec_frames.specs.declared.TheConstants.{MOST_ADDRESSES};
 ghost use Rattle.pec_letters.specs.Fitting.{Fits};
 ghost use Rattle.pec_ledger.specs.Due.{addressee, answers_to};
 ghost use Rattle.pec_ledger.specs.Lookups.{is_home};
+ghost use Rattle.pec_plays.specs.Envelopes.{HaveEnvelopes};
 ghost use Rattle.pec_plays.specs.Frames.{due_frames, frame_of};
 ghost use Rattle.pec_trade.specs.Texts.{frame_along};
 ghost use Rattle.pec_trade.specs.TradeOf.{trade_of};
@@ -26,19 +27,22 @@ use std::alloc::{AllocError, Global};
 /// profile): of the answers that it owes that one, in their order, and then of the outcomes that nobody acknowledged
 /// and of the envelopes of messages of which nothing was heard, no more letters than the link has room for. Each is
 /// composed and sealed in the provider's own name, of its half and its entries. A letter that can't be composed, or
-/// whose frame would have more than 50,331,648 bytes, takes its room and isn't put.
+/// whose frame would have more than 50,331,648 bytes, takes its room and isn't put. Each entry from `seen_from` on that
+/// takes a message holds an envelope that was seen under these seals, so that its seal isn't opened again.
 pub fn due_frames<S: Sealer>(
     alloc: Global,
     directory: &Directory,
     sealer: &S,
     shelf: &Shelf,
     entries: &[Encoded],
+    seen_from: u64,
     to: u32,
     room: usize,
     owed: &[Letter],
 ) -> Result<Vec<Frame>, NoMemory>
     requires fits { Fits (S.seals sealer.now) (providers_of directory.now) }
     requires half { IsHalfOf directory.now (S.seals sealer.now) entries.now shelf.now }
+    requires envelopes { HaveEnvelopes (trade_of directory.now (S.seals sealer.now)) seen_from entries.now }
     ensures { IfOk result (λ frames. frames.items
         ≡ due_frames (trade_of directory.now (S.seals sealer.now)) shelf.now.me entries.now to room owed.now) }
 {
@@ -48,6 +52,7 @@ pub fn due_frames<S: Sealer>(
         sealer,
         shelf,
         entries,
+        seen_from,
     };
     let mut answers = answers_to(&desk, to, owed)?;
     answers.truncate(room);
@@ -108,6 +113,8 @@ fn put_answers<S: Sealer>(
     requires fits { Fits (S.seals desk.now.sealer.now) (providers_of desk.now.directory.now) }
     requires half { IsHalfOf desk.now.directory.now (S.seals desk.now.sealer.now) desk.now.entries.now
         desk.now.shelf.now }
+    requires envelopes { HaveEnvelopes (trade_of desk.now.directory.now (S.seals desk.now.sealer.now)) desk.now.seen_from
+        desk.now.entries.now }
     ensures { OnOk result (frames.new.items ≡ frames.old.items
         ++ filter_map (frame_of (trade_of desk.now.directory.now (S.seals desk.now.sealer.now)) desk.now.shelf.now.me
         desk.now.entries.now)
@@ -128,6 +135,8 @@ fn put_letters<S: Sealer>(
     requires fits { Fits (S.seals desk.now.sealer.now) (providers_of desk.now.directory.now) }
     requires half { IsHalfOf desk.now.directory.now (S.seals desk.now.sealer.now) desk.now.entries.now
         desk.now.shelf.now }
+    requires envelopes { HaveEnvelopes (trade_of desk.now.directory.now (S.seals desk.now.sealer.now)) desk.now.seen_from
+        desk.now.entries.now }
     ensures { OnOk result (frames.new.items ≡ frames.old.items
         ++ filter_map (frame_of (trade_of desk.now.directory.now (S.seals desk.now.sealer.now)) desk.now.shelf.now.me
         desk.now.entries.now)
@@ -149,6 +158,8 @@ fn put<S: Sealer>(
     requires fits { Fits (S.seals desk.now.sealer.now) (providers_of desk.now.directory.now) }
     requires half { IsHalfOf desk.now.directory.now (S.seals desk.now.sealer.now) desk.now.entries.now
         desk.now.shelf.now }
+    requires envelopes { HaveEnvelopes (trade_of desk.now.directory.now (S.seals desk.now.sealer.now)) desk.now.seen_from
+        desk.now.entries.now }
     ensures { OnOk result (frames.new.items ≡ frames.old.items
         ++ option_to_list (frame_of (trade_of desk.now.directory.now (S.seals desk.now.sealer.now))
         desk.now.shelf.now.me desk.now.entries.now letter.now)) }

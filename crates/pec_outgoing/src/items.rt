@@ -52,6 +52,7 @@ pub fn item<S: Sealer>(
         sealer,
         shelf,
         entries,
+        seen_from: u64::MAX,
     };
     let Some(row) = shelf.posted(account, place) else {
         return Ok(None);

@@ -5,6 +5,7 @@ ghost use Rattle.pec_letters.specs.Fitting.{Fits};
 ghost use Rattle.pec_receipts.specs.Receipts.{receipts_at};
 ghost use Rattle.pec_ledger.specs.Lookups.{addresses_of, at_home, outcome_kind};
 ghost use Rattle.pec_ledger.specs.OfDirectory.{facts_in};
+ghost use Rattle.pec_plays.specs.Envelopes.{HaveEnvelopes};
 ghost use Rattle.pec_plays.specs.Frames.{composed_by, unless_empty, unless_nobody};
 ghost use Rattle.pec_trade.specs.Texts.{envelope_bytes};
 ghost use Rattle.pec_trade.specs.TradeOf.{trade_of};
@@ -14,7 +15,7 @@ use crate::desks::Desk;
 use crate::originals::{accepted_original, taken_original};
 use crate::paths::{addresses_at, path_to, receipts_at};
 use crate::texts::{envelope_text, receipt_text};
-use pec_letters::EnvelopeView;
+use pec_letters::Enclosure;
 use pec_receipts::Receipt;
 use pec_seal::Sealer;
 use pec_types::{Address, Decision, Facts, Kind, Letter, Moment, MsgId, NoMemory};
@@ -57,6 +58,8 @@ pub(crate) fn composed<S: Sealer>(
     requires fits { Fits (S.seals desk.now.sealer.now) (providers_of desk.now.directory.now) }
     requires half { IsHalfOf desk.now.directory.now (S.seals desk.now.sealer.now) desk.now.entries.now
         desk.now.shelf.now }
+    requires envelopes { HaveEnvelopes (trade_of desk.now.directory.now (S.seals desk.now.sealer.now)) desk.now.seen_from
+        desk.now.entries.now }
     ensures { IfOk result (λ found. found ≡ composed_by (trade_of desk.now.directory.now (S.seals desk.now.sealer.now))
         desk.now.shelf.now.me desk.now.entries.now desk.now.shelf.now.half letter.now) }
 {
@@ -120,6 +123,8 @@ fn charge<S: Sealer>(desk: &Desk<'_, S>, id: MsgId, by: u32) -> Result<Option<Ou
     requires fits { Fits (S.seals desk.now.sealer.now) (providers_of desk.now.directory.now) }
     requires half { IsHalfOf desk.now.directory.now (S.seals desk.now.sealer.now) desk.now.entries.now
         desk.now.shelf.now }
+    requires envelopes { HaveEnvelopes (trade_of desk.now.directory.now (S.seals desk.now.sealer.now)) desk.now.seen_from
+        desk.now.entries.now }
     ensures { IfOk result (λ found. found ≡ composed_by (trade_of desk.now.directory.now (S.seals desk.now.sealer.now))
         desk.now.shelf.now.me desk.now.entries.now desk.now.shelf.now.half (letters.Charge id by)) }
 {
@@ -129,14 +134,10 @@ fn charge<S: Sealer>(desk: &Desk<'_, S>, id: MsgId, by: u32) -> Result<Option<Ou
     let Some(row) = desk.shelf.taken(id) else {
         return Ok(None);
     };
-    let Some(seen) = taken_original(desk, id, row)? else {
+    let Some(found) = taken_original(desk, id, row)? else {
         return Ok(None);
     };
-    let EnvelopeView {
-        facts,
-        original,
-        ..
-    } = seen;
+    let Enclosure { facts, original } = found;
     let receipt = Receipt {
         kind: Kind::Charge,
         id,
@@ -159,6 +160,8 @@ fn outcome<S: Sealer>(
     requires fits { Fits (S.seals desk.now.sealer.now) (providers_of desk.now.directory.now) }
     requires half { IsHalfOf desk.now.directory.now (S.seals desk.now.sealer.now) desk.now.entries.now
         desk.now.shelf.now }
+    requires envelopes { HaveEnvelopes (trade_of desk.now.directory.now (S.seals desk.now.sealer.now)) desk.now.seen_from
+        desk.now.entries.now }
     ensures { IfOk result (λ found. found ≡ composed_by (trade_of desk.now.directory.now (S.seals desk.now.sealer.now))
         desk.now.shelf.now.me desk.now.entries.now desk.now.shelf.now.half (letters.Outcome id recipient.now)) }
 {
@@ -168,14 +171,10 @@ fn outcome<S: Sealer>(
     let Some(row) = desk.shelf.taken(id) else {
         return Ok(None);
     };
-    let Some(seen) = taken_original(desk, id, row)? else {
+    let Some(found) = taken_original(desk, id, row)? else {
         return Ok(None);
     };
-    let EnvelopeView {
-        facts,
-        original,
-        ..
-    } = seen;
+    let Enclosure { facts, original } = found;
     let path = path_to(desk.alloc, &facts.sender)?;
     let receipt = Receipt {
         kind: outcome_kind(fate.decision()),

@@ -1,11 +1,13 @@
-ghost use Rattle.std.specs.Prelude.{◌≡◌, if◌then◌else◌, Some, None, IfOk, IfSome, option_map, slice_get};
+ghost use Rattle.std.specs.Prelude.{◌≡◌, if◌then◌else◌, Some, None, IfOk, IfSome, IsSome, option_map, slice_get};
 ghost use Rattle.std.specs.Result.{result_ok};
 ghost use Rattle.pec_directory.specs.Directory.{providers_of};
 ghost use Rattle.pec_letters.specs.SeenReading.{view};
 ghost use Rattle.pec_letters.specs.Views.{view_shown};
 ghost use Rattle.pec_ledger.specs.Ledger.{body_at};
+ghost use Rattle.pec_ledger.specs.Lookups.{taken_of};
 ghost use Rattle.pec_ledger.specs.OfDirectory.{facts_in};
 ghost use Rattle.pec_ledger.specs.Pairs.{same_id};
+ghost use Rattle.pec_plays.specs.Envelopes.{HaveEnvelopes};
 ghost use Rattle.pec_plays.specs.Frames.{original_in, original_taken};
 ghost use Rattle.pec_trade.specs.Texts.{seen_in};
 ghost use Rattle.pec_trade.specs.TradeOf.{trade_of};
@@ -14,7 +16,8 @@ ghost use Rattle.pec_outgoing.specs.Desk.{IsHalfOf};
 use crate::bodies::body;
 use crate::desks::Desk;
 use pec_ledger::an_accepted_message_has_its_original;
-use pec_letters::{EnvelopeView, read_envelope};
+use pec_letters::{Enclosure, EnvelopeView, enclosed, read_envelope, what_is_seen_is_enclosed};
+use pec_plays::taken_messages_have_envelopes;
 use pec_seal::Sealer;
 use pec_shelf::{MessageRow, TakenRow};
 use pec_trade::an_envelope_is_seen_with_its_facts;
@@ -39,23 +42,72 @@ pub(crate) fn accepted_original<'a, S: Sealer>(
     Some(original)
 }
 
-/// What is seen of the envelope with which a message was taken, where it is one of that message; with the original's
-/// facts.
+/// The original in the envelope with which a message was taken, of which this is the row, where it is an envelope of that
+/// message; with the original's facts. Where the envelope was seen before under these seals it isn't opened again.
 pub(crate) fn taken_original<'a, S: Sealer>(
     desk: &Desk<'a, S>,
     id: MsgId,
     row: &TakenRow,
-) -> Result<Option<EnvelopeView<'a>>, NoMemory>
-    ensures original { IfOk result (λ found. option_map (λ seen. seen.original.now) found
+) -> Result<Option<Enclosure<'a>>, NoMemory>
+    requires half { IsHalfOf desk.now.directory.now (S.seals desk.now.sealer.now) desk.now.entries.now
+        desk.now.shelf.now }
+    requires envelopes { HaveEnvelopes (trade_of desk.now.directory.now (S.seals desk.now.sealer.now)) desk.now.seen_from
+        desk.now.entries.now }
+    requires row { taken_of desk.now.shelf.now.half id ≡ Some row.now }
+    ensures original { IfOk result (λ found. option_map (λ found. found.original.now) found
         ≡ original_taken (trade_of desk.now.directory.now (S.seals desk.now.sealer.now)) desk.now.shelf.now.me
         desk.now.entries.now id row.now) }
-    ensures facts { IfOk result (λ found. IfSome found (λ seen. facts_in seen.original.now ≡ Some seen.facts)) }
+    ensures facts { IfOk result (λ found. IfSome found (λ found. facts_in found.original.now ≡ Some found.facts)) }
 {
+    taken_messages_have_envelopes();
     let Some(envelope) = body(desk.entries, row.entry()) else {
         return Ok(None);
     };
-    let seen = seen_of(desk, id, envelope)?;
-    Ok(seen)
+    let found = if desk.seen_from <= row.entry() {
+        seen_again(desk, id, envelope)?
+    } else {
+        seen_first(desk, id, envelope)?
+    };
+    Ok(found)
+}
+
+/// The original in an envelope of this message that was seen before.
+fn seen_again<'a, S: Sealer>(
+    desk: &Desk<'_, S>,
+    id: MsgId,
+    envelope: &'a [u8],
+) -> Result<Option<Enclosure<'a>>, NoMemory>
+    requires { IsSome (original_in id (seen_in (S.seals desk.now.sealer.now) (providers_of desk.now.directory.now)
+        envelope.now)) }
+    ensures original { IfOk result (λ found. option_map (λ found. found.original.now) found
+        ≡ original_in id (seen_in (S.seals desk.now.sealer.now) (providers_of desk.now.directory.now) envelope.now)) }
+    ensures facts { IfOk result (λ found. IfSome found (λ found. facts_in found.original.now ≡ Some found.facts)) }
+{
+    what_is_seen_is_enclosed();
+    an_envelope_is_seen_with_its_facts::<S>();
+    let found = enclosed(desk.alloc, envelope)?;
+    Ok(found)
+}
+
+/// The original in an envelope, where it is one of this message.
+fn seen_first<'a, S: Sealer>(
+    desk: &Desk<'_, S>,
+    id: MsgId,
+    envelope: &'a [u8],
+) -> Result<Option<Enclosure<'a>>, NoMemory>
+    ensures original { IfOk result (λ found. option_map (λ found. found.original.now) found
+        ≡ original_in id (seen_in (S.seals desk.now.sealer.now) (providers_of desk.now.directory.now) envelope.now)) }
+    ensures facts { IfOk result (λ found. IfSome found (λ found. facts_in found.original.now ≡ Some found.facts)) }
+{
+    let Some(seen) = seen_of(desk, id, envelope)? else {
+        return Ok(None);
+    };
+    let EnvelopeView {
+        facts,
+        original,
+        ..
+    } = seen;
+    Ok(Some(Enclosure { facts, original }))
 }
 
 /// What is seen of an envelope, where it is one of this message.

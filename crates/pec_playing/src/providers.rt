@@ -19,7 +19,7 @@ use std::alloc::Global;
 // Commands of one provider, by its number. What it refuses is told in one line.
 
 /// A network has the providers of its directory.
-pub(crate) fn as_many_providers<D, S>(network: &Network<D, S>)
+pub(crate) fn as_many_providers<D, S: Sealer>(network: &Network<D, S>)
     ensures { length network.now.providers ≡ length network.now.kept }
 {
     network.directory();

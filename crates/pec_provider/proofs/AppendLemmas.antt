@@ -1,7 +1,7 @@
 -- What the append of an entry leaves of a provider.
-use Rattle.std.proofs.Common.{◌≡◌, ℕ, ◌+◌, ◌<◌, ◌≤◌, Bool, true, false, not, List, map, refl, ap, sym, subst, ◌∙◌, arith}
+use Rattle.std.proofs.Common.{[], ◌∷◌, ◌++◌, Some, None, ◌≡◌, ℕ, ◌+◌, ◌<◌, ◌≤◌, Bool, true, false, not, List, map, refl, ap, sym, subst, ◌∙◌, arith}
 use Rattle.std.proofs.Common.{Global, Option, Ok, Err, Result, Vec}
-use Rattle.std.specs.Prelude.{IfErr, IfOk, OnOk, nat_lt}
+use Rattle.std.specs.Prelude.{IfErr, IfOk, IfSome, OnOk, nat_lt}
 use Rattle.pec_types.specs.declared.letters.Letter.{Letter}
 use Rattle.pec_types.specs.declared.mailboxes.Mark.{Mark}
 use Rattle.pec_types.specs.declared.turns.ProviderFault.{ProviderFault}
@@ -13,11 +13,14 @@ use Rattle.pec_ledger.specs.OfDirectory.{IsOf}
 use Rattle.pec_ledger.specs.Steps.{half, marks_by, size_of}
 use Rattle.pec_ledger.specs.Trade.{Trade}
 use Rattle.pec_plays.specs.Commands.{told_mark}
+use Rattle.pec_plays.specs.Envelopes.{HasEnvelope, HaveEnvelopes}
 use Rattle.pec_plays.specs.Steps.{has_no_room, longest_journal}
 use Rattle.pec_chronicle.specs.Chronicle.{ChronicleState}
+use Rattle.pec_seal.specs.Seals.{Seals}
 use Rattle.pec_shelf.specs.Seen.{Seen}
 use Rattle.pec_stock.specs.Entering.{AreMarks, Entered, Failed, Same, Torn}
 use Rattle.pec_stock.specs.Stock.{Agree}
+use Rattle.pec_trade.specs.TradeOf.{trade_of}
 use Rattle.pec_provider.specs.Appending.{Appends, entered}
 use Rattle.pec_provider.specs.Provider.{Desk, ProviderState, Runs, desk_of}
 use Rattle.pec_provider.specs.Working.{broken}
@@ -52,10 +55,10 @@ same_desk journal journal2 owed down down2 interrupted interrupted2 a b c = rw (
 
 module _ {D : Type 0} (old new : ChronicleState D) (before after : Seen) (owed : List Letter) (places : ℕ) where
   abbrev pub desk_before : Desk
-  desk_before = desk_of (record { chronicle = old; shelf = before; owed = owed; places = places })
+  desk_before = desk_of (record { chronicle = old; shelf = before; owed = owed; places = places; seen_from = 0 })
 
   abbrev pub desk_after : Desk
-  desk_after = desk_of (record { chronicle = new; shelf = after; owed = owed; places = places })
+  desk_after = desk_of (record { chronicle = new; shelf = after; owed = owed; places = places; seen_from = 0 })
 
   pub same_desks : Same old new → desk_after ≡ desk_before
   same_desks same = same_desk old.entries new.entries owed old.down new.down old.interrupted new.interrupted
@@ -90,20 +93,71 @@ module _ {D : Type 0} (old new : ChronicleState D) (before after : Seen) (owed :
     )
     appends_err X faults.NoMemory same = same_desks same
 
+-- ---- envelopes
+
+-- one more entry may follow those that hold envelopes
+abbrev More : Type 0
+More = (trade : Trade) (from : ℕ) (journal : List Entry) (entry : Entry) → HaveEnvelopes trade from journal
+    → HasEnvelope trade entry → HaveEnvelopes trade from (journal ++ entry ∷ [])
+
+module _ {D : Type 0} (more : More) (trade : Trade) (from : ℕ) (old new : ChronicleState D) (entry : Entry)
+    (have : HaveEnvelopes trade from old.entries) where
+  same_envelopes : new.entries ≡ old.entries → HaveEnvelopes trade from new.entries
+  same_envelopes same = subst (HaveEnvelopes trade from) (sym same) have
+
+  failed_envelopes : (fault : ProviderFault) → Failed old new entry fault → HaveEnvelopes trade from new.entries
+  failed_envelopes faults.DiskFault torn = same_envelopes torn.entries
+  failed_envelopes faults.Down none = absurd none
+  failed_envelopes (faults.ClockBack moment) none = absurd none
+  failed_envelopes faults.NoAccount none = absurd none
+  failed_envelopes faults.Full none = absurd none
+  failed_envelopes faults.NoItem none = absurd none
+  failed_envelopes faults.JournalFull full = same_envelopes full.same.entries
+  failed_envelopes faults.NoMemory same = same_envelopes same.entries
+
+  envelopes_after : {X : Type 0} (r : Result X ProviderFault) → OnOk r (Entered old new entry) → IfErr r (Failed old new entry)
+      → HasEnvelope trade entry → HaveEnvelopes trade from new.entries
+  envelopes_after (Ok x) came failed has =
+      subst (HaveEnvelopes trade from) (sym came.entries) (more trade from old.entries entry have has)
+  envelopes_after (Err fault) came failed has = failed_envelopes fault failed
+
 -- a provider whose entries and half went on together runs as before
-pub runs_on : {D : Type 0} (kept : List Kept) (me : ℕ) (old new : ProviderState D) → Runs kept me old
-    → new.shelf.me ≡ old.shelf.me
-    → Agree kept new.chronicle new.shelf → Runs kept me new
-runs_on kept me old new runs same agree = record { number = runs.number; is = same ∙ runs.is; agree = agree }
+pub runs_on : {D : Type 0} {seals : Seals} (more : More) (kept : List Kept) (me : ℕ) (inside old : ProviderState D)
+    → inside ≡ old
+    → (new : ChronicleState D) (after : Seen) (places : ℕ) (entry : Entry) {X : Type 0} (r : Result X ProviderFault)
+    → OnOk r (Entered inside.chronicle new entry) → IfErr r (Failed inside.chronicle new entry)
+    → after.me ≡ inside.shelf.me → Agree kept new after → HasEnvelope (trade_of kept seals) entry → Runs kept seals me old
+    → Runs kept seals me (record {
+      chronicle = new;
+      shelf = after;
+      owed = inside.owed;
+      places = places;
+      seen_from = inside.seen_from;
+    })
+runs_on {D} {seals} more kept me inside old view new after places entry r came failed same agree has runs =
+    let before : Runs kept seals me inside = subst (λ (p : ProviderState D). Runs kept seals me p) (sym view) runs in
+    record {
+      number = before.number;
+      is = same ∙ before.is;
+      agree = agree;
+      envelopes = envelopes_after more (trade_of kept seals) inside.seen_from inside.chronicle new entry before.envelopes r
+          came failed has;
+    }
+
+-- an entry, if there is one, is so
+pub any_has : {P : Entry → Type 0} (found : Option Entry) → ((entry : Entry) → found ≡ Some entry → P entry)
+    → IfSome found P
+any_has None so = tt
+any_has (Some entry) so = so entry refl
 
 -- what the append of an entry leaves, by what it leaves of the entries
-module _ {D : Type 0} (kept : List Kept) (me : ℕ) (inside old : ProviderState D) (view : inside ≡ old)
+module _ {D : Type 0} {seals : Seals} (kept : List Kept) (me : ℕ) (inside old : ProviderState D) (view : inside ≡ old)
     (new : ChronicleState D)
-    (after : Seen) (places : ℕ) (entry : Entry) (runs : Runs kept me old) (up : old.chronicle.down ≡ false)
+    (after : Seen) (places : ℕ) (entry : Entry) (runs : Runs kept seals me old) (up : old.chronicle.down ≡ false)
     (trade : Trade)
     (of : IsOf kept trade) where
   abbrev pub left : Desk
-  left = desk_of {D = D} (record { chronicle = new; shelf = after; owed = inside.owed; places = places })
+  left = desk_of {D = D} (record { chronicle = new; shelf = after; owed = inside.owed; places = places; seen_from = 0 })
 
   ends : inside.chronicle.end ≡ (half trade me inside.chronicle.entries).end
   ends = subst (λ (p : ProviderState D). p.chronicle.end ≡ (half trade me p.chronicle.entries).end) (sym view)
@@ -126,8 +180,8 @@ module _ {D : Type 0} (kept : List Kept) (me : ℕ) (inside old : ProviderState 
   left_any {X} (Err fault) came failed = left_err X fault failed
 
 -- the marks of an entry, by the half that a provider's entries come to
-module _ {D : Type 0} (kept : List Kept) (me : ℕ) (inside old : ProviderState D) (view : inside ≡ old) (entry : Entry)
-    (runs : Runs kept me old) (trade : Trade) (of : IsOf kept trade) where
+module _ {D : Type 0} {seals : Seals} (kept : List Kept) (me : ℕ) (inside old : ProviderState D) (view : inside ≡ old) (entry : Entry)
+    (runs : Runs kept seals me old) (trade : Trade) (of : IsOf kept trade) where
   marks_so : (marks : List Mark) → AreMarks kept inside.shelf entry marks
       → marks ≡ map told_mark (marks_by trade me (half trade me old.chronicle.entries) entry)
   marks_so marks are =

@@ -14,29 +14,32 @@ use Rattle.pec_ledger.specs.Steps.{half}
 use Rattle.pec_ledger.specs.Trade.{Trade}
 use Rattle.pec_chronicle.specs.Chronicle.{ChronicleState, Stands, down_over, past_of}
 use Rattle.pec_shelf.specs.Prepared.{AreSteps, IsStep}
+use Rattle.pec_plays.specs.Envelopes.{HaveEnvelopes}
+use Rattle.pec_seal.specs.Seals.{Seals}
 use Rattle.pec_shelf.specs.Seen.{Seen}
 use Rattle.pec_stock.specs.Entering.{Steps}
 use Rattle.pec_stock.specs.Stock.{Agree}
+use Rattle.pec_trade.specs.TradeOf.{trade_of}
 use Rattle.pec_provider.specs.Appending.{MayEnter}
 use Rattle.pec_provider.specs.Provider.{ProviderState, Runs}
 
 -- its half is what its entries come to
-pub half_runs : {D : Type 0} (kept : List Kept) (me : ℕ) (provider : ProviderState D) (trade : Trade)
-    → Runs kept me provider → IsOf kept trade
+pub half_runs : {D : Type 0} {seals : Seals} (kept : List Kept) (me : ℕ) (provider : ProviderState D) (trade : Trade)
+    → Runs kept seals me provider → IsOf kept trade
     → provider.shelf.half ≡ half trade me provider.chronicle.entries
 half_runs kept me provider trade runs of =
     runs.agree.holds.is_half trade of ∙ ap (λ (n : ℕ). half trade n provider.chronicle.entries) runs.is
 
 -- while it is up its journal ends where the half says
-pub end_runs : {D : Type 0} (kept : List Kept) (me : ℕ) (provider : ProviderState D) (trade : Trade)
-    → Runs kept me provider → IsOf kept trade
+pub end_runs : {D : Type 0} {seals : Seals} (kept : List Kept) (me : ℕ) (provider : ProviderState D) (trade : Trade)
+    → Runs kept seals me provider → IsOf kept trade
     → provider.chronicle.down ≡ false → provider.chronicle.end ≡ (half trade me provider.chronicle.entries).end
 end_runs kept me provider trade runs of up = runs.agree.ends up
     ∙ ap (λ (h : Half). h.end) (half_runs kept me provider trade runs of)
 
 -- a step of its entries is one of its shelf
-pub step_runs : {D : Type 0} (kept : List Kept) (me : ℕ) (provider : ProviderState D) (entry : Entry)
-    → Runs kept me provider
+pub step_runs : {D : Type 0} {seals : Seals} (kept : List Kept) (me : ℕ) (provider : ProviderState D) (entry : Entry)
+    → Runs kept seals me provider
     → MayEnter kept me provider.chronicle.entries entry → Steps kept provider.shelf entry
 step_runs kept me provider entry runs may = record {
   trade = may.trade;
@@ -63,19 +66,22 @@ agree_down kept old new shelf agree entries interrupted down = record {
   own = λ trade of choice. rw (entries, interrupted) (agree.own trade of choice);
 }
 
-pub runs_down : {D : Type 0} (kept : List Kept) (me : ℕ) (inside old : ProviderState D) → inside ≡ old
+pub runs_down : {D : Type 0} {seals : Seals} (kept : List Kept) (me : ℕ) (inside old : ProviderState D) → inside ≡ old
     → (new : ChronicleState D)
-    (after : Seen) (owed : List Letter) (places : ℕ) → after ≡ inside.shelf
+    (after : Seen) (owed : List Letter) (places from : ℕ) → after ≡ inside.shelf → from ≡ inside.seen_from
     → new ≡ down_over (past_of inside.chronicle) new.disk
-    → Runs kept me old → Runs kept me (record { chronicle = new; shelf = after; owed = owed; places = places })
-runs_down {D} kept me inside old view new after owed places same down runs =
-    let before : Runs kept me inside = subst (λ (p : ProviderState D). Runs kept me p) (sym view) runs in
-    rw same (record {
+    → Runs kept seals me old
+    → Runs kept seals me (record { chronicle = new; shelf = after; owed = owed; places = places; seen_from = from })
+runs_down {D} {seals} kept me inside old view new after owed places from same seen down runs =
+    let before : Runs kept seals me inside = subst (λ (p : ProviderState D). Runs kept seals me p) (sym view) runs in
+    let entries : new.entries ≡ inside.chronicle.entries = ap (λ s. s.entries) down in
+    rw (same, seen) (record {
       number = before.number;
       is = before.is;
-      agree = agree_down kept inside.chronicle new inside.shelf before.agree (ap (λ s. s.entries) down)
+      agree = agree_down kept inside.chronicle new inside.shelf before.agree entries
           (ap (λ s. s.interrupted) down)
           (ap (λ s. s.down) down);
+      envelopes = subst (HaveEnvelopes (trade_of kept seals) inside.seen_from) (sym entries) before.envelopes;
     })
 
 -- what a restart finds of what stands inside it finds of the provider
@@ -91,27 +97,27 @@ found_inside {D} sight entries inside old view found =
 
 -- ---- by what stands in the provider
 
-pub me_runs : {D : Type 0} (kept : List Kept) (me : ℕ) (inside old : ProviderState D) → inside ≡ old → Runs kept me old
+pub me_runs : {D : Type 0} {seals : Seals} (kept : List Kept) (me : ℕ) (inside old : ProviderState D) → inside ≡ old → Runs kept seals me old
     → inside.shelf.me ≡ me
 me_runs {D} kept me inside old view runs = ap (λ (p : ProviderState D). p.shelf.me) view ∙ runs.is
 
-pub count_runs : {D : Type 0} (kept : List Kept) (me : ℕ) (inside old : ProviderState D) → inside ≡ old
-    → (trade : Trade) → Runs kept me old
+pub count_runs : {D : Type 0} {seals : Seals} (kept : List Kept) (me : ℕ) (inside old : ProviderState D) → inside ≡ old
+    → (trade : Trade) → Runs kept seals me old
     → IsOf kept trade → length inside.shelf.half.messages ≡ length (half trade me old.chronicle.entries).messages
 count_runs {D} kept me inside old view trade runs of =
     ap (λ (p : ProviderState D). length p.shelf.half.messages) view
     ∙ ap (λ (h : Half). length h.messages) (half_runs kept me old trade runs of)
 
-pub half_inside : {D : Type 0} (kept : List Kept) (me : ℕ) (inside old : ProviderState D) → inside ≡ old
-    → (trade : Trade) → Runs kept me old
+pub half_inside : {D : Type 0} {seals : Seals} (kept : List Kept) (me : ℕ) (inside old : ProviderState D) → inside ≡ old
+    → (trade : Trade) → Runs kept seals me old
     → IsOf kept trade → inside.shelf.half ≡ half trade inside.shelf.me old.chronicle.entries
 half_inside {D} kept me inside old view trade runs of =
     subst (λ (p : ProviderState D). p.shelf.half ≡ half trade p.shelf.me old.chronicle.entries) (sym view)
     (runs.agree.holds.is_half trade of)
 
 -- each of its entries is a step of those before it
-pub steps_inside : {D : Type 0} (kept : List Kept) (me : ℕ) (inside old : ProviderState D) → inside ≡ old
-    → (trade : Trade) → Runs kept me old
+pub steps_inside : {D : Type 0} {seals : Seals} (kept : List Kept) (me : ℕ) (inside old : ProviderState D) → inside ≡ old
+    → (trade : Trade) → Runs kept seals me old
     → IsOf kept trade → AreSteps trade inside.shelf.me old.chronicle.entries
 steps_inside {D} kept me inside old view trade runs of =
     subst (λ (p : ProviderState D). AreSteps trade p.shelf.me old.chronicle.entries) (sym view)

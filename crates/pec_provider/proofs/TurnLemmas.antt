@@ -290,3 +290,18 @@ some_next trade me now journal next received shows some =
     let s : ShowsNext trade me now journal (Some received) = subst
     (λ (o : Option Received). ShowsNext trade me now journal o) some shows in
     record { pair = s.0; pairs = s.1; first = s.2; shows = s.3 }
+
+-- want of memory decides nothing
+no_memory_first : (trade : Trade) (me now : ℕ) (desk : Desk) (pairs : List Pair)
+    → DecidesFirst trade me now pairs desk desk (Err faults.NoMemory)
+no_memory_first trade me now desk [] = refl
+no_memory_first trade me now desk (pair ∷ pairs) = refl
+
+pub no_memory_handed : (trade : Trade) (me now : ℕ) (desk : Desk) (pairs : List Pair)
+    (result : Result (Option Event) ProviderFault)
+    → IsErrAnd result (λ f. f ≡ faults.NoMemory) → DecidesFirst trade me now pairs desk desk result
+no_memory_handed trade me now desk pairs result is =
+    let p = err_from_is_err_and result is in
+    subst (λ (r : Result (Option Event) ProviderFault). DecidesFirst trade me now pairs desk desk r) (sym p.1)
+    (subst (λ (f : ProviderFault). DecidesFirst trade me now pairs desk desk (Err f)) (sym p.2)
+    (no_memory_first trade me now desk pairs))

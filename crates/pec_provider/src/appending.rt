@@ -8,6 +8,9 @@ ghost use Rattle.pec_ledger.specs.OfDirectory.{IsOf};
 ghost use Rattle.pec_ledger.specs.Steps.{half, marks_by};
 ghost use Rattle.pec_ledger.specs.Trade.{Trade};
 ghost use Rattle.pec_plays.specs.Commands.{told_mark};
+ghost use Rattle.pec_plays.specs.Envelopes.{HasEnvelope};
+ghost use Rattle.pec_trade.specs.TradeOf.{trade_of};
+ghost use Rattle.pec_seal.specs.Seals.{Seals};
 ghost use Rattle.pec_chronicle.specs.Carrying.{CarriesOn};
 ghost use Rattle.pec_stock.specs.Entering.{OnlyMay};
 ghost use Rattle.pec_provider.specs.Appending.{Appends, MayEnter, WorksAt};
@@ -16,7 +19,9 @@ ghost use Rattle.pec_provider.specs.Provider.{Runs, desk_of};
 use crate::house::House;
 use crate::provider::Provider;
 use pec_outside::Disk;
+use pec_plays::taken_messages_have_envelopes;
 use pec_records::Entry;
+use pec_seal::Sealer;
 use pec_stock::enter;
 use pec_types::{Mark, Moment, ProviderFault};
 use std::alloc::Global;
@@ -24,7 +29,7 @@ use std::alloc::Global;
 impl<D> Provider<D> {
     /// Whether the provider is at work at a moment: it is up, and its journal has no later moment. It takes no memory.
     pub fn at_work(&self, now: Moment) -> Result<(), ProviderFault>
-        ensures works { (kept : List Kept) (me : ℕ) (trade : Trade) → Runs kept me self.now → IsOf kept trade
+        ensures works { (kept : List Kept) (seals : Seals) (me : ℕ) (trade : Trade) → Runs kept seals me self.now → IsOf kept trade
             → WorksAt trade me now (desk_of self.now) result }
         ensures up { OnOk result (self.now.chronicle.down ≡ false) }
         ensures no_disk_fault { IsErrOf result faults.DiskFault → ⊥ }
@@ -45,29 +50,31 @@ impl<D: Disk> Provider<D> {
     /// Appends an entry that is a step, and takes it in once it is durable. All memory is taken before. The answer is
     /// the marks of a clock call, and none for another entry.
     // It takes the entry, so that the drop of one is written here alone, and not in every call that appends.
-    pub(crate) fn append<S>(
+    pub(crate) fn append<S: Sealer>(
         &mut self,
         alloc: Global,
         house: &House<'_, S>,
         entry: Entry,
     ) -> Result<Vec<Mark>, ProviderFault>
         requires up { self.old.chronicle.down ≡ false }
-        requires runs { Runs house.now.directory.now house.now.me self.old }
+        requires runs { Runs house.now.directory.now (S.seals house.now.sealer.now) house.now.me self.old }
         requires limits { IsWithinLimits entry }
         requires step { MayEnter house.now.directory.now house.now.me self.old.chronicle.entries entry }
+        requires envelope { HasEnvelope (trade_of house.now.directory.now (S.seals house.now.sealer.now)) entry }
         ensures appends { (trade : Trade) → IsOf house.now.directory.now trade
             → Appends trade house.now.me entry (desk_of self.old) (desk_of self.new) result }
         ensures marks { (trade : Trade) → IsOf house.now.directory.now trade → IfOk result (λ marks. marks.items
             ≡ map told_mark
             (marks_by trade house.now.me (half trade house.now.me self.old.chronicle.entries) entry)) }
         ensures owed { (self.new.owed ≡ self.old.owed) × (self.new.places ≡ self.old.places) }
-        ensures runs { Runs house.now.directory.now house.now.me self.new }
+        ensures runs { Runs house.now.directory.now (S.seals house.now.sealer.now) house.now.me self.new }
         ensures carries { D.tells → CarriesOn D.sight (OnlyMay self.old.chronicle.entries (Some entry))
             self.old.chronicle self.new.chronicle }
         ensures disk_fault { IsErrOf result faults.DiskFault → HasRisen (D.faults self.old.chronicle.disk)
             (D.faults self.new.chronicle.disk) }
         ensures later { D.faults self.old.chronicle.disk ≤ D.faults self.new.chronicle.disk }
     {
+        taken_messages_have_envelopes();
         enter(
             alloc,
             house.directory,

@@ -7,6 +7,7 @@ ghost use Rattle.pec_records.specs.Entry.{IsWithinLimits, longest_message, most_
 ghost use Rattle.pec_ledger.specs.Ledger.{Journals, Meets};
 ghost use Rattle.pec_ledger.specs.Steps.{half};
 ghost use Rattle.pec_plays.specs.Commands.{Marks, Submit, Submits, Tick, entry_by, played, screened_cause, told_by};
+ghost use Rattle.pec_plays.specs.Envelopes.{HasEnvelope};
 ghost use Rattle.pec_points.specs.Admission.{Looked};
 ghost use Rattle.pec_points.specs.Case.{case_at};
 ghost use Rattle.pec_screen.specs.VerdictReading.{finds};
@@ -21,7 +22,7 @@ ghost use Rattle.pec_provider.specs.Provider.{Runs, desk_of};
 use crate::house::{House, a_house_is_a_trade};
 use crate::provider::Provider;
 use pec_outside::Disk;
-use pec_plays::what_a_provider_does_may_follow;
+use pec_plays::{what_a_provider_does_may_follow, what_a_provider_takes_is_an_envelope};
 use pec_points::{Admission, a_message_has_one_answer, admit};
 use pec_records::Entry;
 use pec_screen::Judge;
@@ -48,7 +49,7 @@ impl<D: Disk> Provider<D> {
         message: &[u8],
         screens: &mut J,
     ) -> Result<Submitted, ProviderFault>
-        requires runs { Runs house.now.directory.now house.now.me self.old }
+        requires runs { Runs house.now.directory.now (S.seals house.now.sealer.now) house.now.me self.old }
         requires fits { Fits (S.seals house.now.sealer.now) (providers_of house.now.directory.now) }
         requires path { (0 < length path.now) × (length path.now ≤ most_addresses) }
         requires message { length message.now ≤ longest_message }
@@ -63,7 +64,7 @@ impl<D: Disk> Provider<D> {
             message.now (finds (J.patterns screens.old) message.now)) (J.seen screens.old) (J.seen screens.new) result }
         ensures patterns { J.patterns screens.new ≡ J.patterns screens.old }
         ensures owed { self.new.owed ≡ self.old.owed }
-        ensures runs { Runs house.now.directory.now house.now.me self.new }
+        ensures runs { Runs house.now.directory.now (S.seals house.now.sealer.now) house.now.me self.new }
 
         // At every moment a crash leaves the journal of the entries, with or without the one that the call appends,
         // which may follow in the ledger of any journals.
@@ -90,12 +91,12 @@ impl<D: Disk> Provider<D> {
         house: &House<'_, S>,
         moment: Moment,
     ) -> Result<Vec<Mark>, ProviderFault>
-        requires { Runs house.now.directory.now house.now.me self.old }
+        requires { Runs house.now.directory.now (S.seals house.now.sealer.now) house.now.me self.old }
         ensures plays { Plays (λ marks. Marks marks.items) (λ luck sites.
             played (trade_of house.now.directory.now (S.seals house.now.sealer.now)) luck sites
             (Tick house.now.me moment)) house.now.me (desk_of self.old) (desk_of self.new) result }
         ensures owed { self.new.owed ≡ self.old.owed }
-        ensures runs { Runs house.now.directory.now house.now.me self.new }
+        ensures runs { Runs house.now.directory.now (S.seals house.now.sealer.now) house.now.me self.new }
         ensures carries { D.tells → (journals : Journals) → CarriesOn D.sight
             (MayFollow (trade_of house.now.directory.now (S.seals house.now.sealer.now)) journals house.now.me)
             self.old.chronicle self.new.chronicle }
@@ -124,7 +125,7 @@ impl<D> Provider<D> {
         message: &[u8],
         screens: &mut J,
     ) -> Result<(Entry, Submitted), ProviderFault>
-        requires runs { Runs house.now.directory.now house.now.me self.now }
+        requires runs { Runs house.now.directory.now (S.seals house.now.sealer.now) house.now.me self.now }
         requires fits { Fits (S.seals house.now.sealer.now) (providers_of house.now.directory.now) }
         requires path { (0 < length path.now) × (length path.now ≤ most_addresses) }
         requires message { length message.now ≤ longest_message }
@@ -139,9 +140,12 @@ impl<D> Provider<D> {
             Meets (trade_of house.now.directory.now (S.seals house.now.sealer.now)) journals house.now.me
             (half (trade_of house.now.directory.now (S.seals house.now.sealer.now)) house.now.me
             self.now.chronicle.entries) made.0) }
+        ensures envelope { IfOk result (λ made.
+            HasEnvelope (trade_of house.now.directory.now (S.seals house.now.sealer.now)) made.0) }
     {
         a_house_is_a_trade(house);
         what_a_provider_does_may_follow();
+        what_a_provider_takes_is_an_envelope();
         if !house.directory.is_account_of(house.me, sender) {
             return Err(ProviderFault::NoAccount);
         }

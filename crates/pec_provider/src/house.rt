@@ -9,7 +9,7 @@ use pec_seal::Sealer;
 use pec_trade::{a_trade_says_what_its_parts_say, the_texts_are_a_trade};
 
 /// Where a provider is at home: the directory, who seals for its providers, and the provider's number in it, from 0. In
-/// all calls of one provider the directory and the number are the same.
+/// all calls of one provider these three are the same.
 #[derive(Drop)]
 pub struct House<'a, S> {
     pub directory: &'a Directory,

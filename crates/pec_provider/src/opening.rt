@@ -13,27 +13,31 @@ ghost use Rattle.pec_chronicle.specs.Carrying.{CarriesOn, NothingMay};
 ghost use Rattle.pec_chronicle.specs.Chronicle.{IsJournalOf, Stands};
 ghost use Rattle.pec_chronicle.specs.declared.faults.CreateFault.TheVariants as create;
 ghost use Rattle.pec_stock.specs.Opening.{IsOutside, IsUnfit};
-ghost use Rattle.pec_stock.specs.Stock.{IsOwn};
+ghost use Rattle.pec_seal.specs.Seals.{Seals};
+ghost use Rattle.pec_stock.specs.Stock.{Agree, IsOwn};
 ghost use Rattle.pec_stock.specs.declared.faults.ReopenFault.TheVariants as reopen;
 ghost use Rattle.pec_provider.specs.Provider.{Runs, desk_of, fresh, stopped};
 
 use crate::house::House;
 use crate::provider::Provider;
-use pec_chronicle::CreateFault;
+use pec_chronicle::{Chronicle, CreateFault};
 use pec_outside::{Depot, Disk};
+use pec_plays::taken_messages_have_envelopes;
+use pec_seal::Sealer;
+use pec_shelf::Shelf;
 use pec_stock::{ReopenFault, begin, open, restart};
 use std::alloc::Global;
 
 impl<D: Disk> Provider<D> {
     /// A provider on an empty disk: its journal is made, with its Start. A crash during the call may leave a disk that
     /// holds bytes and is no journal. With a fault the disk comes back; one that was empty may hold bytes then.
-    pub fn create<S>(
+    pub fn create<S: Sealer>(
         alloc: Global,
         house: &House<'_, S>,
         disk: D,
     ) -> Result<Provider<D>, (CreateFault, D)>
         requires { house.now.me < length house.now.directory.now }
-        ensures runs { IfOk result (Runs house.now.directory.now house.now.me) }
+        ensures runs { IfOk result (Runs house.now.directory.now (S.seals house.now.sealer.now) house.now.me) }
         ensures created { IfOk result (λ provider. desk_of provider
             ≡ fresh (entries.Start house.now.me (digest_of (providers_of house.now.directory.now)) ∷ [])) }
         ensures stands { D.tells → IfOk result (λ provider. Stands D.sight provider.chronicle) }
@@ -50,11 +54,7 @@ impl<D: Disk> Provider<D> {
         ensures later_err { IfErr result (λ fault. D.faults disk ≤ D.faults fault.1) }
     {
         match begin(alloc, house.directory, house.me, disk) {
-            Ok((chronicle, shelf)) => Ok(Provider {
-                chronicle,
-                shelf,
-                owed: Vec::new(alloc),
-            }),
+            Ok((chronicle, shelf)) => Ok(opened(alloc, house, chronicle, shelf)),
             Err(fault) => Err(fault),
         }
     }
@@ -62,13 +62,13 @@ impl<D: Disk> Provider<D> {
     /// The provider whose journal is on a disk, which is first made durable as it reads: up, and nothing is owed. It
     /// writes nothing, reads each entry once, and takes time and memory in proportion to the journal. With a fault the
     /// disk comes back.
-    pub fn reopen<S>(
+    pub fn reopen<S: Sealer>(
         alloc: Global,
         house: &House<'_, S>,
         disk: D,
     ) -> Result<Provider<D>, (ReopenFault, D)>
         requires { house.now.me < length house.now.directory.now }
-        ensures runs { IfOk result (Runs house.now.directory.now house.now.me) }
+        ensures runs { IfOk result (Runs house.now.directory.now (S.seals house.now.sealer.now) house.now.me) }
         ensures up { IfOk result (λ provider. desk_of provider ≡ fresh provider.chronicle.entries) }
         ensures opened { D.tells → IfOk result (λ provider.
             IsJournalOf provider.chronicle.entries (D.sight disk).seen × Stands D.sight provider.chronicle) }
@@ -87,11 +87,7 @@ impl<D: Disk> Provider<D> {
         ensures later_err { IfErr result (λ refused. D.faults disk ≤ D.faults refused.1) }
     {
         match open(alloc, house.directory, house.me, disk) {
-            Ok((chronicle, shelf)) => Ok(Provider {
-                chronicle,
-                shelf,
-                owed: Vec::new(alloc),
-            }),
+            Ok((chronicle, shelf)) => Ok(opened(alloc, house, chronicle, shelf)),
             Err(fault) => Err(fault),
         }
     }
@@ -100,7 +96,7 @@ impl<D: Disk> Provider<D> {
     /// reads as a crash may have left the old one. It takes no memory.
     pub fn crash<P: Depot<D = D>>(self, depot: &mut P, me: u32) -> Provider<D>
         requires { me < depot_places }
-        ensures runs { (kept : List Kept) → Runs kept me self → Runs kept me result }
+        ensures runs { (kept : List Kept) (seals : Seals) → Runs kept seals me self → Runs kept seals me result }
         ensures stopped { desk_of result ≡ stopped (desk_of self) }
         ensures carries { D.tells → CarriesOn D.sight NothingMay self.chronicle result.chronicle }
         ensures left { D.tells → (D.sight self.chronicle.disk).may_leave (D.sight result.chronicle.disk).seen }
@@ -111,24 +107,25 @@ impl<D: Disk> Provider<D> {
         ensures last { Alike (P.last depot.old) (P.last depot.new) }
         ensures later { P.faults depot.old ≤ P.faults depot.new }
     {
-        let (chronicle, shelf, owed) = self.parts();
+        let (chronicle, shelf, owed, seen_from) = self.parts();
         Provider {
             chronicle: chronicle.crash(depot, me),
             shelf,
             owed,
+            seen_from,
         }
     }
 
     /// Opens the provider again over the disk that it has, after a crash or a fault of it: its entries are those
     /// before, with the interrupted one or without it, it is up, and nothing is owed. With a fault it is what it was,
     /// down.
-    pub fn restart<S>(
+    pub fn restart<S: Sealer>(
         self,
         alloc: Global,
         house: &House<'_, S>,
     ) -> Result<Provider<D>, (ReopenFault, Provider<D>)>
-        requires { Runs house.now.directory.now house.now.me self }
-        ensures runs { IfOk result (Runs house.now.directory.now house.now.me) }
+        requires { Runs house.now.directory.now (S.seals house.now.sealer.now) house.now.me self }
+        ensures runs { IfOk result (Runs house.now.directory.now (S.seals house.now.sealer.now) house.now.me) }
         ensures up { IfOk result (λ provider. desk_of provider ≡ fresh provider.chronicle.entries) }
         ensures found { D.tells → Stands D.sight self.chronicle → IfOk result (λ provider.
             (found : Bool) × (provider.chronicle.entries
@@ -136,7 +133,7 @@ impl<D: Disk> Provider<D> {
         ensures carries { D.tells
             → IfOk result (λ provider. CarriesOn D.sight NothingMay self.chronicle provider.chronicle) }
 
-        ensures runs_err { IfErr result (λ refused. Runs house.now.directory.now house.now.me refused.1) }
+        ensures runs_err { IfErr result (λ refused. Runs house.now.directory.now (S.seals house.now.sealer.now) house.now.me refused.1) }
         ensures stopped { IfErr result (λ refused. desk_of refused.1 ≡ stopped (desk_of self)) }
         ensures carries_err { D.tells
             → IfErr result (λ refused. CarriesOn D.sight NothingMay self.chronicle refused.1.chronicle) }
@@ -148,21 +145,42 @@ impl<D: Disk> Provider<D> {
         ensures later { IfOk result (λ provider. D.faults self.chronicle.disk ≤ D.faults provider.chronicle.disk) }
         ensures later_err { IfErr result (λ refused. D.faults self.chronicle.disk ≤ D.faults refused.1.chronicle.disk) }
     {
-        let (chronicle, shelf, owed) = self.parts();
+        let (chronicle, shelf, owed, seen_from) = self.parts();
         match restart(alloc, house.directory, chronicle, shelf) {
-            Ok((chronicle, shelf)) => Ok(Provider {
-                chronicle,
-                shelf,
-                owed: Vec::new(alloc),
-            }),
+            Ok((chronicle, shelf)) => Ok(opened(alloc, house, chronicle, shelf)),
             Err((fault, chronicle, shelf)) => Err((
                 fault,
                 Provider {
                     chronicle,
                     shelf,
                     owed,
+                    seen_from,
                 },
             )),
         }
+    }
+}
+
+/// A provider over entries that agree with its half, of which none was taken in since it is opened: up, and nothing is
+/// owed.
+fn opened<D, S: Sealer>(
+    alloc: Global,
+    house: &House<'_, S>,
+    chronicle: Chronicle<D>,
+    shelf: Shelf,
+) -> Provider<D>
+    requires number { house.now.me < length house.now.directory.now }
+    requires is { shelf.me ≡ house.now.me }
+    requires agree { Agree house.now.directory.now chronicle shelf }
+    ensures runs { Runs house.now.directory.now (S.seals house.now.sealer.now) house.now.me result }
+    ensures made { (result.chronicle ≡ chronicle) × (result.owed ≡ []) }
+{
+    taken_messages_have_envelopes();
+    let seen_from = chronicle.entries();
+    Provider {
+        chronicle,
+        shelf,
+        owed: Vec::new(alloc),
+        seen_from,
     }
 }

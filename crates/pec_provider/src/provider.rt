@@ -6,6 +6,7 @@ ghost use Rattle.pec_ledger.specs.OfDirectory.{IsOf};
 ghost use Rattle.pec_ledger.specs.Steps.{half};
 ghost use Rattle.pec_ledger.specs.Trade.{Trade};
 ghost use Rattle.pec_plays.specs.Turns.{last_of};
+ghost use Rattle.pec_seal.specs.Seals.{Seals};
 ghost use Rattle.pec_provider.specs.Provider.{Runs};
 
 use pec_chronicle::Chronicle;
@@ -19,6 +20,8 @@ pub struct Provider<D> {
     pub(crate) shelf: Shelf,
     /// The answers that it owes in this turn, in the order in which they arose.
     pub(crate) owed: Vec<Letter>,
+    /// The first entry that was appended since it was opened: what was taken from there on was seen as an envelope.
+    pub(crate) seen_from: u64,
 }
 
 impl<D> Model for Provider<D> {
@@ -33,6 +36,7 @@ impl<D> Model for Provider<D> {
       shelf = provider.shelf;
       owed = provider.owed.items;
       places = vec_capacity provider.owed - vec_len provider.owed;
+      seen_from = provider.seen_from;
     } };
 
     ghost invariant = { λ provider. provider.shelf.half.last < END_OF_TIME };
@@ -45,6 +49,7 @@ impl<D: Drop> Drop for Provider<D> {
             chronicle: _,
             shelf: _,
             owed: _,
+            seen_from: _,
         } = self;
     }
 }
@@ -60,7 +65,7 @@ impl<D> Provider<D> {
 
     /// The greatest moment of an entry.
     pub fn last(&self) -> Moment
-        ensures { (kept : List Kept) (me : ℕ) (trade : Trade) → Runs kept me self.now → IsOf kept trade
+        ensures { (kept : List Kept) (seals : Seals) (me : ℕ) (trade : Trade) → Runs kept seals me self.now → IsOf kept trade
             → result ≡ last_of trade me self.now.chronicle.entries }
     {
         match Moment::new(self.shelf.last()) {
@@ -71,7 +76,7 @@ impl<D> Provider<D> {
 
     /// How many messages were submitted to it, accepted or not.
     pub fn messages(&self) -> u64
-        ensures { (kept : List Kept) (me : ℕ) (trade : Trade) → Runs kept me self.now → IsOf kept trade
+        ensures { (kept : List Kept) (seals : Seals) (me : ℕ) (trade : Trade) → Runs kept seals me self.now → IsOf kept trade
             → result ≡ length (half trade me self.now.chronicle.entries).messages }
     {
         self.shelf.submitted()
@@ -79,7 +84,7 @@ impl<D> Provider<D> {
 
     /// Where its journal ends, in bytes.
     pub fn fill(&self) -> u64
-        ensures { (kept : List Kept) (me : ℕ) (trade : Trade) → Runs kept me self.now → IsOf kept trade
+        ensures { (kept : List Kept) (seals : Seals) (me : ℕ) (trade : Trade) → Runs kept seals me self.now → IsOf kept trade
             → result ≡ (half trade me self.now.chronicle.entries).end }
     {
         self.shelf.end()
@@ -104,19 +109,21 @@ impl<D> Provider<D> {
         ensures disk { result.0 ≡ self.chronicle.disk }
         ensures interrupted { result.1 ≡ option_map entry_text self.chronicle.interrupted }
     {
-        let (chronicle, _, _) = self.parts();
+        let (chronicle, _, _, _) = self.parts();
         chronicle.into_parts()
     }
 
     // All that it has.
-    pub(crate) fn parts(self) -> (Chronicle<D>, Shelf, Vec<Letter>)
-        ensures { (result.0 ≡ self.chronicle) × (result.1 ≡ self.shelf) × (result.2.items ≡ self.owed) }
+    pub(crate) fn parts(self) -> (Chronicle<D>, Shelf, Vec<Letter>, u64)
+        ensures { (result.0 ≡ self.chronicle) × (result.1 ≡ self.shelf) × (result.2.items ≡ self.owed)
+            × (result.3 ≡ self.seen_from) }
     {
         let Provider {
             chronicle,
             shelf,
             owed,
+            seen_from,
         } = self;
-        (chronicle, shelf, owed)
+        (chronicle, shelf, owed, seen_from)
     }
 }

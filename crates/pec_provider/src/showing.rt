@@ -20,13 +20,13 @@ use std::alloc::Global;
 /// `NoMemory`.
 impl<D> Provider<D> {
     /// Its book: a line for each of its accepted messages and certified recipients, in order of number and recipients.
-    pub fn book<S>(
+    pub fn book<S: Sealer>(
         &self,
         _alloc: Global,
         house: &House<'_, S>,
         account: &Address,
     ) -> Result<Vec<BookLine>, ProviderFault>
-        requires { Runs house.now.directory.now house.now.me self.now }
+        requires { Runs house.now.directory.now (S.seals house.now.sealer.now) house.now.me self.now }
         ensures lines { (trade : Trade) → IsOf house.now.directory.now trade → IfOk result (λ lines. lines.items
             ≡ book trade house.now.me (half trade house.now.me self.now.chronicle.entries) account.now) }
         ensures asked { (trade : Trade) → IsOf house.now.directory.now trade
@@ -40,13 +40,13 @@ impl<D> Provider<D> {
     }
 
     /// The lines of its mailbox, in order of placing.
-    pub fn mailbox<S>(
+    pub fn mailbox<S: Sealer>(
         &self,
         _alloc: Global,
         house: &House<'_, S>,
         account: &Address,
     ) -> Result<Vec<ItemLine>, ProviderFault>
-        requires { Runs house.now.directory.now house.now.me self.now }
+        requires { Runs house.now.directory.now (S.seals house.now.sealer.now) house.now.me self.now }
         ensures lines { (trade : Trade) → IsOf house.now.directory.now trade → IfOk result (λ lines. lines.items
             ≡ mailbox_lines (half trade house.now.me self.now.chronicle.entries) account.now) }
         ensures asked { (trade : Trade) → IsOf house.now.directory.now trade
@@ -68,7 +68,7 @@ impl<D> Provider<D> {
         account: &Address,
         place: u32,
     ) -> Result<Vec<u8>, ProviderFault>
-        requires runs { Runs house.now.directory.now house.now.me self.now }
+        requires runs { Runs house.now.directory.now (S.seals house.now.sealer.now) house.now.me self.now }
         requires fits { Fits (S.seals house.now.sealer.now) (providers_of house.now.directory.now) }
         ensures shown { IfOk result (λ bytes.
             item_at (trade_of house.now.directory.now (S.seals house.now.sealer.now)) house.now.me
@@ -98,7 +98,7 @@ impl<D> Provider<D> {
         account: &Address,
         place: u32,
     ) -> Result<Option<Vec<u8>>, NoMemory>
-        requires runs { Runs house.now.directory.now house.now.me self.now }
+        requires runs { Runs house.now.directory.now (S.seals house.now.sealer.now) house.now.me self.now }
         requires fits { Fits (S.seals house.now.sealer.now) (providers_of house.now.directory.now) }
         ensures { IfOk result (λ found. option_map (λ bytes. bytes.items) found
             ≡ item_at (trade_of house.now.directory.now (S.seals house.now.sealer.now)) house.now.me
@@ -118,7 +118,7 @@ impl<D> Provider<D> {
     }
 
     /// Whether an account of the provider may ask, while it is up.
-    fn asked<S>(&self, house: &House<'_, S>, account: &Address) -> Result<(), ProviderFault>
+    fn asked<S: Sealer>(&self, house: &House<'_, S>, account: &Address) -> Result<(), ProviderFault>
         ensures asked { (trade : Trade) → IsOf house.now.directory.now trade
             → OnOk result ((trade.is_account house.now.me account.now ≡ true) × (self.now.chronicle.down ≡ false)) }
         ensures refused { (trade : Trade) → IsOf house.now.directory.now trade

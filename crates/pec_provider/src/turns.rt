@@ -9,6 +9,7 @@ ghost use Rattle.pec_ledger.specs.Ledger.{Fit, Journals};
 ghost use Rattle.pec_ledger.specs.Network.{IsGenuine};
 ghost use Rattle.pec_ledger.specs.OfDirectory.{IsOf};
 ghost use Rattle.pec_ledger.specs.Trade.{Trade};
+ghost use Rattle.pec_plays.specs.Envelopes.{HasEnvelope};
 ghost use Rattle.pec_plays.specs.Frames.{due_frames};
 ghost use Rattle.pec_plays.specs.Steps.{Step};
 ghost use Rattle.pec_trade.specs.TradeOf.{trade_of};
@@ -25,7 +26,10 @@ use crate::house::{House, a_house_is_a_trade};
 use crate::provider::Provider;
 use pec_outgoing::due_frames;
 use pec_outside::Disk;
-use pec_plays::{what_a_provider_does_is_its_own, what_a_provider_does_may_follow};
+use pec_plays::{
+    what_a_provider_does_is_its_own, what_a_provider_does_may_follow,
+    what_a_provider_takes_is_an_envelope,
+};
 use pec_reception::{Received, decide, receive};
 use pec_records::Entry;
 use pec_seal::Sealer;
@@ -43,12 +47,12 @@ impl<D: Disk> Provider<D> {
         moment: Moment,
         frame: &[u8],
     ) -> Result<Event, ProviderFault>
-        requires runs { Runs house.now.directory.now house.now.me self.old }
+        requires runs { Runs house.now.directory.now (S.seals house.now.sealer.now) house.now.me self.old }
         requires fits { Fits (S.seals house.now.sealer.now) (providers_of house.now.directory.now) }
         ensures arrives { Arrives (trade_of house.now.directory.now (S.seals house.now.sealer.now)) house.now.me moment
             frame.now
             (desk_of self.old) (desk_of self.new) result }
-        ensures runs { Runs house.now.directory.now house.now.me self.new }
+        ensures runs { Runs house.now.directory.now (S.seals house.now.sealer.now) house.now.me self.new }
 
         // Where the frame is genuine in some journals, what is appended may follow in their ledger.
         ensures carries { D.tells → (journals : Journals)
@@ -66,6 +70,7 @@ impl<D: Disk> Provider<D> {
     {
         a_house_is_a_trade(house);
         what_a_provider_does_is_its_own();
+        what_a_provider_takes_is_an_envelope();
         what_a_provider_does_may_follow();
         stands_still(&self.chronicle);
         self.at_work(moment)?;
@@ -89,10 +94,10 @@ impl<D: Disk> Provider<D> {
         house: &House<'_, S>,
         moment: Moment,
     ) -> Result<Option<Event>, ProviderFault>
-        requires runs { Runs house.now.directory.now house.now.me self.old }
+        requires runs { Runs house.now.directory.now (S.seals house.now.sealer.now) house.now.me self.old }
         ensures decides { Decides (trade_of house.now.directory.now (S.seals house.now.sealer.now)) house.now.me moment
             (desk_of self.old) (desk_of self.new) result }
-        ensures runs { Runs house.now.directory.now house.now.me self.new }
+        ensures runs { Runs house.now.directory.now (S.seals house.now.sealer.now) house.now.me self.new }
         ensures carries { D.tells → (journals : Journals) → CarriesOn D.sight
             (MayFollow (trade_of house.now.directory.now (S.seals house.now.sealer.now)) journals house.now.me)
             self.old.chronicle self.new.chronicle }
@@ -102,6 +107,7 @@ impl<D: Disk> Provider<D> {
     {
         a_house_is_a_trade(house);
         what_a_provider_does_is_its_own();
+        what_a_provider_takes_is_an_envelope();
         stands_still(&self.chronicle);
         self.at_work(moment)?;
         let Some(received) = decide(alloc, house.directory, &self.shelf, moment)? else {
@@ -112,21 +118,23 @@ impl<D: Disk> Provider<D> {
     }
 
     /// Does what is to be done: appends the entry, if there is one, and owes the answer, if there is one.
-    fn undertake<S>(
+    fn undertake<S: Sealer>(
         &mut self,
         alloc: Global,
         house: &House<'_, S>,
         received: Received,
     ) -> Result<Event, ProviderFault>
         requires up { self.old.chronicle.down ≡ false }
-        requires runs { Runs house.now.directory.now house.now.me self.old }
+        requires runs { Runs house.now.directory.now (S.seals house.now.sealer.now) house.now.me self.old }
         requires limits { IfSome received.entry IsWithinLimits }
         requires step { IfSome received.entry (MayEnter house.now.directory.now house.now.me
             self.old.chronicle.entries) }
+        requires envelope { IfSome received.entry (HasEnvelope
+            (trade_of house.now.directory.now (S.seals house.now.sealer.now))) }
         ensures does { (trade : Trade) (step : Step) → IsOf house.now.directory.now trade
             → Undertakes trade house.now.me self.old.chronicle.entries received step
             → Does step (desk_of self.old) (desk_of self.new) result }
-        ensures runs { Runs house.now.directory.now house.now.me self.new }
+        ensures runs { Runs house.now.directory.now (S.seals house.now.sealer.now) house.now.me self.new }
         ensures carries { D.tells → CarriesOn D.sight (OnlyMay self.old.chronicle.entries received.entry)
             self.old.chronicle self.new.chronicle }
         ensures disk_fault { IsErrOf result faults.DiskFault → HasRisen (D.faults self.old.chronicle.disk)
@@ -142,20 +150,22 @@ impl<D: Disk> Provider<D> {
     }
 
     /// Appends the entry, if there is one.
-    fn append_any<S>(
+    fn append_any<S: Sealer>(
         &mut self,
         alloc: Global,
         house: &House<'_, S>,
         entry: Option<Entry>,
     ) -> Result<(), ProviderFault>
         requires up { self.old.chronicle.down ≡ false }
-        requires runs { Runs house.now.directory.now house.now.me self.old }
+        requires runs { Runs house.now.directory.now (S.seals house.now.sealer.now) house.now.me self.old }
         requires limits { IfSome entry IsWithinLimits }
         requires step { IfSome entry (MayEnter house.now.directory.now house.now.me self.old.chronicle.entries) }
+        requires envelope { IfSome entry (HasEnvelope
+            (trade_of house.now.directory.now (S.seals house.now.sealer.now))) }
         ensures appends { (trade : Trade) → IsOf house.now.directory.now trade
             → AppendsAny trade house.now.me entry (desk_of self.old) (desk_of self.new) result }
         ensures owed { (self.new.owed ≡ self.old.owed) × (self.new.places ≡ self.old.places) }
-        ensures runs { Runs house.now.directory.now house.now.me self.new }
+        ensures runs { Runs house.now.directory.now (S.seals house.now.sealer.now) house.now.me self.new }
         ensures carries { D.tells → CarriesOn D.sight (OnlyMay self.old.chronicle.entries entry) self.old.chronicle
             self.new.chronicle }
         ensures disk_fault { IsErrOf result faults.DiskFault → HasRisen (D.faults self.old.chronicle.disk)
@@ -185,7 +195,7 @@ impl<D> Provider<D> {
         to: u32,
         room: usize,
     ) -> Result<Vec<Frame>, NoMemory>
-        requires runs { Runs house.now.directory.now house.now.me self.now }
+        requires runs { Runs house.now.directory.now (S.seals house.now.sealer.now) house.now.me self.now }
         requires fits { Fits (S.seals house.now.sealer.now) (providers_of house.now.directory.now) }
         ensures { IfOk result (λ frames. frames.items
             ≡ due_frames (trade_of house.now.directory.now (S.seals house.now.sealer.now)) house.now.me
@@ -198,6 +208,7 @@ impl<D> Provider<D> {
             house.sealer,
             &self.shelf,
             self.chronicle.all(),
+            self.seen_from,
             to,
             room,
             &self.owed,

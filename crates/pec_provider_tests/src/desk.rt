@@ -7,6 +7,7 @@ use crate::home::Home;
 use pec_outside::MemDisk;
 use pec_provider::{CreateFault, House, Provider, ProviderFault, ReopenFault, Submitted};
 use pec_screen::NoScreens;
+use pec_seal::{HmacSealer, Sealer};
 use pec_trial::{
     Submission, account_at, add, add_number, moment_of, number, small, submission_of, told,
     told_all, told_item, told_list, told_word, word,
@@ -52,7 +53,8 @@ impl Model for Desk {
 
     ghost view = { λ desk. desk.provider };
 
-    ghost invariant = { λ desk. Runs desk.home.directory desk.me desk.provider };
+    ghost invariant = { λ desk. Runs desk.home.directory (⟦<HmacSealer as Sealer>⟧.seals desk.home.sealer) desk.me
+        desk.provider };
 }
 
 impl Drop for Desk {

@@ -52,7 +52,7 @@ pub(crate) fn answer<D: Disk, J: Judge, C: Source + Sink>(
 }
 
 /// A network has the providers of its directory.
-pub(crate) fn as_many_providers<D, S>(network: &Network<D, S>)
+pub(crate) fn as_many_providers<D, S: Sealer>(network: &Network<D, S>)
     ensures { length network.now.providers ≡ length network.now.kept }
 {
     network.directory();

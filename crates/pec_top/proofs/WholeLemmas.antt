@@ -2,6 +2,7 @@
 use Rattle.std.proofs.Common.{◌≡◌, ◌≢◌, ℕ, zero, suc, ◌<◌, ◌≤◌, List, [], ◌∷◌, refl, ap, sym, subst, ◌∙◌, arith}
 use Rattle.std.proofs.Common.{length, get_or, Option, Some, None, Ok}
 use Rattle.std.proofs.lemmas.Option.{none-some, same_Some}
+use Rattle.pec_seal.specs.Seals.{Seals}
 use Rattle.pec_types.specs.Bytes.{Bytes}
 use Rattle.pec_outside.specs.Depots.{Alike}
 use Rattle.pec_outside.specs.DiskModel.{Sight}
@@ -82,8 +83,8 @@ site_is (provider ∷ providers) (links ∷ waiting) zero other l e = refl
 site_is (provider ∷ providers) (links ∷ waiting) (suc number) other l e =
     site_is providers waiting number other (omega (arith, l)) (omega (arith, e))
 
-module _ {D S : Type 0} (home_tells reads : Type 0) (sight : D → Sight) (network : NetworkState D S)
-    (whole : IsOfDirectory network.kept network.providers network.waiting) (mid new : ℕ → Option D)
+module _ {D S : Type 0} {seals : Seals} (home_tells reads : Type 0) (sight : D → Sight) (network : NetworkState D S)
+    (whole : IsOfDirectory network.kept seals network.providers network.waiting) (mid new : ℕ → Option D)
     (kept : home_tells → AllAt (λ (p : ProviderState D). Some p.chronicle.disk) mid new network.providers) where
   at_home : home_tells → (k : ℕ) → k < length network.kept
       → (x : ProviderState D) × ((new k ≡ Some x.chronicle.disk)

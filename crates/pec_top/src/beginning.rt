@@ -16,10 +16,11 @@ use crate::texts::{not_empty_text, not_fit_text};
 use pec_directory::Directory;
 use pec_network::{Form as Way, Network, StartFault};
 use pec_outside::{Depot, Disk, Sink};
+use pec_seal::Sealer;
 use std::alloc::Global;
 
 /// The network of a directory, whose journals are made or opened as the form says.
-pub(crate) fn begin<D: Disk, H: Drop, P: Depot<D = D>>(
+pub(crate) fn begin<D: Disk, H: Sealer + Drop, P: Depot<D = D>>(
     alloc: Global,
     form: Form,
     directory: Directory,

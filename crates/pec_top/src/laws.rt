@@ -11,10 +11,11 @@ use pec_input::lines_are_the_text;
 use pec_network::Network;
 use pec_outside::{Depot, Disk};
 use pec_runs::{a_run_is_climbed, a_script_is_played_line_by_line};
+use pec_seal::Sealer;
 
 /// The providers of a network are those of its directory, each with links from all of them. It takes no memory.
-pub(crate) fn a_network_is_whole<D, H>(network: &Network<D, H>)
-    ensures { IsOfDirectory network.now.kept network.now.providers network.now.waiting }
+pub(crate) fn a_network_is_whole<D, H: Sealer>(network: &Network<D, H>)
+    ensures { IsOfDirectory network.now.kept (H.seals network.now.sealer) network.now.providers network.now.waiting }
 {
     network.directory();
 }

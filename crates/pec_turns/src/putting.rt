@@ -20,7 +20,7 @@ pub(crate) fn puts<D: Disk, S: Sealer>(
     provider: &Provider<D>,
     rooms: &[usize],
 ) -> Result<Vec<Items<Frame>>, NoMemory>
-    requires runs { Runs house.now.directory.now house.now.me provider.now }
+    requires runs { Runs house.now.directory.now (S.seals house.now.sealer.now) house.now.me provider.now }
     requires fits { Fits (S.seals house.now.sealer.now) (providers_of house.now.directory.now) }
     requires rooms { length rooms.now ≡ length house.now.directory.now }
     ensures out { IfOk result (λ out. out.items ≡ puts_from (trade_of house.now.directory.now (S.seals

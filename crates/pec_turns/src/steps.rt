@@ -34,7 +34,7 @@ pub(crate) fn take_frames<D: Disk, S: Sealer>(
     moment: Moment,
     events: &mut Vec<Event>,
 ) -> Result<(), ProviderFault>
-    requires runs { Runs house.now.directory.now house.now.me provider.old }
+    requires runs { Runs house.now.directory.now (S.seals house.now.sealer.now) house.now.me provider.old }
     requires fits { Fits (S.seals house.now.sealer.now) (providers_of house.now.directory.now) }
     requires works { IsAtWork (trade_of house.now.directory.now (S.seals house.now.sealer.now)) house.now.me moment
         (desk_of provider.old) }
@@ -48,7 +48,7 @@ pub(crate) fn take_frames<D: Disk, S: Sealer>(
         house.now.me moment
         (desk_of provider.old) arrivals.old events.old.items fault
         (desk_of provider.new) arrivals.new events.new.items) }
-    ensures runs { Runs house.now.directory.now house.now.me provider.new }
+    ensures runs { Runs house.now.directory.now (S.seals house.now.sealer.now) house.now.me provider.new }
     ensures links { length arrivals.new ≡ length arrivals.old }
     ensures carries { D.tells → CarriesFrames (trade_of house.now.directory.now (S.seals house.now.sealer.now))
         house.now.me moment D.sight
@@ -72,7 +72,7 @@ fn take_frame<D: Disk, S: Sealer>(
     moment: Moment,
     events: &mut Vec<Event>,
 ) -> Result<bool, ProviderFault>
-    requires runs { Runs house.now.directory.now house.now.me provider.old }
+    requires runs { Runs house.now.directory.now (S.seals house.now.sealer.now) house.now.me provider.old }
     requires fits { Fits (S.seals house.now.sealer.now) (providers_of house.now.directory.now) }
     requires works { IsAtWork (trade_of house.now.directory.now (S.seals house.now.sealer.now)) house.now.me moment
         (desk_of provider.old) }
@@ -88,7 +88,7 @@ fn take_frame<D: Disk, S: Sealer>(
         house.now.me moment
         (desk_of provider.old) arrivals.old events.old.items fault
         (desk_of provider.new) arrivals.new events.new.items) }
-    ensures runs { Runs house.now.directory.now house.now.me provider.new }
+    ensures runs { Runs house.now.directory.now (S.seals house.now.sealer.now) house.now.me provider.new }
     ensures links { length arrivals.new ≡ length arrivals.old }
     ensures carries { D.tells → CarriesFrames (trade_of house.now.directory.now (S.seals house.now.sealer.now))
         house.now.me moment D.sight
@@ -120,7 +120,7 @@ pub(crate) fn decide_pairs<D: Disk, S: Sealer>(
     moment: Moment,
     events: &mut Vec<Event>,
 ) -> Result<(), ProviderFault>
-    requires runs { Runs house.now.directory.now house.now.me provider.old }
+    requires runs { Runs house.now.directory.now (S.seals house.now.sealer.now) house.now.me provider.old }
     requires works { IsAtWork (trade_of house.now.directory.now (S.seals house.now.sealer.now)) house.now.me moment
         (desk_of provider.old) }
     ensures leads { (left : Waiting) → frames_in left ≡ [] → OnOk result
@@ -132,7 +132,7 @@ pub(crate) fn decide_pairs<D: Disk, S: Sealer>(
     ensures ends { (left : Waiting) → frames_in left ≡ [] → IfErr result (λ fault.
         Ends (trade_of house.now.directory.now (S.seals house.now.sealer.now)) house.now.me moment
         (desk_of provider.old) left events.old.items fault (desk_of provider.new) left events.new.items) }
-    ensures runs { Runs house.now.directory.now house.now.me provider.new }
+    ensures runs { Runs house.now.directory.now (S.seals house.now.sealer.now) house.now.me provider.new }
     ensures carries { D.tells → (journals : Journals) → CarriesOn D.sight
         (MayFollow (trade_of house.now.directory.now (S.seals house.now.sealer.now)) journals house.now.me)
         provider.old.chronicle provider.new.chronicle }
@@ -153,7 +153,7 @@ fn decide_pair<D: Disk, S: Sealer>(
     moment: Moment,
     events: &mut Vec<Event>,
 ) -> Result<bool, ProviderFault>
-    requires runs { Runs house.now.directory.now house.now.me provider.old }
+    requires runs { Runs house.now.directory.now (S.seals house.now.sealer.now) house.now.me provider.old }
     requires works { IsAtWork (trade_of house.now.directory.now (S.seals house.now.sealer.now)) house.now.me moment
         (desk_of provider.old) }
     ensures leads { (left : Waiting) → frames_in left ≡ [] → OnOk result
@@ -172,7 +172,7 @@ fn decide_pair<D: Disk, S: Sealer>(
     ensures ends { (left : Waiting) → frames_in left ≡ [] → IfErr result (λ fault.
         Ends (trade_of house.now.directory.now (S.seals house.now.sealer.now)) house.now.me moment
         (desk_of provider.old) left events.old.items fault (desk_of provider.new) left events.new.items) }
-    ensures runs { Runs house.now.directory.now house.now.me provider.new }
+    ensures runs { Runs house.now.directory.now (S.seals house.now.sealer.now) house.now.me provider.new }
     ensures carries { D.tells → (journals : Journals) → CarriesOn D.sight
         (MayFollow (trade_of house.now.directory.now (S.seals house.now.sealer.now)) journals house.now.me)
         provider.old.chronicle provider.new.chronicle }

@@ -41,7 +41,7 @@ pub fn take_turn<D: Disk, S: Sealer>(
     moment: Moment,
     rooms: &[usize],
 ) -> Result<Taken, NoMemory>
-    requires runs { Runs house.now.directory.now house.now.me provider.old }
+    requires runs { Runs house.now.directory.now (S.seals house.now.sealer.now) house.now.me provider.old }
     requires fits { Fits (S.seals house.now.sealer.now) (providers_of house.now.directory.now) }
     requires nothing_owed { provider.old.owed ≡ [] }
     requires rooms { length rooms.now ≡ length house.now.directory.now }
@@ -66,7 +66,7 @@ pub fn take_turn<D: Disk, S: Sealer>(
         house.now.me moment
         (site_of (desk_of provider.old) arrivals.old) (site_of (desk_of provider.new) arrivals.new)) }
     ensures nothing_owed { provider.new.owed ≡ [] }
-    ensures runs { Runs house.now.directory.now house.now.me provider.new }
+    ensures runs { Runs house.now.directory.now (S.seals house.now.sealer.now) house.now.me provider.new }
     ensures links { length arrivals.new ≡ length arrivals.old }
 
     // At every moment a crash leaves entries that may follow in the ledger of any journals in which the frames are
@@ -95,7 +95,7 @@ fn turn<D: Disk, S: Sealer>(
     moment: Moment,
     rooms: &[usize],
 ) -> Result<Taken, NoMemory>
-    requires runs { Runs house.now.directory.now house.now.me provider.old }
+    requires runs { Runs house.now.directory.now (S.seals house.now.sealer.now) house.now.me provider.old }
     requires fits { Fits (S.seals house.now.sealer.now) (providers_of house.now.directory.now) }
     requires nothing_owed { provider.old.owed ≡ [] }
     requires rooms { length rooms.now ≡ length house.now.directory.now }
@@ -111,7 +111,7 @@ fn turn<D: Disk, S: Sealer>(
     ensures short { OnErr result (StopsShort (trade_of house.now.directory.now (S.seals house.now.sealer.now))
         house.now.me moment
         (site_of (desk_of provider.old) arrivals.old) (site_of (desk_of provider.new) arrivals.new)) }
-    ensures runs { Runs house.now.directory.now house.now.me provider.new }
+    ensures runs { Runs house.now.directory.now (S.seals house.now.sealer.now) house.now.me provider.new }
     ensures links { length arrivals.new ≡ length arrivals.old }
     ensures carries { D.tells → CarriesFrames (trade_of house.now.directory.now (S.seals house.now.sealer.now))
         house.now.me moment D.sight
@@ -142,7 +142,7 @@ fn take_steps<D: Disk, S: Sealer>(
     moment: Moment,
     events: &mut Vec<Event>,
 ) -> Result<(), ProviderFault>
-    requires runs { Runs house.now.directory.now house.now.me provider.old }
+    requires runs { Runs house.now.directory.now (S.seals house.now.sealer.now) house.now.me provider.old }
     requires fits { Fits (S.seals house.now.sealer.now) (providers_of house.now.directory.now) }
     requires works { IsAtWork (trade_of house.now.directory.now (S.seals house.now.sealer.now)) house.now.me moment
         (desk_of provider.old) }
@@ -157,7 +157,7 @@ fn take_steps<D: Disk, S: Sealer>(
         house.now.me moment
         (desk_of provider.old) arrivals.old events.old.items fault
         (desk_of provider.new) arrivals.new events.new.items) }
-    ensures runs { Runs house.now.directory.now house.now.me provider.new }
+    ensures runs { Runs house.now.directory.now (S.seals house.now.sealer.now) house.now.me provider.new }
     ensures links { length arrivals.new ≡ length arrivals.old }
     ensures carries { D.tells → CarriesFrames (trade_of house.now.directory.now (S.seals house.now.sealer.now))
         house.now.me moment D.sight
@@ -180,7 +180,7 @@ fn whole<D: Disk, S: Sealer>(
     rooms: &[usize],
     events: Vec<Event>,
 ) -> Result<Taken, NoMemory>
-    requires runs { Runs house.now.directory.now house.now.me provider.now }
+    requires runs { Runs house.now.directory.now (S.seals house.now.sealer.now) house.now.me provider.now }
     requires fits { Fits (S.seals house.now.sealer.now) (providers_of house.now.directory.now) }
     requires rooms { length rooms.now ≡ length house.now.directory.now }
     requires short { (to : ℕ) → room_in rooms.now to ≤ link_size }

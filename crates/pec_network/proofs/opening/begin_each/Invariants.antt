@@ -11,7 +11,7 @@ invariant-loop-me g l =
     let port = g.P.Depot in record {
       count : length l.providers.items ≡ l.me;
       room : vec_capacity l.providers ≡ vec_capacity l.fn.providers;
-      runs : AllRun l.directory l.providers.items;
+      runs : AllRun l.directory (g.S.Sealer.seals l.sealer) l.providers.items;
       begun : AllBegun port.tells g.D.Disk.tells g.D.Disk.sight l.directory l.form (port.home l.fn.depot) l.providers.items;
       counts : NoneFell g.D.Counted.faults (port.last l.fn.depot) l.providers.items;
       out : port.tells → AllAt (λ provider. None) (port.home l.fn.depot) (port.home l.depot) l.providers.items;

@@ -14,10 +14,10 @@ returns-in_err-rooms-clause-stops g c =
     let trade = trade_of kept (g.S.Sealer.seals c.args.sealer.now) in
     let old = c.args.providers.now.items in
     let waited = c.args.arrivals.now.items in
-    on_err c.from_residual.result (stops_between g.D.Disk.tells g.D.Disk.sight g.D.Counted.faults kept trade
+    on_err c.from_residual.result (stops_between g.D.Disk.tells g.D.Disk.sight g.D.Counted.faults kept (g.S.Sealer.seals c.args.sealer.now) trade
     c.args.moment old waited
     c.requires.whole (length-map kept (λ (one : Kept). one.provider)) 0 old waited [] []
-    (begun g.D.Disk.tells g.D.Disk.sight g.D.Counted.faults kept trade c.args.moment old waited
+    (begun g.D.Disk.tells g.D.Disk.sight g.D.Counted.faults kept (g.S.Sealer.seals c.args.sealer.now) trade c.args.moment old waited
     c.requires.whole c.what_rests_carries_on.ensures))
 
 pub returns-in_err-rooms-clause-carries : goal.returns-in_err-rooms-clause-carries
@@ -26,7 +26,7 @@ returns-in_err-rooms-clause-carries g c =
     let trade = trade_of kept (g.S.Sealer.seals c.args.sealer.now) in
     let old = c.args.providers.now.items in
     let waited = c.args.arrivals.now.items in
-    (begun g.D.Disk.tells g.D.Disk.sight g.D.Counted.faults kept trade c.args.moment old waited
+    (begun g.D.Disk.tells g.D.Disk.sight g.D.Counted.faults kept (g.S.Sealer.seals c.args.sealer.now) trade c.args.moment old waited
     c.requires.whole c.what_rests_carries_on.ensures).carries
 
 pub loop-me-init : goal.loop-me-init
@@ -36,7 +36,7 @@ loop-me-init g c =
     let old = c.args.providers.now.items in
     let waited = c.args.arrivals.now.items in
     rw (c.new-turns.ensures.items, c.new-outs.ensures.items)
-    (begun g.D.Disk.tells g.D.Disk.sight g.D.Counted.faults kept trade c.args.moment old waited
+    (begun g.D.Disk.tells g.D.Disk.sight g.D.Counted.faults kept (g.S.Sealer.seals c.args.sealer.now) trade c.args.moment old waited
     c.requires.whole c.what_rests_carries_on.ensures)
 
 pub returns-in_err-reserve-clause-stops : goal.returns-in_err-reserve-clause-stops
@@ -46,7 +46,7 @@ returns-in_err-reserve-clause-stops g c =
     let old = c.args.providers.now.items in
     let waited = c.args.arrivals.now.items in
     on_err c.from_residual-in_err-reserve.result
-    (stops_between g.D.Disk.tells g.D.Disk.sight g.D.Counted.faults kept trade c.args.moment old waited
+    (stops_between g.D.Disk.tells g.D.Disk.sight g.D.Counted.faults kept (g.S.Sealer.seals c.args.sealer.now) trade c.args.moment old waited
     c.requires.whole (length-map kept (λ (one : Kept). one.provider)) c.loop-me.me c.loop-me.providers.items
     c.loop-me.arrivals.items c.loop-me.turns.items c.loop-me.outs.items
     c.loop-me.invariant)
@@ -58,7 +58,7 @@ returns-in_err-reserve-2-clause-stops g c =
     let old = c.args.providers.now.items in
     let waited = c.args.arrivals.now.items in
     on_err c.from_residual-in_err-reserve-2.result
-    (stops_between g.D.Disk.tells g.D.Disk.sight g.D.Counted.faults kept trade c.args.moment old waited
+    (stops_between g.D.Disk.tells g.D.Disk.sight g.D.Counted.faults kept (g.S.Sealer.seals c.args.sealer.now) trade c.args.moment old waited
     c.requires.whole (length-map kept (λ (one : Kept). one.provider)) c.loop-me.me c.loop-me.providers.items
     c.loop-me.arrivals.items c.loop-me.turns.items c.loop-me.outs.items
     c.loop-me.invariant)
@@ -98,7 +98,7 @@ returns-in_err-taken-clause-stops g c =
     let within : c.loop-me.me < length c.loop-me.providers.items =
     omega (arith, c.loop-me-test.true, c.count-me-end.ensures.count, c.loop-me.invariant.whole.count) in
     on_err c.from_residual-in_err-taken.result
-    (stops_more g.D.Disk.tells g.D.Disk.sight g.D.Counted.faults kept trade c.args.moment old waited
+    (stops_more g.D.Disk.tells g.D.Disk.sight g.D.Counted.faults kept (g.S.Sealer.seals c.args.sealer.now) trade c.args.moment old waited
     c.requires.whole (length-map kept (λ (one : Kept). one.provider)) c.loop-me.me c.loop-me.providers.items
     c.loop-me.arrivals.items c.loop-me.turns.items c.loop-me.outs.items
     c.index_mut.result.now c.take_turn.new.provider c.index_mut-in-loop-me.result.now c.take_turn.new.arrivals
@@ -114,7 +114,7 @@ returns-in_err-taken-clause-whole g c =
     let waited = c.args.arrivals.now.items in
     let within : c.loop-me.me < length c.loop-me.providers.items =
     omega (arith, c.loop-me-test.true, c.count-me-end.ensures.count, c.loop-me.invariant.whole.count) in
-    whole_more g.D.Disk.tells g.D.Disk.sight g.D.Counted.faults kept trade c.args.moment old waited
+    whole_more g.D.Disk.tells g.D.Disk.sight g.D.Counted.faults kept (g.S.Sealer.seals c.args.sealer.now) trade c.args.moment old waited
     c.requires.whole (length-map kept (λ (one : Kept). one.provider)) c.loop-me.me c.loop-me.providers.items
     c.loop-me.arrivals.items c.loop-me.turns.items c.loop-me.outs.items
     c.index_mut.result.now c.take_turn.new.provider c.index_mut-in-loop-me.result.now c.take_turn.new.arrivals
@@ -130,7 +130,7 @@ returns-in_err-taken-clause-carries g c =
     let waited = c.args.arrivals.now.items in
     let within : c.loop-me.me < length c.loop-me.providers.items =
     omega (arith, c.loop-me-test.true, c.count-me-end.ensures.count, c.loop-me.invariant.whole.count) in
-    carries_more g.D.Disk.tells g.D.Disk.sight g.D.Counted.faults kept trade c.args.moment old waited
+    carries_more g.D.Disk.tells g.D.Disk.sight g.D.Counted.faults kept (g.S.Sealer.seals c.args.sealer.now) trade c.args.moment old waited
     c.requires.whole (length-map kept (λ (one : Kept). one.provider)) c.loop-me.me c.loop-me.providers.items
     c.loop-me.arrivals.items c.loop-me.turns.items c.loop-me.outs.items
     c.index_mut.result.now c.take_turn.new.provider c.index_mut-in-loop-me.result.now c.take_turn.new.arrivals
@@ -146,7 +146,7 @@ returns-in_err-taken-clause-stands g c =
     let waited = c.args.arrivals.now.items in
     let within : c.loop-me.me < length c.loop-me.providers.items =
     omega (arith, c.loop-me-test.true, c.count-me-end.ensures.count, c.loop-me.invariant.whole.count) in
-    stands_more g.D.Disk.tells g.D.Disk.sight g.D.Counted.faults kept trade c.args.moment old waited
+    stands_more g.D.Disk.tells g.D.Disk.sight g.D.Counted.faults kept (g.S.Sealer.seals c.args.sealer.now) trade c.args.moment old waited
     c.requires.whole (length-map kept (λ (one : Kept). one.provider)) c.loop-me.me c.loop-me.providers.items
     c.loop-me.arrivals.items c.loop-me.turns.items c.loop-me.outs.items
     c.index_mut.result.now c.take_turn.new.provider c.index_mut-in-loop-me.result.now c.take_turn.new.arrivals
@@ -162,7 +162,7 @@ returns-in_err-taken-clause-later g c =
     let waited = c.args.arrivals.now.items in
     let within : c.loop-me.me < length c.loop-me.providers.items =
     omega (arith, c.loop-me-test.true, c.count-me-end.ensures.count, c.loop-me.invariant.whole.count) in
-    later_more g.D.Disk.tells g.D.Disk.sight g.D.Counted.faults kept trade c.args.moment old waited
+    later_more g.D.Disk.tells g.D.Disk.sight g.D.Counted.faults kept (g.S.Sealer.seals c.args.sealer.now) trade c.args.moment old waited
     c.requires.whole (length-map kept (λ (one : Kept). one.provider)) c.loop-me.me c.loop-me.providers.items
     c.loop-me.arrivals.items c.loop-me.turns.items c.loop-me.outs.items
     c.index_mut.result.now c.take_turn.new.provider c.index_mut-in-loop-me.result.now c.take_turn.new.arrivals
@@ -189,7 +189,7 @@ loop-me-preserved g c =
       c.in_ok-reserve.ensures.items,
       c.in_ok-reserve-2.ensures.items,
     )
-    (taken_more g.D.Disk.tells g.D.Disk.sight g.D.Counted.faults kept trade c.args.moment old waited
+    (taken_more g.D.Disk.tells g.D.Disk.sight g.D.Counted.faults kept (g.S.Sealer.seals c.args.sealer.now) trade c.args.moment old waited
     c.requires.whole (length-map kept (λ (one : Kept). one.provider)) c.loop-me.me c.loop-me.providers.items
     c.loop-me.arrivals.items c.loop-me.turns.items c.loop-me.outs.items
     c.index_mut.result.now c.take_turn.new.provider c.index_mut-in-loop-me.result.now c.take_turn.new.arrivals
@@ -209,7 +209,7 @@ returns-clause-plays g c =
     let waited = c.args.arrivals.now.items in
     let all : c.loop-me.me ≡ length kept =
     omega (arith, c.loop-me-test.false, c.loop-me.auto.me-end, c.count-me-end.ensures.count) in
-    round_so g.D.Disk.tells g.D.Disk.sight g.D.Counted.faults kept trade c.args.moment old waited
+    round_so g.D.Disk.tells g.D.Disk.sight g.D.Counted.faults kept (g.S.Sealer.seals c.args.sealer.now) trade c.args.moment old waited
     c.requires.whole (length-map kept (λ (one : Kept). one.provider)) c.loop-me.providers.items c.loop-me.arrivals.items
     c.loop-me.turns.items c.loop-me.outs.items
     c.loop-me.me all c.loop-me.invariant
@@ -222,7 +222,7 @@ returns-clause-can g c =
     let waited = c.args.arrivals.now.items in
     let all : c.loop-me.me ≡ length kept =
     omega (arith, c.loop-me-test.false, c.loop-me.auto.me-end, c.count-me-end.ensures.count) in
-    all_can g.D.Disk.tells g.D.Disk.sight g.D.Counted.faults kept trade c.args.moment old waited
+    all_can g.D.Disk.tells g.D.Disk.sight g.D.Counted.faults kept (g.S.Sealer.seals c.args.sealer.now) trade c.args.moment old waited
     c.requires.whole (length-map kept (λ (one : Kept). one.provider)) c.loop-me.providers.items c.loop-me.arrivals.items
     c.loop-me.turns.items c.loop-me.outs.items
     c.loop-me.me all c.loop-me.invariant c.in_ok-rooms.rooms.items

@@ -18,7 +18,7 @@ invariant-loop g l =
           → Leads trade l.house.me l.moment (desk_of l.fn.provider) left l.fn.events.items
           (desk_of l.provider) left l.events.items;
       works : IsAtWork trade l.house.me l.moment (desk_of l.provider);
-      runs : Runs l.house.directory.now l.house.me l.provider;
+      runs : Runs l.house.directory.now (g.S.Sealer.seals l.house.sealer.now) l.house.me l.provider;
       carries : g.D.Disk.tells → (journals : Journals)
           → CarriesOn g.D.Disk.sight (MayFollow trade journals l.house.me) l.fn.provider.chronicle l.provider.chronicle;
       later : g.D.Counted.faults l.fn.provider.chronicle.disk ≤ g.D.Counted.faults l.provider.chronicle.disk;

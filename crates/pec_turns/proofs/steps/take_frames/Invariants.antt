@@ -14,7 +14,7 @@ invariant-loop g l =
       leads : Leads trade l.house.me l.moment (desk_of l.fn.provider) l.fn.arrivals l.fn.events.items
           (desk_of l.provider) l.arrivals l.events.items;
       works : IsAtWork trade l.house.me l.moment (desk_of l.provider);
-      runs : Runs l.house.directory.now l.house.me l.provider;
+      runs : Runs l.house.directory.now (g.S.Sealer.seals l.house.sealer.now) l.house.me l.provider;
       links : length l.arrivals ≡ length l.fn.arrivals;
       carries : g.D.Disk.tells → CarriesFrames trade l.house.me l.moment g.D.Disk.sight l.fn.provider.chronicle
           l.fn.arrivals l.provider.chronicle l.arrivals;

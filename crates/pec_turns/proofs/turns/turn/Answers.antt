@@ -18,7 +18,7 @@ returns-in-Err-clause-took g c =
     (took_refused (trade_of c.args.house.now.directory.now (g.S.Sealer.seals c.args.house.now.sealer.now))
     c.args.house.now.me c.args.moment (room_in c.args.rooms.now)
     (desk_of c.args.provider.now) c.args.arrivals.now c.in-Err.fault
-    (c.in-Err.ensures.works c.args.house.now.directory.now c.args.house.now.me _ c.requires.runs
+    (c.in-Err.ensures.works c.args.house.now.directory.now (g.S.Sealer.seals c.args.house.now.sealer.now) c.args.house.now.me _ c.requires.runs
     c.a_house_is_a_trade.ensures.of))
 
 pub returns-in-Ok-clause-took : goal.returns-in-Ok-clause-took
@@ -32,7 +32,7 @@ returns-in-Ok-clause-took g c =
     took_whole trade c.args.house.now.me c.args.moment (room_in c.args.rooms.now)
     (desk_of c.args.provider.now) c.args.arrivals.now
     (desk_of c.take_steps.new.provider) c.take_steps.new.arrivals c.take_steps.new.events.items _ c.whole.result
-    (c.in_default.ensures.works c.args.house.now.directory.now c.args.house.now.me trade c.requires.runs
+    (c.in_default.ensures.works c.args.house.now.directory.now (g.S.Sealer.seals c.args.house.now.sealer.now) c.args.house.now.me trade c.requires.runs
     c.a_house_is_a_trade.ensures.of)
     c.requires.nothing_owed (sym (length-map c.args.house.now.directory.now (λ (one : Kept). one.provider))) far
     c.in-Ok.ensures.none c.in-Ok.ensures.decided
@@ -49,7 +49,7 @@ returns-in-Ok-clause-short g c =
     short_whole trade c.args.house.now.me c.args.moment (room_in c.args.rooms.now)
     (desk_of c.args.provider.now) c.args.arrivals.now
     (desk_of c.take_steps.new.provider) c.take_steps.new.arrivals c.take_steps.new.events.items c.whole.result
-    (c.in_default.ensures.works c.args.house.now.directory.now c.args.house.now.me trade c.requires.runs
+    (c.in_default.ensures.works c.args.house.now.directory.now (g.S.Sealer.seals c.args.house.now.sealer.now) c.args.house.now.me trade c.requires.runs
     c.a_house_is_a_trade.ensures.of) far
 
 pub returns-in-Err-take_steps-clause-took : goal.returns-in-Err-take_steps-clause-took
@@ -63,7 +63,7 @@ returns-in-Err-take_steps-clause-took g c =
     (desk_of c.args.provider.now) c.args.arrivals.now
     (desk_of c.take_steps.new.provider) c.take_steps.new.arrivals c.take_steps.new.events.items
     c.in-Err-take_steps.fault c.cut_off.result
-    (c.in_default.ensures.works c.args.house.now.directory.now c.args.house.now.me trade c.requires.runs
+    (c.in_default.ensures.works c.args.house.now.directory.now (g.S.Sealer.seals c.args.house.now.sealer.now) c.args.house.now.me trade c.requires.runs
     c.a_house_is_a_trade.ensures.of) (c.in-Err-take_steps.ensures.ends
     (desk_of c.args.provider.now) c.args.arrivals.now begun)
     c.cut_off.ensures.other c.cut_off.ensures.out c.cut_off.ensures.turn
@@ -79,7 +79,7 @@ returns-in-Err-take_steps-clause-short g c =
     (desk_of c.args.provider.now) c.args.arrivals.now
     (desk_of c.take_steps.new.provider) c.take_steps.new.arrivals c.take_steps.new.events.items
     c.in-Err-take_steps.fault c.cut_off.result
-    (c.in_default.ensures.works c.args.house.now.directory.now c.args.house.now.me trade c.requires.runs
+    (c.in_default.ensures.works c.args.house.now.directory.now (g.S.Sealer.seals c.args.house.now.sealer.now) c.args.house.now.me trade c.requires.runs
     c.a_house_is_a_trade.ensures.of) (c.in-Err-take_steps.ensures.ends
     (desk_of c.args.provider.now) c.args.arrivals.now begun) c.cut_off.ensures.no_memory
 
@@ -93,7 +93,7 @@ pub returns-in-Err-clause-memory : goal.returns-in-Err-clause-memory
 returns-in-Err-clause-memory g c =
     memory_refused (trade_of c.args.house.now.directory.now (g.S.Sealer.seals c.args.house.now.sealer.now))
     c.args.house.now.me c.args.moment (desk_of c.args.provider.now) c.in-Err.fault c.ended.result.turn.ended
-    (c.in-Err.ensures.works c.args.house.now.directory.now c.args.house.now.me _ c.requires.runs
+    (c.in-Err.ensures.works c.args.house.now.directory.now (g.S.Sealer.seals c.args.house.now.sealer.now) c.args.house.now.me _ c.requires.runs
     c.a_house_is_a_trade.ensures.of)
     (ap (λ (t : Turn). t.ended) c.ended.ensures.turn)
 
@@ -106,3 +106,9 @@ returns-in-Err-take_steps-clause-memory g c =
     memory_early c.args.house.now.me c.take_steps.new.events.items c.in-Err-take_steps.fault c.cut_off.result
     c.cut_off.ensures.other
     c.cut_off.ensures.turn
+
+pub take_steps-requires-clause-works : goal.take_steps-requires-clause-works
+take_steps-requires-clause-works g c =
+    c.in_default.ensures.works c.args.house.now.directory.now (g.S.Sealer.seals c.args.house.now.sealer.now) c.args.house.now.me
+    (trade_of c.args.house.now.directory.now (g.S.Sealer.seals c.args.house.now.sealer.now)) c.requires.runs
+    c.a_house_is_a_trade.ensures.of

@@ -34,9 +34,9 @@ put_back-requires-clause-place g c =
 pub invariant_of-self : goal.invariant_of-self
 invariant_of-self g c =
     let within = number_within _ c.args.self.now c.self.view_is c.self.invariant c.args.provider c.requires in
-    subst (λ (l : List (ProviderState g.row.D.Denot)). IsOfDirectory c.self.inside.directory l c.self.inside.arrivals.items) (sym (c.put_back.ensures ∙ ap (λ (l : List (ProviderState g.row.D.Denot)). insert l c.args.provider c.crash-crashed.result) c.remove.ensures.items ∙ put_instead c.self.inside.providers.items c.args.provider c.crash-crashed.result within))
+    subst (λ (l : List (ProviderState g.row.D.Denot)). IsOfDirectory c.self.inside.directory (g.S.Sealer.seals c.self.inside.sealer) l c.self.inside.arrivals.items) (sym (c.put_back.ensures ∙ ap (λ (l : List (ProviderState g.row.D.Denot)). insert l c.args.provider c.crash-crashed.result) c.remove.ensures.items ∙ put_instead c.self.inside.providers.items c.args.provider c.crash-crashed.result within))
     (whole_from c.self.inside.providers.items c.args.provider c.remove.result c.crash-crashed.result within c.remove.ensures.value c.self.inside.directory c.self.inside.arrivals.items c.self.invariant
-    (c.crash-crashed.ensures.runs c.self.inside.directory
+    (c.crash-crashed.ensures.runs c.self.inside.directory (g.S.Sealer.seals c.self.inside.sealer)
     (runs_from c.self.inside.providers.items c.args.provider c.remove.result c.crash-crashed.result within c.remove.ensures.value c.self.inside.directory c.self.inside.arrivals.items c.self.invariant))
     (ap (λ d. d.owed) c.crash-crashed.ensures.stopped))
 

@@ -79,7 +79,7 @@ put_back-requires-clause-place g c =
 pub invariant_of-self : goal.invariant_of-self
 invariant_of-self g c =
     let within = number_within _ c.args.self.now c.self.view_is c.self.invariant c.args.provider c.requires in
-    subst (λ (l : List (ProviderState g.row.D.Denot)). IsOfDirectory c.self.inside.directory l c.self.inside.arrivals.items) (sym (c.put_back.ensures ∙ ap (λ (l : List (ProviderState g.row.D.Denot)). insert l c.args.provider c.in-Ok.opened) c.remove.ensures.items ∙ put_instead c.self.inside.providers.items c.args.provider c.in-Ok.opened within))
+    subst (λ (l : List (ProviderState g.row.D.Denot)). IsOfDirectory c.self.inside.directory (g.S.Sealer.seals c.self.inside.sealer) l c.self.inside.arrivals.items) (sym (c.put_back.ensures ∙ ap (λ (l : List (ProviderState g.row.D.Denot)). insert l c.args.provider c.in-Ok.opened) c.remove.ensures.items ∙ put_instead c.self.inside.providers.items c.args.provider c.in-Ok.opened within))
     (whole_from c.self.inside.providers.items c.args.provider c.remove.result c.in-Ok.opened within c.remove.ensures.value c.self.inside.directory c.self.inside.arrivals.items c.self.invariant c.in-Ok.ensures.runs
     (ap (λ d. d.owed) c.in-Ok.ensures.up ∙ sym (owed_from c.self.inside.providers.items c.args.provider c.remove.result c.in-Ok.opened within c.remove.ensures.value c.self.inside.directory c.self.inside.arrivals.items c.self.invariant)))
 
@@ -119,7 +119,7 @@ put_back-requires-in-Err-clause-place g c =
 pub invariant_of-self-in-Err : goal.invariant_of-self-in-Err
 invariant_of-self-in-Err g c =
     let within = number_within _ c.args.self.now c.self.view_is c.self.invariant c.args.provider c.requires in
-    subst (λ (l : List (ProviderState g.row.D.Denot)). IsOfDirectory c.self.inside.directory l c.self.inside.arrivals.items) (sym (c.put_back-in-Err.ensures ∙ ap (λ (l : List (ProviderState g.row.D.Denot)). insert l c.args.provider c.in-Err.down) c.remove.ensures.items ∙ put_instead c.self.inside.providers.items c.args.provider c.in-Err.down within))
+    subst (λ (l : List (ProviderState g.row.D.Denot)). IsOfDirectory c.self.inside.directory (g.S.Sealer.seals c.self.inside.sealer) l c.self.inside.arrivals.items) (sym (c.put_back-in-Err.ensures ∙ ap (λ (l : List (ProviderState g.row.D.Denot)). insert l c.args.provider c.in-Err.down) c.remove.ensures.items ∙ put_instead c.self.inside.providers.items c.args.provider c.in-Err.down within))
     (whole_from c.self.inside.providers.items c.args.provider c.remove.result c.in-Err.down within c.remove.ensures.value c.self.inside.directory c.self.inside.arrivals.items c.self.invariant c.in-Err.ensures.runs_err
     (ap (λ d. d.owed) c.in-Err.ensures.stopped))
 

@@ -29,7 +29,7 @@ invariant_of-self-2 g c =
     c.as_mut_slice.ensures.value in
     let all = written_whole arrivals c.deliver.new.arrivals c.take_turns.new.arrivals.len c.take_turns.new.arrivals.ok.0
     (ap (λ (a : List Waiting). length a) is ∙ deliveries_count c.in_ok-turns.field-0.outs.items 0 arrivals) in
-    subst (λ (a : List Waiting). IsOfDirectory c.self.inside.directory c.take_turns.new.providers.items a)
+    subst (λ (a : List Waiting). IsOfDirectory c.self.inside.directory (g.S.Sealer.seals c.self.inside.sealer) c.take_turns.new.providers.items a)
     (sym (all ∙ is))
     (whole_delivered c.self.inside.directory c.take_turns.new.providers.items arrivals c.in_ok-turns.field-0.outs.items
     c.take_turns.ensures.whole

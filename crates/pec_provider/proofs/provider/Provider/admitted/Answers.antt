@@ -5,6 +5,7 @@ use Rattle.pec_types.specs.declared.turns.Submitted.{Submitted}
 use Rattle.pec_directory.specs.Directory.{providers_of}
 use Rattle.pec_records.specs.Entry.{IsWithinLimits}
 use Rattle.pec_points.specs.Case.{case_at}
+use Rattle.pec_plays.specs.Envelopes.{HasEnvelope}
 use Rattle.pec_provider.specs.Looking.{Looks}
 use Rattle.pec_provider.proofs.LookLemmas.{handed, still, within_limits}
 use Rattle.pec_records.specs.declared.entries.Entry.{Entry}
@@ -38,7 +39,7 @@ returns-in_err-at_work-clause-admits g c =
     found
     (sym c.is_account_of.ensures.value ∙ c.if-not-is_account_of.false)
     c.in_err-at_work.field-0.0 c.from_residual.result c.from_residual.ensures.1
-    (c.in_err-at_work.ensures.works kept me trade c.requires.runs c.a_house_is_a_trade.ensures.of)
+    (c.in_err-at_work.ensures.works kept (g.S.Sealer.seals c.args.house.now.sealer.now) me trade c.requires.runs c.a_house_is_a_trade.ensures.of)
 
 pub returns-in_default-clause-admits : goal.returns-in_default-clause-admits
 returns-in_default-clause-admits g c =
@@ -50,7 +51,7 @@ returns-in_default-clause-admits g c =
     no_number (Entry × Submitted) trade me c.args.moment (desk_of c.args.self.now) c.args.sender.now c.args.path.now
     c.args.message.now found
     (sym c.is_account_of.ensures.value ∙ c.if-not-is_account_of.false)
-    (c.in_ok-at_work.ensures.works kept me trade c.requires.runs of)
+    (c.in_ok-at_work.ensures.works kept (g.S.Sealer.seals c.args.house.now.sealer.now) me trade c.requires.runs of)
     (subst (λ (n : ℕ). MESSAGES ≤ n) (count_runs kept me _ c.args.self.now c.self.view_is trade c.requires.runs of)
     c.in_default.ensures)
 
@@ -89,7 +90,7 @@ returns-clause-admits g c =
     (comes_to (Entry × Submitted) trade me c.args.moment (desk_of c.args.self.now) c.args.sender.now c.args.path.now
     c.args.message.now found
     (sym c.is_account_of.ensures.value ∙ c.if-not-is_account_of.false)
-    (c.in_ok-at_work.ensures.works kept me trade c.requires.runs of)
+    (c.in_ok-at_work.ensures.works kept (g.S.Sealer.seals c.args.house.now.sealer.now) me trade c.requires.runs of)
     (subst (λ (n : ℕ). n < MESSAGES) count c.in-Some.ensures.0)))
 
 pub returns-clause-follows : goal.returns-clause-follows
@@ -109,7 +110,7 @@ returns-clause-follows g c = λ journals.
     subst (λ (e : Entry). Meets trade journals me (half trade me c.args.self.now.chronicle.entries) e) (sym entry)
     (c.what_a_provider_does_may_follow.ensures.submissions trade (c.a_house_is_a_trade.ensures.trade c.requires.fits)
     journals me c.args.moment
-    c.args.self.now.chronicle.entries (c.in_ok-at_work.ensures.works kept me trade c.requires.runs of).in_time
+    c.args.self.now.chronicle.entries (c.in_ok-at_work.ensures.works kept (g.S.Sealer.seals c.args.house.now.sealer.now) me trade c.requires.runs of).in_time
     c.at_work.ensures.in_range
     c.args.sender.now c.args.path.now c.args.message.now found
     (sym c.is_account_of.ensures.value ∙ c.if-not-is_account_of.false)
@@ -126,10 +127,17 @@ returns-in_err-at_work-clause-looked g c =
     handed (λ (r : Result (Entry × Submitted) ProviderFault). Looks case seen seen r) c.in_err-at_work.field-0.0
     c.from_residual.result c.from_residual.ensures.1
     (still (Entry × Submitted) case seen seen trade me c.args.moment (desk_of c.args.self.now) c.in_err-at_work.field-0.0
-    (c.in_err-at_work.ensures.works kept me trade c.requires.runs c.a_house_is_a_trade.ensures.of) refl)
+    (c.in_err-at_work.ensures.works kept (g.S.Sealer.seals c.args.house.now.sealer.now) me trade c.requires.runs c.a_house_is_a_trade.ensures.of) refl)
 
 pub returns-clause-limits : goal.returns-clause-limits
 returns-clause-limits g c =
     subst (λ (e : Entry). IsWithinLimits e) (sym c.in_ok-entry.ensures)
     (within_limits c.in_ok-cause.cause c.args.moment c.args.sender.now c.args.path.now c.args.message.now c.requires.path.1
     c.requires.message)
+
+pub returns-clause-envelope : goal.returns-clause-envelope
+returns-clause-envelope g c =
+    let trade = trade_of c.args.house.now.directory.now (g.S.Sealer.seals c.args.house.now.sealer.now) in
+    subst (HasEnvelope trade) (sym c.in_ok-entry.ensures)
+    (c.what_a_provider_takes_is_an_envelope.ensures.submissions trade c.in_ok-cause.cause c.args.moment c.args.sender.now
+    c.args.path.now c.args.message.now)

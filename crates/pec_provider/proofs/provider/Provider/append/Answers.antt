@@ -1,4 +1,4 @@
-use Rattle.pec_provider.proofs.AppendLemmas.{left_any, marks_any}
+use Rattle.pec_provider.proofs.AppendLemmas.{left_any, marks_any, runs_on}
 use Rattle.pec_provider.proofs.provider.Provider.append.Goals as goal
 
 pub returns-clause-appends : goal.returns-clause-appends
@@ -11,3 +11,10 @@ pub returns-clause-marks : goal.returns-clause-marks
 returns-clause-marks g c = λ trade of.
     marks_any c.args.house.now.directory.now c.args.house.now.me _ c.args.self.now c.self.view_is c.args.entry
     c.requires.runs trade of c.enter.result c.enter.ensures.marks
+
+pub returns-clause-runs : goal.returns-clause-runs
+returns-clause-runs g c =
+    runs_on c.taken_messages_have_envelopes.ensures.more c.args.house.now.directory.now c.args.house.now.me _
+    c.args.self.now c.self.view_is c.enter.new.chronicle c.enter.new.shelf _ c.args.entry c.enter.result
+    c.enter.ensures.entered c.enter.ensures.failed c.enter.ensures.me c.enter.ensures.agree c.requires.envelope
+    c.requires.runs
