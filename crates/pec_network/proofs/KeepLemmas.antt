@@ -1,7 +1,6 @@
 -- What a network in a Sound state keeps: the journals of a round that memory stopped are Fit.
-use Rattle.std.proofs.Common.{◌≡◌, ℕ, ◌<◌, false, List, [], sym, subst}
+use Rattle.std.proofs.Common.{ℕ, false, List, [], sym, subst}
 use Rattle.std.proofs.lemmas.List.{append-nil}
-use Rattle.pec_types.specs.declared.moments.TheConstants.{END_OF_TIME}
 use Rattle.pec_records.specs.declared.entries.Entry.{Entry}
 use Rattle.pec_ledger.specs.Ledger.{Fit, Journals}
 use Rattle.pec_ledger.specs.Network.{FollowsState, Site, Sound, journal_at, journals_of}

@@ -1,18 +1,16 @@
 -- What is known of a provider that runs, in the words of the ledger.
-use Rattle.std.proofs.Common.{◌≡◌, ℕ, Bool, List, ◌++◌, length, sym, ap, subst, ◌∙◌, true, false}
+use Rattle.std.proofs.Common.{◌≡◌, ℕ, List, length, sym, ap, subst, ◌∙◌, true, false}
 use Rattle.std.proofs.lemmas.Bool.{false≢true}
 use Rattle.std.proofs.lemmas.List.{append-nil}
 use Rattle.pec_types.specs.declared.letters.Letter.{Letter}
-use Rattle.pec_outside.specs.DiskModel.{Sight}
 use Rattle.pec_directory.specs.Directory.{Kept}
 use Rattle.pec_records.specs.declared.entries.Entry.{Entry}
 use Rattle.pec_ledger.specs.Half.{Half}
 use Rattle.pec_ledger.specs.Ledger.{Journals, Meets}
-use Rattle.pec_ledger.specs.Network.{chosen}
 use Rattle.pec_ledger.specs.OfDirectory.{IsOf}
 use Rattle.pec_ledger.specs.Steps.{half}
 use Rattle.pec_ledger.specs.Trade.{Trade}
-use Rattle.pec_chronicle.specs.Chronicle.{ChronicleState, Stands, down_over, past_of}
+use Rattle.pec_chronicle.specs.Chronicle.{ChronicleState, down_over, past_of}
 use Rattle.pec_shelf.specs.Prepared.{AreSteps, IsStep}
 use Rattle.pec_plays.specs.Envelopes.{HaveEnvelopes}
 use Rattle.pec_seal.specs.Seals.{Seals}
@@ -83,17 +81,6 @@ runs_down {D} {seals} kept me inside old view new after owed places from same se
           (ap (λ s. s.down) down);
       envelopes = subst (HaveEnvelopes (trade_of kept seals) inside.seen_from) (sym entries) before.envelopes;
     })
-
--- what a restart finds of what stands inside it finds of the provider
-pub found_inside : {D : Type 0} (sight : D → Sight) (entries : List Entry) (inside old : ProviderState D)
-    → inside ≡ old
-    → (Stands sight inside.chronicle
-    → (choice : Bool) × (entries ≡ inside.chronicle.entries ++ chosen choice inside.chronicle.interrupted))
-    → Stands sight old.chronicle
-    → (choice : Bool) × (entries ≡ old.chronicle.entries ++ chosen choice old.chronicle.interrupted)
-found_inside {D} sight entries inside old view found =
-    subst (λ (p : ProviderState D). Stands sight p.chronicle
-    → (choice : Bool) × (entries ≡ p.chronicle.entries ++ chosen choice p.chronicle.interrupted)) view found
 
 -- ---- by what stands in the provider
 

@@ -1,5 +1,5 @@
 use Rattle.std.proofs.Common.{refl, ◌∙◌}
-use Rattle.pec_provider.proofs.RunLemmas.{found_inside, runs_down}
+use Rattle.pec_provider.proofs.RunLemmas.{runs_down}
 use Rattle.pec_provider.proofs.provider.Provider.restart.Goals as goal
 
 pub returns-in-Err-clause-runs_err : goal.returns-in-Err-clause-runs_err
