@@ -21,17 +21,29 @@ pub(crate) struct Line<'a> {
     pub bytes: &'a [u8],
 }
 
-/// The seal line with this name and tag.
-pub(crate) fn write_line(alloc: Global, name: &[u8], tag: &[u8; 32]) -> Result<Vec<u8>, NoMemory>
+/// The seal line with this name and tag, with room for so many bytes behind it.
+pub(crate) fn write_line(
+    alloc: Global,
+    name: &[u8],
+    tag: &[u8; 32],
+    behind: usize,
+) -> Result<Vec<u8>, NoMemory>
     ensures { IfOk result (λ line. (rest : List ℕ)
         → line.items ++ rest ≡ line_text (record { name = name.now; tag = tag.now; bytes = rest })) }
 {
-    let mut line = Vec::from_slice(alloc, FIELD)?;
+    let mut line = Vec::with_capacity(alloc, room_for(name, behind))?;
+    line.extend_from_slice(FIELD)?;
     line.extend_from_slice(name)?;
     line.extend_from_slice(SEPARATOR)?;
     line.extend_from_slice(&encoded(tag))?;
     line.extend_from_slice(LINE_END)?;
     Ok(line)
+}
+
+/// How much room is made for a line and what stands behind it. A wrong guess would cost time alone.
+fn room_for(name: &[u8], behind: usize) -> usize {
+    let own = FIELD.len() + SEPARATOR.len() + LINE_END.len() + 44;
+    name.len().saturating_add(behind).saturating_add(own)
 }
 
 /// The seal line at the front of a text, and what stands behind it.

@@ -37,7 +37,7 @@ pub fn seal<S: Sealer>(
     let Some(name) = sealer.name(provider) else {
         unreachable!();
     };
-    let mut text = write_line(alloc, name, &sealer.tag(provider, bytes))?;
+    let mut text = write_line(alloc, name, &sealer.tag(provider, bytes), bytes.len())?;
     text.extend_from_slice(bytes)?;
     Ok(text)
 }

@@ -194,7 +194,7 @@ fn behind_sign(address: &[u8]) -> &[u8]
 fn lowercase(alloc: Global, text: &[u8]) -> Result<Vec<u8>, AllocError>
     ensures { IfOk result (λ bytes. bytes.items ≡ lowered text.now) }
 {
-    text.iter().map(|b| b.to_ascii_lowercase()).collect(alloc)
+    text.to_ascii_lowercase(alloc)
 }
 
 fn at_sign(text: &[u8]) -> Option<usize>

@@ -13,7 +13,8 @@ pub fn id_text(alloc: Global, domain: &[u8], number: u64) -> Result<Vec<u8>, NoM
     ensures { IfOk result (λ text. text.items ≡ id_text domain.now number) }
 {
     let digits = seven_digits(number);
-    let mut text = Vec::new(alloc);
+    // Room for all of it: a wrong guess would cost time alone.
+    let mut text = Vec::with_capacity(alloc, domain.len().saturating_add(12))?;
     text.extend_from_slice(b"pec.")?;
     text.extend_from_slice(&digits)?;
     text.extend_from_slice(b"@")?;
