@@ -1,16 +1,14 @@
 -- What a text carries that has the form of an envelope, whoever sealed it: the message behind its seal line, and the facts of that
 -- message's head. Of a text that is seen as an envelope it is what is seen in it.
-use Rattle.std.specs.Prelude.{◌≡◌, ℕ, List, drop, Option, None, Some, Result}
+use Rattle.std.specs.Prelude.{List, drop, Option, Some}
 use Rattle.std.specs.Result.{result_ok}
 use Rattle.pec_types.specs.Bytes.{Bytes}
 use Rattle.pec_types.specs.Options.{◌>>=◌}
 use Rattle.pec_types.specs.declared.messages.Facts.{Facts}
 use Rattle.pec_heads.specs.HeadReading.{read_of}
-use Rattle.pec_heads.specs.Heads.{NamedValue}
 use Rattle.pec_bodies.specs.Multiparts.{ReadPart}
 use Rattle.pec_bodies.specs.PartsReading.{parts_of}
 use Rattle.pec_seal.specs.Opening.{line_at}
-use Rattle.pec_seal.specs.Seals.{Line}
 use Rattle.pec_letter_parts.specs.Contents.{message_name}
 use Rattle.pec_letter_parts.specs.Letters.{body_of}
 use Rattle.pec_letters.specs.Seen.{facts_read}
@@ -18,10 +16,6 @@ use Rattle.pec_letters.specs.Seen.{facts_read}
 pub record Enclosure : Type 0 where
   pub facts : Facts
   pub original : Bytes
-
--- what is behind a seal line
-abbrev pub bytes_of : Line → Bytes
-bytes_of line = line.bytes
 
 -- the parts behind the head of these bytes
 unfoldable pub parts_in : Bytes → Option (List ReadPart)

@@ -90,6 +90,7 @@ fn seen_again<'a, S: Sealer>(
 }
 
 /// The original in an envelope, where it is one of this message.
+#[tactic(auto, using(crate::proofs::SeenLemmas::unseen, crate::proofs::SeenLemmas::original_of))]
 fn seen_first<'a, S: Sealer>(
     desk: &Desk<'_, S>,
     id: MsgId,
@@ -98,28 +99,6 @@ fn seen_first<'a, S: Sealer>(
     ensures original { IfOk result (λ found. option_map (λ found. found.original.now) found
         ≡ original_in id (seen_in (S.seals desk.now.sealer.now) (providers_of desk.now.directory.now) envelope.now)) }
     ensures facts { IfOk result (λ found. IfSome found (λ found. facts_in found.original.now ≡ Some found.facts)) }
-{
-    let Some(seen) = seen_of(desk, id, envelope)? else {
-        return Ok(None);
-    };
-    let EnvelopeView {
-        facts,
-        original,
-        ..
-    } = seen;
-    Ok(Some(Enclosure { facts, original }))
-}
-
-/// What is seen of an envelope, where it is one of this message.
-#[tactic(auto, using(crate::proofs::SeenLemmas::unseen, crate::proofs::SeenLemmas::original_of))]
-fn seen_of<'a, S: Sealer>(
-    desk: &Desk<'_, S>,
-    id: MsgId,
-    envelope: &'a [u8],
-) -> Result<Option<EnvelopeView<'a>>, NoMemory>
-    ensures original { IfOk result (λ found. option_map (λ seen. seen.original.now) found
-        ≡ original_in id (seen_in (S.seals desk.now.sealer.now) (providers_of desk.now.directory.now) envelope.now)) }
-    ensures facts { IfOk result (λ found. IfSome found (λ seen. facts_in seen.original.now ≡ Some seen.facts)) }
 {
     let Some(seen) = envelope_seen(desk, envelope)? else {
         return Ok(None);
@@ -144,15 +123,20 @@ fn envelope_seen<'a, S: Sealer>(
     }
 }
 
-/// What is seen, where it is of this message.
-fn unless_another<'a>(seen: EnvelopeView<'a>, id: MsgId) -> Option<EnvelopeView<'a>>
+/// The original in what is seen, where it is of this message.
+fn unless_another<'a>(seen: EnvelopeView<'a>, id: MsgId) -> Option<Enclosure<'a>>
     requires { facts_in seen.original.now ≡ Some seen.facts }
-    ensures original { option_map (λ seen. seen.original.now) result
+    ensures original { option_map (λ found. found.original.now) result
         ≡ (if same_id id seen.entry.id then Some seen.entry.original.now else None) }
-    ensures facts { IfSome result (λ seen. facts_in seen.original.now ≡ Some seen.facts) }
+    ensures facts { IfSome result (λ found. facts_in found.original.now ≡ Some found.facts) }
 {
     if id.provider != seen.id.provider || id.number != seen.id.number {
         return None;
     }
-    Some(seen)
+    let EnvelopeView {
+        facts,
+        original,
+        ..
+    } = seen;
+    Some(Enclosure { facts, original })
 }

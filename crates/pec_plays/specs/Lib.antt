@@ -1,5 +1,6 @@
 pub mod Commands
 pub mod Decisions
+pub mod Envelopes
 pub mod Examples
 pub mod Frames
 pub mod Possible
@@ -12,4 +13,3 @@ pub mod Steps
 pub mod TableSight
 pub mod Told
 pub mod Turns
-pub mod Envelopes

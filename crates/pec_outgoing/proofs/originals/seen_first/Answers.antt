@@ -3,7 +3,7 @@ use Rattle.std.proofs.Common.{ap, option_map, sym, ◌∙◌}
 use Rattle.pec_directory.specs.Directory.{providers_of}
 use Rattle.pec_letters.specs.Views.{view_shown}
 use Rattle.pec_outgoing.proofs.SeenLemmas.{original_of}
-use Rattle.pec_outgoing.proofs.originals.seen_of.Goals as goal
+use Rattle.pec_outgoing.proofs.originals.seen_first.Goals as goal
 
 pub returns-clause-original : goal.returns-clause-original
 returns-clause-original g c =
