@@ -3,7 +3,7 @@ use Rattle.std.proofs.Common.{ℕ, zero, suc, ◌≤◌, List, [], ◌∷◌, �
 use Rattle.std.specs.Prelude.{slice_get}
 use Rattle.pec_directory.specs.Directory.{Kept, Provider, providers_of}
 use Rattle.pec_directory.specs.Lawful.{AreNext, IsLawful}
-use Rattle.pec_desk.specs.Desks.{limit_in}
+use Rattle.pec_service.specs.Passes.{limit_in}
 
 among : (earlier : List Provider) (kept : List Kept) (number : ℕ)
     → AreNext earlier (providers_of kept) → limit_in (slice_get kept number) ≤ 31457280

@@ -20,8 +20,10 @@ use Rattle.pec_http.specs.declared.demands.Look.{Look}
 use Rattle.pec_http.specs.declared.demands.Look.TheVariants as looks
 use Rattle.pec_http.specs.declared.passes.Pass.{Pass}
 use Rattle.pec_http.specs.declared.stops.Stop.{Stop}
-use Rattle.pec_desk.specs.Desks.{DeskState, HandsIn, answers_of, domain_at, pass_of, world_of}
-use Rattle.pec_desk.specs.Own.{IsFaultOf, IsFaultReply, Share, asker, asking_share, reply_to, reply_with, share_at, share_of, shown_to}
+use Rattle.pec_desk.specs.Desks.{DeskState, HandsIn, answers_of, domain_at, world_of}
+use Rattle.pec_service.specs.Passes.{pass_of}
+use Rattle.pec_service.specs.Own.{IsFaultOf, IsFaultReply, Share, asker, reply_to, reply_with, share_at, shown_to}
+use Rattle.pec_desk.specs.Shares.{asking_share, share_of}
 use Rattle.pec_desk.proofs.ShareLemmas.{book_is, book_of_nobody, item_is, item_of_nobody, items_is, items_of_nobody, submission_is}
 
 -- a request asks one thing

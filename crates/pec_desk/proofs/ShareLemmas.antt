@@ -36,7 +36,7 @@ use Rattle.pec_http.specs.declared.demands.Look.{Look}
 use Rattle.pec_http.specs.declared.demands.Look.TheVariants as looks
 use Rattle.pec_script.specs.Texts.{book_text, items_text}
 use Rattle.pec_desk.specs.Desks.{IsSeen, as_they_are, bytes_shown, items_shown, lines_shown}
-use Rattle.pec_desk.specs.Own.{Share, entry_for, numbered, patterns_at, patterns_by, said_by, share_at, shown_to, text_or_none}
+use Rattle.pec_service.specs.Own.{Share, entry_for, numbered, patterns_at, patterns_by, said_by, share_at, shown_to, text_or_none}
 
 -- ---- answers, and what they tell
 

@@ -1,7 +1,6 @@
 -- The desk of a network at a moment: what it answers, `answers_of`, in the words of what the network plays and shows. Its
 -- accounts are those of the directory, whichever provider they are at. This project's profile.
 use Rattle.std.specs.Prelude.{◌≡◌, ℕ, ◌<◌, ◌≤◌, false, List, [], Option, None, Some, Result, Ok, Err, IsErrOf, is_some, length, slice_get, if◌then◌else◌}
-use Rattle.std.specs.Str.{bytes_eq}
 use Rattle.pec_types.specs.Bytes.{Bytes, Path}
 use Rattle.pec_types.specs.declared.mailboxes.ItemLine.{ItemLine}
 use Rattle.pec_types.specs.declared.messages.BookLine.{BookLine}
@@ -9,7 +8,7 @@ use Rattle.pec_types.specs.declared.turns.ProviderFault.{ProviderFault}
 use Rattle.pec_types.specs.declared.turns.ProviderFault.TheVariants as faults
 use Rattle.pec_types.specs.declared.turns.Submitted.{Submitted}
 use Rattle.pec_outside.specs.DiskModel.{Sight}
-use Rattle.pec_directory.specs.Directory.{Account, Kept, Provider, account_home, account_of, first_domain, providers_of}
+use Rattle.pec_directory.specs.Directory.{Kept, Provider, account_home, first_domain, providers_of}
 use Rattle.pec_records.specs.Entry.{most_addresses}
 use Rattle.pec_screen.specs.Screened.{finds_in}
 use Rattle.pec_screen.specs.Verdicts.{Patterns}
@@ -26,8 +25,7 @@ use Rattle.pec_network.specs.Changing.{ChangesOnly, HasRisenAt}
 use Rattle.pec_network.specs.Network.{NetworkState, sites}
 use Rattle.pec_network.specs.Playing.{IsPlayed}
 use Rattle.pec_http.specs.Desks.{Answers}
-use Rattle.pec_http.specs.declared.passes.Pass.{Pass}
-use Rattle.pec_http.specs.declared.passes.Pass.TheVariants as passes
+use Rattle.pec_service.specs.Passes.{pass_of}
 use Rattle.pec_script.specs.Texts.{book_text, items_text}
 
 -- The network, the moment at which all that comes to the desk is done, in seconds, and the patterns of the boxes of each
@@ -38,25 +36,6 @@ pub record DeskState (D S : Type 0) : Type 0 where
   pub screens : List (List Patterns)
 
 -- ---- who asks
-
--- the most bytes of a message that a provider takes
-abbrev pub limit_in : Option Kept → ℕ
-limit_in None = 0
-limit_in (Some kept) = kept.provider.limit
-
--- an account, by what is said of it: its key is the one that was given, or isn't
-abbrev pub keyed : ℕ → Option Account → Bytes → Pass
-keyed limit None key = passes.WrongKey
-keyed limit (Some account) key = if bytes_eq key account.key then passes.Admitted limit else passes.WrongKey
-
--- an address, by the number of the provider whose account it is
-abbrev pub passed : List Kept → Bytes → Bytes → Option ℕ → Pass
-passed kept address key None = passes.NoAddress
-passed kept address key (Some number) = keyed (limit_in (slice_get kept number)) (account_of (providers_of kept) address) key
-
--- What is said of an address and a key.
-unfoldable pub pass_of : List Kept → Bytes → Bytes → Pass
-pass_of kept address key = passed kept address key (account_home (providers_of kept) address)
 
 -- the first domain of the provider of a number
 abbrev pub domain_at : List Provider → Option ℕ → Bytes

@@ -5,8 +5,10 @@ ghost use Rattle.pec_http.specs.Asking.{Asks, Question};
 ghost use Rattle.pec_http.specs.Replies.{Reply as ReplyShown};
 ghost use Rattle.pec_http.specs.Serving.{IsAnswer};
 ghost use Rattle.pec_http.specs.declared.stops.Stop.{Stop as StopShown};
-ghost use Rattle.pec_desk.specs.Desks.{DeskState, answers_of, pass_of};
-ghost use Rattle.pec_desk.specs.Own.{IsFaultOf, IsFaultReply, asker, asking_share, reply_to, share_of};
+ghost use Rattle.pec_desk.specs.Desks.{DeskState, answers_of};
+ghost use Rattle.pec_service.specs.Passes.{pass_of};
+ghost use Rattle.pec_service.specs.Own.{IsFaultOf, IsFaultReply, asker, reply_to};
+ghost use Rattle.pec_desk.specs.Shares.{asking_share, share_of};
 
 use pec_http::a_request_asks_one_thing;
 use pec_outside::Disk;

@@ -1,6 +1,6 @@
 ghost use Rattle.std.specs.Prelude.{◌≡◌, ◌<◌, ◌≤◌, length, slice_get};
 ghost use Rattle.pec_directory.specs.Directory.{first_domain, providers_of};
-ghost use Rattle.pec_desk.specs.Desks.{limit_in};
+ghost use Rattle.pec_service.specs.Passes.{limit_in};
 
 use pec_directory::{Directory, a_first_domain_is_one_providers};
 

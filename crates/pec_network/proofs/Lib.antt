@@ -2,7 +2,9 @@ pub mod BeginLemmas
 pub mod ChangeLemmas
 pub mod CrashLemmas
 pub mod DeliveryLemmas
+pub mod EndLemmas
 pub mod FindLemmas
+pub mod FrameLemmas
 pub mod HomeLemmas
 pub mod KeepLemmas
 pub mod LinkLemmas
@@ -13,4 +15,5 @@ pub mod RoundLemmas
 pub mod ShowLemmas
 pub mod SiteLemmas
 pub mod StartLemmas
+pub mod StepLemmas
 pub mod TurnLemmas

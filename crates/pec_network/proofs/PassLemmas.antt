@@ -27,7 +27,7 @@ use Rattle.pec_chronicle.specs.Chronicle.{ChronicleState, Stands}
 use Rattle.pec_posts.specs.Arrivals.{CanBeDelivered, Waiting, deliveries, room_on, waiting_for, waiting_from}
 use Rattle.pec_provider.specs.Following.{MayFollow}
 use Rattle.pec_provider.specs.Provider.{ProviderState, Runs, desk_of, site_of}
-use Rattle.pec_turns.specs.Turning.{CarriesFrames, StopsShort, Took, cut_told, room_in, told_of, turn_of}
+use Rattle.pec_network.specs.Turning.{CarriesFrames, StopsShort, Took, cut_told, room_in, told_of, turn_of}
 use Rattle.pec_seal.specs.Seals.{Seals}
 use Rattle.pec_network.specs.Carrying.{AllCarryOn, AllStand, NoneFalls}
 use Rattle.pec_network.specs.Network.{IsOfDirectory, sites_of}

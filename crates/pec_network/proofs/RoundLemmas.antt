@@ -20,7 +20,7 @@ use Rattle.pec_plays.specs.Rounds.{delivered, delivered_to, link_size, outs_of, 
 use Rattle.pec_plays.specs.Rounds.{turns_from, turns_of, with_waiting}
 use Rattle.pec_plays.specs.Turns.{Cut, Stops, Turned, frames_in, plan, turned}
 use Rattle.pec_posts.specs.Arrivals.{CanBeDelivered, Waiting, waiting_for, waiting_from}
-use Rattle.pec_turns.specs.Turning.{StopsShort, Took, cut_told, told_of, turn_of}
+use Rattle.pec_network.specs.Turning.{StopsShort, Took, cut_told, told_of, turn_of}
 use Rattle.pec_network.specs.Rounds.{IsRound, StopsWithin, cut_of, luck_of_turns}
 use Rattle.pec_network.proofs.DeliveryLemmas.{after_is, after_length, out_at, outs_length, turn_in, turn_is, turns_length}
 use Rattle.pec_network.proofs.TurnLemmas.{puts_few, stops_first, stops_short, waits_shorter}

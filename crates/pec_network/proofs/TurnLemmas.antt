@@ -17,7 +17,7 @@ use Rattle.pec_plays.specs.Steps.{Step}
 use Rattle.pec_plays.specs.Turns.{Cut, Fails, Full, Stops, Turned, Whole, behind, cut_turn, entries_of, events_of}
 use Rattle.pec_plays.specs.Turns.{frames_in, last_of, not_begun, owed_of, plan, puts_from, turned, without_first}
 use Rattle.pec_posts.specs.Arrivals.{Waiting}
-use Rattle.pec_turns.specs.Turning.{StopsShort}
+use Rattle.pec_network.specs.Turning.{StopsShort}
 
 abbrev turn_with : Site → List Event → List (List Bytes) → Option ProviderFault → Turned
 turn_with site events out ended = record { site = site; events = events; out = out; ended = ended }

@@ -7,3 +7,4 @@ pub mod Playing
 pub mod Restarting
 pub mod Rounds
 pub mod Starting
+pub mod Turning

@@ -13,7 +13,7 @@ use Rattle.pec_plays.specs.Rounds.{link_size}
 use Rattle.pec_plays.specs.Turns.{Cut, Whole, frames_in}
 use Rattle.pec_posts.specs.Arrivals.{Waiting, room_on, waiting_from}
 use Rattle.pec_provider.specs.Provider.{ProviderState}
-use Rattle.pec_turns.specs.Turning.{cut_told}
+use Rattle.pec_network.specs.Turning.{cut_told}
 use Rattle.pec_network.specs.Changing.{HasRisenAt}
 
 -- ---- the luck that turns tell

@@ -1,4 +1,4 @@
-//! The network: providers, the links between them, and rounds.
+//! The network: providers, the links between them, and rounds of turns.
 #![tactic(auto)]
 
 mod closing;
@@ -10,11 +10,15 @@ pub mod laws;
 mod linking;
 mod network;
 mod opening;
+mod putting;
 mod rounds;
 mod showing;
 mod starting;
+mod steps;
+mod turns;
 
 pub use faults::{NotFit, RestartFault, StartFault};
 pub use keeping::a_network_keeps_its_promises;
 pub use network::Network;
 pub use opening::Form;
+pub use turns::{Taken, take_turn};

@@ -16,7 +16,7 @@ use pec_outside::Disk;
 use pec_posts::{Arrivals, deliver, rooms};
 use pec_provider::{House, Provider};
 use pec_seal::Sealer;
-use pec_turns::take_turn;
+use crate::turns::take_turn;
 use pec_types::{Frame, Items, Moment, NoMemory, Turn};
 use std::alloc::Global;
 

@@ -24,8 +24,8 @@ use Rattle.pec_http.specs.Statuses.{number_of}
 use Rattle.pec_http.specs.declared.demands.Look.{Look}
 use Rattle.pec_http.specs.declared.stops.Stop.{Stop}
 use Rattle.pec_script.specs.Texts.{text_of}
-use Rattle.pec_desk.specs.Desks.{pass_of}
-use Rattle.pec_desk.specs.Own.{shown_in}
+use Rattle.pec_service.specs.Passes.{pass_of}
+use Rattle.pec_service.specs.Own.{shown_in}
 use Rattle.pec_service.specs.Calls.{AreCalls, Call, State, answer_of, calls_text, clock_from, commands_of, state_behind}
 
 -- ---- what a request comes to

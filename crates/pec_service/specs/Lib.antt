@@ -1,4 +1,2 @@
-pub mod Calls
-pub mod Connections
-pub mod Services
-pub mod Runs
+pub mod Own
+pub mod Passes

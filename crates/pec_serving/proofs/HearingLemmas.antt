@@ -34,8 +34,10 @@ use Rattle.pec_http.specs.declared.serving.Served.{Served}
 use Rattle.pec_http.specs.declared.serving.Served.TheVariants as served
 use Rattle.pec_http.specs.declared.stops.Stop.{Stop}
 use Rattle.pec_runs.specs.Plays.{HasMemory, RoseBy, faults_at}
-use Rattle.pec_desk.specs.Desks.{DeskState, HandsIn, answers_of, domain_at, pass_of, world_of}
-use Rattle.pec_desk.specs.Own.{IsFaultOf, asking_share, reply_to, share_at, shown_with}
+use Rattle.pec_desk.specs.Desks.{DeskState, HandsIn, answers_of, domain_at, world_of}
+use Rattle.pec_service.specs.Passes.{pass_of}
+use Rattle.pec_service.specs.Own.{IsFaultOf, reply_to, share_at, shown_with}
+use Rattle.pec_desk.specs.Shares.{asking_share}
 use Rattle.pec_playing.specs.Playing.{counts_in}
 use Rattle.pec_service.specs.Calls.{AreCalls, Call, IsCall, State, commands_of, state_behind}
 use Rattle.pec_service.specs.Connections.{Answering, AsksSo, Hearing, IsHeardSo, answered_by, handed_by, handed_in, said_in}

@@ -1,5 +1,5 @@
 use Rattle.std.proofs.Common.{◌≤◌, ap, ◌∙◌, sym, subst, ℕ}
-use Rattle.pec_desk.specs.Desks.{limit_in}
+use Rattle.pec_service.specs.Passes.{limit_in}
 use Rattle.pec_desk.proofs.LimitLemmas.{limit_is_small}
 use Rattle.pec_desk.proofs.limits.limit_at.Goals as goal
 

@@ -1,0 +1,19 @@
+-- The share of the desk that an account has (`Share` of pec_service), and that of who asks. This project's profile.
+use Rattle.std.specs.Prelude.{List, Option, Result}
+use Rattle.std.specs.Option.{option_and_then}
+use Rattle.pec_types.specs.Bytes.{Bytes}
+use Rattle.pec_directory.specs.Directory.{providers_of}
+use Rattle.pec_seal.specs.Seals.{Seals}
+use Rattle.pec_http.specs.Asking.{Question}
+use Rattle.pec_http.specs.declared.stops.Stop.{Stop}
+use Rattle.pec_network.specs.Network.{sites}
+use Rattle.pec_service.specs.Own.{Share, asker, share_in}
+use Rattle.pec_desk.specs.Desks.{DeskState, world_of}
+
+abbrev pub share_of : {D S : Type 0} → (S → Seals) → DeskState D S → Bytes → Option Share
+share_of seals desk address =
+    share_in (world_of seals desk.network) (providers_of desk.network.kept) desk.screens (sites desk.network) address
+
+-- The share of who asks.
+abbrev pub asking_share : {D S : Type 0} → (S → Seals) → DeskState D S → Result Question Stop → Option Share
+asking_share seals desk asked = option_and_then (share_of seals desk) (asker asked)

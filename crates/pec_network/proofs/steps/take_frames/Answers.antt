@@ -1,0 +1,47 @@
+use Rattle.std.proofs.Common.{◌∙◌, arith}
+use Rattle.std.proofs.lemmas.Result.{err_from_is_err_and}
+use Rattle.pec_trade.specs.TradeOf.{trade_of}
+use Rattle.pec_network.proofs.StepLemmas.{frames_and_then}
+use Rattle.pec_network.proofs.steps.take_frames.Goals as goal
+
+pub returns-in_err-take_frame-clause-ends : goal.returns-in_err-take_frame-clause-ends
+returns-in_err-take_frame-clause-ends g c =
+    let p = err_from_is_err_and c.from_residual.result c.from_residual.ensures.1 in
+    rw (p.1, p.2) (λ begun waiting far. c.in_err-take_frame.ensures.ends begun waiting
+    (c.loop.invariant.leads begun waiting far))
+
+pub returns-in_err-take_frame-clause-carries : goal.returns-in_err-take_frame-clause-carries
+returns-in_err-take_frame-clause-carries g c = λ tells.
+    frames_and_then g.D.Disk.sight (trade_of c.args.house.now.directory.now
+    (g.S.Sealer.seals c.args.house.now.sealer.now))
+    c.args.house.now.me c.args.moment c.args.provider.now.chronicle c.loop.provider.chronicle
+    c.take_frame.new.provider.chronicle
+    c.args.arrivals.now c.loop.arrivals c.take_frame.new.arrivals (c.loop.invariant.carries tells)
+    (c.in_err-take_frame.ensures.carries tells)
+
+pub loop-preserved : goal.loop-preserved
+loop-preserved g c = record {
+  leads = λ begun waiting far. c.in_ok-take_frame.ensures.leads begun waiting
+      (c.loop.invariant.leads begun waiting far);
+  works = c.in_ok-take_frame.ensures.works;
+  runs = c.in_ok-take_frame.ensures.runs;
+  links = c.in_ok-take_frame.ensures.links ∙ c.loop.invariant.links;
+  carries = λ tells.
+      frames_and_then g.D.Disk.sight (trade_of c.args.house.now.directory.now
+      (g.S.Sealer.seals c.args.house.now.sealer.now))
+      c.args.house.now.me c.args.moment c.args.provider.now.chronicle c.loop.provider.chronicle
+      c.take_frame.new.provider.chronicle
+      c.args.arrivals.now c.loop.arrivals c.take_frame.new.arrivals (c.loop.invariant.carries tells)
+      (c.in_ok-take_frame.ensures.carries tells);
+  stands = λ tells stands. c.in_ok-take_frame.ensures.stands tells (c.loop.invariant.stands tells stands);
+  later = omega (arith, c.loop.invariant.later, c.in_ok-take_frame.ensures.later);
+}
+
+pub returns-clause-carries : goal.returns-clause-carries
+returns-clause-carries g c = λ tells.
+    frames_and_then g.D.Disk.sight (trade_of c.args.house.now.directory.now
+    (g.S.Sealer.seals c.args.house.now.sealer.now))
+    c.args.house.now.me c.args.moment c.args.provider.now.chronicle c.loop.provider.chronicle
+    c.take_frame.new.provider.chronicle
+    c.args.arrivals.now c.loop.arrivals c.take_frame.new.arrivals (c.loop.invariant.carries tells)
+    (c.in_ok-take_frame.ensures.carries tells)

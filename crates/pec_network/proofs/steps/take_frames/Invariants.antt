@@ -1,0 +1,27 @@
+use Rattle.std.proofs.Common.{◌≡◌, ◌≤◌, length}
+use Rattle.pec_plays.specs.Turns.{frames_in}
+use Rattle.pec_trade.specs.TradeOf.{trade_of}
+use Rattle.pec_chronicle.specs.Chronicle.{Stands}
+use Rattle.pec_provider.specs.Provider.{Runs, desk_of}
+use Rattle.pec_provider.specs.Working.{IsAtWork}
+use Rattle.pec_network.specs.Turning.{CarriesFrames, Leads}
+use Rattle.pec_network.proofs.steps.take_frames.Given as goal
+
+abbrev pub invariant-loop : goal.invariant-loop
+invariant-loop g l =
+    let trade = trade_of l.house.directory.now (g.S.Sealer.seals l.house.sealer.now) in
+    record {
+      leads : Leads trade l.house.me l.moment (desk_of l.fn.provider) l.fn.arrivals l.fn.events.items
+          (desk_of l.provider) l.arrivals l.events.items;
+      works : IsAtWork trade l.house.me l.moment (desk_of l.provider);
+      runs : Runs l.house.directory.now (g.S.Sealer.seals l.house.sealer.now) l.house.me l.provider;
+      links : length l.arrivals ≡ length l.fn.arrivals;
+      carries : g.D.Disk.tells → CarriesFrames trade l.house.me l.moment g.D.Disk.sight l.fn.provider.chronicle
+          l.fn.arrivals l.provider.chronicle l.arrivals;
+      stands : g.D.Disk.tells → Stands g.D.Disk.sight l.fn.provider.chronicle
+          → Stands g.D.Disk.sight l.provider.chronicle;
+      later : g.D.Counted.faults l.fn.provider.chronicle.disk ≤ g.D.Counted.faults l.provider.chronicle.disk;
+    }
+
+abbrev pub decreases-loop : goal.decreases-loop
+decreases-loop g l = length (frames_in l.arrivals)

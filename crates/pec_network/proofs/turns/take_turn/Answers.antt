@@ -1,0 +1,13 @@
+use Rattle.std.proofs.Common.{subst, sym}
+use Rattle.pec_trade.specs.TradeOf.{trade_of}
+use Rattle.pec_provider.specs.Provider.{ProviderState}
+use Rattle.pec_network.specs.Turning.{CarriesFrames}
+use Rattle.pec_network.proofs.turns.take_turn.Goals as goal
+
+pub returns-clause-carries : goal.returns-clause-carries
+returns-clause-carries g c =
+    subst (λ (p : ProviderState g.row.D.Denot). g.D.Disk.tells
+    → CarriesFrames (trade_of c.args.house.now.directory.now (g.S.Sealer.seals c.args.house.now.sealer.now))
+    c.args.house.now.me c.args.moment g.D.Disk.sight c.args.provider.now.chronicle c.args.arrivals.now p.chronicle
+    c.turn-taken.new.arrivals)
+    (sym c.end_turn.ensures) c.turn-taken.ensures.carries

@@ -1,0 +1,199 @@
+ghost use Rattle.std.specs.Prelude.{◌≡◌, ℕ, ◌<◌, ◌≤◌, true, false, List, [], length, IfOk, IfErr, IsErrOf, OnOk};
+ghost use Rattle.pec_types.specs.declared.turns.ProviderFault.TheVariants as faults;
+ghost use Rattle.pec_outside.specs.Flow.{HasRisen};
+ghost use Rattle.pec_directory.specs.Directory.{providers_of};
+ghost use Rattle.pec_letters.specs.Fitting.{Fits};
+ghost use Rattle.pec_ledger.specs.Ledger.{Journals};
+ghost use Rattle.pec_plays.specs.Decisions.{undecided};
+ghost use Rattle.pec_plays.specs.Turns.{frames_in};
+ghost use Rattle.pec_trade.specs.TradeOf.{trade_of};
+ghost use Rattle.pec_chronicle.specs.Carrying.{CarriesOn, NothingMay};
+ghost use Rattle.pec_chronicle.specs.Chronicle.{ChronicleState, Stands};
+ghost use Rattle.pec_provider.specs.Following.{MayFollow};
+ghost use Rattle.pec_provider.specs.Provider.{Runs, desk_of};
+ghost use Rattle.pec_provider.specs.Working.{IsAtWork};
+ghost use Rattle.pec_network.specs.Turning.{CarriesFrames, Ends, Leads, Waiting};
+
+use pec_outside::Disk;
+use pec_plays::{
+    a_plan_goes_step_by_step, frames_are_taken_in_order, the_next_pairs_are_left,
+    what_a_provider_does_is_its_own,
+};
+use pec_posts::Arrivals;
+use pec_provider::{Event, House, Provider, ProviderFault, a_house_is_a_trade};
+use pec_seal::Sealer;
+use pec_types::Moment;
+use std::alloc::Global;
+
+/// Handles all frames that wait, in their order.
+pub(crate) fn take_frames<D: Disk, S: Sealer>(
+    alloc: Global,
+    house: &House<'_, S>,
+    provider: &mut Provider<D>,
+    arrivals: &mut Arrivals,
+    moment: Moment,
+    events: &mut Vec<Event>,
+) -> Result<(), ProviderFault>
+    requires runs { Runs house.now.directory.now (S.seals house.now.sealer.now) house.now.me provider.old }
+    requires fits { Fits (S.seals house.now.sealer.now) (providers_of house.now.directory.now) }
+    requires works { IsAtWork (trade_of house.now.directory.now (S.seals house.now.sealer.now)) house.now.me moment
+        (desk_of provider.old) }
+    ensures leads { OnOk result (Leads (trade_of house.now.directory.now (S.seals house.now.sealer.now)) house.now.me
+        moment
+        (desk_of provider.old) arrivals.old events.old.items (desk_of provider.new) arrivals.new events.new.items) }
+    ensures none { OnOk result (frames_in arrivals.new ≡ []) }
+    ensures works { OnOk result (IsAtWork (trade_of house.now.directory.now (S.seals house.now.sealer.now)) house.now.me
+        moment (desk_of provider.new)) }
+    ensures ends { IfErr result (λ fault. Ends (trade_of house.now.directory.now (S.seals house.now.sealer.now))
+        house.now.me moment
+        (desk_of provider.old) arrivals.old events.old.items fault
+        (desk_of provider.new) arrivals.new events.new.items) }
+    ensures runs { Runs house.now.directory.now (S.seals house.now.sealer.now) house.now.me provider.new }
+    ensures links { length arrivals.new ≡ length arrivals.old }
+    ensures carries { D.tells → CarriesFrames (trade_of house.now.directory.now (S.seals house.now.sealer.now))
+        house.now.me moment D.sight
+        provider.old.chronicle arrivals.old provider.new.chronicle arrivals.new }
+    ensures stands { D.tells → Stands D.sight provider.old.chronicle → Stands D.sight provider.new.chronicle }
+    ensures disk_fault { IsErrOf result faults.DiskFault → HasRisen (D.faults provider.old.chronicle.disk) (D.faults
+        provider.new.chronicle.disk) }
+    ensures later { D.faults provider.old.chronicle.disk ≤ D.faults provider.new.chronicle.disk }
+{
+    what_rests_carries_on::<D>();
+    while take_frame(alloc, house, provider, arrivals, moment, events)? {}
+    Ok(())
+}
+
+/// Handles the next frame that waits, and tells whether there was one.
+fn take_frame<D: Disk, S: Sealer>(
+    alloc: Global,
+    house: &House<'_, S>,
+    provider: &mut Provider<D>,
+    arrivals: &mut Arrivals,
+    moment: Moment,
+    events: &mut Vec<Event>,
+) -> Result<bool, ProviderFault>
+    requires runs { Runs house.now.directory.now (S.seals house.now.sealer.now) house.now.me provider.old }
+    requires fits { Fits (S.seals house.now.sealer.now) (providers_of house.now.directory.now) }
+    requires works { IsAtWork (trade_of house.now.directory.now (S.seals house.now.sealer.now)) house.now.me moment
+        (desk_of provider.old) }
+    ensures leads { OnOk result (Leads (trade_of house.now.directory.now (S.seals house.now.sealer.now)) house.now.me
+        moment
+        (desk_of provider.old) arrivals.old events.old.items (desk_of provider.new) arrivals.new events.new.items) }
+    ensures none { IfOk result (λ more. more ≡ false → frames_in arrivals.new ≡ []) }
+    ensures fewer { IfOk result (λ more. more ≡ true → length (frames_in arrivals.new) < length (frames_in
+        arrivals.old)) }
+    ensures works { OnOk result (IsAtWork (trade_of house.now.directory.now (S.seals house.now.sealer.now)) house.now.me
+        moment (desk_of provider.new)) }
+    ensures ends { IfErr result (λ fault. Ends (trade_of house.now.directory.now (S.seals house.now.sealer.now))
+        house.now.me moment
+        (desk_of provider.old) arrivals.old events.old.items fault
+        (desk_of provider.new) arrivals.new events.new.items) }
+    ensures runs { Runs house.now.directory.now (S.seals house.now.sealer.now) house.now.me provider.new }
+    ensures links { length arrivals.new ≡ length arrivals.old }
+    ensures carries { D.tells → CarriesFrames (trade_of house.now.directory.now (S.seals house.now.sealer.now))
+        house.now.me moment D.sight
+        provider.old.chronicle arrivals.old provider.new.chronicle arrivals.new }
+    ensures stands { D.tells → Stands D.sight provider.old.chronicle → Stands D.sight provider.new.chronicle }
+    ensures disk_fault { IsErrOf result faults.DiskFault → HasRisen (D.faults provider.old.chronicle.disk) (D.faults
+        provider.new.chronicle.disk) }
+    ensures later { D.faults provider.old.chronicle.disk ≤ D.faults provider.new.chronicle.disk }
+{
+    a_house_is_a_trade(house);
+    a_plan_goes_step_by_step();
+    frames_are_taken_in_order();
+    what_a_provider_does_is_its_own();
+    what_rests_carries_on::<D>();
+    let Some(frame) = arrivals.take() else {
+        return Ok(false);
+    };
+    events.reserve(1)?;
+    let event = provider.arrive(alloc, house, moment, frame.bytes())?;
+    events.push_reserved(event);
+    Ok(true)
+}
+
+/// Decides on all that was taken and isn't decided.
+pub(crate) fn decide_pairs<D: Disk, S: Sealer>(
+    alloc: Global,
+    house: &House<'_, S>,
+    provider: &mut Provider<D>,
+    moment: Moment,
+    events: &mut Vec<Event>,
+) -> Result<(), ProviderFault>
+    requires runs { Runs house.now.directory.now (S.seals house.now.sealer.now) house.now.me provider.old }
+    requires works { IsAtWork (trade_of house.now.directory.now (S.seals house.now.sealer.now)) house.now.me moment
+        (desk_of provider.old) }
+    ensures leads { (left : Waiting) → frames_in left ≡ [] → OnOk result
+        (Leads (trade_of house.now.directory.now (S.seals house.now.sealer.now)) house.now.me moment
+        (desk_of provider.old) left events.old.items (desk_of provider.new) left events.new.items) }
+    ensures decided { OnOk result (undecided (trade_of house.now.directory.now (S.seals house.now.sealer.now))
+        house.now.me
+        provider.new.chronicle.entries ≡ []) }
+    ensures ends { (left : Waiting) → frames_in left ≡ [] → IfErr result (λ fault.
+        Ends (trade_of house.now.directory.now (S.seals house.now.sealer.now)) house.now.me moment
+        (desk_of provider.old) left events.old.items fault (desk_of provider.new) left events.new.items) }
+    ensures runs { Runs house.now.directory.now (S.seals house.now.sealer.now) house.now.me provider.new }
+    ensures carries { D.tells → (journals : Journals) → CarriesOn D.sight
+        (MayFollow (trade_of house.now.directory.now (S.seals house.now.sealer.now)) journals house.now.me)
+        provider.old.chronicle provider.new.chronicle }
+    ensures disk_fault { IsErrOf result faults.DiskFault → HasRisen (D.faults provider.old.chronicle.disk) (D.faults
+        provider.new.chronicle.disk) }
+    ensures later { D.faults provider.old.chronicle.disk ≤ D.faults provider.new.chronicle.disk }
+{
+    what_rests_carries_on::<D>();
+    while decide_pair(alloc, house, provider, moment, events)? {}
+    Ok(())
+}
+
+/// Decides on the next pair that was taken and isn't decided, and tells whether there was one.
+fn decide_pair<D: Disk, S: Sealer>(
+    alloc: Global,
+    house: &House<'_, S>,
+    provider: &mut Provider<D>,
+    moment: Moment,
+    events: &mut Vec<Event>,
+) -> Result<bool, ProviderFault>
+    requires runs { Runs house.now.directory.now (S.seals house.now.sealer.now) house.now.me provider.old }
+    requires works { IsAtWork (trade_of house.now.directory.now (S.seals house.now.sealer.now)) house.now.me moment
+        (desk_of provider.old) }
+    ensures leads { (left : Waiting) → frames_in left ≡ [] → OnOk result
+        (Leads (trade_of house.now.directory.now (S.seals house.now.sealer.now)) house.now.me moment
+        (desk_of provider.old) left events.old.items (desk_of provider.new) left events.new.items) }
+    ensures none { IfOk result (λ more. more ≡ false → undecided (trade_of house.now.directory.now (S.seals
+        house.now.sealer.now))
+        house.now.me provider.new.chronicle.entries ≡ []) }
+    ensures fewer { IfOk result (λ more. more ≡ true →
+        length (undecided (trade_of house.now.directory.now (S.seals house.now.sealer.now)) house.now.me
+        provider.new.chronicle.entries)
+        < length (undecided (trade_of house.now.directory.now (S.seals house.now.sealer.now)) house.now.me
+        provider.old.chronicle.entries)) }
+    ensures works { OnOk result (IsAtWork (trade_of house.now.directory.now (S.seals house.now.sealer.now)) house.now.me
+        moment (desk_of provider.new)) }
+    ensures ends { (left : Waiting) → frames_in left ≡ [] → IfErr result (λ fault.
+        Ends (trade_of house.now.directory.now (S.seals house.now.sealer.now)) house.now.me moment
+        (desk_of provider.old) left events.old.items fault (desk_of provider.new) left events.new.items) }
+    ensures runs { Runs house.now.directory.now (S.seals house.now.sealer.now) house.now.me provider.new }
+    ensures carries { D.tells → (journals : Journals) → CarriesOn D.sight
+        (MayFollow (trade_of house.now.directory.now (S.seals house.now.sealer.now)) journals house.now.me)
+        provider.old.chronicle provider.new.chronicle }
+    ensures disk_fault { IsErrOf result faults.DiskFault → HasRisen (D.faults provider.old.chronicle.disk) (D.faults
+        provider.new.chronicle.disk) }
+    ensures later { D.faults provider.old.chronicle.disk ≤ D.faults provider.new.chronicle.disk }
+{
+    a_plan_goes_step_by_step();
+    frames_are_taken_in_order();
+    the_next_pairs_are_left();
+    what_a_provider_does_is_its_own();
+    what_rests_carries_on::<D>();
+    events.reserve(1)?;
+    let Some(event) = provider.decide_next(alloc, house, moment)? else {
+        return Ok(false);
+    };
+    events.push_reserved(event);
+    Ok(true)
+}
+
+/// What isn't touched carries on.
+pub(crate) fn what_rests_carries_on<D: Disk>()
+    ensures { D.tells → (state : ChronicleState D) → CarriesOn D.sight NothingMay state state }
+{}

@@ -1,0 +1,251 @@
+ghost use Rattle.std.specs.Prelude.{◌≡◌, ◌≢◌, ℕ, ◌≤◌, [], length, slice_index_or, Some, None};
+ghost use Rattle.std.specs.Prelude.{IfOk, IfErr, IsErrOf, OnOk, OnErr};
+ghost use Rattle.pec_types.specs.declared.turns.ProviderFault.TheVariants as faults;
+ghost use Rattle.pec_outside.specs.Flow.{HasRisen};
+ghost use Rattle.pec_directory.specs.Directory.{providers_of};
+ghost use Rattle.pec_letters.specs.Fitting.{Fits};
+ghost use Rattle.pec_plays.specs.Decisions.{undecided};
+ghost use Rattle.pec_plays.specs.Rounds.{link_size, sent_from};
+ghost use Rattle.pec_plays.specs.Turns.{frames_in, puts_from};
+ghost use Rattle.pec_trade.specs.TradeOf.{trade_of};
+ghost use Rattle.pec_chronicle.specs.Chronicle.{Stands};
+ghost use Rattle.pec_provider.specs.Provider.{Runs, desk_of, site_of};
+ghost use Rattle.pec_provider.specs.Working.{IsAtWork};
+ghost use Rattle.pec_network.specs.Turning.{CarriesFrames, Ends, Leads, StopsShort, Took, room_in, told_of, turn_of};
+
+use crate::putting::{puts, sent};
+use crate::steps::{decide_pairs, take_frames, what_rests_carries_on};
+use pec_outside::Disk;
+use pec_posts::Arrivals;
+use pec_provider::{Event, House, Provider, ProviderFault, a_house_is_a_trade};
+use pec_seal::Sealer;
+use pec_types::{Frame, Items, Moment, NoMemory, Turn};
+use std::alloc::Global;
+
+/// What a provider did in its turn: what is told of it, and the frames that it put for each provider, by number.
+#[derive(Drop)]
+pub struct Taken {
+    pub turn: Turn,
+    pub out: Items<Items<Frame>>,
+}
+
+/// A provider's turn in a round, with the frames that wait for it, where its links have so much room by number of
+/// provider. Where it is down or the clock is behind its journal it takes and puts nothing. Otherwise it handles the
+/// frames in their order, decides on what it took, and puts the letters that are due. A full journal or a fault of the
+/// disk ends the turn: the frame in hand is gone, later frames stay, and nothing is put.
+pub fn take_turn<D: Disk, S: Sealer>(
+    alloc: Global,
+    house: &House<'_, S>,
+    provider: &mut Provider<D>,
+    arrivals: &mut Arrivals,
+    moment: Moment,
+    rooms: &[usize],
+) -> Result<Taken, NoMemory>
+    requires runs { Runs house.now.directory.now (S.seals house.now.sealer.now) house.now.me provider.old }
+    requires fits { Fits (S.seals house.now.sealer.now) (providers_of house.now.directory.now) }
+    requires nothing_owed { provider.old.owed ≡ [] }
+    requires rooms { length rooms.now ≡ length house.now.directory.now }
+    requires short { (to : ℕ) → room_in rooms.now to ≤ link_size }
+
+    // It is a turn of the rounds of pec_plays, cut as it tells.
+    ensures took { IfOk result (λ taken. Took (trade_of house.now.directory.now (S.seals house.now.sealer.now))
+        house.now.me moment
+        (room_in rooms.now) (site_of (desk_of provider.old) arrivals.old) (turn_of (site_of (desk_of provider.new)
+        arrivals.new) taken.turn taken.out)) }
+    ensures told { IfOk result (λ taken. taken.turn ≡ told_of house.now.me (turn_of (site_of (desk_of provider.new)
+        arrivals.new) taken.turn taken.out)) }
+
+    // Want of memory is no turn.
+    ensures memory { IfOk result (λ taken. taken.turn.ended ≢ Some faults.NoMemory) }
+
+    // It puts no more than there is room for.
+    ensures fit { IfOk result (λ taken. (to : ℕ) → length (slice_index_or taken.out to []) ≤ room_in rooms.now to) }
+
+    // On want of memory what was appended is a front of the turn.
+    ensures short { OnErr result (StopsShort (trade_of house.now.directory.now (S.seals house.now.sealer.now))
+        house.now.me moment
+        (site_of (desk_of provider.old) arrivals.old) (site_of (desk_of provider.new) arrivals.new)) }
+    ensures nothing_owed { provider.new.owed ≡ [] }
+    ensures runs { Runs house.now.directory.now (S.seals house.now.sealer.now) house.now.me provider.new }
+    ensures links { length arrivals.new ≡ length arrivals.old }
+
+    // At every moment a crash leaves entries that may follow in the ledger of any journals in which the frames are
+    // genuine.
+    ensures carries { D.tells → CarriesFrames (trade_of house.now.directory.now (S.seals house.now.sealer.now))
+        house.now.me moment D.sight
+        provider.old.chronicle arrivals.old provider.new.chronicle arrivals.new }
+
+    // What stands on its disk stands there again, whatever the frames are.
+    ensures stands { D.tells → Stands D.sight provider.old.chronicle → Stands D.sight provider.new.chronicle }
+    ensures disk_fault { IfOk result (λ taken. taken.turn.ended ≡ Some faults.DiskFault →
+        HasRisen (D.faults provider.old.chronicle.disk) (D.faults provider.new.chronicle.disk)) }
+    ensures later { D.faults provider.old.chronicle.disk ≤ D.faults provider.new.chronicle.disk }
+{
+    let taken = turn(alloc, house, provider, arrivals, moment, rooms);
+    provider.end_turn();
+    taken
+}
+
+/// The turn, but for the answers that are owed in it, which are forgotten when it ends.
+fn turn<D: Disk, S: Sealer>(
+    alloc: Global,
+    house: &House<'_, S>,
+    provider: &mut Provider<D>,
+    arrivals: &mut Arrivals,
+    moment: Moment,
+    rooms: &[usize],
+) -> Result<Taken, NoMemory>
+    requires runs { Runs house.now.directory.now (S.seals house.now.sealer.now) house.now.me provider.old }
+    requires fits { Fits (S.seals house.now.sealer.now) (providers_of house.now.directory.now) }
+    requires nothing_owed { provider.old.owed ≡ [] }
+    requires rooms { length rooms.now ≡ length house.now.directory.now }
+    requires short { (to : ℕ) → room_in rooms.now to ≤ link_size }
+    ensures took { IfOk result (λ taken. Took (trade_of house.now.directory.now (S.seals house.now.sealer.now))
+        house.now.me moment
+        (room_in rooms.now) (site_of (desk_of provider.old) arrivals.old) (turn_of (site_of (desk_of provider.new)
+        arrivals.new) taken.turn taken.out)) }
+    ensures told { IfOk result (λ taken. taken.turn ≡ told_of house.now.me (turn_of (site_of (desk_of provider.new)
+        arrivals.new) taken.turn taken.out)) }
+    ensures memory { IfOk result (λ taken. taken.turn.ended ≢ Some faults.NoMemory) }
+    ensures fit { IfOk result (λ taken. (to : ℕ) → length (slice_index_or taken.out to []) ≤ room_in rooms.now to) }
+    ensures short { OnErr result (StopsShort (trade_of house.now.directory.now (S.seals house.now.sealer.now))
+        house.now.me moment
+        (site_of (desk_of provider.old) arrivals.old) (site_of (desk_of provider.new) arrivals.new)) }
+    ensures runs { Runs house.now.directory.now (S.seals house.now.sealer.now) house.now.me provider.new }
+    ensures links { length arrivals.new ≡ length arrivals.old }
+    ensures carries { D.tells → CarriesFrames (trade_of house.now.directory.now (S.seals house.now.sealer.now))
+        house.now.me moment D.sight
+        provider.old.chronicle arrivals.old provider.new.chronicle arrivals.new }
+    ensures stands { D.tells → Stands D.sight provider.old.chronicle → Stands D.sight provider.new.chronicle }
+    ensures disk_fault { IfOk result (λ taken. taken.turn.ended ≡ Some faults.DiskFault →
+        HasRisen (D.faults provider.old.chronicle.disk) (D.faults provider.new.chronicle.disk)) }
+    ensures later { D.faults provider.old.chronicle.disk ≤ D.faults provider.new.chronicle.disk }
+{
+    a_house_is_a_trade(house);
+    what_rests_carries_on::<D>();
+    if let Err(fault) = provider.at_work(moment) {
+        return Ok(ended(alloc, house.me, Vec::new(alloc), fault));
+    }
+    let mut events = Vec::new(alloc);
+    match take_steps(alloc, house, provider, arrivals, moment, &mut events) {
+        Ok(()) => whole(alloc, house, provider, rooms, events),
+        Err(fault) => cut_off(alloc, house.me, events, fault),
+    }
+}
+
+/// Handles all frames that wait, and decides on all that was taken.
+fn take_steps<D: Disk, S: Sealer>(
+    alloc: Global,
+    house: &House<'_, S>,
+    provider: &mut Provider<D>,
+    arrivals: &mut Arrivals,
+    moment: Moment,
+    events: &mut Vec<Event>,
+) -> Result<(), ProviderFault>
+    requires runs { Runs house.now.directory.now (S.seals house.now.sealer.now) house.now.me provider.old }
+    requires fits { Fits (S.seals house.now.sealer.now) (providers_of house.now.directory.now) }
+    requires works { IsAtWork (trade_of house.now.directory.now (S.seals house.now.sealer.now)) house.now.me moment
+        (desk_of provider.old) }
+    ensures leads { OnOk result (Leads (trade_of house.now.directory.now (S.seals house.now.sealer.now)) house.now.me
+        moment
+        (desk_of provider.old) arrivals.old events.old.items (desk_of provider.new) arrivals.new events.new.items) }
+    ensures none { OnOk result (frames_in arrivals.new ≡ []) }
+    ensures decided { OnOk result (undecided (trade_of house.now.directory.now (S.seals house.now.sealer.now))
+        house.now.me
+        provider.new.chronicle.entries ≡ []) }
+    ensures ends { IfErr result (λ fault. Ends (trade_of house.now.directory.now (S.seals house.now.sealer.now))
+        house.now.me moment
+        (desk_of provider.old) arrivals.old events.old.items fault
+        (desk_of provider.new) arrivals.new events.new.items) }
+    ensures runs { Runs house.now.directory.now (S.seals house.now.sealer.now) house.now.me provider.new }
+    ensures links { length arrivals.new ≡ length arrivals.old }
+    ensures carries { D.tells → CarriesFrames (trade_of house.now.directory.now (S.seals house.now.sealer.now))
+        house.now.me moment D.sight
+        provider.old.chronicle arrivals.old provider.new.chronicle arrivals.new }
+    ensures stands { D.tells → Stands D.sight provider.old.chronicle → Stands D.sight provider.new.chronicle }
+    ensures disk_fault { IsErrOf result faults.DiskFault → HasRisen (D.faults provider.old.chronicle.disk) (D.faults
+        provider.new.chronicle.disk) }
+    ensures later { D.faults provider.old.chronicle.disk ≤ D.faults provider.new.chronicle.disk }
+{
+    take_frames(alloc, house, provider, arrivals, moment, events)?;
+    decide_pairs(alloc, house, provider, moment, events)?;
+    Ok(())
+}
+
+/// The turn of a provider that did all its steps: the letters that are due are put.
+fn whole<D: Disk, S: Sealer>(
+    alloc: Global,
+    house: &House<'_, S>,
+    provider: &Provider<D>,
+    rooms: &[usize],
+    events: Vec<Event>,
+) -> Result<Taken, NoMemory>
+    requires runs { Runs house.now.directory.now (S.seals house.now.sealer.now) house.now.me provider.now }
+    requires fits { Fits (S.seals house.now.sealer.now) (providers_of house.now.directory.now) }
+    requires rooms { length rooms.now ≡ length house.now.directory.now }
+    requires short { (to : ℕ) → room_in rooms.now to ≤ link_size }
+    ensures out { IfOk result (λ taken. taken.out ≡ puts_from (trade_of house.now.directory.now (S.seals
+        house.now.sealer.now)) house.now.me
+        provider.now.chronicle.entries (room_in rooms.now) provider.now.owed 0 (length house.now.directory.now)) }
+    ensures fit { IfOk result (λ taken. (to : ℕ) → length (slice_index_or taken.out to []) ≤ room_in rooms.now to) }
+    ensures turn { IfOk result (λ taken. taken.turn ≡ record {
+      provider = house.now.me;
+      events = events.items;
+      sent = sent_from 0 taken.out;
+      ended = None;
+    }) }
+{
+    let out = puts(alloc, house, provider, rooms)?;
+    let sent = sent(alloc, &out)?;
+    let turn = Turn {
+        provider: house.me,
+        events: Items::of(events),
+        sent: Items::of(sent),
+        ended: None,
+    };
+    Ok(Taken {
+        turn,
+        out: Items::of(out),
+    })
+}
+
+/// A turn that ended early; want of memory ends the round.
+fn cut_off(
+    alloc: Global,
+    me: u32,
+    events: Vec<Event>,
+    fault: ProviderFault,
+) -> Result<Taken, NoMemory>
+    ensures out { IfOk result (λ taken. taken.out ≡ []) }
+    ensures turn { IfOk result (λ taken. taken.turn ≡ record {
+      provider = me;
+      events = events.items;
+      sent = [];
+      ended =
+          Some fault;
+    }) }
+    ensures other { OnOk result (fault ≢ faults.NoMemory) }
+    ensures no_memory { OnErr result (fault ≡ faults.NoMemory) }
+{
+    match fault {
+        ProviderFault::NoMemory => Err(NoMemory),
+        other => Ok(ended(alloc, me, events, other)),
+    }
+}
+
+/// A turn that ended early, or didn't begin. It takes no memory.
+fn ended(alloc: Global, me: u32, events: Vec<Event>, fault: ProviderFault) -> Taken
+    ensures out { result.out ≡ [] }
+    ensures turn { result.turn ≡ record { provider = me; events = events.items; sent = []; ended = Some fault } }
+{
+    let turn = Turn {
+        provider: me,
+        events: Items::of(events),
+        sent: Items::of(Vec::new(alloc)),
+        ended: Some(fault),
+    };
+    Taken {
+        turn,
+        out: Items::of(Vec::new(alloc)),
+    }
+}
