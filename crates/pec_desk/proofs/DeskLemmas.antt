@@ -8,7 +8,7 @@ use Rattle.pec_types.specs.declared.turns.ProviderFault.{ProviderFault}
 use Rattle.pec_types.specs.declared.turns.ProviderFault.TheVariants as faults
 use Rattle.pec_ledger.specs.Network.{Site}
 use Rattle.pec_plays.specs.Commands.{Answer, Played}
-use Rattle.pec_provider.specs.Provider.{ProviderState}
+use Rattle.pec_network.specs.OfProviders.{ProviderState}
 use Rattle.pec_network.specs.Carrying.{NoneFalls}
 use Rattle.pec_network.specs.Changing.{ChangesOnly, HasRisenAt}
 use Rattle.pec_network.specs.Network.{NetworkState}

@@ -10,7 +10,7 @@ use Rattle.pec_types.specs.declared.turns.Submitted.{Submitted}
 use Rattle.pec_directory.specs.Directory.{Kept, account_home, providers_of}
 use Rattle.pec_seal.specs.Seals.{Seals}
 use Rattle.pec_ledger.specs.Network.{Site}
-use Rattle.pec_provider.specs.Playing.{luck_of}
+use Rattle.pec_network.specs.OfProviders.{luck_of}
 use Rattle.pec_network.specs.Network.{sites}
 use Rattle.pec_http.specs.Asking.{Asks, Question, Submit, See}
 use Rattle.pec_http.specs.Desks.{Answers}

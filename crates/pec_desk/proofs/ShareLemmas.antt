@@ -29,7 +29,7 @@ use Rattle.pec_plays.specs.Commands.{Answer, Book, Items, Lines, Luck, Mailbox, 
 use Rattle.pec_plays.specs.Commands as plays
 use Rattle.pec_plays.specs.Steps.{has_no_room, longest_journal}
 use Rattle.pec_trade.specs.TradeOf.{trade_of}
-use Rattle.pec_provider.specs.Playing.{luck_of}
+use Rattle.pec_network.specs.OfProviders.{luck_of}
 use Rattle.pec_network.specs.Playing.{IsPlayed}
 use Rattle.pec_http.specs.Desks.{IsItemFault, IsLookFault, IsSubmitFault}
 use Rattle.pec_http.specs.declared.demands.Look.{Look}

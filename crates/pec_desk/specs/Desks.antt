@@ -18,8 +18,7 @@ use Rattle.pec_ledger.specs.Network.{Site}
 use Rattle.pec_ledger.specs.Trade.{Trade}
 use Rattle.pec_plays.specs.Commands.{Answer, Book, Items, Lines, Mailbox, Played, Refuses, Show, Shown, Submit, Submits, answers, played}
 use Rattle.pec_trade.specs.TradeOf.{trade_of}
-use Rattle.pec_provider.specs.Playing.{luck_of}
-use Rattle.pec_provider.specs.Provider.{ProviderState}
+use Rattle.pec_network.specs.OfProviders.{ProviderState, luck_of}
 use Rattle.pec_network.specs.Carrying.{AllCarryOn, NoneFalls}
 use Rattle.pec_network.specs.Changing.{ChangesOnly, HasRisenAt}
 use Rattle.pec_network.specs.Network.{NetworkState, sites}

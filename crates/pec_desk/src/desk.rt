@@ -91,7 +91,7 @@ impl<D, J: Judge> NetworkDesk<D, J> {
 impl<D: Disk, J: Judge> Desk for NetworkDesk<D, J> {
     ghost answers = { answers_of D.sight D.faults D.tells (⟦<HmacSealer as Sealer>⟧.seals) };
 
-    #[tactic(auto, unfolding(crate::specs::Desks::pass_of))]
+    #[tactic(auto, unfolding(pec_service::specs::Passes::pass_of))]
     fn pass(&self, address: &Address, key: &[u8]) -> Pass {
         let directory = self.network.directory();
         let Some(number) = directory.account_home(address) else {

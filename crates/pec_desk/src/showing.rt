@@ -5,7 +5,7 @@ ghost use Rattle.pec_http.specs.Desks.{IsItemFault, IsLookFault};
 ghost use Rattle.pec_letters.specs.Fitting.{Fits};
 ghost use Rattle.pec_plays.specs.Commands.{Book, Mailbox, Show, played};
 ghost use Rattle.pec_trade.specs.TradeOf.{trade_of};
-ghost use Rattle.pec_provider.specs.Playing.{luck_of};
+ghost use Rattle.pec_network.specs.OfProviders.{luck_of};
 ghost use Rattle.pec_network.specs.Network.{sites};
 ghost use Rattle.pec_script.specs.Texts.{book_text as book_lines, items_text as item_lines};
 ghost use Rattle.pec_desk.specs.Desks.{IsSeen, as_they_are, bytes_shown, items_shown, lines_shown, world_of};

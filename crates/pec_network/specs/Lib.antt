@@ -3,6 +3,7 @@ pub mod Carrying
 pub mod Changing
 pub mod Homes
 pub mod Network
+pub mod OfProviders
 pub mod Playing
 pub mod Restarting
 pub mod Rounds

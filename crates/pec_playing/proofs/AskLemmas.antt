@@ -17,7 +17,7 @@ use Rattle.pec_ledger.specs.Trade.{Trade}
 use Rattle.pec_plays.specs.Commands.{Answer, Book, Command, Items, Lines, Luck, Mailbox, Marks, Played, Refuses, Show}
 use Rattle.pec_plays.specs.Commands.{Shown, Submit, Submits, Tick, answers, played}
 use Rattle.pec_plays.specs.Possible.{MayMeet}
-use Rattle.pec_provider.specs.Playing.{luck_of}
+use Rattle.pec_network.specs.OfProviders.{luck_of}
 use Rattle.pec_network.specs.Changing.{HasRisenAt}
 use Rattle.pec_network.specs.Network.{NetworkState, sites}
 use Rattle.pec_network.specs.Playing.{IsPlayed, IsShown}

@@ -7,7 +7,7 @@ use Rattle.std.proofs.lemmas.Option.{slice_get-get_or, slice_get_cases, slice_ge
 use Rattle.pec_types.specs.declared.turns.ProviderFault.{ProviderFault}
 use Rattle.pec_types.specs.declared.turns.ProviderFault.TheVariants as faults
 use Rattle.pec_plays.specs.Commands.{Refuses}
-use Rattle.pec_provider.specs.Provider.{ProviderState}
+use Rattle.pec_network.specs.OfProviders.{ProviderState}
 use Rattle.pec_network.specs.Carrying.{NoneFalls}
 use Rattle.pec_network.specs.Changing.{HasRisenAt}
 use Rattle.pec_runs.specs.Plays.{RoseBy, faults_at}

@@ -5,7 +5,7 @@ use Rattle.std.proofs.lemmas.Option.{slice_get_cases}
 use Rattle.pec_outside.specs.DiskModel.{Sight}
 use Rattle.pec_ledger.specs.Ledger.{Journals}
 use Rattle.pec_ledger.specs.Trade.{Trade}
-use Rattle.pec_provider.specs.Provider.{ProviderState}
+use Rattle.pec_network.specs.OfProviders.{ProviderState}
 use Rattle.pec_network.specs.Carrying.{AllCarryOn, AllStand, NoneFalls}
 use Rattle.pec_network.specs.Changing.{ChangesOnly, SameCounts}
 use Rattle.pec_network.specs.Network.{NetworkState}

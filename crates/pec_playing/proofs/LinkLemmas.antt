@@ -11,7 +11,7 @@ use Rattle.pec_ledger.specs.Network.{Site}
 use Rattle.pec_ledger.specs.Trade.{Trade}
 use Rattle.pec_plays.specs.Commands.{Answer, Command, Inject, Injected, LinkFull, Lose, Lost, Luck, NoFrame, Played}
 use Rattle.pec_plays.specs.Commands.{Repeat, Repeated, Swap, Swapped, answers, played}
-use Rattle.pec_provider.specs.Playing.{luck_of}
+use Rattle.pec_network.specs.OfProviders.{luck_of}
 use Rattle.pec_network.specs.Network.{NetworkState, sites}
 use Rattle.pec_network.specs.Playing.{IsPlayedOnLink}
 use Rattle.pec_script.specs.Texts as texts

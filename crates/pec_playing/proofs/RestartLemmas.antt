@@ -13,7 +13,7 @@ use Rattle.pec_ledger.specs.Network.{Site, is_up, site_at}
 use Rattle.pec_ledger.specs.Trade.{Trade}
 use Rattle.pec_plays.specs.Commands.{Answer, Crash, Crashed, IsUp, Luck, Played, Refuses, Restart, Restarted, answers}
 use Rattle.pec_plays.specs.Commands.{played, restarted_site, with_site}
-use Rattle.pec_provider.specs.Playing.{luck_of}
+use Rattle.pec_network.specs.OfProviders.{luck_of}
 use Rattle.pec_network.specs.Changing.{HasRisenAt, StandsAt}
 use Rattle.pec_network.specs.Network.{NetworkState, sites}
 use Rattle.pec_network.specs.Restarting.{IsFit, IsNotRestarted, IsRestarted, luck_told}

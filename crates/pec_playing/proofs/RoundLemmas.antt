@@ -17,7 +17,7 @@ use Rattle.pec_plays.specs.Commands.{Answer, Luck, Played, Round, Turns, played}
 use Rattle.pec_plays.specs.Rounds.{rounded, sent_from, told_from, turns_from, turns_of}
 use Rattle.pec_plays.specs.Turns.{Cut, Turned}
 use Rattle.pec_posts.specs.Arrivals.{Waiting}
-use Rattle.pec_provider.specs.Provider.{ProviderState}
+use Rattle.pec_network.specs.OfProviders.{ProviderState}
 use Rattle.pec_network.specs.Network.{NetworkState, sites, sites_of}
 use Rattle.pec_network.specs.Rounds.{BlamesDisks, IsRound, StopsWithin, luck_of_turns}
 use Rattle.pec_script.specs.Texts.{turns_text}

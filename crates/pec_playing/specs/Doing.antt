@@ -10,7 +10,7 @@ use Rattle.pec_directory.specs.Directory.{providers_of}
 use Rattle.pec_ledger.specs.Network.{Site, is_up}
 use Rattle.pec_ledger.specs.Trade.{Trade}
 use Rattle.pec_plays.specs.Commands.{Command, Restart}
-use Rattle.pec_provider.specs.Provider.{ProviderState}
+use Rattle.pec_network.specs.OfProviders.{ProviderState}
 use Rattle.pec_network.specs.Carrying.{AllStand, NoneFalls}
 use Rattle.pec_network.specs.Network.{NetworkState, sites}
 use Rattle.pec_runs.specs.Ran.{LeavesOff}

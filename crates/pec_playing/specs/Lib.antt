@@ -1,3 +1,4 @@
 pub mod Doing
+pub mod OfNetworks
 pub mod Playing
 pub mod Saying

@@ -8,7 +8,7 @@ use Rattle.pec_ledger.specs.Network.{Site}
 use Rattle.pec_ledger.specs.Trade.{Trade}
 use Rattle.pec_plays.specs.Commands.{Command, Luck, played}
 use Rattle.pec_plays.specs.Possible.{MayMeet}
-use Rattle.pec_provider.specs.Provider.{ProviderState}
+use Rattle.pec_network.specs.OfProviders.{ProviderState}
 use Rattle.pec_script.specs.declared.commands.Command.{Command as Written}
 use Rattle.pec_script.specs.declared.commands.Command.TheVariants as written
 use Rattle.pec_runs.specs.AnswerLines.{answer_text}

@@ -4,7 +4,7 @@ ghost use Rattle.pec_types.specs.declared.turns.ProviderFault.{ProviderFault as 
 ghost use Rattle.pec_types.specs.declared.turns.ProviderFault.TheVariants as faults;
 ghost use Rattle.pec_directory.specs.Directory.{Kept, providers_of};
 ghost use Rattle.pec_plays.specs.Commands.{Refuses};
-ghost use Rattle.pec_provider.specs.Provider.{ProviderState};
+ghost use Rattle.pec_network.specs.OfProviders.{ProviderState};
 ghost use Rattle.pec_network.specs.Carrying.{NoneFalls};
 ghost use Rattle.pec_network.specs.Changing.{HasRisenAt};
 ghost use Rattle.pec_script.specs.LinesReading.{command_of};

@@ -8,7 +8,7 @@ use Rattle.pec_outside.specs.Flow.{WrotePart, followed_by}
 use Rattle.pec_directory.specs.Directory.{Provider, providers_of}
 use Rattle.pec_ledger.specs.Trade.{Trade}
 use Rattle.pec_plays.specs.Commands.{Command, Restart, Round, Tick}
-use Rattle.pec_network.specs.Network.{NetworkState, sites}
+use Rattle.pec_playing.specs.OfNetworks.{NetworkState, sites}
 use Rattle.pec_runs.specs.AnswerLines.{answer_text}
 use Rattle.pec_runs.specs.Ran.{LeavesOff}
 use Rattle.pec_playing.specs.Doing.{Does}

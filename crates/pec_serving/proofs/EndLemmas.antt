@@ -10,8 +10,7 @@ use Rattle.pec_screen.specs.Screened.{finds_in}
 use Rattle.pec_screen.specs.Verdicts.{Patterns}
 use Rattle.pec_seal.specs.Seals.{Seals}
 use Rattle.pec_ledger.specs.Trade.{Trade}
-use Rattle.pec_trade.specs.TradeOf.{trade_of}
-use Rattle.pec_network.specs.Network.{NetworkState}
+use Rattle.pec_playing.specs.OfNetworks.{NetworkState, trade_of}
 use Rattle.pec_http.specs.declared.serving.Served.{Served}
 use Rattle.pec_playing.specs.Doing.{Keeps}
 use Rattle.pec_service.specs.Calls.{clock_from}

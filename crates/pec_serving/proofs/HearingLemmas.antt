@@ -15,12 +15,7 @@ use Rattle.pec_seal.specs.Seals.{Seals}
 use Rattle.pec_ledger.specs.Network.{Site}
 use Rattle.pec_ledger.specs.Trade.{Trade}
 use Rattle.pec_plays.specs.Commands.{Answer, Command, Luck, Played, Refuses, Submit, Submits, answers, played}
-use Rattle.pec_provider.specs.Playing.{luck_of}
-use Rattle.pec_provider.specs.Provider.{ProviderState}
-use Rattle.pec_network.specs.Carrying.{NoneFalls}
-use Rattle.pec_network.specs.Changing.{HasRisenAt}
-use Rattle.pec_network.specs.Network.{NetworkState}
-use Rattle.pec_network.specs.Playing.{IsPlayed}
+use Rattle.pec_playing.specs.OfNetworks.{HasRisenAt, IsPlayed, NetworkState, NoneFalls, ProviderState, luck_of}
 use Rattle.pec_http.specs.Asking.{Asks, Question, See}
 use Rattle.pec_http.specs.Asking as asking
 use Rattle.pec_http.specs.Desks.{Answers}

@@ -8,8 +8,7 @@ use Rattle.pec_outside.specs.DiskModel.{Sight}
 use Rattle.pec_directory.specs.Directory.{Kept}
 use Rattle.pec_seal.specs.Seals.{Seals}
 use Rattle.pec_ledger.specs.Trade.{Trade}
-use Rattle.pec_trade.specs.TradeOf.{trade_of}
-use Rattle.pec_network.specs.Network.{NetworkState}
+use Rattle.pec_playing.specs.OfNetworks.{NetworkState, trade_of}
 use Rattle.pec_http.specs.Asking.{Question, See}
 use Rattle.pec_http.specs.Asking as asking
 use Rattle.pec_http.specs.Desks.{Answers}

@@ -6,8 +6,7 @@ use Rattle.pec_directory.specs.Directory.{Kept, providers_of}
 use Rattle.pec_seal.specs.Seals.{Seals}
 use Rattle.pec_ledger.specs.Trade.{Trade}
 use Rattle.pec_plays.specs.Commands.{Command, Round, Tick}
-use Rattle.pec_trade.specs.TradeOf.{trade_of}
-use Rattle.pec_network.specs.Network.{NetworkState}
+use Rattle.pec_playing.specs.OfNetworks.{NetworkState, trade_of}
 use Rattle.pec_playing.specs.Doing.{Keeps}
 use Rattle.pec_service.specs.Calls.{State, clock_from}
 use Rattle.pec_serving.specs.Playing.{HasPlayed, PlaysAll, PlaysOne, state_of}

@@ -1,3 +1,4 @@
 pub mod Hearing
+pub mod OfNetworks
 pub mod Playing
 pub mod Serving

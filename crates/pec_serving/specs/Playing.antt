@@ -6,7 +6,7 @@ use Rattle.pec_outside.specs.Flow.{WrotePart, followed_by}
 use Rattle.pec_directory.specs.Directory.{Provider}
 use Rattle.pec_ledger.specs.Trade.{Trade}
 use Rattle.pec_plays.specs.Commands.{Command}
-use Rattle.pec_network.specs.Network.{NetworkState, sites}
+use Rattle.pec_playing.specs.OfNetworks.{NetworkState, sites}
 use Rattle.pec_runs.specs.AnswerLines.{answer_text}
 use Rattle.pec_runs.specs.Ran.{LeavesOff}
 use Rattle.pec_playing.specs.Playing.{counts_in}

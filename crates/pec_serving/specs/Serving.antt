@@ -7,7 +7,7 @@ use Rattle.pec_outside.specs.Flow.{WrotePart, followed_by}
 use Rattle.pec_directory.specs.Directory.{Kept}
 use Rattle.pec_screen.specs.Screened.{Finds}
 use Rattle.pec_ledger.specs.Trade.{Trade}
-use Rattle.pec_network.specs.Network.{NetworkState}
+use Rattle.pec_playing.specs.OfNetworks.{NetworkState}
 use Rattle.pec_http.specs.declared.serving.Served.{Served}
 use Rattle.pec_http.specs.declared.serving.Served.TheVariants as served
 use Rattle.pec_script.specs.Texts.{text_of}

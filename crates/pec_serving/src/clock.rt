@@ -1,18 +1,17 @@
 ghost use Rattle.std.specs.Prelude.{◌≡◌, ℕ, ◌≤◌, ◌<◌, length, IsErrOf};
 ghost use Rattle.pec_outside.specs.Flow.{HasRisen};
 ghost use Rattle.pec_directory.specs.Directory.{providers_of};
-ghost use Rattle.pec_letters.specs.Fitting.{Fits};
+ghost use Rattle.pec_playing.specs.OfNetworks.{Fits};
 ghost use Rattle.pec_plays.specs.Commands.{Round, Tick};
-ghost use Rattle.pec_trade.specs.TradeOf.{trade_of};
+ghost use Rattle.pec_playing.specs.OfNetworks.{trade_of};
 ghost use Rattle.pec_playing.specs.Doing.{Keeps};
 ghost use Rattle.pec_service.specs.Calls.{clock_from};
 ghost use Rattle.pec_serving.specs.Playing.{PlaysAll, PlaysOne, state_of};
 
 use crate::answering::as_many_providers;
 use crate::stops::Stop;
-use pec_network::Network;
+use pec_playing::{Network, round, tick, what_is_told_was_counted};
 use pec_outside::{Disk, Sink, write_all};
-use pec_playing::{round, tick, what_is_told_was_counted};
 use pec_seal::Sealer;
 use pec_service::calls_are_joined;
 use pec_types::Moment;

@@ -1,9 +1,9 @@
 ghost use Rattle.std.specs.Prelude.{◌≡◌, ℕ, ◌≤◌, map};
 ghost use Rattle.pec_outside.specs.Flow.{HasRisen};
 ghost use Rattle.pec_directory.specs.Directory.{providers_of};
-ghost use Rattle.pec_letters.specs.Fitting.{Fits};
+ghost use Rattle.pec_playing.specs.OfNetworks.{Fits};
 ghost use Rattle.pec_screen.specs.Screened.{finds_in};
-ghost use Rattle.pec_trade.specs.TradeOf.{trade_of};
+ghost use Rattle.pec_playing.specs.OfNetworks.{trade_of};
 ghost use Rattle.pec_playing.specs.Doing.{Keeps};
 ghost use Rattle.pec_serving.specs.Serving.{ServesSo, place_of};
 
@@ -12,7 +12,7 @@ use crate::clock::play_clock;
 use crate::lines::write_outcome;
 use crate::next::{Came, next};
 use crate::stops::Stop;
-use pec_network::Network;
+use pec_playing::Network;
 use pec_outside::{Disk, Door, Sink, Ticks};
 use pec_screen::Judge;
 use pec_seal::{HmacSealer, Sealer};

@@ -12,7 +12,7 @@ use Rattle.pec_ledger.specs.Network.{Site}
 use Rattle.pec_ledger.specs.Trade.{Trade}
 use Rattle.pec_plays.specs.Commands.{Answer, Command, Luck, played}
 use Rattle.pec_plays.specs.Possible.{MayMeet}
-use Rattle.pec_playing.specs.Playing.{IsPlayedSo}
+use Rattle.pec_serving.specs.OfNetworks.{IsPlayedSo}
 use Rattle.pec_runs.specs.AnswerLines.{answer_text, answers_text}
 use Rattle.pec_runs.specs.Climbing.{AreLinesLeft, IsLineRead, Place, TellsOn, behind_answers}
 use Rattle.pec_runs.specs.Endings.{End, end_text}

@@ -3,11 +3,7 @@ use Rattle.std.proofs.Common.{◌≡◌, ℕ, ◌<◌, ◌≤◌, List, ◌⊎�
 use Rattle.std.specs.Prelude.{slice_get}
 use Rattle.std.proofs.lemmas.Option.{slice_get-get_or, slice_get_cases, slice_get_past}
 use Rattle.pec_outside.specs.Depots.{Alike}
-use Rattle.pec_network.specs.Beginning.{NoneFell}
-use Rattle.pec_network.specs.Carrying.{NoneFalls}
-use Rattle.pec_network.specs.Homes.{AllAt}
-use Rattle.pec_provider.specs.Provider.{ProviderState}
-use Rattle.pec_playing.specs.Playing.{count_or, counts_in}
+use Rattle.pec_serving.specs.OfNetworks.{AllAt, NoneFalls, NoneFell, ProviderState, count_or, counts_in}
 
 module _ {D : Type 0} (faults : D → ℕ) where
   count_here : (providers : List (ProviderState D)) (elsewhere : ℕ → ℕ) (k : ℕ) (x : ProviderState D)

@@ -11,18 +11,12 @@ use Rattle.pec_records.specs.declared.entries.Entry.{Entry}
 use Rattle.pec_ledger.specs.Network.{Site, chosen, interrupted_at, journal_at, site_at}
 use Rattle.pec_ledger.specs.OfDirectory.{IsOf}
 use Rattle.pec_ledger.specs.Trade.{Trade}
-use Rattle.pec_chronicle.specs.Chronicle.{ChronicleState, IsJournalOf, Stands}
+use Rattle.pec_serving.specs.OfNetworks.{ChronicleState, IsJournalOf, Stands}
 use Rattle.pec_seal.specs.Seals.{Seals}
-use Rattle.pec_stock.specs.Opening.{IsUnfit}
-use Rattle.pec_trade.specs.TradeOf.{trade_of}
-use Rattle.pec_provider.specs.Provider.{Desk, ProviderState}
-use Rattle.pec_network.specs.Beginning.{AllBegun, IsAbout, IsBegun, IsRefused, Says, all_rested, journals_had}
-use Rattle.pec_network.specs.Beginning.{reopened_as, rested}
-use Rattle.pec_network.specs.Beginning.{IsLeft as LeftAt}
-use Rattle.pec_network.specs.declared.faults.NotFit.{NotFit}
-use Rattle.pec_network.specs.declared.faults.NotFit.TheVariants as reasons
-use Rattle.pec_network.specs.declared.faults.StartFault.{StartFault}
-use Rattle.pec_network.specs.declared.faults.StartFault.TheVariants as faults
+use Rattle.pec_serving.specs.OfNetworks.{AllBegun, Desk, IsAbout, IsBegun, IsLeft as LeftAt, IsRefused, IsUnfit, NotFit, ProviderState, Says, all_rested, journals_had, reopened_as, rested, trade_of}
+use Rattle.pec_serving.specs.OfNetworks.reasons as reasons
+use Rattle.pec_serving.specs.OfNetworks.{StartFault}
+use Rattle.pec_serving.specs.OfNetworks.faults as faults
 use Rattle.pec_runs.specs.Openings.{AreLeft, Disks, IsHad, IsLeft, IsNext, IsOpening, IsUnread, Next, NoMore}
 use Rattle.pec_runs.specs.Openings.{Stops, disks_at, fault_of, opened, opened_all}
 use Rattle.pec_runs.specs.Openings as runs

@@ -5,10 +5,10 @@ use Rattle.std.proofs.lemmas.Option.{none-some, same_Some}
 use Rattle.pec_types.specs.Bytes.{Bytes}
 use Rattle.pec_outside.specs.DiskModel.{Sight}
 use Rattle.pec_directory.specs.Directory.{Provider}
-use Rattle.pec_network.specs.declared.faults.NotFit.{NotFit}
-use Rattle.pec_network.specs.declared.faults.NotFit.TheVariants as reasons
-use Rattle.pec_network.specs.declared.faults.StartFault.{StartFault}
-use Rattle.pec_network.specs.declared.faults.StartFault.TheVariants as faults
+use Rattle.pec_serving.specs.OfNetworks.{NotFit}
+use Rattle.pec_serving.specs.OfNetworks.reasons as reasons
+use Rattle.pec_serving.specs.OfNetworks.{StartFault}
+use Rattle.pec_serving.specs.OfNetworks.faults as faults
 use Rattle.pec_script.specs.declared.answers.Unfit.TheVariants as unfits
 use Rattle.pec_runs.specs.Openings.{Disks, Next, NoMore, Holds, Unfits, Fails, Stops, disks_at}
 use Rattle.pec_runs.specs.Plays.{Finish, finish_text}

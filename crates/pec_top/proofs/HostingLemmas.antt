@@ -10,10 +10,8 @@ use Rattle.pec_directory.specs.Directory.{Provider}
 use Rattle.pec_directory.specs.declared.faults.DirectoryFault.{DirectoryFault}
 use Rattle.pec_input.specs.Directory.{directory_in}
 use Rattle.pec_input.specs.declared.opening.TheConstants.{LONGEST_DIRECTORY}
-use Rattle.pec_network.specs.Beginning.{BlamesDisk}
-use Rattle.pec_network.specs.declared.faults.NotFit.{NotFit}
-use Rattle.pec_network.specs.declared.faults.StartFault.{StartFault}
-use Rattle.pec_network.specs.declared.faults.StartFault.TheVariants as faults
+use Rattle.pec_serving.specs.OfNetworks.{BlamesDisk, NotFit, StartFault}
+use Rattle.pec_serving.specs.OfNetworks.faults as faults
 use Rattle.pec_runs.specs.Endings.{End, end_text}
 use Rattle.pec_runs.specs.Endings as ends
 use Rattle.pec_runs.specs.Happened.{IsSetting, Setting, providers_in, trade_in}

@@ -7,7 +7,7 @@ use Rattle.pec_outside.specs.DiskModel.{Sight}
 use Rattle.pec_records.specs.declared.entries.Entry.{Entry}
 use Rattle.pec_ledger.specs.Network.{Site}
 use Rattle.pec_ledger.specs.Trade.{Trade}
-use Rattle.pec_network.specs.Beginning.{IsAsItWas}
+use Rattle.pec_serving.specs.OfNetworks.{IsAsItWas}
 use Rattle.pec_runs.specs.Openings.{AreLeft, AreUntouched, Disks, Form, Run, Resume, IsHad, IsNext, IsOpening, Next, NoMore, Holds, Unfits, Fails, Stops, Opening, disks_at, next_of}
 use Rattle.pec_top.specs.Surveys.{AreAsTheyWere, HoldsSo, IsAsBefore}
 use Rattle.pec_top.proofs.RunningLemmas.{untouched}

@@ -8,12 +8,8 @@ use Rattle.pec_records.specs.declared.entries.Entry.{Entry}
 use Rattle.pec_ledger.specs.OfDirectory.{IsOf}
 use Rattle.pec_ledger.specs.Trade.{Trade}
 use Rattle.pec_seal.specs.Seals.{Seals}
-use Rattle.pec_trade.specs.TradeOf.{trade_of}
-use Rattle.pec_provider.specs.Provider.{ProviderState}
-use Rattle.pec_network.specs.Beginning.{IsAbout, IsRefused, journals_had}
-use Rattle.pec_network.specs.Beginning.{IsLeft as LeftAt}
-use Rattle.pec_network.specs.declared.faults.StartFault.{StartFault}
-use Rattle.pec_network.specs.declared.faults.StartFault.TheVariants as faults
+use Rattle.pec_serving.specs.OfNetworks.{IsAbout, IsLeft as LeftAt, IsRefused, ProviderState, StartFault, journals_had, trade_of}
+use Rattle.pec_serving.specs.OfNetworks.faults as faults
 use Rattle.pec_runs.specs.Happened.{Setting}
 use Rattle.pec_runs.specs.Openings.{AreLeft, Disks, IsOpening, Next, NoMore, Holds, Unfits, Fails, Stops, disks_at, opened_all}
 use Rattle.pec_runs.specs.Plays.{finish_text}

@@ -13,13 +13,9 @@ use Rattle.pec_input.specs.declared.opening.TheConstants.{LONGEST_DIRECTORY}
 use Rattle.pec_records.specs.declared.entries.Entry.{Entry}
 use Rattle.pec_ledger.specs.Network.{Site, site_at}
 use Rattle.pec_ledger.specs.Trade.{Trade}
-use Rattle.pec_chronicle.specs.Chronicle.{Stands}
-use Rattle.pec_network.specs.Carrying.{AllStand}
-use Rattle.pec_network.specs.Homes.{AllAt}
-use Rattle.pec_network.specs.Network.{IsOfDirectory, NetworkState, sites, sites_of}
-use Rattle.pec_provider.specs.Provider.{ProviderState, desk_of, site_of}
+use Rattle.pec_serving.specs.OfNetworks.{AllAt, AllStand, IsOfDirectory, NetworkState, ProviderState, Stands, desk_of, site_of, sites, sites_of}
 use Rattle.pec_plays.specs.Commands.{Luck}
-use Rattle.pec_posts.specs.Arrivals.{Waiting, waiting_for}
+use Rattle.pec_serving.specs.OfNetworks.{Waiting, waiting_for}
 use Rattle.pec_runs.specs.Climbing.{Comes, Place}
 use Rattle.pec_runs.specs.Happened.{Asked, IsSetting, Setting, providers_in, trade_in}
 use Rattle.pec_runs.specs.Openings.{AreLeft, Disks, Form, IsLeft, IsOpening, NoMore, disks_at, form_in, opened_all}

@@ -5,9 +5,9 @@ use Rattle.pec_types.specs.Bytes.{Bytes}
 use Rattle.pec_outside.specs.DiskModel.{Sight}
 use Rattle.pec_directory.specs.Directory.{Kept, Provider}
 use Rattle.pec_ledger.specs.Trade.{Trade}
-use Rattle.pec_network.specs.declared.faults.NotFit.TheVariants as reasons
-use Rattle.pec_network.specs.declared.faults.StartFault.{StartFault}
-use Rattle.pec_network.specs.declared.faults.StartFault.TheVariants as faults
+use Rattle.pec_serving.specs.OfNetworks.reasons as reasons
+use Rattle.pec_serving.specs.OfNetworks.{StartFault}
+use Rattle.pec_serving.specs.OfNetworks.faults as faults
 use Rattle.pec_runs.specs.Openings.{Disks, Next, Fails, Stops}
 use Rattle.pec_runs.specs.Plays.{finish_text}
 use Rattle.pec_runs.specs.Ran.{TellsAs}

@@ -7,8 +7,7 @@ use Rattle.pec_directory.specs.Directory.{Provider}
 use Rattle.pec_ledger.specs.Network.{Site}
 use Rattle.pec_ledger.specs.Trade.{Trade}
 use Rattle.pec_plays.specs.Commands.{Command}
-use Rattle.pec_playing.specs.Playing.{counts_in}
-use Rattle.pec_network.specs.Network.{NetworkState, sites}
+use Rattle.pec_serving.specs.OfNetworks.{NetworkState, counts_in, sites}
 use Rattle.pec_runs.specs.Climbing.{Comes, Place}
 use Rattle.pec_runs.specs.Openings.{IsLeft, NoMore}
 use Rattle.pec_runs.specs.Plays.{Outcome}

@@ -4,10 +4,10 @@ use Rattle.std.specs.Str.{bytes_eq}
 use Rattle.pec_types.specs.Bytes.{Bytes}
 use Rattle.pec_input.specs.declared.buffers.InputFault.{InputFault}
 use Rattle.pec_input.specs.declared.buffers.InputFault.TheVariants as faults
-use Rattle.pec_network.specs.declared.faults.NotFit.{NotFit}
-use Rattle.pec_network.specs.declared.faults.NotFit.TheVariants as reasons
-use Rattle.pec_network.specs.declared.opening.Form.{Form as Way}
-use Rattle.pec_network.specs.declared.opening.Form.TheVariants as ways
+use Rattle.pec_serving.specs.OfNetworks.{NotFit}
+use Rattle.pec_serving.specs.OfNetworks.reasons as reasons
+use Rattle.pec_serving.specs.OfNetworks.{Form as Way}
+use Rattle.pec_serving.specs.OfNetworks.ways as ways
 use Rattle.pec_script.specs.declared.answers.Unfit.{Unfit}
 use Rattle.pec_script.specs.declared.answers.Unfit.TheVariants as unfits
 use Rattle.pec_runs.specs.Openings as runs

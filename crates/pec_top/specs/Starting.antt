@@ -2,8 +2,8 @@
 use Rattle.std.specs.Prelude.{◌≡◌, ◌⊎◌, ℕ, List, Option}
 use Rattle.pec_types.specs.Bytes.{Bytes}
 use Rattle.pec_directory.specs.Directory.{Provider}
-use Rattle.pec_network.specs.declared.faults.StartFault.{StartFault}
-use Rattle.pec_network.specs.declared.faults.StartFault.TheVariants as faults
+use Rattle.pec_serving.specs.OfNetworks.{StartFault}
+use Rattle.pec_serving.specs.OfNetworks.faults as faults
 use Rattle.pec_runs.specs.Endings as ends
 use Rattle.pec_runs.specs.Openings.{Next, NoMore, Holds, Unfits, Fails, Stops}
 use Rattle.pec_runs.specs.Plays.{Finish, finish_text}

@@ -1,7 +1,7 @@
 -- A look at the disks of a depot, which leaves each as it was: `AreAsTheyWere`. This project's profile.
 use Rattle.std.specs.Prelude.{◌≡◌, ℕ, ◌<◌, Bool, [], length, Option, Some, None, MatchBool}
 use Rattle.pec_outside.specs.DiskModel.{Sight}
-use Rattle.pec_network.specs.Beginning.{IsAsItWas}
+use Rattle.pec_serving.specs.OfNetworks.{IsAsItWas}
 
 -- `reads`: whether disks tell what they hold.
 module _ {D : Type 0} (reads : Type 0) (sight : D → Sight) where

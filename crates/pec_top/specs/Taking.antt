@@ -13,7 +13,7 @@ use Rattle.pec_runs.specs.Endings.{Done, End, end_text}
 use Rattle.pec_runs.specs.ScriptLines.{PassedOver, Says, longest_line, nothing_but, said_by, script_of}
 use Rattle.pec_screen.specs.Screened.{Finds}
 use Rattle.pec_runs.specs.Statuses.{status_of}
-use Rattle.pec_playing.specs.Playing.{HasPlayed, HasStopped}
+use Rattle.pec_serving.specs.OfNetworks.{HasPlayed, HasStopped}
 use Rattle.pec_top.specs.Shown.{end_shown}
 use Rattle.pec_top.specs.declared.taking.Taken.{Taken}
 

@@ -2,10 +2,8 @@ ghost use Rattle.std.specs.Prelude.{◌≡◌, ℕ, ◌≤◌, None, IfOk, OnOk,
 ghost use Rattle.pec_outside.specs.Depots.{Alike};
 ghost use Rattle.pec_outside.specs.Flow.{HasRisen};
 ghost use Rattle.pec_directory.specs.Directory.{providers_of};
-ghost use Rattle.pec_network.specs.Beginning.{AllBegun, BlamesDisk, IsRefused, NoneFell, all_rested, journals_had};
-ghost use Rattle.pec_network.specs.Homes.{AllAt};
-ghost use Rattle.pec_network.specs.Network.{sites};
-ghost use Rattle.pec_network.specs.declared.faults.StartFault.TheVariants as faults;
+ghost use Rattle.pec_serving.specs.OfNetworks.{AllAt, AllBegun, BlamesDisk, IsRefused, NoneFell, all_rested, journals_had, sites};
+ghost use Rattle.pec_serving.specs.OfNetworks.faults as faults;
 ghost use Rattle.pec_top.specs.Shown.{result_shown, way_of};
 ghost use Rattle.pec_top.specs.Starting.{EndsSo};
 
@@ -14,7 +12,7 @@ use crate::forms::Form;
 use crate::run::write_last;
 use crate::texts::{not_empty_text, not_fit_text};
 use pec_directory::Directory;
-use pec_network::{Form as Way, Network, StartFault};
+use pec_serving::{Form as Way, Network, StartFault};
 use pec_outside::{Depot, Disk, Sink};
 use pec_seal::Sealer;
 use std::alloc::Global;

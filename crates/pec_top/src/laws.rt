@@ -2,13 +2,13 @@ ghost use Rattle.std.specs.Prelude.{List};
 ghost use Rattle.pec_directory.specs.Directory.{Provider, providers_of};
 ghost use Rattle.pec_directory.specs.Lawful.{IsLawful};
 ghost use Rattle.pec_ledger.specs.Trade.{Trade};
-ghost use Rattle.pec_network.specs.Network.{IsOfDirectory};
+ghost use Rattle.pec_serving.specs.OfNetworks.{IsOfDirectory};
 ghost use Rattle.pec_screen.specs.Screened.{Finds};
 ghost use Rattle.pec_top.specs.LoopLaws.{LoopLaws};
 
 use pec_directory::Directory;
 use pec_input::lines_are_the_text;
-use pec_network::Network;
+use pec_serving::Network;
 use pec_outside::{Depot, Disk};
 use pec_runs::{a_run_is_climbed, a_script_is_played_line_by_line};
 use pec_seal::Sealer;

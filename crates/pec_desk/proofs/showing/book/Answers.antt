@@ -2,7 +2,7 @@ use Rattle.std.proofs.Common.{[], Err, Global, Vec}
 use Rattle.pec_types.specs.declared.messages.BookLine.{BookLine}
 use Rattle.pec_directory.specs.Directory.{providers_of}
 use Rattle.pec_plays.specs.Commands.{Book, played}
-use Rattle.pec_provider.specs.Playing.{luck_of}
+use Rattle.pec_network.specs.OfProviders.{luck_of}
 use Rattle.pec_network.specs.Network.{sites}
 use Rattle.pec_script.specs.Texts.{book_text}
 use Rattle.std.proofs.Common.{false}

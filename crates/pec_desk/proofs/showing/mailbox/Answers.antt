@@ -2,7 +2,7 @@ use Rattle.std.proofs.Common.{[], Err, Global, Vec, false}
 use Rattle.pec_types.specs.declared.mailboxes.ItemLine.{ItemLine}
 use Rattle.pec_directory.specs.Directory.{providers_of}
 use Rattle.pec_plays.specs.Commands.{Mailbox, played}
-use Rattle.pec_provider.specs.Playing.{luck_of}
+use Rattle.pec_network.specs.OfProviders.{luck_of}
 use Rattle.pec_network.specs.Network.{sites}
 use Rattle.pec_script.specs.Texts.{items_text}
 use Rattle.pec_desk.specs.Desks.{items_shown, world_of}

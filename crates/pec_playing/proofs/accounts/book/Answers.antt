@@ -2,7 +2,7 @@ use Rattle.std.proofs.Common.{◌∙◌, false, Global, List, Vec, ap}
 use Rattle.pec_types.specs.declared.messages.BookLine.{BookLine}
 use Rattle.pec_directory.specs.Directory.{Kept, providers_of}
 use Rattle.pec_plays.specs.Commands.{Book, Lines}
-use Rattle.pec_provider.specs.Playing.{luck_of}
+use Rattle.pec_network.specs.OfProviders.{luck_of}
 use Rattle.pec_script.specs.Texts.{book_text}
 use Rattle.pec_trade.specs.TradeOf.{trade_of}
 use Rattle.pec_playing.proofs.AskLemmas.{ask_refuses, ask_says, ask_stops, book_asked, lines_told}

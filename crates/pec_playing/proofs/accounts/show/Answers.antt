@@ -1,7 +1,7 @@
 use Rattle.std.proofs.Common.{◌∙◌, ℕ, false, Global, Vec, ap}
 use Rattle.pec_types.specs.Bytes.{Bytes}
 use Rattle.pec_plays.specs.Commands.{Show, Shown}
-use Rattle.pec_provider.specs.Playing.{luck_of}
+use Rattle.pec_network.specs.OfProviders.{luck_of}
 use Rattle.pec_script.specs.Texts.{item_text}
 use Rattle.pec_trade.specs.TradeOf.{trade_of}
 use Rattle.pec_playing.proofs.AskLemmas.{ask_refuses, ask_says, ask_stops, show_asked, shown_told}

@@ -5,9 +5,9 @@ use Rattle.pec_screen.specs.Verdicts.{Patterns}
 use Rattle.pec_seal.specs.Hmac.{hmac_seals}
 use Rattle.pec_seal.specs.declared.hmac.HmacSealer.{HmacSealer}
 use Rattle.pec_seal.specs.Seals.{Seals}
-use Rattle.pec_network.specs.Network.{NetworkState}
+use Rattle.pec_playing.specs.OfNetworks.{NetworkState}
 use Rattle.pec_http.specs.Serving.{Serves}
-use Rattle.pec_trade.specs.TradeOf.{trade_of}
+use Rattle.pec_playing.specs.OfNetworks.{trade_of}
 use Rattle.pec_desk.specs.Desks.{DeskState, answers_of}
 use Rattle.pec_playing.specs.Doing.{Keeps}
 use Rattle.pec_serving.specs.Hearing.{Hears}

@@ -1,6 +1,6 @@
 use Rattle.std.proofs.Common.{◌≡◌, ◌∙◌, ◌<◌, List, length, ap, sym, refl, arith}
 use Rattle.pec_directory.specs.Directory.{Kept, providers_of}
-use Rattle.pec_trade.specs.TradeOf.{trade_of}
+use Rattle.pec_playing.specs.OfNetworks.{trade_of}
 use Rattle.pec_serving.proofs.ClockLemmas.{Joins}
 use Rattle.pec_serving.proofs.KeepLemmas.{keeps_all, keeps_on}
 use Rattle.pec_serving.proofs.LoopLemmas.{none_so, round_ends, tick_on, tick_stops}

@@ -1,6 +1,6 @@
 use Rattle.std.proofs.Common.{◌≡◌, ◌-◌, ◌≤◌, ℕ, length}
 use Rattle.pec_directory.specs.Directory.{providers_of}
-use Rattle.pec_trade.specs.TradeOf.{trade_of}
+use Rattle.pec_playing.specs.OfNetworks.{trade_of}
 use Rattle.pec_playing.specs.Doing.{Keeps}
 use Rattle.pec_service.specs.Calls.{clock_from}
 use Rattle.pec_serving.specs.Playing.{HasPlayed, state_of}

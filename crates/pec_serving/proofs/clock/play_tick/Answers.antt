@@ -2,7 +2,7 @@ use Rattle.std.proofs.Common.{◌≡◌, ◌∙◌, List, length, Err, ap, sym}
 use Rattle.std.proofs.lemmas.Result.{err_from_is_err_and}
 use Rattle.pec_directory.specs.Directory.{Kept}
 use Rattle.pec_plays.specs.Commands.{Tick}
-use Rattle.pec_trade.specs.TradeOf.{trade_of}
+use Rattle.pec_playing.specs.OfNetworks.{trade_of}
 use Rattle.pec_serving.specs.declared.stops.Stop.{Stop}
 use Rattle.pec_serving.proofs.ClockLemmas.{one_breaks, one_lacks, one_plays, tick_calm}
 use Rattle.pec_serving.proofs.clock.play_tick.Goals as goal

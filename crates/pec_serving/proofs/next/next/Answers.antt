@@ -2,7 +2,7 @@ use Rattle.std.proofs.Common.{◌∙◌, ap, sym, refl, map, ℕ, List, Option}
 use Rattle.pec_outside.specs.Doors.{Reply, in_front, replied}
 use Rattle.pec_screen.specs.Screened.{finds_in}
 use Rattle.pec_seal.specs.Hmac.{hmac_seals}
-use Rattle.pec_trade.specs.TradeOf.{trade_of}
+use Rattle.pec_playing.specs.OfNetworks.{trade_of}
 use Rattle.pec_serving.specs.Serving.{place_of}
 use Rattle.pec_serving.proofs.NextLemmas.{served_next, unserved_replies}
 use Rattle.pec_serving.proofs.next.next.Goals as goal

@@ -1,12 +1,12 @@
 use Rattle.std.proofs.Common.{◌≡◌, ◌∙◌, List, length, map, ap, sym, subst, refl, arith, Err}
 use Rattle.pec_directory.specs.Directory.{Kept, providers_of}
-use Rattle.pec_letters.specs.Fitting.{Fits}
+use Rattle.pec_playing.specs.OfNetworks.{Fits}
 use Rattle.pec_screen.specs.Screened.{finds_in}
 use Rattle.pec_screen.specs.Verdicts.{Patterns}
 use Rattle.pec_seal.specs.Hmac.{hmac_seals}
 use Rattle.pec_seal.specs.Seals.{Seals}
 use Rattle.pec_seal.specs.declared.hmac.HmacSealer.{HmacSealer}
-use Rattle.pec_trade.specs.TradeOf.{trade_of}
+use Rattle.pec_playing.specs.OfNetworks.{trade_of}
 use Rattle.pec_service.specs.Calls.{clock_from}
 use Rattle.pec_serving.specs.Playing.{PlaysAll, state_of}
 use Rattle.pec_serving.specs.Serving.{ComesNext, place_of}

@@ -1,9 +1,9 @@
 use Rattle.std.proofs.Common.{◌≡◌, ◌≤◌, ℕ, length, map}
 use Rattle.pec_directory.specs.Directory.{providers_of}
-use Rattle.pec_letters.specs.Fitting.{Fits}
+use Rattle.pec_playing.specs.OfNetworks.{Fits}
 use Rattle.pec_screen.specs.Screened.{finds_in}
 use Rattle.pec_seal.specs.Hmac.{hmac_seals}
-use Rattle.pec_trade.specs.TradeOf.{trade_of}
+use Rattle.pec_playing.specs.OfNetworks.{trade_of}
 use Rattle.pec_playing.specs.Doing.{Keeps}
 use Rattle.pec_serving.specs.Serving.{place_of}
 use Rattle.pec_serving.proofs.ServiceLemmas.{Going}

@@ -1,6 +1,6 @@
 use Rattle.std.proofs.Common.{◌≡◌, Bool, subst}
 use Rattle.pec_directory.specs.Directory.{providers_of}
-use Rattle.pec_network.specs.declared.faults.NotFit.TheVariants as reasons
+use Rattle.pec_serving.specs.OfNetworks.reasons as reasons
 use Rattle.pec_runs.specs.Openings.{disks_at}
 use Rattle.pec_runs.specs.Statuses as statuses
 use Rattle.pec_top.specs.Hosting.{told_shown}

@@ -2,7 +2,7 @@
 use Rattle.std.proofs.Common.{◌≡◌, ap, arith, List, length, refl, subst, sym}
 use Rattle.pec_directory.specs.Directory.{Kept}
 use Rattle.pec_seal.specs.Hmac.{hmac_seals}
-use Rattle.pec_trade.specs.TradeOf.{trade_of}
+use Rattle.pec_serving.specs.OfNetworks.{trade_of}
 use Rattle.pec_runs.specs.Statuses.{Status}
 use Rattle.pec_service.specs.Runs.{Blames, TellsService}
 use Rattle.pec_service.specs.Services.{service_text}

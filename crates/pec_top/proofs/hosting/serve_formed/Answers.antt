@@ -4,10 +4,7 @@ use Rattle.std.proofs.lemmas.Bool.{cases_lt}
 use Rattle.std.proofs.lemmas.List.{length-map}
 use Rattle.pec_directory.specs.Directory.{Kept, providers_of}
 use Rattle.pec_seal.specs.Hmac.{hmac_seals}
-use Rattle.pec_network.specs.Beginning.{NoneFell, journals_had}
-use Rattle.pec_network.specs.Carrying.{AllStand}
-use Rattle.pec_network.specs.Network.{sites}
-use Rattle.pec_playing.specs.Playing.{counts_in}
+use Rattle.pec_serving.specs.OfNetworks.{AllStand, NoneFell, counts_in, journals_had, sites}
 use Rattle.pec_runs.specs.Happened.{Setting, trade_in}
 use Rattle.pec_runs.specs.Openings.{disks_at}
 use Rattle.pec_screen.specs.Screened.{finds_in}

@@ -2,9 +2,7 @@
 use Rattle.std.proofs.Common.{◌∙◌, ap, arith, List, length, map}
 use Rattle.pec_outside.specs.Flow.{behind}
 use Rattle.pec_directory.specs.Directory.{Kept, providers_of}
-use Rattle.pec_trade.specs.TradeOf.{trade_of}
-use Rattle.pec_network.specs.Network.{sites}
-use Rattle.pec_playing.specs.Playing.{counts_in}
+use Rattle.pec_serving.specs.OfNetworks.{counts_in, sites, trade_of}
 use Rattle.pec_screen.specs.Screened.{finds_in}
 use Rattle.pec_top.specs.Scripts.{place_at}
 use Rattle.pec_top.specs.Shown.{result_shown}

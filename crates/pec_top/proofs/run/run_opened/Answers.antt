@@ -6,11 +6,7 @@ use Rattle.std.proofs.lemmas.Result.{err_from_is_err_and}
 use Rattle.pec_outside.specs.Flow.{behind}
 use Rattle.pec_directory.specs.Directory.{Kept, providers_of}
 use Rattle.pec_seal.specs.Hmac.{hmac_seals}
-use Rattle.pec_network.specs.Beginning.{BlamesDisk, NoneFell, journals_had}
-use Rattle.pec_network.specs.declared.faults.StartFault.{StartFault}
-use Rattle.pec_network.specs.Carrying.{AllStand}
-use Rattle.pec_network.specs.Network.{sites}
-use Rattle.pec_playing.specs.Playing.{counts_in}
+use Rattle.pec_serving.specs.OfNetworks.{AllStand, BlamesDisk, NoneFell, StartFault, counts_in, journals_had, sites}
 use Rattle.pec_runs.specs.Happened.{Asked, IsSetting, Setting, trade_in}
 use Rattle.pec_runs.specs.Openings.{disks_at}
 use Rattle.pec_runs.specs.Statuses as statuses

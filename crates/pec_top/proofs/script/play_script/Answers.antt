@@ -3,12 +3,10 @@ use Rattle.std.proofs.Common.{◌≡◌, ◌∙◌, ap, arith, map, refl, Some, 
 use Rattle.std.proofs.lemmas.Result.{err_from_is_err_and}
 use Rattle.pec_outside.specs.Flow.{behind, followed_by}
 use Rattle.pec_directory.specs.Directory.{providers_of}
-use Rattle.pec_trade.specs.TradeOf.{trade_of}
+use Rattle.pec_serving.specs.OfNetworks.{trade_of}
 use Rattle.pec_input.specs.declared.buffers.InputFault.{InputFault}
 use Rattle.pec_input.specs.declared.buffers.InputFault.TheVariants as faults
-use Rattle.pec_network.specs.Carrying.{AllStand}
-use Rattle.pec_network.specs.Network.{sites}
-use Rattle.pec_playing.specs.Playing.{counts_in}
+use Rattle.pec_serving.specs.OfNetworks.{AllStand, counts_in, sites}
 use Rattle.pec_screen.specs.Screened.{finds_in}
 use Rattle.pec_top.specs.Scripts.{place_at}
 use Rattle.pec_top.specs.Shown.{stop_of, stop_shown}

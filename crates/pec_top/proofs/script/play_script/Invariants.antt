@@ -3,9 +3,7 @@ use Rattle.std.proofs.Common.{◌≡◌, ℕ, ◌+◌, ◌-◌, ◌≤◌, map}
 use Rattle.pec_outside.specs.Depots.{Alike}
 use Rattle.pec_outside.specs.Flow.{behind}
 use Rattle.pec_directory.specs.Directory.{providers_of}
-use Rattle.pec_trade.specs.TradeOf.{trade_of}
-use Rattle.pec_network.specs.Carrying.{AllStand}
-use Rattle.pec_playing.specs.Playing.{counts_in}
+use Rattle.pec_serving.specs.OfNetworks.{AllStand, counts_in, trade_of}
 use Rattle.pec_runs.specs.ScriptLines.{most_lines}
 use Rattle.pec_screen.specs.Screened.{finds_in}
 use Rattle.pec_top.specs.Scripts.{place_at}
