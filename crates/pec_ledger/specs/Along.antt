@@ -15,11 +15,12 @@ times test xs = length (filter test xs)
 abbrev pub GoesOnAs : {X : Type 0} → List X → List X → Type 0
 GoesOnAs {X} xs ys = (rest : List X) × (ys ≡ xs ++ rest)
 
--- No two items are equal, by recursion on the list: no item stands again behind itself.
+-- The item is none of the list.
 abbrev pub StandsNotIn : {X : Type 0} → X → List X → Type 0
 StandsNotIn x [] = Unit {0}
 StandsNotIn x (y ∷ ys) = (x ≡ y → ⊥) × StandsNotIn x ys
 
+-- No two items are equal, by recursion on the list: no item stands again behind itself.
 abbrev pub AllDiffer : {X : Type 0} → List X → Type 0
 AllDiffer [] = Unit {0}
 AllDiffer (x ∷ xs) = StandsNotIn x xs × AllDiffer xs

@@ -17,6 +17,7 @@ use Rattle.pec_ledger.specs.Trade.{Trade}
 
 -- ---- books
 
+-- what the recipient's provider decided on a pair, and when
 abbrev pub outcome_in : Known → Decision × ℕ
 outcome_in known = (known.decision, known.decided)
 
@@ -39,6 +40,7 @@ abbrev pub certified_recipients : Trade → Accepted → List Recipient
 certified_recipients trade message =
     filter (λ (recipient : Recipient). is_some (trade.home recipient.address)) message.facts.recipients
 
+-- the lines of one message in an account's book: none where it was refused, or is another account's
 abbrev pub lines_of : Trade → Half → Bytes → Id → Option Accepted → List BookLine
 lines_of trade half account id None = []
 lines_of trade half account id (Some message) =

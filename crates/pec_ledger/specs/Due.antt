@@ -25,9 +25,11 @@ answers_to trade to owed = filter (λ (letter : Letter). is_home to (addressee t
 
 -- ---- outcomes
 
+-- the message of a decided pair is that provider's, which hasn't said that the outcome arrived
 abbrev pub is_unheard : Half → ℕ → Fate → Bool
 is_unheard half to fate = (fate.pair.id.provider == to) && not (is_acked half fate.pair)
 
+-- the letter with the outcome of a decided pair: a receipt of delivery or a notice of error
 abbrev pub outcome_on : Fate → Letter
 outcome_on fate = letters.Outcome fate.pair.id fate.pair.recipient
 
@@ -47,6 +49,7 @@ awaits trade half to id message =
     nat_lt 0 (length (at_home trade to (addresses_of message.facts)))
     && (is_none (charged_of half id to) && not (hears_of half id (at_home trade to (addresses_of message.facts))))
 
+-- the envelope of a message for a provider, where the message was accepted and awaits an answer from there
 abbrev pub envelope_to : Trade → Half → ℕ → Id → Option Accepted → List Letter
 envelope_to trade half to id None = []
 envelope_to trade half to id (Some message) = if awaits trade half to id message then letters.Envelope id to ∷ [] else []

@@ -1,6 +1,6 @@
 -- Worked examples in the small world, as entries of journals: what books, mailboxes and clock calls they come to. The
--- provider 0 is alfa, with alice (0) and anna (1); the provider 1 is beta, with bob (1), carl (2), whose mailbox has room
--- for one item, and no account of the name 9.
+-- provider 0 is alfa, with alice (0) and anna (1); the provider 1 is beta, with bob (1), carl (2), whose mailbox has
+-- room for one item, and no account of the name 9.
 use Rattle.std.specs.Prelude.{ℕ, List, [], ◌∷◌, ◌++◌, Option, Some, None}
 use Rattle.pec_types.specs.Bytes.{Bytes}
 use Rattle.pec_types.specs.Message.{Id}
@@ -19,6 +19,7 @@ use Rattle.pec_ledger.specs.Pairs.{id_of, pair_of}
 use Rattle.pec_ledger.specs.SmallWorld.{address}
 use Rattle.pec_ledger.specs.Trade.{Receipt}
 
+-- the accounts of the examples: alice and anna are at alfa, bob and carl at beta
 abbrev pub alice : Bytes
 alice = address 0 0
 
@@ -72,6 +73,7 @@ open_line recipient class = record {
 abbrev pub receipt_line : Kind → ItemLine
 receipt_line kind = record { kind = item_kinds.Receipt kind; id = Some first; recipient = None }
 
+-- the same, of a receipt that names this recipient
 abbrev pub receipt_line_on : Kind → Bytes → ItemLine
 receipt_line_on kind recipient = record { kind = item_kinds.Receipt kind; id = Some first; recipient = Some recipient }
 
@@ -81,11 +83,13 @@ receipt_on kind recipient = record { kind = kind; id = first; by = 0; moment = m
 
 -- ---- two recipients, one of whom stands in `To` and the other in `Cc`
 
+-- what alice writes to bob, with a copy to carl
 abbrev pub to_two : Bytes
 to_two = alice ++ 0 ∷ bob ++ 1 ∷ carl
 
 -- ---- a recipient who is no account: the journal of alfa
 
+-- alice's message was accepted; 3 seconds later the charge and the notice of error came from beta
 abbrev pub to_nobody : List Entry
 to_nobody =
     accepting (to_one nobody)
@@ -95,6 +99,7 @@ to_nobody =
 
 -- ---- a notice, and later the delivery, all at one provider
 
+-- 22 hours after the acceptance a clock call gives notice; 2 seconds later the message is placed, and then it is told
 abbrev pub noticed_and_delivered : List Entry
 noticed_and_delivered =
     accepting (to_one anna)
@@ -107,6 +112,7 @@ noticed_and_delivered =
 
 -- ---- two messages for a mailbox with room for one item: the journal of beta, before the second decision
 
+-- beta took two messages of alice for carl, 2 seconds after their acceptance, and placed the first
 abbrev pub one_placed : List Entry
 one_placed =
     entries.Start 1 []
@@ -117,5 +123,6 @@ one_placed =
 
 -- ---- a mailbox that holds a receipt alone: the journal of beta, where carl wrote to bob
 
+-- beta accepted a message of carl: the receipt of acceptance is all that is in his mailbox
 abbrev pub carl_wrote : List Entry
 carl_wrote = entries.Start 1 [] ∷ entries.Accepted morning carl (carl ++ 0 ∷ bob) ∷ []

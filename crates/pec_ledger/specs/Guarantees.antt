@@ -32,6 +32,7 @@ is_notice_kind kinds.Notice = true
 is_notice_kind kinds.LateNotice = true
 is_notice_kind _ = false
 
+-- the item is a receipt or notice on this pair, of a kind that is looked for
 abbrev pub is_receipt_of : (Kind → Bool) → Pair → Item → Bool
 is_receipt_of test pair (ReceiptItem kind id (Some recipient) moment) = test kind && same_pair pair (pair_of id recipient)
 is_receipt_of test pair (ReceiptItem kind id None moment) = false
@@ -46,6 +47,7 @@ is_outcome_of pair posted = is_receipt_of is_outcome pair posted.item
 abbrev pub is_notice_on : Pair → Posted → Bool
 is_notice_on pair posted = is_receipt_of is_notice_kind pair posted.item
 
+-- the item, wherever it was placed, is the envelope of this message
 abbrev pub is_envelope_item : Id → Item → Bool
 is_envelope_item id (EnvelopeItem other) = same_id id other
 is_envelope_item id (ReceiptItem kind other recipient moment) = false
@@ -57,16 +59,20 @@ is_envelope_of id posted = is_envelope_item id posted.item
 
 -- ---- counts
 
+-- the message went into the recipient's mailbox
 abbrev pub is_placed : Decision → Bool
 is_placed Placed = true
 is_placed (Refused refusal) = false
 
+-- how often a provider decided what becomes of a pair
 abbrev pub times_decided : Half → Pair → ℕ
 times_decided half pair = times (λ (fate : Fate). same_pair pair fate.pair) half.decided
 
+-- how often a provider learned the outcome of a pair
 abbrev pub times_known : Half → Pair → ℕ
 times_known half pair = times (λ (known : Known). same_pair pair known.pair) half.known
 
+-- how often a provider placed the message of a pair in the recipient's mailbox
 abbrev pub times_placed : Half → Pair → ℕ
 times_placed half pair = times (λ (fate : Fate). same_pair pair fate.pair && is_placed fate.decision) half.decided
 
@@ -93,12 +99,13 @@ module _ (trade : Trade) (journals : Journals) where
     pub once : (provider : ℕ) (pair : Pair)
         → times (is_envelope_of pair.id) (mailbox (ledger trade journals provider) pair.recipient) ≤ 1
 
-  -- A pair that was acknowledged is one of an accepted message, and its receipt is in the sender's mailbox, once.
+  -- The pair is one of an accepted message, and its receipt of delivery or error is in the sender's mailbox, once.
   pub record HasReceipt (pair : Pair) : Type 0 where
     pub message : Accepted
     pub accepted : accepted_in trade journals pair.id ≡ Some message
     pub receipt : times (is_outcome_of pair) (mailbox (ledger trade journals pair.id.provider) message.sender) ≡ 1
 
+  -- Of each pair of which a provider was told that its receipt has arrived, the sender's mailbox holds that receipt.
   pub record NoReceiptMissing : Type 0 where
     pub receipt : (provider : ℕ) (pair : Pair) → is_acked (ledger trade journals provider) pair ≡ true → HasReceipt pair
 

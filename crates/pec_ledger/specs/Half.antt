@@ -1,6 +1,6 @@
 -- A provider's half of the ledger: `Half`, a record of lists that only grow at their ends, and `Adds`, what one entry
 -- adds to each of them. A half holds no bytes of messages: rows hold facts, and the number of the entry with the bytes.
--- This project's profile.
+-- Moments are in seconds; messages and entries are numbered from 0. This project's profile.
 use Rattle.std.specs.Prelude.{ℕ, ◌+◌, max, List, [], ◌++◌, Option}
 use Rattle.pec_types.specs.Bytes.{Bytes, Path}
 use Rattle.pec_types.specs.Message.{Id}

@@ -1,6 +1,6 @@
--- The bytes of a mailbox item: `item_text`, from the provider's own journal alone. An envelope shows what the Took entry
--- of its id holds, a receipt of delivery or error what its Learned entry holds; all others are composed from entries.
--- RFC 6109, section 3, within this project's profile.
+-- The bytes of a mailbox item: `item_text`, from the provider's own journal alone. An envelope shows what the Took
+-- entry of its id holds, a receipt of delivery or error what its Learned entry holds; all others are composed from
+-- entries. RFC 6109, section 3, within this project's profile.
 use Rattle.std.specs.Prelude.{◌≡◌, ℕ, List, Contains, slice_get, Option, Some, None}
 use Rattle.std.specs.Option.{option_and_then, option_map}
 use Rattle.pec_types.specs.Bytes.{Bytes}
@@ -19,6 +19,7 @@ use Rattle.pec_ledger.specs.Trade.{Trade}
 abbrev pub taken_body : List Entry → Taken → Option Bytes
 taken_body journal taken = body_at journal taken.entry
 
+-- what the entry of an accepted message holds: its original
 abbrev pub accepted_body : List Entry → Accepted → Option Bytes
 accepted_body journal message = body_at journal message.entry
 
@@ -39,6 +40,7 @@ module _ (trade : Trade) where
     abbrev pub original_at : List Entry → ℕ → Option Bytes
     original_at journal number = option_and_then (accepted_body journal) (accepted_at (half trade provider journal) number)
 
+    -- the bytes of a receipt or notice, which came into the mailbox by the entry of this number, from 0
     abbrev pub receipt_of : List Entry → ℕ → Kind → Id → Option Bytes → ℕ → Option Bytes
     receipt_of journal entry kinds.Delivery id recipient moment = body_at journal entry
     receipt_of journal entry (kinds.DeliveryError refusal) id recipient moment = body_at journal entry
@@ -47,6 +49,7 @@ module _ (trade : Trade) where
     receipt_of journal entry kind id recipient moment =
         option_map (composed kind id provider moment recipient) (original_at journal id.number)
 
+    -- the bytes of any item, which came by the entry of this number
     abbrev pub text_by : List Entry → ℕ → Item → Option Bytes
     text_by journal entry (EnvelopeItem id) = option_and_then (taken_body journal) (taken_of (half trade provider journal) id)
     text_by journal entry (ReceiptItem kind id recipient moment) = receipt_of journal entry kind id recipient moment

@@ -58,6 +58,7 @@ module _ (trade : Trade) where
   decided_at journals pair None = None
   decided_at journals pair (Some home) = decided_of (ledger journals home) pair
 
+  -- what is decided on a pair in the whole ledger; nothing where its recipient is at home nowhere
   abbrev pub decided_in : Journals → Pair → Option Fate
   decided_in journals pair = decided_at journals pair (trade.home pair.recipient)
 

@@ -28,6 +28,7 @@ pub record Accepted : Type 0 where
   pub facts : Facts
   pub entry : ℕ
 
+-- a submitted message as an accepted one, if it was accepted
 abbrev pub accepted_of : Message → Option Accepted
 accepted_of message =
     option_map (λ (facts : Facts). record { moment = message.moment; sender = message.sender; facts = facts; entry = message.entry }) message.facts
@@ -44,6 +45,7 @@ submitter half number = unwrap_or (option_map (λ (message : Message). message.s
 abbrev pub addresses_of : Facts → Path
 addresses_of facts = map (λ (recipient : Recipient). recipient.address) facts.recipients
 
+-- the provider where an address is at home, if there is one, is this one
 abbrev pub is_home : ℕ → Option ℕ → Bool
 is_home provider None = false
 is_home provider (Some home) = provider == home
@@ -66,36 +68,45 @@ HasPairsAt trade message provider = (recipient : Bytes) × Contains (addresses_o
 
 -- ---- rows
 
+-- the charge of a message by a provider, if it came
 abbrev pub charged_of : Half → Id → ℕ → Option Charge
 charged_of half id by = find (λ (charge : Charge). same_id id charge.id && (by == charge.by)) half.charged
 
+-- the outcome of a pair, if it was learned
 abbrev pub known_of : Half → Pair → Option Known
 known_of half pair = find (λ (known : Known). same_pair pair known.pair) half.known
 
+-- the row of a message that was taken here, if it was
 abbrev pub taken_of : Half → Id → Option Taken
 taken_of half id = find (λ (taken : Taken). same_id id taken.id) half.taken
 
+-- what was decided here on a pair, if it was
 abbrev pub decided_of : Half → Pair → Option Fate
 decided_of half pair = find (λ (fate : Fate). same_pair pair fate.pair) half.decided
 
+-- the sender's provider said that the receipt on a pair has arrived
 abbrev pub is_acked : Half → Pair → Bool
 is_acked half pair = is_some (find (same_pair pair) half.acked)
 
+-- the sender is told that nothing is known, in time or late
 abbrev pub is_notice : Due → Bool
 is_notice dues.Notice = true
 is_notice dues.LateNotice = true
 is_notice dues.Warning = false
 is_notice dues.Nothing = false
 
+-- the sender is told that nobody took charge
 abbrev pub is_warning : Due → Bool
 is_warning dues.Warning = true
 is_warning dues.Notice = false
 is_warning dues.LateNotice = false
 is_warning dues.Nothing = false
 
+-- the notice that the sender had of a pair, in time or late, if there was one
 abbrev pub notice_of : Half → Pair → Option Mark
 notice_of half pair = find (λ (mark : Mark). is_notice mark.due && same_pair pair mark.pair) half.marks
 
+-- the warning that the sender had of a pair, if there was one
 abbrev pub warning_of : Half → Pair → Option Mark
 warning_of half pair = find (λ (mark : Mark). is_warning mark.due && same_pair pair mark.pair) half.marks
 

@@ -38,6 +38,7 @@ marked pair now dues.LateNotice = Some (record { pair = pair; due = dues.LateNot
 abbrev pub mark_for : Trade → Half → ℕ → ℕ → Pair → Option Mark
 mark_for trade half now accepted pair = marked pair now (due_of (clocked trade half now accepted pair))
 
+-- the marks of one message; none where it was refused
 abbrev pub marks_of : Trade → Half → ℕ → Id → Option Accepted → List Mark
 marks_of trade half now id None = []
 marks_of trade half now id (Some message) = filter_map (mark_for trade half now message.moment) (pairs_of trade id message)

@@ -1,6 +1,6 @@
 -- The state of a network, a list of sites, one for each provider, and what is true of it at every moment: `Sound`. Then
--- how a state goes on, for each provider by itself: `GoesOn`, `Continues`, and the cases of `Happens`. A crash may leave
--- any of the journals of which `GoesOn` speaks. This project's profile.
+-- how a state goes on, for each provider by itself: `GoesOn`, `Continues`, and the cases of `Happens`. A crash may
+-- leave any of the journals of which `GoesOn` speaks. This project's profile.
 use Rattle.std.specs.Prelude.{◌≡◌, ℕ, zero, suc, ◌+◌, ◌⊎◌, Bool, true, false, List, [], ◌∷◌, ◌++◌, length, replicate, All, slice_index_or, Option, Some, None, IsSome}
 use Rattle.std.specs.Option.{option_to_list}
 use Rattle.pec_types.specs.Bytes.{Bytes}
@@ -20,18 +20,23 @@ pub record Site : Type 0 where
   pub interrupted : Option Entry
   pub waiting : List (List Bytes)
 
+-- where no provider stands: nothing is kept, nothing is up, and nothing waits
 abbrev pub empty_site : Site
 empty_site = record { journal = []; up = false; interrupted = None; waiting = [] }
 
+-- the provider of a number, from 0, as it stands
 abbrev pub site_at : List Site → ℕ → Site
 site_at sites provider = slice_index_or sites provider empty_site
 
+-- its journal
 abbrev pub journal_at : List Site → ℕ → List Entry
 journal_at sites provider = (site_at sites provider).journal
 
+-- its entry whose append failed, if there is one
 abbrev pub interrupted_at : List Site → ℕ → Option Entry
 interrupted_at sites provider = (site_at sites provider).interrupted
 
+-- whether it is up
 abbrev pub is_up : List Site → ℕ → Bool
 is_up sites provider = (site_at sites provider).up
 
@@ -69,6 +74,7 @@ module _ (trade : Trade) where
       (framed : Framed) → trade.unframed frame ≡ Some framed → trade.opens framed.message ≡ true
       → IsGenuineText journals framed.message
 
+  -- Each of the frames is genuine.
   abbrev pub AreGenuine : Journals → List Bytes → Type 0
   AreGenuine journals frames = All (IsGenuine journals) frames
 

@@ -1,5 +1,5 @@
--- When a provider's own half lets an entry follow: `Own`, entry by entry, and the decision on a pair row by row
--- (`IsDecisionOn`, `decision_at`). RFC 6109, sections 3.1 to 3.3, within this project's profile.
+-- When a provider's own half lets an entry follow: `Own`, entry by entry, and what is decided on a pair
+-- (`decision_at`). RFC 6109, sections 3.1 to 3.3, within this project's profile.
 use Rattle.std.specs.Prelude.{◌≡◌, ℕ, ◌<◌, ◌≤◌, nat_le, false, not, if◌then◌else◌, ◌⊎◌, length, Contains, All, Some, None, IsSome, IsTrue}
 use Rattle.pec_types.specs.Bytes.{Bytes}
 use Rattle.pec_types.specs.declared.messages.TheConstants.{MESSAGES}

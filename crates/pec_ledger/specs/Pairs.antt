@@ -14,11 +14,14 @@ pub record Pair : Type 0 where
 abbrev pub id_of : ℕ → ℕ → Id
 id_of provider number = record { provider = provider; number = number }
 
+-- the pair of a message and a recipient
 abbrev pub pair_of : Id → Bytes → Pair
 pair_of id recipient = record { id = id; recipient = recipient }
 
+-- the two are one message
 abbrev pub same_id : Id → Id → Bool
 same_id a b = (a.provider == b.provider) && (a.number == b.number)
 
+-- the two are one pair
 abbrev pub same_pair : Pair → Pair → Bool
 same_pair a b = same_id a.id b.id && bytes_eq a.recipient b.recipient

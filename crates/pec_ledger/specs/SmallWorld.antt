@@ -1,7 +1,7 @@
--- A small world, `small`: two providers, plain texts, and letters that can be told apart. It shows that there is a world
--- that meets all laws of `IsTrade`, and the examples are computed in it. An address is the number of its provider and a
--- name; names from 9 on are no accounts, and the name 2 has room for one item. A message is its sender's address and
--- its recipients, each a class (0 for primary), a provider and a name.
+-- A small world, `small`: two providers, plain texts, and letters that can be told apart. It shows that there is a
+-- world that meets all laws of `IsTrade`, and the examples are computed in it. An address is the number of its provider
+-- and a name; names from 9 on are no accounts, and the name 2 has room for one item. A message is its sender's address
+-- and its recipients, each a class (0 for primary), a provider and a name.
 use Rattle.std.specs.Prelude.{ℕ, ◌==◌, nat_lt, nat_le, Bool, true, false, not, ◌&&◌, List, [], ◌∷◌, ◌++◌, length, take, drop, if◌then◌else◌, Option, Some, None, is_some}
 use Rattle.std.specs.List.{list_any}
 use Rattle.std.specs.Str.{bytes_eq}
@@ -21,36 +21,44 @@ use Rattle.pec_ledger.specs.Trade.{Framed, Seen, SeenEnvelope, SeenReceipt, Trad
 
 -- ---- addresses
 
+-- the address of a name at a provider; both are numbers, from 0
 abbrev pub address : ℕ → ℕ → Bytes
 address provider name = provider ∷ name ∷ []
 
+-- the provider of an address, where it is one of the two
 abbrev pub home_in : Bytes → Option ℕ
 home_in [] = None
 home_in (provider ∷ name) = if nat_lt provider 2 then Some provider else None
 
+-- the address is an account of this provider
 abbrev pub has_account : ℕ → Bytes → Bool
 has_account number (provider ∷ name ∷ []) = (provider == number) && (nat_lt provider 2 && nat_lt name 9)
 has_account number _ = false
 
+-- how many envelopes and anomalies the mailbox of an account may hold
 abbrev pub quota_in : Bytes → ℕ
 quota_in (provider ∷ name ∷ []) = if name == 2 then 1 else 100
 quota_in _ = 0
 
 -- ---- messages
 
+-- the recipients that follow the sender in a message
 abbrev pub recipients_in : Bytes → List Recipient
 recipients_in (class ∷ provider ∷ name ∷ rest) =
     record { address = address provider name; class = if class == 0 then Primary else Copy } ∷ recipients_in rest
 recipients_in _ = []
 
+-- no address stands twice in a path
 abbrev pub all_differ : Path → Bool
 all_differ [] = true
 all_differ (one ∷ others) = not (list_any (bytes_eq one) others) && all_differ others
 
+-- the facts of a message, unless some recipient stands twice in it
 abbrev pub unless_twice : Bool → Facts → Option Facts
 unless_twice true facts = Some facts
 unless_twice false facts = None
 
+-- what a message says of itself, by its sender and what follows
 abbrev pub facts_from : Bytes → Bytes → Facts
 facts_from sender rest = record {
   sender = sender;
@@ -61,15 +69,18 @@ facts_from sender rest = record {
   reply = sender;
 }
 
+-- the facts of a message: none where it has no sender, or a recipient stands twice
 abbrev pub facts_in : Bytes → Option Facts
 facts_in (provider ∷ name ∷ rest) =
     unless_twice (all_differ (addresses_of (facts_from (address provider name) rest))) (facts_from (address provider name) rest)
 facts_in _ = None
 
+-- the addresses of a message's recipients; no address where it has no facts
 abbrev pub path_in : Option Facts → Path
 path_in None = []
 path_in (Some facts) = addresses_of facts
 
+-- why a message isn't accepted: it has no facts, another sender, or more recipients than its path has addresses
 abbrev pub cause_in : Option Facts → Bytes → Path → Option Cause
 cause_in None sender path = Some causes.Head
 cause_in (Some facts) sender path =
@@ -78,6 +89,7 @@ cause_in (Some facts) sender path =
 
 -- ---- receipts
 
+-- the number by which a text says the kind of a receipt
 abbrev pub kind_code : Kind → ℕ
 kind_code kinds.Acceptance = 0
 kind_code (kinds.NonAcceptance cause) = 1
@@ -91,6 +103,7 @@ kind_code kinds.Notice = 8
 kind_code kinds.LateNotice = 9
 kind_code kinds.Ack = 10
 
+-- the kind for which a number stands
 abbrev pub kind_at : ℕ → Kind
 kind_at code =
     if code == 0 then kinds.Acceptance
@@ -104,21 +117,25 @@ kind_at code =
     else (if code == 9 then kinds.LateNotice
     else (if code == 10 then kinds.Ack else kinds.NonAcceptance causes.Head)))))))))
 
+-- the end of a receipt's text, which names the recipient, if there is one
 abbrev pub recipient_text : Option Bytes → Bytes
 recipient_text None = []
 recipient_text (Some recipient) = 0 ∷ recipient
 
+-- the recipient that the end of a receipt's text names, if it names one
 abbrev pub recipient_at : Bytes → Option Bytes
 recipient_at [] = None
 recipient_at (mark ∷ recipient) = Some recipient
 
 -- ---- sealed texts: a number for what it is, and its fields
 
+-- an envelope as it is read: the message's provider and number, the moment of acceptance, the original
 abbrev pub envelope_in : Bytes → Option Seen
 envelope_in (provider ∷ number ∷ moment ∷ original) =
     if nat_lt provider 2 then Some (SeenEnvelope (id_of provider number) moment original) else None
 envelope_in _ = None
 
+-- a receipt as it is read: its kind, the message's provider and number, the sealer, the moment, the recipient
 abbrev pub receipt_in : Bytes → Option Seen
 receipt_in (code ∷ provider ∷ number ∷ by ∷ moment ∷ recipient) = Some (SeenReceipt (record {
   kind = kind_at code;
@@ -129,22 +146,26 @@ receipt_in (code ∷ provider ∷ number ∷ by ∷ moment ∷ recipient) = Some
 }))
 receipt_in _ = None
 
+-- what is seen in a text: 1 stands for an envelope, 2 for a receipt, and all else is no letter
 abbrev pub seen_in : Bytes → Option Seen
 seen_in [] = None
 seen_in (what ∷ rest) = if what == 1 then envelope_in rest else (if what == 2 then receipt_in rest else None)
 
 -- ---- frames: along a path of one address alone
 
+-- the frame of a message along such a path
 abbrev pub frame_along : Path → Bytes → Option Bytes
 frame_along (one ∷ []) message = Some (length one ∷ one ++ message)
 frame_along _ message = None
 
+-- what stands in a frame: its path and its message
 abbrev pub framed_in : Bytes → Option Framed
 framed_in [] = None
 framed_in (size ∷ rest) = Some (record { path = take size rest ∷ []; message = drop size rest })
 
 -- ---- the world
 
+-- The small world: what each thing is there that the ledger asks of a world.
 abbrev pub small : Trade
 small = record {
   providers = 2;

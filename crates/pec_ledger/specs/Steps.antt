@@ -18,7 +18,7 @@ use Rattle.pec_ledger.specs.Marks.{marks_from}
 use Rattle.pec_ledger.specs.Pairs.{Pair, id_of, pair_of}
 use Rattle.pec_ledger.specs.Trade.{Trade}
 
--- the moment of an entry; the first entry of a journal has none
+-- the moment of an entry, in seconds; the first entry of a journal has none
 abbrev pub moment_of : Entry → ℕ
 moment_of (entries.Start provider digest) = 0
 moment_of (entries.Accepted moment sender message) = moment
@@ -31,26 +31,30 @@ moment_of (entries.Acked moment id recipient) = moment
 moment_of (entries.Ticked moment) = moment
 moment_of (entries.Anomaly moment accounts message) = moment
 
--- how much longer an entry makes its journal: its bytes, a gate and a length
+-- how many bytes longer an entry makes its journal: its own, a gate and a length
 unfoldable pub size_of : Entry → ℕ
 size_of entry = 5 + length (entry_text entry)
 
 -- ---- lists that an entry alone says
 
+-- the charge that an entry notes, if it notes one
 abbrev pub charged_by : Entry → List Charge
 charged_by (entries.Charged moment id by) = record { id = id; by = by; moment = moment } ∷ []
 charged_by _ = []
 
+-- the outcome that it learned, if it learned one
 abbrev pub known_by : Entry → List Known
 known_by (entries.Learned moment id recipient decision decided message) =
     record { pair = pair_of id recipient; decision = decision; decided = decided; moment = moment } ∷ []
 known_by _ = []
 
+-- what it decided on a pair, if it did
 abbrev pub decided_by : Entry → List Fate
 decided_by (entries.Decided moment id recipient decision) =
     record { pair = pair_of id recipient; decision = decision; moment = moment } ∷ []
 decided_by _ = []
 
+-- the pair whose receipt has arrived, if it says so
 abbrev pub acked_by : Entry → List Pair
 acked_by (entries.Acked moment id recipient) = pair_of id recipient ∷ []
 acked_by _ = []
@@ -64,6 +68,7 @@ kind_of_due dues.Warning = kinds.Warning
 kind_of_due dues.Notice = kinds.Notice
 kind_of_due dues.LateNotice = kinds.LateNotice
 
+-- a warning or notice, as it is placed in the mailbox of the message's sender
 abbrev pub notice_by : Half → Mark → Posted
 notice_by half mark = record {
   account = submitter half mark.pair.id.number;
@@ -76,10 +81,12 @@ abbrev pub placed_by : Half → Id → Bytes → Decision → List Posted
 placed_by half id recipient Placed = record { account = recipient; item = EnvelopeItem id; entry = half.entries } ∷ []
 placed_by half id recipient _ = []
 
+-- an anomaly, as it is placed in the mailbox of an account
 abbrev pub anomaly_by : Half → ℕ → Bytes → Posted
 anomaly_by half moment account = record { account = account; item = AnomalyItem moment; entry = half.entries }
 
 module _ (trade : Trade) (provider : ℕ) where
+  -- the message of which an entry says that it was accepted or refused
   abbrev pub messages_by : Half → Entry → List Message
   messages_by half (entries.Accepted moment sender message) = record {
     moment = moment;
@@ -93,6 +100,7 @@ module _ (trade : Trade) (provider : ℕ) where
       record { moment = moment; sender = sender; facts = None; cause = Some cause; path = path; entry = half.entries } ∷ []
   messages_by half _ = []
 
+  -- the message of which it says that it was taken, for those recipients that are at home here
   abbrev pub taken_by : Half → Entry → List Taken
   taken_by half (entries.Took moment id message) = record {
     id = id;
@@ -102,10 +110,12 @@ module _ (trade : Trade) (provider : ℕ) where
   } ∷ []
   taken_by half _ = []
 
+  -- the warnings and notices that it sets, if it is a clock call
   abbrev pub marks_by : Half → Entry → List Mark
   marks_by half (entries.Ticked moment) = marks_from trade provider half moment 0 half.messages
   marks_by half _ = []
 
+  -- what it places in mailboxes: receipts and notices, an envelope, or an anomaly with each account
   abbrev pub items_by : Half → Entry → List Posted
   items_by half (entries.Accepted moment sender message) = record {
     account = sender;

@@ -1,6 +1,6 @@
--- The tables of the ledger in their own words, beside the functions that are used: what a clock call marks (`IsMarked`),
--- which lines a book has (`IsLineOf`), and which letters are due (`IsOwed`). RFC 6109, section 3, DPR 68/2005, article 8,
--- and this project's profile.
+-- The tables of the ledger in their own words, beside the functions that are used: what a clock call marks
+-- (`IsMarked`), which lines a book has (`IsLineOf`), and which letters are due (`IsOwed`). RFC 6109, section 3, DPR
+-- 68/2005, article 8, and this project's profile.
 use Rattle.std.specs.Prelude.{◌≡◌, ◌≢◌, ◌↔◌, ℕ, ◌⊎◌, true, false, List, Contains, Some, None}
 use Rattle.pec_types.specs.Bytes.{Bytes}
 use Rattle.pec_types.specs.Limits.{Clocked, IsDue}
@@ -77,8 +77,8 @@ module _ (trade : Trade) (provider : ℕ) (half : Half) where
     pub among : Contains (certified_recipients trade message) recipient
     pub is : line ≡ line_of trade half (id_of provider number) message recipient
 
-  -- An outcome for a provider: of a pair that is decided here, whose message is that provider's, and of which it has not
-  -- said that it knows.
+  -- An outcome for a provider: of a pair that is decided here, whose message is that provider's, and of which it has
+  -- not said that it knows.
   pub record IsOwedOutcome (to : ℕ) (letter : Letter) : Type 0 where
     pub fate : Fate
     pub decided : Contains half.decided fate

@@ -43,7 +43,7 @@ pub record Trade : Type 0 where
   -- Heads: the facts of a message, where it has some, and the addresses of an envelope's `To` and `Cc`.
   pub facts : Bytes → Option Facts
   pub envelope_recipients : Bytes → Path
-  -- Admission: why a provider doesn't take a message from an account along a path, as far as no screen is asked.
+  -- Admission: why a provider doesn't accept a message from an account along a path, as far as no screen is asked.
   pub cause : ℕ → Bytes → Path → Bytes → Option Cause
   -- Frames and seals: what stands in a frame, the frame of a path and a message unless it is too long, whether a
   -- message opens, and what a reader of letters sees in it.

@@ -1,6 +1,6 @@
 -- What is true of the world that the ledger asks: `IsTrade`. Each law names who has to prove it: the directory, heads,
--- admission, letters, receipts, seals and frames. They have premises, which journals that are Fit always meet: without them no
--- world would meet all laws.
+-- admission, letters, receipts, seals and frames. They have premises, which journals that are Fit always meet: without
+-- them no world would meet all laws.
 use Rattle.std.specs.Prelude.{◌≡◌, ℕ, ◌<◌, ◌≤◌, true, [], length, Contains, Option, Some, None, IsSome, IsTrue}
 use Rattle.std.specs.Option.{option_and_then}
 use Rattle.pec_types.specs.Bytes.{Bytes, Path}
@@ -20,6 +20,7 @@ use Rattle.pec_ledger.specs.Trade.{Receipt, Seen, SeenEnvelope, SeenReceipt, Tra
 
 -- ---- which letter a message is
 
+-- the letter that a receipt is, by its kind, its message, who sealed it, and its recipient
 abbrev pub letter_on : Kind → Id → ℕ → Option Bytes → Option Letter
 letter_on kinds.Charge id by recipient = Some (letters.Charge id by)
 letter_on kinds.Delivery id by (Some recipient) = Some (letters.Outcome id recipient)
@@ -33,6 +34,7 @@ abbrev pub letter_seen : ℕ → Seen → Option Letter
 letter_seen me (SeenEnvelope id moment original) = Some (letters.Envelope id me)
 letter_seen me (SeenReceipt receipt) = letter_on receipt.kind receipt.id receipt.by receipt.recipient
 
+-- the letter that a provider sees in a message, if it sees one
 abbrev pub letter_in : Trade → ℕ → Bytes → Option Letter
 letter_in trade me message = option_and_then (letter_seen me) (trade.view message)
 
@@ -77,6 +79,7 @@ pub record CanBeComposed (trade : Trade) (receipt : Receipt) (original : Bytes) 
 
 -- ---- the laws
 
+-- A world of which a ledger can be kept: it meets these laws, each under the name of what has to prove it.
 pub record IsTrade (trade : Trade) : Type 0 where
   -- The directory: a home is a provider, and an account is at home at its own provider.
   pub homes : (address : Bytes) (provider : ℕ) → trade.home address ≡ Some provider → provider < trade.providers

@@ -1,5 +1,5 @@
--- The commands of a script, what they answer, and what they do: `played`. Where a device may fail, a luck says whether it
--- did; for a given answer there is at most one state. Each answer is a value; lines are made of it elsewhere. This
+-- The commands of a script, what they answer, and what they do: `played`. Where a device may fail, a luck says whether
+-- it did; for a given answer there is at most one state. Each answer is a value; lines are made of it elsewhere. This
 -- project's profile.
 use Rattle.std.specs.Prelude.{ℕ, ◌+◌, nat_lt, Bool, true, false, List, [], ◌∷◌, ◌++◌, length, map, take, drop, slice_get, slice_set, if◌then◌else◌, Option, Some, None}
 use Rattle.pec_types.specs.Bytes.{Bytes, Path}
@@ -29,7 +29,8 @@ use Rattle.pec_plays.specs.Rounds.{link_size, rounded, with_waiting}
 use Rattle.pec_plays.specs.Steps.{has_no_room}
 use Rattle.pec_plays.specs.Turns.{Cut, broken, last_of}
 
--- A submission says what the provider's screens find in its message: whether one of them finds a rule.
+-- What a script asks of the network. Providers, and places on a link or in a mailbox, are numbered from 0, and moments
+-- are in seconds. A submission says what the provider's screens find in its message: whether one of them finds a rule.
 pub data Command : Type 0 where
   Submit : (provider moment : ℕ) (sender : Bytes) (path : Path) (message : Bytes) (found : Bool) → Command
   Tick : (provider moment : ℕ) → Command
@@ -44,6 +45,7 @@ pub data Command : Type 0 where
   Mailbox : (address : Bytes) → Command
   Show : (address : Bytes) (place : ℕ) → Command
 
+-- What a command answers: what it did or shows, or why it did nothing. A restart tells how many entries are there.
 pub data Answer : Type 0 where
   Submits : (submitted : Submitted) → Answer
   Marks : (marks : List ToldMark) → Answer
@@ -84,6 +86,7 @@ with_site sites provider site = slice_set sites provider site
 
 -- ---- entries
 
+-- a provider with one more entry at the end of its journal
 abbrev pub with_entry : Site → Entry → Site
 with_entry site entry =
     record { journal = site.journal ++ entry ∷ []; up = site.up; interrupted = site.interrupted; waiting = site.waiting }
@@ -95,6 +98,7 @@ appended true sites provider entry answer =
 appended false sites provider entry answer =
     record { answer = answer; after = with_site sites provider (with_entry (site_at sites provider) entry) }
 
+-- an entry is appended, unless the journal has no room for it
 abbrev pub append : Trade → Luck → List Site → ℕ → Entry → Answer → Played
 append trade luck sites provider entry answer =
     if has_no_room trade provider (journal_at sites provider) entry then answers sites (Refuses faults.JournalFull)
@@ -122,13 +126,17 @@ abbrev pub entry_by : Option Cause → ℕ → Bytes → Path → Bytes → Entr
 entry_by None moment sender path message = entries.Accepted moment sender message
 entry_by (Some cause) moment sender path message = entries.NotAccepted moment sender cause path message
 
+-- what is told of a message: that it was accepted, or that it wasn't, and why
 abbrev pub told_by : Option Cause → Id → Submitted
 told_by None id = submissions.Accepted id
 told_by (Some cause) id = submissions.NotAccepted id cause
 
+-- how many messages were submitted to a provider, refused ones too; the next one gets this number
 abbrev pub messages_at : Trade → List Site → ℕ → ℕ
 messages_at trade sites provider = length (half trade provider (journal_at sites provider)).messages
 
+-- What a submission does (RFC 6109, section 3.1): an entry says that the message is accepted or not, unless the
+-- submission is refused.
 abbrev pub submitted : Trade → Luck → List Site → ℕ → ℕ → Bytes → Path → Bytes → Bool → Played
 submitted trade luck sites provider moment sender path message found =
     if trade.is_account provider sender
@@ -142,9 +150,12 @@ submitted trade luck sites provider moment sender path message found =
 
 -- ---- clock calls
 
+-- a warning or notice, as it is told
 abbrev pub told_mark : Mark → ToldMark
 told_mark mark = record { id = mark.pair.id; recipient = mark.pair.recipient; due = mark.due }
 
+-- What a clock call does at a moment (RFC 6109, section 3.1.6, and DPR 68/2005, article 8): it sets and tells the
+-- warnings and notices that are due, unless it is refused.
 abbrev pub ticked : Trade → Luck → List Site → ℕ → ℕ → Played
 ticked trade luck sites provider moment =
     at_work trade sites provider moment
@@ -158,6 +169,7 @@ abbrev pub with_frames : List Site → ℕ → ℕ → List Bytes → List Site
 with_frames sites from to frames =
     with_site sites to (with_waiting (site_at sites to) (slice_set (site_at sites to).waiting from frames))
 
+-- the frame at a place of a link is gone, if one is there
 abbrev pub lost : List Site → ℕ → ℕ → ℕ → Played
 lost sites from to place =
     if nat_lt place (length (frames_between sites from to))
@@ -175,17 +187,19 @@ put_again sites from to (Some frame) =
     then record { answer = Repeated; after = with_frames sites from to (frames_between sites from to ++ frame ∷ []) }
     else answers sites LinkFull
 
--- two frames that follow each other
+-- the frames of a link, once that at a place, from 0, and the next one changed places; none where one is missing
 abbrev pub swapped_at : ℕ → List Bytes → Option (List Bytes)
 swapped_at place frames =
     if nat_lt (place + 1) (length frames)
     then Some (take place frames ++ take 1 (drop (place + 1) frames) ++ take 1 (drop place frames) ++ drop (place + 2) frames)
     else None
 
+-- two frames of a link changed places, if both are there
 abbrev pub swapped : List Site → ℕ → ℕ → Option (List Bytes) → Played
 swapped sites from to None = answers sites NoFrame
 swapped sites from to (Some frames) = record { answer = Swapped; after = with_frames sites from to frames }
 
+-- a frame from outside comes behind those that wait, if the link has room
 abbrev pub injected : List Site → ℕ → ℕ → Bytes → Played
 injected sites from to frame =
     if nat_lt (length (frames_between sites from to)) link_size
@@ -194,6 +208,7 @@ injected sites from to frame =
 
 -- ---- crashes
 
+-- a provider that crashed: it is down, and its journal and the frames that wait for it stay
 abbrev pub stopped_site : Site → Site
 stopped_site site = record { journal = site.journal; up = false; interrupted = site.interrupted; waiting = site.waiting }
 
@@ -202,6 +217,7 @@ abbrev pub restarted_site : Bool → Site → Site
 restarted_site found site =
     record { journal = site.journal ++ chosen found site.interrupted; up = true; interrupted = None; waiting = site.waiting }
 
+-- What a restart does: the provider is up again, unless it is up already, or its disk fails.
 abbrev pub restarted : Luck → List Site → ℕ → Site → Played
 restarted luck sites provider site =
     if site.up then answers sites IsUp
@@ -218,16 +234,19 @@ abbrev pub account_home : Trade → Bytes → Option ℕ → Option ℕ
 account_home trade address None = None
 account_home trade address (Some provider) = if trade.is_account provider address then Some provider else None
 
+-- what an account is shown by its provider: nothing where the address is no account, or the provider is down
 abbrev pub asked : List Site → (ℕ → Half → Played) → Trade → Option ℕ → Played
 asked sites show trade None = answers sites (Refuses faults.NoAccount)
 asked sites show trade (Some provider) =
     if (site_at sites provider).up then show provider (half trade provider (journal_at sites provider))
     else answers sites (Refuses faults.Down)
 
+-- the bytes of an item, if there are some
 abbrev pub shown_bytes : List Site → Option Bytes → Played
 shown_bytes sites None = answers sites (Refuses faults.NoItem)
 shown_bytes sites (Some bytes) = answers sites (Shown bytes)
 
+-- the item that was asked for, if the mailbox has it
 abbrev pub shown : Trade → List Site → ℕ → Option Posted → Played
 shown trade sites provider None = answers sites (Refuses faults.NoItem)
 shown trade sites provider (Some posted) = shown_bytes sites (item_text trade provider (journal_at sites provider) posted)

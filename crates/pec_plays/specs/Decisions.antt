@@ -20,6 +20,7 @@ use Rattle.pec_plays.specs.Steps.{Step, enters}
 abbrev pub pairs_taken : List Taken → List Pair
 pairs_taken rows = flat_map (λ (row : Taken). map (pair_of row.id) row.recipients) rows
 
+-- the message was taken for this recipient
 abbrev pub is_recipient_of : Bytes → Option Taken → Bool
 is_recipient_of recipient None = false
 is_recipient_of recipient (Some row) = list_any (bytes_eq recipient) row.recipients

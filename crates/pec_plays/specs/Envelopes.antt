@@ -1,5 +1,5 @@
--- Which entries take a message with an envelope of it, as the world's reader sees it: `HaveEnvelopes`. What a provider composes of
--- such an entry needn't ask again who sealed it. This project's profile.
+-- Which entries take a message with an envelope of it, as the world's reader sees it: `HaveEnvelopes`. What a provider
+-- composes of such an entry needn't ask again who sealed it. This project's profile.
 use Rattle.std.specs.Prelude.{◌≡◌, ℕ, ◌≤◌, List, IsSome, Some, slice_get}
 use Rattle.pec_records.specs.declared.entries.Entry.{Entry}
 use Rattle.pec_records.specs.declared.entries.Entry.TheVariants as entries

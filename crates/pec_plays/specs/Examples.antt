@@ -1,5 +1,5 @@
--- Worked scripts in the small world of the ledger, with their lucks: what they answer. The provider 0 is alfa, with alice
--- (0) and anna (1); the provider 1 is beta, with bob (1).
+-- Worked scripts in the small world of the ledger, with their lucks: what they answer. The provider 0 is alfa, with
+-- alice (0) and anna (1); the provider 1 is beta, with bob (1).
 use Rattle.std.specs.Prelude.{ℕ, zero, suc, false, true, List, [], ◌∷◌, ◌++◌, length, Option, None}
 use Rattle.pec_types.specs.Bytes.{Bytes}
 use Rattle.pec_types.specs.declared.turns.Event.{Event}
@@ -23,6 +23,7 @@ abbrev pub cut_at : ℕ → ℕ → Cut
 cut_at number zero = Fails number
 cut_at number (suc provider) = Whole
 
+-- the luck of such a round, by the number of the step, from 0
 abbrev pub failing : ℕ → Luck
 failing number = record { cuts = cut_at number; fails = false; found = false }
 
@@ -34,6 +35,7 @@ finding = record { cuts = λ provider. Whole; fails = false; found = true }
 abbrev pub writes_to : Bytes → Command
 writes_to recipient = Submit 0 morning alice (recipient ∷ []) (to_one recipient) false
 
+-- a provider's turn as it is told: what came of frames and pairs, how many frames it put for whom, why it ended early
 abbrev pub turn_of : ℕ → List Event → List (ℕ × ℕ) → Option ProviderFault → Turn
 turn_of provider events sent ended = record { provider = provider; events = events; sent = sent; ended = ended }
 
@@ -47,6 +49,7 @@ alfa_turn events sent = Turns (turn_of 0 events sent None ∷ idle 1 ∷ [])
 
 -- ---- one provider, to the end
 
+-- alice writes to anna; five rounds follow, a second apart; then her book and both mailboxes are shown
 abbrev pub to_the_end : List Command
 to_the_end =
     writes_to anna ∷ Round 1704186001 ∷ Round 1704186002 ∷ Round 1704186003 ∷ Round 1704186004 ∷ Round 1704186005
@@ -54,28 +57,33 @@ to_the_end =
 
 -- ---- two providers, and two letters that change places
 
+-- alice writes to bob; the receipts of taking charge and of delivery change places on the link from beta to alfa
 abbrev pub out_of_order : List Command
 out_of_order = writes_to bob ∷ Round 1704186001 ∷ Round 1704186002 ∷ Swap 1 0 0 ∷ Round 1704186003 ∷ Round 1704186004 ∷ []
 
 -- ---- a place behind the last frame
 
+-- the second of these two frames is to change places with a third
 abbrev pub no_such_place : List Command
 no_such_place = writes_to bob ∷ Round 1704186001 ∷ Round 1704186002 ∷ Swap 1 0 1 ∷ []
 
 -- ---- a message for bob that no provider sealed, and bytes that are no frame
 
+-- that message, in a frame with bob in its path
 abbrev pub unsealed : Bytes
 unsealed = length bob ∷ bob ++ 9 ∷ []
 
+-- both come on the link from alfa to beta; a round follows, and bob's mailbox is shown
 abbrev pub from_outside : List Command
 from_outside = Inject 0 1 unsealed ∷ Inject 0 1 [] ∷ Round 1704186001 ∷ Mailbox bob ∷ []
 
 -- ---- the append of a decision fails, and alfa is restarted
 
+-- alice writes to anna; after two rounds a book is asked for, and alfa is restarted twice
 abbrev pub with_a_fault : List Command
 with_a_fault = writes_to anna ∷ Round 1704186001 ∷ Round 1704186002 ∷ Book alice ∷ Restart 0 ∷ Restart 0 ∷ []
 
--- what a script of this length answers where no device fails
+-- a luck for each command of a script, with which no device fails
 abbrev pub calmly : List Command → List Luck
 calmly [] = []
 calmly (command ∷ commands) = calm ∷ calmly commands
@@ -92,5 +100,6 @@ alfa_behind commands = half small 0 (journal_at (left_by commands) 0)
 abbrev pub halfway : List Command
 halfway = writes_to anna ∷ Round 1704186001 ∷ Round 1704186002 ∷ []
 
+-- what a script answers from the start, with these lucks
 abbrev pub answers_of : List Luck → List Command → List Answer
 answers_of lucks commands = (script small lucks (at_start small) commands).answers

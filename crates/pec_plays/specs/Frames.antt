@@ -36,6 +36,7 @@ original_in id (Some (SeenEnvelope other moment original)) = if same_id id other
 module _ (trade : Trade) (provider : ℕ) (journal : List Entry) where
   -- ---- envelopes
 
+  -- the envelope of an accepted message for a provider, along the path of its recipients there
   abbrev pub envelope_of : Id → ℕ → Accepted → Option Framed
   envelope_of id to message =
       option_and_then
@@ -45,10 +46,12 @@ module _ (trade : Trade) (provider : ℕ) (journal : List Entry) where
 
   -- ---- receipts on what was taken: the original is the one in the envelope
 
+  -- the original of a message that was taken here
   abbrev pub original_taken : Id → Taken → Option Bytes
   original_taken id row =
       option_and_then (λ (envelope : Bytes). original_in id (trade.view envelope)) (body_at journal row.entry)
 
+  -- the receipt of taking charge of it, along the path of the receipt address of the sender's provider
   abbrev pub charge_of : Id → Taken → Option Framed
   charge_of id row =
       option_and_then
@@ -69,6 +72,7 @@ module _ (trade : Trade) (provider : ℕ) (journal : List Entry) where
   to_sender text None = None
   to_sender text (Some facts) = unless_empty (facts.sender ∷ []) text
 
+  -- the receipt of delivery or the notice of error on one of its recipients
   abbrev pub outcome_of : Id → Bytes → Fate → Taken → Option Framed
   outcome_of id recipient fate row =
       option_and_then
@@ -87,10 +91,12 @@ module _ (trade : Trade) (provider : ℕ) (journal : List Entry) where
 
   -- ---- acknowledgements
 
+  -- along the path of the receipt address of the recipient's provider
   abbrev pub to_home : Bytes → Option ℕ → Option Framed
   to_home text None = None
   to_home text (Some home) = unless_empty (trade.receipts home ∷ []) text
 
+  -- the acknowledgement of the outcome for one recipient of an accepted message
   abbrev pub ack_of : Id → Bytes → Known → Accepted → Option Framed
   ack_of id recipient known message =
       option_and_then
@@ -124,6 +130,7 @@ module _ (trade : Trade) (provider : ℕ) (journal : List Entry) where
       (known_of half (pair_of id recipient))
       else None
 
+  -- The same, by the half to which the journal comes.
   abbrev pub composed : Letter → Option Framed
   composed letter = composed_by (half trade provider journal) letter
 

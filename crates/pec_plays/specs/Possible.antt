@@ -1,5 +1,5 @@
--- Which lucks can be: how a turn may be cut (`MayCut`), what a command may meet (`MayMeet`), and when no device failed in
--- it (`IsQuiet`). This project's profile.
+-- Which lucks can be: how a turn may be cut (`MayCut`), what a command may meet (`MayMeet`), and when no device failed
+-- in it (`IsQuiet`). This project's profile.
 use Rattle.std.specs.Prelude.{◌≡◌, ℕ, zero, suc, ◌+◌, ◌<◌, nat_lt, false, true, List, [], ◌∷◌, length, take, slice_get, All, IsSome, Option, Some, None, if◌then◌else◌}
 use Rattle.pec_types.specs.declared.turns.ProviderFault.{ProviderFault}
 use Rattle.pec_types.specs.declared.turns.ProviderFault.TheVariants as faults
@@ -21,8 +21,8 @@ pub record IsFull (steps : List Step) (number : ℕ) : Type 0 where
   pub full : step.full ≡ true
 
 -- A turn that was planned so may be cut so: it is done whole only where there is room for all entries; an append fails
--- only at a step with an entry, for which there is room; the journal is full at the first step for which it has no room;
--- and memory runs out before some step that there would have been room to reach.
+-- only at a step with an entry, for which there is room; the journal is full at the first step for which it has no
+-- room; and memory runs out before some step that there would have been room to reach.
 abbrev pub MayCut : List Step → Cut → Type 0
 MayCut steps Whole = HaveRoom steps
 MayCut steps (Fails number) = HaveRoom (take (number + 1) steps) × IsSome (entry_at steps number)

@@ -1,5 +1,5 @@
--- What a provider does with a frame: `arrive`, a function by cases for each kind of letter, new or known; and what is no
--- letter for this provider becomes an anomaly of the accounts in its path that have room, or is dropped. RFC 6109,
+-- What a provider does with a frame: `arrive`, a function by cases for each kind of letter, new or known; and what is
+-- no letter for this provider becomes an anomaly of the accounts in its path that have room, or is dropped. RFC 6109,
 -- sections 3.1 to 3.3, within this project's profile.
 use Rattle.std.specs.Prelude.{ℕ, ◌==◌, nat_lt, Bool, true, false, not, ◌&&◌, List, [], ◌∷◌, length, filter, Option, Some, None, is_some}
 use Rattle.std.specs.List.{list_any}
@@ -23,6 +23,7 @@ use Rattle.pec_plays.specs.Steps.{Step, enters, passes}
 
 -- ---- paths
 
+-- both paths have the same addresses, in the same order
 abbrev pub same_path : Path → Path → Bool
 same_path [] [] = true
 same_path [] (b ∷ bs) = false
@@ -42,6 +43,7 @@ envelope_fits trade provider framed =
     same_path framed.path (at_home trade provider (trade.envelope_recipients framed.message))
     && nat_lt 0 (length (at_home trade provider (trade.envelope_recipients framed.message)))
 
+-- the message was accepted, and has recipients that are at home at this provider
 abbrev pub has_pairs_at : Trade → ℕ → Option Accepted → Bool
 has_pairs_at trade by None = false
 has_pairs_at trade by (Some message) = nat_lt 0 (length (at_home trade by (addresses_of message.facts)))
@@ -63,16 +65,19 @@ accounts_with_room trade provider journal path = filter (has_room trade provider
 module _ (trade : Trade) (provider now : ℕ) (journal : List Entry) where
   -- ---- anything else
 
+  -- a message becomes an anomaly of these accounts; where there are none it is dropped
   abbrev pub anomaly : Bytes → Path → Step
   anomaly message [] = passes events.Dropped []
   anomaly message (account ∷ accounts) =
       enters trade provider journal (entries.Anomaly now (account ∷ accounts) message) (events.Anomaly (length (account ∷ accounts))) []
 
+  -- what is done with a message that is no letter for this provider
   abbrev pub otherwise : Framed → Step
   otherwise framed = anomaly framed.message (accounts_with_room trade provider journal framed.path)
 
   -- ---- envelopes
 
+  -- an envelope: it is taken if it is new, and the receipt of taking charge is owed also where it came before
   abbrev pub envelope_rows : Framed → Id → Bool → Option Taken → Step
   envelope_rows framed id false taken = otherwise framed
   envelope_rows framed id true None =
@@ -88,6 +93,7 @@ module _ (trade : Trade) (provider now : ℕ) (journal : List Entry) where
       && (has_pairs_at trade receipt.by (accepted_at (half trade provider journal) receipt.id.number)
       && same_path framed.path (trade.receipts provider ∷ []))
 
+  -- a charge: it is noted if it is new, and changes nothing where it came before
   abbrev pub charge_rows : Framed → Receipt → Bool → Option Charge → Step
   charge_rows framed receipt false charged = otherwise framed
   charge_rows framed receipt true None =
@@ -104,6 +110,7 @@ module _ (trade : Trade) (provider now : ℕ) (journal : List Entry) where
       && (has_pair trade recipient (accepted_at (half trade provider journal) receipt.id.number)
       && is_senders_path framed.path (accepted_at (half trade provider journal) receipt.id.number)))
 
+  -- an outcome: it is learned if it is new, and its acknowledgement is owed also where it came before
   abbrev pub outcome_rows : Framed → Receipt → Bytes → Decision → Bool → Option Known → Step
   outcome_rows framed receipt recipient decision false known = otherwise framed
   outcome_rows framed receipt recipient decision true None =
@@ -122,6 +129,7 @@ module _ (trade : Trade) (provider now : ℕ) (journal : List Entry) where
       && (is_some (decided_of (half trade provider journal) (pair_of receipt.id recipient))
       && same_path framed.path (trade.receipts provider ∷ [])))
 
+  -- an acknowledgement: it is noted if it is new, and changes nothing where it came before
   abbrev pub ack_rows : Framed → Receipt → Bytes → Bool → Bool → Step
   ack_rows framed receipt recipient false acked = otherwise framed
   ack_rows framed receipt recipient true false =
@@ -130,18 +138,21 @@ module _ (trade : Trade) (provider now : ℕ) (journal : List Entry) where
 
   -- ---- by what is seen
 
+  -- what is done with a receipt of delivery or a notice of error
   abbrev pub by_outcome : Framed → Receipt → Decision → Option Bytes → Step
   by_outcome framed receipt decision None = otherwise framed
   by_outcome framed receipt decision (Some recipient) =
       outcome_rows framed receipt recipient decision (outcome_fits framed receipt recipient)
       (known_of (half trade provider journal) (pair_of receipt.id recipient))
 
+  -- what is done with an acknowledgement
   abbrev pub by_ack : Framed → Receipt → Option Bytes → Step
   by_ack framed receipt None = otherwise framed
   by_ack framed receipt (Some recipient) =
       ack_rows framed receipt recipient (ack_fits framed receipt recipient)
       (is_acked (half trade provider journal) (pair_of receipt.id recipient))
 
+  -- what is done with a receipt, by its kind: acceptances, warnings and notices are no letters
   abbrev pub by_receipt : Framed → Receipt → Kind → Step
   by_receipt framed receipt kinds.Charge =
       charge_rows framed receipt (charge_fits framed receipt) (charged_of (half trade provider journal) receipt.id receipt.by)
@@ -150,12 +161,14 @@ module _ (trade : Trade) (provider now : ℕ) (journal : List Entry) where
   by_receipt framed receipt kinds.Ack = by_ack framed receipt receipt.recipient
   by_receipt framed receipt _ = otherwise framed
 
+  -- what is done with a message, by what is seen in it
   abbrev pub by_seen : Framed → Option Seen → Step
   by_seen framed None = otherwise framed
   by_seen framed (Some (SeenEnvelope id moment original)) =
       envelope_rows framed id (envelope_fits trade provider framed) (taken_of (half trade provider journal) id)
   by_seen framed (Some (SeenReceipt receipt)) = by_receipt framed receipt receipt.kind
 
+  -- what is done with a frame, by what stands in it: bytes that are no frame are dropped
   abbrev pub by_frame : Option Framed → Step
   by_frame None = passes events.Dropped []
   by_frame (Some framed) = by_seen framed (trade.view framed.message)

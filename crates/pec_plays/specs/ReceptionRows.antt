@@ -1,6 +1,6 @@
--- Reception in the words of its table: what a provider does with a frame, row by row (`IsReceived`), beside the function
--- `arrive`. A letter for the provider is new, or it was received before; anything else becomes an anomaly of the accounts
--- in its path that have room, or is dropped. RFC 6109, sections 3.1 to 3.3, within this project's profile.
+-- Reception in the words of its table: what a provider does with a frame, row by row (`IsReceived`), beside the
+-- function `arrive`. A letter for the provider is new, or it was received before; anything else becomes an anomaly of
+-- the accounts in its path that have room, or is dropped. RFC 6109, sections 3.1 to 3.3, within this project's profile.
 use Rattle.std.specs.Prelude.{◌≡◌, ◌↔◌, ℕ, ◌<◌, false, true, List, [], ◌∷◌, length, Contains, IsSome, IsTrue, Some, None}
 use Rattle.pec_types.specs.Bytes.{Bytes, Path}
 use Rattle.pec_types.specs.Message.{Id}
@@ -65,6 +65,7 @@ module _ (trade : Trade) (provider : ℕ) (journal : List Entry) (framed : Frame
     pub decided : IsSome (decided_of (half trade provider journal) (pair_of receipt.id recipient))
     pub path : framed.path ≡ trade.receipts provider ∷ []
 
+  -- The message in the frame is a letter for this provider, of one of the four kinds.
   pub data IsLetter : Type 0 where
     AnEnvelope : (id : Id) → IsEnvelope id → IsLetter
     ACharge : (receipt : Receipt) → IsCharge receipt → IsLetter

@@ -1,5 +1,5 @@
--- When a provider does what it is asked: `IsAtWork`, `TakesMessages`, `HasRoomFor`. The order of refusals is this project's
--- profile.
+-- When a provider does what it is asked: `IsAtWork`, `TakesMessages`, `HasRoomFor`. The order of refusals is this
+-- project's profile.
 use Rattle.std.specs.Prelude.{◌≡◌, ℕ, ◌<◌, ◌≤◌, true, false, List, IsTrue}
 use Rattle.pec_types.specs.Bytes.{Bytes}
 use Rattle.pec_types.specs.declared.messages.TheConstants.{MESSAGES}

@@ -11,7 +11,7 @@ use Rattle.pec_plays.specs.Turns.{Cut, Turned, turned}
 abbrev pub link_size : ℕ
 link_size = 64
 
--- the room of a provider's links, as the round begins
+-- how many frames the link from a provider to another has room for, as the round begins
 abbrev pub rooms_of : List Site → ℕ → ℕ → ℕ
 rooms_of sites provider to = link_size - length (frames_between sites provider to)
 
@@ -27,9 +27,11 @@ delivered_to to [] links = links
 delivered_to to (out ∷ outs) [] = slice_index_or out to [] ∷ delivered_to to outs []
 delivered_to to (out ∷ outs) (link ∷ links) = (link ++ slice_index_or out to []) ∷ delivered_to to outs links
 
+-- a provider for which these frames wait, a list for each that sent them
 abbrev pub with_waiting : Site → List (List Bytes) → Site
 with_waiting site waiting = record { journal = site.journal; up = site.up; interrupted = site.interrupted; waiting = waiting }
 
+-- the providers behind their turns, numbered from here on, each with the frames that were put for it
 abbrev pub delivered : List (List (List Bytes)) → ℕ → List Turned → List Site
 delivered outs to [] = []
 delivered outs to (turn ∷ turns) =
@@ -42,23 +44,27 @@ abbrev pub sent_from : ℕ → List (List Bytes) → List (ℕ × ℕ)
 sent_from to [] = []
 sent_from to (frames ∷ out) = if nat_lt 0 (length frames) then (to, length frames) ∷ sent_from (to + 1) out else sent_from (to + 1) out
 
+-- the turns as they are told, numbered from here on
 abbrev pub told_from : ℕ → List Turned → List Turn
 told_from provider [] = []
 told_from provider (turn ∷ turns) =
     record { provider = provider; events = turn.events; sent = sent_from 0 turn.out; ended = turn.ended }
     ∷ told_from (provider + 1) turns
 
--- A round with these cuts: the sites behind it, and its turns.
+-- What a round comes to: the sites behind it, and its turns as they are told.
 pub record Rounded : Type 0 where
   pub sites : List Site
   pub turns : List Turn
 
+-- The turns of all providers, at a moment and with a cut for each provider's turn.
 unfoldable pub turns_of : Trade → ℕ → (ℕ → Cut) → List Site → List Turned
 turns_of trade now cuts sites = turns_from trade now sites cuts 0 sites
 
+-- what each turn put, a list of frames for each provider
 abbrev pub outs_of : List Turned → List (List (List Bytes))
 outs_of turns = map (λ (turn : Turned). turn.out) turns
 
+-- What a round does, at a moment in seconds and with these cuts.
 unfoldable pub rounded : Trade → ℕ → (ℕ → Cut) → List Site → Rounded
 rounded trade now cuts sites = record {
   sites = delivered (outs_of (turns_of trade now cuts sites)) 0 (turns_of trade now cuts sites);

@@ -1,4 +1,5 @@
--- Scripts: commands one after another, each with its luck (`script`), and which of them may come (`IsUnforged`). This project's profile.
+-- Scripts: commands one after another, each with its luck (`script`), and which of them may come (`IsUnforged`). This
+-- project's profile.
 use Rattle.std.specs.Prelude.{ℕ, ◌<◌, ◌≤◌, List, [], ◌∷◌, length}
 use Rattle.pec_types.specs.declared.moments.TheConstants.{END_OF_TIME}
 use Rattle.pec_records.specs.Entry.{most_addresses}
@@ -13,6 +14,7 @@ pub record Told : Type 0 where
   pub answers : List Answer
   pub after : List Site
 
+-- an answer before those of the commands that follow
 abbrev pub onto : Answer → Told → Told
 onto answer told = record { answers = answer ∷ told.answers; after = told.after }
 
@@ -24,8 +26,8 @@ script trade (luck ∷ lucks) sites (command ∷ commands) =
     onto (played trade luck sites command).answer (script trade lucks (played trade luck sites command).after commands)
 
 -- A command may come: a moment is one that a clock tells, below END_OF_TIME, a path has 1 to 1,000 addresses, and no
--- forged frame is injected. Where a message stands in an injected frame and opens, that is the text of a licensed letter
--- or of an item, as the command begins; all other frames are free.
+-- forged frame is injected. Where a message stands in an injected frame and opens, that is the text of a licensed
+-- letter or of an item, as the command begins; all other frames are free.
 abbrev pub IsUnforged : Trade → List Site → Command → Type 0
 IsUnforged trade sites (Submit provider moment sender path message found) =
     (0 < length path) × (length path ≤ most_addresses) × (moment < END_OF_TIME)

@@ -1,5 +1,5 @@
--- What a provider does on one thing that comes to it: `Step`. It depends on the provider's own journal alone, by the
--- tables of `Reception`, `Decisions` and `Submissions`. This project's profile.
+-- What a provider does on one thing that comes to it, a frame or a pair that is to be decided: `Step`. It depends on
+-- the provider's own journal alone, by the tables of `Reception` and `Decisions`. This project's profile.
 use Rattle.std.specs.Prelude.{ℕ, ◌+◌, nat_lt, Bool, false, List, ◌++◌, Option, Some, None}
 use Rattle.std.specs.Option.{option_to_list}
 use Rattle.pec_types.specs.declared.letters.Letter.{Letter}

@@ -53,6 +53,7 @@ module _ (trade : Trade) (provider : ℕ) (journal : List Entry) (framed : Frame
     accounts_with_room = rooms_in;
   }
 
+  -- an envelope: whether its path fits, and whether its message was taken before
   abbrev pub an_envelope : Id → Arrived
   an_envelope id = record {
     letter = Some (letters.Envelope id provider);
@@ -65,6 +66,7 @@ module _ (trade : Trade) (provider : ℕ) (journal : List Entry) (framed : Frame
     accounts_with_room = rooms_in;
   }
 
+  -- a receipt of taking charge: whether its path fits, its message has pairs there, and it came before
   abbrev pub a_charge : Receipt → Arrived
   a_charge receipt = record {
     letter = Some (letters.Charge receipt.id receipt.by);
@@ -77,6 +79,7 @@ module _ (trade : Trade) (provider : ℕ) (journal : List Entry) (framed : Frame
     accounts_with_room = rooms_in;
   }
 
+  -- a receipt of delivery or a notice of error: whether its path fits, its pair exists, and an outcome is known
   abbrev pub an_outcome : Receipt → Option Bytes → Arrived
   an_outcome receipt None = no_letter
   an_outcome receipt (Some recipient) = record {
@@ -90,6 +93,7 @@ module _ (trade : Trade) (provider : ℕ) (journal : List Entry) (framed : Frame
     accounts_with_room = rooms_in;
   }
 
+  -- an acknowledgement: whether its path fits, its pair is decided here, and it came before
   abbrev pub an_ack : Receipt → Option Bytes → Arrived
   an_ack receipt None = no_letter
   an_ack receipt (Some recipient) = record {
@@ -103,6 +107,7 @@ module _ (trade : Trade) (provider : ℕ) (journal : List Entry) (framed : Frame
     accounts_with_room = rooms_in;
   }
 
+  -- a receipt, by its kind: acceptances, warnings and notices are no letters
   abbrev pub a_receipt : Receipt → Kind → Arrived
   a_receipt receipt kinds.Charge = a_charge receipt
   a_receipt receipt kinds.Delivery = an_outcome receipt receipt.recipient
@@ -110,6 +115,7 @@ module _ (trade : Trade) (provider : ℕ) (journal : List Entry) (framed : Frame
   a_receipt receipt kinds.Ack = an_ack receipt receipt.recipient
   a_receipt receipt _ = no_letter
 
+  -- a message, by what is seen in it
   abbrev pub arrived_by : Option Seen → Arrived
   arrived_by None = no_letter
   arrived_by (Some (SeenEnvelope id moment original)) = an_envelope id
@@ -126,10 +132,12 @@ abbrev pub decision_of_kind : Kind → Decision
 decision_of_kind (kinds.DeliveryError refusal) = Refused refusal
 decision_of_kind _ = Placed
 
+-- what the receipt that is seen says was decided
 abbrev pub decision_seen : Option Seen → Decision
 decision_seen (Some (SeenReceipt receipt)) = decision_of_kind receipt.kind
 decision_seen _ = Placed
 
+-- the moment that it states, in seconds
 abbrev pub moment_seen : Option Seen → ℕ
 moment_seen (Some (SeenReceipt receipt)) = receipt.moment
 moment_seen _ = 0
@@ -154,6 +162,7 @@ module _ (trade : Trade) (provider now : ℕ) (journal : List Entry) (framed : F
   new_letter seen (letters.Ack id recipient) =
       enters trade provider journal (entries.Acked now id recipient) (events.Acked id recipient) (owed_for provider (letters.Ack id recipient))
 
+  -- what is done by the answer of the table: a new letter is noted, a known one is told as a repeat
   abbrev pub done_on : Option Seen → Reception → Option Letter → Step
   done_on seen Take (Some letter) = new_letter seen letter
   done_on seen Charge (Some letter) = new_letter seen letter

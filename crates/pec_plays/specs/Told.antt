@@ -8,10 +8,12 @@ use Rattle.pec_types.specs.declared.turns.Turn.{Turn}
 use Rattle.pec_ledger.specs.Pairs.{Pair, pair_of}
 use Rattle.pec_plays.specs.Commands.{Answer, Turns}
 
+-- the pair of which an event tells that it was decided
 abbrev pub decides : Event → List Pair
 decides (events.Decided id recipient decision) = pair_of id recipient ∷ []
 decides _ = []
 
+-- the pair of which an event tells that its outcome was learned
 abbrev pub learns : Event → List Pair
 learns (events.Learned id recipient decision) = pair_of id recipient ∷ []
 learns _ = []

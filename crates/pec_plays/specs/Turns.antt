@@ -37,9 +37,11 @@ module _ (trade : Trade) (provider now : ℕ) where
 abbrev pub entries_of : List Step → List Entry
 entries_of steps = flat_map (λ (step : Step). option_to_list step.entry) steps
 
+-- what is told of steps, in order
 abbrev pub events_of : List Step → List Event
 events_of steps = map (λ (step : Step). step.event) steps
 
+-- the answers that steps owe, in order
 abbrev pub owed_of : List Step → List Letter
 owed_of steps = flat_map (λ (step : Step). step.owed) steps
 
@@ -49,15 +51,16 @@ entry_at steps number = option_and_then (λ (step : Step). step.entry) (slice_ge
 
 -- ---- cuts
 
--- How a turn went: all of it was done, or the append of the step of a number failed, or the journal had no room for that
--- step's entry, or memory ran out before that step.
+-- How a turn went: all of it was done, or the append of the step of a number failed, or the journal had no room for
+-- that step's entry, or memory ran out before that step.
 pub data Cut : Type 0 where
   Whole : Cut
   Fails : (number : ℕ) → Cut
   Full : (number : ℕ) → Cut
   Stops : (number : ℕ) → Cut
 
--- A turn: the provider as it then stands, what is told of it, and the frames that it put for each provider.
+-- A turn: the provider as it then stands, what is told of it, the frames that it put for each provider, and why it
+-- ended early, if it did.
 pub record Turned : Type 0 where
   pub site : Site
   pub events : List Event
@@ -101,6 +104,7 @@ stopped site steps number fault = record {
 abbrev pub broken : Site → Option Entry → Site
 broken site entry = record { journal = site.journal; up = false; interrupted = entry; waiting = site.waiting }
 
+-- a turn that was planned so, as it went with this cut: what is due is put where all was done, and else nothing
 abbrev pub cut_turn : Trade → ℕ → (ℕ → ℕ) → Site → List Step → Cut → Turned
 cut_turn trade provider rooms site steps Whole = record {
   site = behind site steps (length steps);
@@ -121,6 +125,7 @@ cut_turn trade provider rooms site steps (Stops number) = stopped site steps num
 abbrev pub not_begun : Site → ProviderFault → Turned
 not_begun site fault = record { site = site; events = []; out = []; ended = Some fault }
 
+-- the greatest moment of a journal, in seconds
 abbrev pub last_of : Trade → ℕ → List Entry → ℕ
 last_of trade provider journal = (half trade provider journal).last
 

@@ -10,6 +10,7 @@ use Rattle.pec_script.specs.Texts.{Row, name_of, refused_rows, text_of, unfit_wo
 use Rattle.pec_script.specs.declared.answers.Unfit.{Unfit}
 use Rattle.pec_script.specs.declared.faults.LineFault.{LineFault}
 
+-- How a run ends where nothing stops it. Lines of the script are numbered from 1, providers from 0.
 pub data End : Type 0 where
   Done : End  -- the script was played to its end
   Usage : End  -- the words are no form
@@ -37,5 +38,6 @@ end_rows providers (LongLine number) = (codes "too-long" ∷ codes "line" ∷ de
 end_rows providers LongScript = (codes "too-long" ∷ codes "script" ∷ []) ∷ []
 end_rows providers (LineRefused number fault) = refused_rows number fault
 
+-- That line in bytes.
 unfoldable pub end_text : List Provider → End → Bytes
 end_text providers end = text_of (end_rows providers end)

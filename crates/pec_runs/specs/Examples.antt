@@ -16,6 +16,7 @@ use Rattle.pec_screen.specs.Screened.{Finds}
 
 -- ---- a directory of two providers
 
+-- a provider of this name, with one domain and without accounts
 abbrev pub provider_named : Bytes → Bytes → Provider
 provider_named name domain = record {
   name = name;
@@ -27,6 +28,7 @@ provider_named name domain = record {
   accounts = [];
 }
 
+-- alfa and beta, each with a domain
 abbrev pub two : List Provider
 two = provider_named (codes "alfa") (codes "alfa.example") ∷ provider_named (codes "beta") (codes "beta.example") ∷ []
 
@@ -42,6 +44,7 @@ unmarked = codes "name\n%%%\n %%\n"
 
 -- ---- a script of six lines, the fifth of which is refused
 
+-- a remark, an empty line, a crash and a restart of beta, a crash of gamma, which is no provider, and a crash of alfa
 abbrev pub six_lines : List Bytes
 six_lines =
     codes "# remark\n" ∷ codes "\r\n" ∷ codes "crash beta\n" ∷ codes "restart beta\r\n" ∷ codes "crash gamma\n"
@@ -53,6 +56,7 @@ none_finds provider message = false
 
 -- ---- lines that are written
 
+-- what links answer, two refusals, and a round in which alfa dropped a frame and put three for beta
 abbrev pub some_answers : List Answer
 some_answers =
     Lost ∷ NoFrame ∷ LinkFull ∷ Refuses faults.DiskFault ∷ Refuses (faults.ClockBack 7)
@@ -64,6 +68,7 @@ some_answers =
 abbrev pub faulty_lucks : List Luck
 faulty_lucks = calm ∷ calm ∷ failing 1 ∷ calm ∷ finding ∷ calm ∷ []
 
+-- the script that meets these lucks, played to its end
 abbrev pub faulty_script : Script
 faulty_script = record { commands = with_a_fault; end = Done }
 

@@ -34,6 +34,7 @@ pub record Setting : Type 0 where
 abbrev pub trade_in : Setting → Trade
 trade_in setting = trade_of setting.kept setting.seals
 
+-- its providers, in the order of the directory
 abbrev pub providers_in : Setting → List Provider
 providers_in setting = providers_of setting.kept
 
@@ -52,6 +53,7 @@ pub record Asked : Type 0 where
   pub words : List Bytes
   pub finds : Finds
 
+-- What happened in a run: its input, whether it was stopped early, its world, its journals, and how its commands went.
 pub record Happened : Type 0 where
   pub parts : Parts
   pub early : Bool  -- it was stopped before a disk was asked for
@@ -66,14 +68,17 @@ pub data Stage : Type 0 where
   Halted : Stage
   Begun : (form : Form) (script : Script) → Stage
 
+-- the last test: the directory has a fault, or the run begins with the script of these lines
 abbrev pub by_directory : Finds → Form → List Bytes → Result (List Provider) DirectoryFault → Stage
 by_directory finds form lines (Err fault) = Over (ends.DirectoryRefused fault)
 by_directory finds form lines (Ok providers) = Begun form (script_of finds providers 1 lines)
 
+-- the test before it: no line says `%%`, so there is no script
 abbrev pub by_script : Finds → Form → Bytes → Option (List Bytes) → Stage
 by_script finds form directory None = Over ends.NoScript
 by_script finds form directory (Some lines) = by_directory finds form lines (directory_in directory)
 
+-- the tests before these: the words are no form, the run was stopped early, or the directory is too long
 abbrev pub by_form : Finds → Bool → Parts → Option Form → Stage
 by_form finds early parts None = Over ends.Usage
 by_form finds true parts (Some form) = Halted
@@ -90,6 +95,7 @@ abbrev pub nothing_played : Trade → Opening → Finish → Outcome
 nothing_played trade opening finish =
     record { answers = []; after = opened_all trade opening.journals; finish = finish }
 
+-- what a run that begins comes to: where it has all its journals the script is played, and else no command is
 abbrev pub by_next : Trade → Opening → List Luck → Rest → Script → Next → Outcome
 by_next trade opening lucks rest script NoMore = outcome_from trade lucks rest
     (opened_all trade opening.journals) script
@@ -100,6 +106,7 @@ by_next trade opening lucks rest script (Unfits unfit) =
 by_next trade opening lucks rest script Fails = nothing_played trade opening plays.Fails
 by_next trade opening lucks rest script Stops = nothing_played trade opening plays.Stops
 
+-- what a run comes to at its stage
 abbrev pub outcome_at : Happened → Stage → Outcome
 outcome_at happened (Over end) = record { answers = []; after = []; finish = plays.Ends end }
 outcome_at happened Halted = record { answers = []; after = []; finish = plays.Stops }

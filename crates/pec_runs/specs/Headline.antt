@@ -101,6 +101,8 @@ pub record Stands (trade : Trade) (start now : List Site) : Type 0 where
 
 -- ---- a script
 
+-- What a script's answers belong to: at each command the state stands; books are the ledger's; a clock call leaves no
+-- pair of 24 hours without its notice; and no pair is told decided twice, or learned twice.
 pub record Headline (trade : Trade) (start : List Site) (lucks : List Luck) (commands : List Command) : Type 0 where
   -- before each command, and behind the last that was played
   pub each : (number : ℕ) → Stands trade start (state_before trade lucks start commands number)

@@ -39,6 +39,7 @@ pub record Outcome : Type 0 where
   pub after : List Site
   pub finish : Finish
 
+-- an answer before those of an outcome
 abbrev pub onto_outcome : Answer → Outcome → Outcome
 onto_outcome answer outcome =
     record { answers = answer ∷ outcome.answers; after = outcome.after; finish = outcome.finish }
@@ -50,6 +51,7 @@ at_end [] (command ∷ commands) end = Stops
 at_end (luck ∷ lucks) [] end = Stops
 at_end (luck ∷ lucks) (command ∷ commands) end = at_end lucks commands end
 
+-- how a script finishes with these lucks: it comes to its end, is stopped, or strays
 abbrev pub finish_of : Rest → List Luck → Script → Finish
 finish_of ToTheEnd lucks script = at_end lucks script.commands script.end
 finish_of Stopped lucks script = Stops
@@ -65,6 +67,7 @@ outcome_from trade lucks rest sites written = record {
 
 -- ---- bytes
 
+-- the last line of a run that finishes so; one that was stopped or strayed has none
 abbrev pub finish_text : List Provider → Finish → Bytes
 finish_text providers (Ends end) = end_text providers end
 finish_text providers Stops = []
@@ -77,6 +80,7 @@ outcome_text providers outcome = answers_text providers outcome.answers ++ finis
 
 -- ---- faults of disks
 
+-- a turn ended early, since the provider's disk failed
 abbrev pub is_disk_fault : Option ProviderFault → Bool
 is_disk_fault (Some faults.DiskFault) = true
 is_disk_fault _ = false
@@ -130,6 +134,7 @@ pub record MayStray (tells : Type 0) (sites : List Site) (next : Option Command)
   pub restarts : next ≡ Some (Restart provider)
   pub down : is_up sites provider ≡ false
 
+-- A run that strayed could stray at the command that came next; of any other nothing is asked.
 abbrev pub StraysSo : Type 0 → List Site → Option Command → Rest → Type 0
 StraysSo tells sites next Strayed = MayStray tells sites next
 StraysSo tells sites next _ = Unit {0}

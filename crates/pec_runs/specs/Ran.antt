@@ -28,6 +28,7 @@ IsInput unread parts = IfSome (parts_left unread) (λ told. parts ≡ told)
 
 -- ---- output
 
+-- the status of a run that finishes so, if that settles it
 abbrev pub status_at : Finish → Option Status
 status_at (Ends end) = Some (status_of end)
 status_at Stops = None

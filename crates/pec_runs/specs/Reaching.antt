@@ -10,6 +10,7 @@ pub record OneStep : Type 0 where
   pub provider : ℕ
   pub entry : Entry
 
+-- the journals behind one step
 abbrev pub with_step : Journals → OneStep → Journals
 with_step journals step provider =
     if provider == step.provider then journals provider ++ step.entry ∷ [] else journals provider

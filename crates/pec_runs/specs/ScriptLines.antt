@@ -13,10 +13,11 @@ use Rattle.pec_runs.specs.Endings.{End}
 use Rattle.pec_runs.specs.Endings as ends
 use Rattle.pec_input.specs.Lines.{content_of}
 
--- The limits: lines of a script, bytes of a line without its end.
+-- how many lines a script may have
 abbrev pub most_lines : ℕ
 most_lines = 1000000
 
+-- how many bytes a line may have, its end not counted
 abbrev pub longest_line : ℕ
 longest_line = 67108864
 
@@ -49,6 +50,7 @@ abbrev pub is_passed_over : Bytes → Bool
 is_passed_over [] = true
 is_passed_over (b ∷ bs) = b == 35
 
+-- a line that is read as a command, or has a fault
 abbrev pub line_by : Finds → Result Written LineFault → Line
 line_by finds (Ok command) = Says (command_in finds command)
 line_by finds (Err fault) = SaysNone fault
@@ -69,6 +71,7 @@ pub record Script : Type 0 where
 abbrev pub nothing_but : End → Script
 nothing_but end = record { commands = []; end = end }
 
+-- a command before those of a script
 abbrev pub onto_script : Command → Script → Script
 onto_script command script = record { commands = command ∷ script.commands; end = script.end }
 

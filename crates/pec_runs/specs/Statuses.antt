@@ -3,6 +3,7 @@ use Rattle.std.specs.Prelude.{ℕ}
 use Rattle.pec_runs.specs.Endings.{End}
 use Rattle.pec_runs.specs.Endings as ends
 
+-- What the program says when it exits. `ClockFault` and `DoorFault` come only where it serves connections.
 pub data Status : Type 0 where
   Done : Status
   Usage : Status
@@ -17,6 +18,7 @@ pub data Status : Type 0 where
   DoorFault : Status
   InputTooLong : Status
 
+-- the number with which the program exits
 abbrev pub code_of : Status → ℕ
 code_of Done = 0
 code_of Usage = 2
@@ -31,6 +33,7 @@ code_of ClockFault = 10
 code_of DoorFault = 11
 code_of InputTooLong = 12
 
+-- the status of a run that came to this end
 abbrev pub status_of : End → Status
 status_of ends.Done = Done
 status_of ends.Usage = Usage

@@ -36,6 +36,7 @@ quiet_outcome setting journals written =
     (quiet_lucks (trade_in setting) (opened_all (trade_in setting) journals) written.commands) ToTheEnd
     (opened_all (trade_in setting) journals) written
 
+-- what a run comes to at its stage, where its commands meet no fault
 abbrev pub transcript_at : Happened → Stage → Outcome
 transcript_at happened stage = outcome_at (record happened { lucks = quiet_at happened stage; rest = ToTheEnd }) stage
 
