@@ -1,2 +1,6 @@
+pub mod Calls
+pub mod Connections
 pub mod Own
 pub mod Passes
+pub mod Runs
+pub mod Services
