@@ -67,8 +67,8 @@ class Network:
         self.decided = [[] for _ in self.numbers]
         self.items = {one.address: [] for house in directory.houses for one in house.accounts}
         self.view = {}
-        # writes of journals are counted, and these fail
-        self.writes, self.failing = 0, ()
+        # writes of journals are counted, and these fail; so many did
+        self.writes, self.failing, self.faults = 0, (), 0
 
     # What is read of the map.
 
@@ -129,6 +129,7 @@ class Network:
         for _ in range(2):
             self.writes += 1
             if self.writes in self.failing:
+                self.faults += 1
                 self.down[provider] = True
                 raise Refused("fault disk")
         self.journals[provider].append(bytes([tag]) + moment(at) + fields)
