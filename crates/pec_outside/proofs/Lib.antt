@@ -4,3 +4,4 @@ pub mod LogLemmas
 pub mod StepLemmas
 pub mod DepotLemmas
 pub mod ReplyLemmas
+pub mod MomentLemmas
