@@ -1,9 +1,11 @@
--- What the indexes and the count are once a provider is kept.
+-- What the indexes, the count and the zones are once a provider is kept.
 use Rattle.std.proofs.Common.{◌≡◌, ℕ, ◌+◌, List, [], ◌∷◌, ◌++◌, length, sym, ap, ◌∙◌, arith, append-nil, append_assoc, length-append}
 use Rattle.std.proofs.lemmas.Grind.{flat_map-append}
+use Rattle.pec_cert.specs.Zone.{IsRule}
 use Rattle.pec_index.specs.Entries.{Finds, value_at}
-use Rattle.pec_directory.specs.Directory.{Provider, accounts_of}
+use Rattle.pec_directory.specs.Directory.{Kept, Provider, accounts_of}
 use Rattle.pec_directory.specs.Indexes.{deeds_from, deeds_of, spots_from, spots_of}
+use Rattle.pec_directory.specs.Zones.{AreByRule}
 use Rattle.pec_directory.specs.declared.places.Place.{Place}
 
 deeds_from-push : (k n : ℕ) (earlier : List Provider) (provider : Provider) → k + length earlier ≡ n → deeds_from k (earlier ++ provider ∷ []) ≡ deeds_from k earlier ++ deeds_of n provider.domains
@@ -31,3 +33,7 @@ counted_more earlier provider =
     ap length (flat_map-append (λ (p : Provider). p.accounts) earlier (provider ∷ []))
     ∙ length-append (accounts_of earlier) (provider.accounts ++ [])
     ∙ ap (λ l. length (accounts_of earlier) + length l) (append-nil provider.accounts)
+
+pub zones_more : (earlier : List Kept) (one : Kept) → AreByRule earlier → IsRule one.provider.rule one.zone → AreByRule (earlier ++ one ∷ [])
+zones_more [] one all last = (last, tt)
+zones_more (first ∷ earlier) one all last = (all.0, zones_more earlier one all.1 last)

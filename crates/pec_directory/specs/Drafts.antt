@@ -5,6 +5,7 @@ use Rattle.pec_types.specs.Bytes.{Bytes}
 use Rattle.pec_directory.specs.Directory.{Provider, accounts_of, providers_of}
 use Rattle.pec_directory.specs.Indexes.{deeds_from, spots_from}
 use Rattle.pec_directory.specs.Walk.{most_accounts, most_providers}
+use Rattle.pec_directory.specs.Zones.{AreByRule}
 use Rattle.pec_directory.specs.declared.drafts.Draft.{Draft}
 use Rattle.pec_directory.specs.declared.faults.DirectoryFault.{DirectoryFault}
 use Rattle.pec_directory.specs.declared.places.Place.{Place}
@@ -19,12 +20,13 @@ pub record IsOpen (draft : Draft) : Type 0 where
   pub count : draft.accounts ≡ length (accounts_of (read_so_far draft))
   pub few : draft.accounts ≤ most_accounts
 
--- the indexes and the count are those of the providers that were read
+-- the indexes and the count are those of the providers that were read, and each zone is of its provider's rule
 pub record IsRead (draft : Draft) (places : List (Bytes × Place)) : Type 0 where
   pub homes : Finds draft.homes (deeds_from 0 (read_so_far draft))
   pub spots : Finds places (spots_from 0 (read_so_far draft))
   pub count : draft.accounts ≡ length (accounts_of (read_so_far draft))
   pub few : draft.accounts ≤ most_accounts
+  pub zones : AreByRule draft.providers.items
 
 -- these providers, and the one that was read behind them
 abbrev pub onto : List Provider → Result Provider DirectoryFault → Result (List Provider) DirectoryFault

@@ -10,3 +10,4 @@ pub mod Lawful
 pub mod Tables
 pub mod Views
 pub mod Walk
+pub mod Zones

@@ -32,11 +32,12 @@ impl Model for Directory {
     ghost use Rattle.pec_directory.specs.Directory.{providers_of};
     ghost use Rattle.pec_directory.specs.Indexes.{IsIndexed};
     ghost use Rattle.pec_directory.specs.Lawful.{IsLawful};
+    ghost use Rattle.pec_directory.specs.Zones.{AreByRule};
 
     ghost view = { λ directory. directory.providers.items };
 
     ghost invariant = { λ directory. IsIndexed directory.providers.items directory.homes directory.places
-        × IsLawful (providers_of directory.providers.items) };
+        × IsLawful (providers_of directory.providers.items) × AreByRule directory.providers.items };
 }
 
 // Written out, so that to drop a directory is one call wherever it is done, and not the drops of its lists and indexes.
@@ -62,6 +63,7 @@ impl Directory {
     ghost use Rattle.pec_directory.specs.Lawful.{IsLawful};
     ghost use Rattle.pec_directory.specs.Tables.{IsDirectory};
     ghost use Rattle.pec_directory.specs.Walk.{directory_of, most_providers};
+    ghost use Rattle.pec_directory.specs.Zones.{AreByRule};
     ghost use Rattle.pec_directory.specs.declared.faults.DirectoryFault.TheVariants as faults;
 
     /// The directory of these providers, with their indexes.
@@ -72,6 +74,7 @@ impl Directory {
     ) -> Directory
         requires indexed { IsIndexed providers.items homes places }
         requires lawful { IsLawful (providers_of providers.items) }
+        requires zones { AreByRule providers.items }
         ensures { result ≡ providers.items }
     {
         Directory {
@@ -108,6 +111,7 @@ impl Directory {
         ensures few { result ≤ most_providers }
         // What holds of every directory, for whoever builds on one.
         ensures lawful { IsLawful (providers_of self.now) }
+        ensures zones { AreByRule self.now }
     {
         self.providers.len() as u32
     }

@@ -8,6 +8,7 @@ ghost use Rattle.pec_directory.specs.Drafts.{IsRead, onto, read_so_far};
 ghost use Rattle.pec_directory.specs.Indexes.{HasDomains, deeds_from};
 ghost use Rattle.pec_directory.specs.Views.{fields_shown};
 ghost use Rattle.pec_directory.specs.Walk.{domains_of, most_providers, provider_in, settled, stands_twice, with_accounts};
+ghost use Rattle.pec_directory.specs.Zones.{AreByRule};
 ghost use Rattle.pec_directory.specs.declared.faults.DirectoryFault.TheVariants as faults;
 
 use crate::accounts::Account;
@@ -122,6 +123,7 @@ fn keep(draft: &mut Draft, fields: Fields, accounts: Vec<Account>) -> Result<(),
         (read_so_far draft.new ≡ read_so_far draft.old ++ with_accounts (fields_shown fields) accounts.items ∷ []) }
     ensures homes { draft.new.homes ≡ draft.old.homes }
     ensures count { OnOk result (draft.new.accounts ≡ draft.old.accounts + length accounts.items) }
+    ensures zones { OnOk result (AreByRule draft.old.providers.items → AreByRule draft.new.providers.items) }
 {
     let Fields {
         name,

@@ -19,4 +19,5 @@ returns-clause-read c =
       spots = rw all (spots_more _ earlier provider (rw c.in_ok-claim.ensures.providers at c.in_ok-accounts.ensures.accounts));
       count = rw all (count ∙ ap (λ n. n + length c.in_ok-accounts.accounts.items) c.requires.read.count ∙ sym counted);
       few = omega (arith, count, c.in_ok-claim.ensures.accounts, c.in_ok-accounts.ensures.few);
+      zones = c.in_ok-keep.ensures.zones (rw c.in_ok-claim.ensures.providers c.requires.read.zones);
     }
