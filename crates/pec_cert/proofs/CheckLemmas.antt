@@ -7,12 +7,13 @@ use Rattle.pec_types.specs.Address.{IsLowerAddress}
 use Rattle.pec_types.specs.Text.{AllPrintable}
 use Rattle.pec_grammar.specs.Grammar.{AllOfSome}
 use Rattle.pec_cert.specs.Certificate.{Value, address, clock, values_from, addressee, addressees_from, delivered_from, received_from, before_recipients, before_shown, before_delivered, before_received, values, lines_of, CanBeWritten, IsFirstFault}
-use Rattle.pec_cert.specs.Checking.{AllGood, Checked, Says}
+use Rattle.pec_cert.specs.Checking.{AllGood, Checked, HasValues, Says}
 use Rattle.pec_cert.specs.Lines.{front_text, addressee_opening, addressee_text, Fits}
 use Rattle.pec_cert.specs.Markup.{opening, element}
 use Rattle.pec_cert.specs.Shown.{IsShown}
 use Rattle.pec_cert.specs.declared.lines.Lines.{Lines}
 use Rattle.pec_cert.specs.declared.certificates.CertData.{CertData}
+use Rattle.pec_cert.specs.declared.values.Values.{Values}
 use Rattle.pec_cert.specs.declared.certificates.CertRecipient.{CertRecipient}
 use Rattle.pec_cert.specs.declared.lines.Addressee.{Addressee}
 use Rattle.pec_cert.specs.declared.faults.CertFault.{CertFault}
@@ -115,28 +116,28 @@ abbrev at_received : Lines → List (List ℕ × Value)
 at_received l = received_from (before_received l) l.received
 
 module _ {X : Type 0} (Made : X → Type 0) (l : Lines) (e : CertFault) where
-  pub after_sender : AllGood (at_sender l) → Checked (at_recipients l) Made (Err e) → Checked (values l) (λ (c : CertData). Says l c) (Err e)
+  pub after_sender : AllGood (at_sender l) → Checked (at_recipients l) Made (Err e) → Checked (values l) (λ (v : Values). HasValues l v) (Err e)
   after_sender sender checked =
-      checked_after Made (λ (c : CertData). Says l c) (at_sender l) (at_recipients l ++ (at_clock l ++ (at_delivered l ++ at_received l))) e sender
+      checked_after Made (λ (v : Values). HasValues l v) (at_sender l) (at_recipients l ++ (at_clock l ++ (at_delivered l ++ at_received l))) e sender
       (checked_before Made Made (at_recipients l) (at_clock l ++ (at_delivered l ++ at_received l)) e checked)
 
-  pub after_recipients : AllGood (at_sender l) → AllGood (at_recipients l) → Checked (at_clock l) Made (Err e) → Checked (values l) (λ (c : CertData). Says l c) (Err e)
+  pub after_recipients : AllGood (at_sender l) → AllGood (at_recipients l) → Checked (at_clock l) Made (Err e) → Checked (values l) (λ (v : Values). HasValues l v) (Err e)
   after_recipients sender recipients checked =
-      checked_after Made (λ (c : CertData). Says l c) (at_sender l) (at_recipients l ++ (at_clock l ++ (at_delivered l ++ at_received l))) e sender
+      checked_after Made (λ (v : Values). HasValues l v) (at_sender l) (at_recipients l ++ (at_clock l ++ (at_delivered l ++ at_received l))) e sender
       (checked_after Made Made (at_recipients l) (at_clock l ++ (at_delivered l ++ at_received l)) e recipients
       (checked_before Made Made (at_clock l) (at_delivered l ++ at_received l) e checked))
 
-  pub after_stamp : AllGood (at_sender l) → AllGood (at_recipients l) → AllGood (at_clock l) → Checked (at_delivered l) Made (Err e) → Checked (values l) (λ (c : CertData). Says l c) (Err e)
+  pub after_stamp : AllGood (at_sender l) → AllGood (at_recipients l) → AllGood (at_clock l) → Checked (at_delivered l) Made (Err e) → Checked (values l) (λ (v : Values). HasValues l v) (Err e)
   after_stamp sender recipients stamp checked =
-      checked_after Made (λ (c : CertData). Says l c) (at_sender l) (at_recipients l ++ (at_clock l ++ (at_delivered l ++ at_received l))) e sender
+      checked_after Made (λ (v : Values). HasValues l v) (at_sender l) (at_recipients l ++ (at_clock l ++ (at_delivered l ++ at_received l))) e sender
       (checked_after Made Made (at_recipients l) (at_clock l ++ (at_delivered l ++ at_received l)) e recipients
       (checked_after Made Made (at_clock l) (at_delivered l ++ at_received l) e stamp
       (checked_before Made Made (at_delivered l) (at_received l) e checked)))
 
   pub after_delivered : AllGood (at_sender l) → AllGood (at_recipients l) → AllGood (at_clock l) → AllGood (at_delivered l) → Checked (at_received l) Made (Err e)
-      → Checked (values l) (λ (c : CertData). Says l c) (Err e)
+      → Checked (values l) (λ (v : Values). HasValues l v) (Err e)
   after_delivered sender recipients stamp delivered checked =
-      checked_after Made (λ (c : CertData). Says l c) (at_sender l) (at_recipients l ++ (at_clock l ++ (at_delivered l ++ at_received l))) e sender
+      checked_after Made (λ (v : Values). HasValues l v) (at_sender l) (at_recipients l ++ (at_clock l ++ (at_delivered l ++ at_received l))) e sender
       (checked_after Made Made (at_recipients l) (at_clock l ++ (at_delivered l ++ at_received l)) e recipients
       (checked_after Made Made (at_clock l) (at_delivered l ++ at_received l) e stamp
       (checked_after Made Made (at_delivered l) (at_received l) e delivered checked)))
@@ -147,6 +148,11 @@ all_checked l sender recipients stamp delivered received =
     (all_good (at_recipients l) (at_clock l ++ (at_delivered l ++ at_received l)) recipients
     (all_good (at_clock l) (at_delivered l ++ at_received l) stamp
     (all_good (at_delivered l) (at_received l) delivered received)))
+
+-- The fault in the values of lines is the fault of the lines.
+pub lines_fault : (l : Lines) (e : CertFault) → Checked (values l) (λ (v : Values). HasValues l v) (Err e)
+    → Checked (values l) (λ (c : CertData). Says l c) (Err e)
+lines_fault l e checked = checked_after (λ (v : Values). HasValues l v) (λ (c : CertData). Says l c) [] (values l) e tt checked
 
 delivered_lower : (front : List ℕ) (o : Option (List ℕ)) → AllGood (delivered_from front o) → IfSome o IsLowerAddress
 delivered_lower front None good = tt

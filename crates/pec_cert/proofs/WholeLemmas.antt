@@ -9,7 +9,7 @@ use Rattle.pec_grammar.proofs.Alternatives.{maybe_lawful, many_lawful}
 use Rattle.pec_grammar.proofs.Openings.{Opens, apart_by, led_opens, word_opens, maybe_opens, many_opens, both_opens}
 use Rattle.pec_grammar.proofs.Repeats.{several_lawful}
 use Rattle.pec_cert.specs.Lines.{text_of, Fits}
-use Rattle.pec_cert.specs.LinesReading.{front_at, addressee_at, shown_at, wish_at, received_at, heading_at, issue_at, lines_at}
+use Rattle.pec_cert.specs.LinesReading.{front_at, addressee_at, shown_at, wish_at, received_at, heading_at, issue_at, closing_at, lines_at}
 use Rattle.pec_cert.specs.declared.certificates.CertKind.{CertKind}
 use Rattle.pec_cert.specs.declared.certificates.CertError.{CertError}
 use Rattle.pec_cert.specs.declared.lines.Addressee.{Addressee}
@@ -340,7 +340,7 @@ row_at at =
     )
 
 in_a_row : (at : Cursor) → lines_at at ≡ row_at at
-unfolding lines_at heading_at issue_at
+unfolding lines_at heading_at issue_at closing_at
 in_a_row at =
     onward (front_at at) _ _ _ (λ f.
     onward (sender.read f.1) _ _ _ (λ s.
@@ -351,7 +351,12 @@ in_a_row at =
     onward (provider.read b.1) _ _ _ (λ g.
     onward (shown_at g.1) _ _ _ (λ d.
     onward (id.read d.1) _ _ _ (λ i.
-    onward (optional_at reference.read i.1) _ _ _ (λ m. refl))))))))))
+    onward (optional_at reference.read i.1) _ _ _ (λ m.
+    onward (optional_at wish_at m.1) _ _ _ (λ w.
+    onward (optional_at delivered.read w.1) _ _ _ (λ e.
+    onward (many_at received_at e.1) _ _ _ (λ c.
+    onward (optional_at detail.read c.1) _ _ _ (λ t.
+    onward (word_at (codes "</dati>\r\n</postacert>\r\n") t.1) _ _ _ (λ z. refl)))))))))))))))
 
 reads : (at : Cursor) → lines_at at ≡ seen_at view all.read at
 reads at =

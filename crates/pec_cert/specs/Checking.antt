@@ -1,11 +1,12 @@
 -- What is answered on the values of a text, or on some of them in a row.
-use Rattle.std.specs.Prelude.{◌≡◌, List, Result, Ok, Err}
+use Rattle.std.specs.Prelude.{◌≡◌, List, map, Result, Ok, Err}
 use Rattle.std.specs.List.{AllByRecursion}
 use Rattle.pec_types.specs.Bytes.{Bytes}
-use Rattle.pec_cert.specs.Certificate.{Value, IsGood, IsFirstFault, CanBeWritten, lines_of}
+use Rattle.pec_cert.specs.Certificate.{Value, IsGood, IsFirstFault, CanBeWritten, addressee, lines_of}
 use Rattle.pec_cert.specs.Shown.{IsShown}
 use Rattle.pec_cert.specs.declared.certificates.CertData.{CertData}
 use Rattle.pec_cert.specs.declared.lines.Lines.{Lines}
+use Rattle.pec_cert.specs.declared.values.Values.{Values}
 use Rattle.pec_cert.specs.declared.faults.CertFault.{CertFault}
 use Rattle.pec_cert.specs.declared.faults.CertFault.TheVariants.{NoMemory}
 
@@ -18,6 +19,14 @@ abbrev pub Checked : {X : Type 0} → List (Bytes × Value) → (X → Type 0) �
 Checked vs Made (Ok x) = AllGood vs × Made x
 Checked vs Made (Err NoMemory) = Unit {0}
 Checked vs Made (Err fault) = IsFirstFault vs fault
+
+-- the values that lines have
+pub record HasValues (l : Lines) (v : Values) : Type 0 where
+  pub sender : v.sender ≡ l.sender
+  pub recipients : map addressee v.recipients ≡ l.recipients
+  pub stamp : IsShown l.shown v.stamp
+  pub delivered : v.delivered ≡ l.delivered
+  pub received : v.received ≡ l.received
 
 -- the certificate that lines say
 pub record Says (l : Lines) (c : CertData) : Type 0 where

@@ -15,6 +15,7 @@ use Rattle.pec_cert.specs.declared.certificates.CertError.TheVariants as errors
 use Rattle.pec_cert.specs.declared.lines.Addressee.{Addressee}
 use Rattle.pec_cert.specs.declared.lines.Heading.{Heading}
 use Rattle.pec_cert.specs.declared.lines.Issue.{Issue}
+use Rattle.pec_cert.specs.declared.lines.Closing.{Closing}
 use Rattle.pec_cert.specs.declared.lines.Lines.{Lines}
 use Rattle.pec_cert.specs.declared.stamps.ShownZone.{ShownZone}
 use Rattle.pec_cert.specs.declared.stamps.ShownDay.{ShownDay}
@@ -176,15 +177,21 @@ issue_at at = do
   reference ← optional_at (element_at (codes "<msgid>") (codes "</msgid>\r\n")) id.1
   Ok (record { provider = provider.0; shown = shown.0; id = id.0; reference = reference.0 }, reference.1)
 
-unfoldable pub lines_at : Cursor → Read Lines
-lines_at at = do
-  heading ← heading_at at
-  issue ← issue_at heading.1
-  wish ← optional_at wish_at issue.1
+-- the lines of the data behind these, up to the end
+unfoldable pub closing_at : Cursor → Read Closing
+closing_at at = do
+  wish ← optional_at wish_at at
   delivered ← optional_at (element_at (codes "<consegna>") (codes "</consegna>\r\n")) wish.1
   received ← many_at received_at delivered.1
   detail ← optional_at (element_at (codes "<errore-esteso>") (codes "</errore-esteso>\r\n")) received.1
   end ← word_at (codes "</dati>\r\n</postacert>\r\n") detail.1
+  Ok (record { wish = wish.0; delivered = delivered.0; received = received.0; detail = detail.0 }, end.1)
+
+unfoldable pub lines_at : Cursor → Read Lines
+lines_at at = do
+  heading ← heading_at at
+  issue ← issue_at heading.1
+  closing ← closing_at issue.1
   Ok (
     record {
       kind = heading.0.kind;
@@ -197,10 +204,10 @@ lines_at at = do
       shown = issue.0.shown;
       id = issue.0.id;
       reference = issue.0.reference;
-      wish = wish.0;
-      delivered = delivered.0;
-      received = received.0;
-      detail = detail.0;
+      wish = closing.0.wish;
+      delivered = closing.0.delivered;
+      received = closing.0.received;
+      detail = closing.0.detail;
     },
-    end.1,
+    closing.1,
   )

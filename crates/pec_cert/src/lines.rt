@@ -29,6 +29,15 @@ pub(crate) struct Issue {
     pub reference: Option<Text>,
 }
 
+/// The values of the data behind these.
+#[derive(Drop)]
+pub(crate) struct Closing {
+    pub wish: Option<Wish>,
+    pub delivered: Option<Text>,
+    pub received: Items<Text>,
+    pub detail: Option<Text>,
+}
+
 /// The values of a text's elements as they stand there.
 #[derive(Drop)]
 pub(crate) struct Lines {

@@ -1,11 +1,11 @@
 ghost use Rattle.std.specs.Prelude.{◌≡◌};
 ghost use Rattle.pec_grammar.specs.Grammar.{choice_at, many_at, several_at, optional_at};
 ghost use Rattle.pec_grammar.specs.Reading.{standing, Gives, MayGive};
-ghost use Rattle.pec_cert.specs.LinesReading.{kind_table, error_table, class_table, wish_table, front_at, addressee_at, wish_at, received_at, heading_at, issue_at, lines_at};
+ghost use Rattle.pec_cert.specs.LinesReading.{kind_table, error_table, class_table, wish_table, front_at, addressee_at, wish_at, received_at, heading_at, issue_at, closing_at, lines_at};
 
 use crate::certificates::{CertError, CertKind};
 use crate::digits::shown;
-use crate::lines::{Addressee, Heading, Issue, Lines};
+use crate::lines::{Addressee, Closing, Heading, Issue, Lines};
 use crate::markup::{content, element, optional_element};
 use pec_grammar::{Cursor, ReadError, Stop, one_of, word};
 use pec_types::{Items, Text, Wish};
@@ -18,11 +18,7 @@ pub(crate) fn lines(alloc: Global, at: Cursor<'_>) -> Result<(Lines, Cursor<'_>)
 {
     let (heading, at) = heading(alloc, at)?;
     let (issue, at) = issue(alloc, at)?;
-    let (wish, at) = optional_wish(at)?;
-    let (delivered, at) = optional_element(alloc, at, b"<consegna>", b"</consegna>\r\n")?;
-    let (received, at) = all_received(alloc, at)?;
-    let (detail, at) = optional_element(alloc, at, b"<errore-esteso>", b"</errore-esteso>\r\n")?;
-    let at = word(at, b"</dati>\r\n</postacert>\r\n")?;
+    let (closing, at) = closing(alloc, at)?;
     let lines = Lines {
         kind: heading.kind,
         error: heading.error,
@@ -34,10 +30,10 @@ pub(crate) fn lines(alloc: Global, at: Cursor<'_>) -> Result<(Lines, Cursor<'_>)
         shown: issue.shown,
         id: issue.id,
         reference: issue.reference,
-        wish,
-        delivered,
-        received,
-        detail,
+        wish: closing.wish,
+        delivered: closing.delivered,
+        received: closing.received,
+        detail: closing.detail,
     };
     Ok((lines, at))
 }
@@ -85,6 +81,25 @@ fn issue(alloc: Global, at: Cursor<'_>) -> Result<(Issue, Cursor<'_>), ReadError
         reference,
     };
     Ok((issue, at))
+}
+
+/// Reads the lines of the data behind these, up to the end.
+#[tactic(auto, unfolding(crate::specs::LinesReading::closing_at))]
+fn closing(alloc: Global, at: Cursor<'_>) -> Result<(Closing, Cursor<'_>), ReadError<'_>>
+    ensures { MayGive (λ x. (x.0, standing x.1)) result (closing_at (standing at.entry)) }
+{
+    let (wish, at) = optional_wish(at)?;
+    let (delivered, at) = optional_element(alloc, at, b"<consegna>", b"</consegna>\r\n")?;
+    let (received, at) = all_received(alloc, at)?;
+    let (detail, at) = optional_element(alloc, at, b"<errore-esteso>", b"</errore-esteso>\r\n")?;
+    let at = word(at, b"</dati>\r\n</postacert>\r\n")?;
+    let closing = Closing {
+        wish,
+        delivered,
+        received,
+        detail,
+    };
+    Ok((closing, at))
 }
 
 /// Reads the first three lines.

@@ -2,7 +2,7 @@ ghost use Rattle.std.specs.Prelude.{◌≡◌, ◌++◌, ◌∷◌, [], ◌<◌,
 ghost use Rattle.std.specs.List.{flat_map, AllByRecursion};
 ghost use Rattle.pec_types.specs.Address.{IsLowerAddress};
 ghost use Rattle.pec_cert.specs.Certificate.{address, clock, addressee, addressees_from, delivered_from, received_from, before_recipients, before_shown, before_delivered, before_received, values};
-ghost use Rattle.pec_cert.specs.Checking.{Checked, Says};
+ghost use Rattle.pec_cert.specs.Checking.{Checked, HasValues, Says};
 ghost use Rattle.pec_cert.specs.Lines.{front_text, Fits};
 ghost use Rattle.pec_cert.specs.Markup.{opening};
 ghost use Rattle.pec_cert.specs.Shown.{HasDigits, IsShown};
@@ -17,31 +17,55 @@ use crate::stamps::Stamp;
 use pec_types::{Address, Items, NoMemory, an_address_is_told_exactly};
 use std::alloc::Global;
 
+/// The values of lines that may be wrong, read.
+#[derive(Drop)]
+pub(crate) struct Values {
+    sender: Address,
+    recipients: Items<CertRecipient>,
+    stamp: Stamp,
+    delivered: Option<Address>,
+    received: Items<Address>,
+}
+
 /// What the lines say, or the fault of the first value in them that is wrong.
 pub(crate) fn cert_from_lines(alloc: Global, lines: Lines) -> Result<CertData, CertFault>
     requires { Fits lines }
     ensures { Checked (values lines) (λ cert. Says lines cert) result }
 {
-    let sender = sender_of(alloc, &lines)?;
-    let recipients = recipients_of(alloc, &lines)?;
-    let stamp = stamp_in(alloc, &lines)?;
-    let delivered = delivered_of(alloc, &lines)?;
-    let received = received_of(alloc, &lines)?;
+    let found = values_in(alloc, &lines)?;
     Ok(CertData {
         kind: lines.kind,
         error: lines.error,
-        sender,
-        recipients,
+        sender: found.sender,
+        recipients: found.recipients,
         reply: lines.reply,
         subject: lines.subject,
         provider: lines.provider,
-        stamp,
+        stamp: found.stamp,
         id: lines.id,
         reference: lines.reference,
         wish: lines.wish,
+        delivered: found.delivered,
+        received: found.received,
+        detail: lines.detail,
+    })
+}
+
+fn values_in(alloc: Global, lines: &Lines) -> Result<Values, CertFault>
+    requires { HasDigits lines.now.shown }
+    ensures { Checked (values lines.now) (λ found. HasValues lines.now found) result }
+{
+    let sender = sender_of(alloc, lines)?;
+    let recipients = recipients_of(alloc, lines)?;
+    let stamp = stamp_in(alloc, lines)?;
+    let delivered = delivered_of(alloc, lines)?;
+    let received = received_of(alloc, lines)?;
+    Ok(Values {
+        sender,
+        recipients,
+        stamp,
         delivered,
         received,
-        detail: lines.detail,
     })
 }
 

@@ -1,43 +1,21 @@
-use Rattle.std.proofs.Common.{◌≡◌, List, ℕ, map, Option}
+use Rattle.std.proofs.Common.{map}
 use Rattle.std.proofs.lemmas.Result.{err_from_is_err_and}
 use Rattle.pec_cert.specs.Certificate.{addressee}
-use Rattle.pec_cert.specs.Shown.{IsShown}
-use Rattle.pec_cert.specs.Stamp.{Instant}
-use Rattle.pec_cert.specs.declared.certificates.CertRecipient.{CertRecipient}
-use Rattle.pec_cert.proofs.CheckLemmas.{after_sender, after_recipients, after_stamp, after_delivered, all_checked, lines_are, says}
+use Rattle.pec_cert.proofs.CheckLemmas.{lines_fault, lines_are, says}
 use Rattle.pec_cert.proofs.values.cert_from_lines.Goals as goal
 
-pub returns-in_err-recipients : goal.returns-in_err-recipients
-returns-in_err-recipients c =
-    let p = err_from_is_err_and c.from_residual-in_err-recipients.result c.from_residual-in_err-recipients.ensures.1 in
-    let l = c.args.lines in
-    rw (p.1, p.2) (after_sender (λ (x : List CertRecipient). map addressee x ≡ l.recipients) l c.in_err-recipients.field-0.0 c.in_ok-sender.ensures.0 c.in_err-recipients.ensures)
-
-pub returns-in_err-stamp : goal.returns-in_err-stamp
-returns-in_err-stamp c =
-    let p = err_from_is_err_and c.from_residual-in_err-stamp.result c.from_residual-in_err-stamp.ensures.1 in
-    let l = c.args.lines in
-    rw (p.1, p.2) (after_recipients (λ (x : Instant). IsShown l.shown x) l c.in_err-stamp.field-0.0 c.in_ok-sender.ensures.0 c.in_ok-recipients.ensures.0 c.in_err-stamp.ensures)
-
-pub returns-in_err-delivered : goal.returns-in_err-delivered
-returns-in_err-delivered c =
-    let p = err_from_is_err_and c.from_residual-in_err-delivered.result c.from_residual-in_err-delivered.ensures.1 in
-    let l = c.args.lines in
-    rw (p.1, p.2)
-    (after_stamp (λ (x : Option (List ℕ)). x ≡ l.delivered) l c.in_err-delivered.field-0.0 c.in_ok-sender.ensures.0 c.in_ok-recipients.ensures.0 c.in_ok-stamp.ensures.0 c.in_err-delivered.ensures)
-
-pub returns-in_err-received : goal.returns-in_err-received
-returns-in_err-received c =
-    let p = err_from_is_err_and c.from_residual-in_err-received.result c.from_residual-in_err-received.ensures.1 in
-    let l = c.args.lines in
-    rw (p.1, p.2)
-    (after_delivered (λ (x : List (List ℕ)). x ≡ l.received) l c.in_err-received.field-0.0 c.in_ok-sender.ensures.0 c.in_ok-recipients.ensures.0 c.in_ok-stamp.ensures.0 c.in_ok-delivered.ensures.0
-    c.in_err-received.ensures)
+pub returns-in_err-found : goal.returns-in_err-found
+returns-in_err-found c =
+    let p = err_from_is_err_and c.from_residual.result c.from_residual.ensures.1 in
+    rw (p.1, p.2) (lines_fault c.args.lines c.in_err-found.field-0.0 c.in_err-found.ensures)
 
 pub returns : goal.returns
 returns c =
     let l = c.args.lines in
-    let good = all_checked l c.in_ok-sender.ensures.0 c.in_ok-recipients.ensures.0 c.in_ok-stamp.ensures.0 c.in_ok-delivered.ensures.0 c.in_ok-received.ensures.0 in
-    let same = lines_are l c.in_ok-sender.sender (map addressee c.in_ok-recipients.recipients) c.in_ok-delivered.delivered c.in_ok-received.received
-    c.in_ok-sender.ensures.1 c.in_ok-recipients.ensures.1 c.in_ok-delivered.ensures.1 c.in_ok-received.ensures.1 in
-    (good, says l _ c.requires good c.in_ok-stamp.ensures.1 same)
+    let good = c.in_ok-found.ensures.0 in
+    let has = c.in_ok-found.ensures.1 in
+    let found = c.in_ok-found.found in (
+      good,
+      says l _ c.requires good has.stamp
+          (lines_are l found.sender (map addressee found.recipients) found.delivered found.received has.sender has.recipients has.delivered has.received),
+    )
