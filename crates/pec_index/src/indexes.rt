@@ -53,29 +53,3 @@ impl<V: Drop> Index<V> {
         Ok(true)
     }
 }
-
-#[cfg(test)]
-mod tests {
-    use super::*;
-    use std::test::Fail;
-
-    /// Each row has a key, a value, and whether the value is put there.
-    #[test]
-    fn the_first_value_at_a_key_stays(rt: HostRuntime) -> Result<(), Fail> {
-        let rows: [(&[u8], u32, bool); 4] = [
-            (b"alfa", 7, true),
-            (b"", 8, true), // no byte is a key too
-            (b"alfa", 9, false), // the first value stays
-            (b"alfb", 10, true), // another last byte, another key
-        ];
-        let mut index = Index::new(rt.alloc());
-        assert_eq!(rt; index.get(b"alfa").copied(), None);
-        for (key, value, put) in rows {
-            assert_eq!(rt; index.add(rt.alloc(), key, value)?, put, "{key:?}");
-        }
-        assert_eq!(rt; index.get(b"alfa").copied(), Some(7));
-        assert_eq!(rt; index.get(b"").copied(), Some(8));
-        assert_eq!(rt; index.get(b"alf").copied(), None);
-        Ok(())
-    }
-}

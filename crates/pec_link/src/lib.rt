@@ -7,6 +7,3 @@ mod links;
 
 pub use faults::LinkFault;
 pub use links::{Link, MOST_FRAMES};
-
-#[cfg(test)]
-mod tests;
