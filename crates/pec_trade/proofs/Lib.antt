@@ -13,3 +13,4 @@ mod EnvelopeLemmas
 mod ReceiptLemmas
 mod NoticeLemmas
 mod TradeLemmas
+mod WorldLemmas

@@ -4,7 +4,9 @@
 #![tactic(auto)]
 
 mod laws;
+mod worlds;
 
 pub use laws::{
     a_trade_says_what_its_parts_say, an_envelope_is_seen_with_its_facts, the_texts_are_a_trade,
 };
+pub use worlds::a_directory_has_one_world;
