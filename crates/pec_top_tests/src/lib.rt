@@ -2,6 +2,8 @@
 #![tactic(auto)]
 
 #[cfg(test)]
+mod cases;
+#[cfg(test)]
 mod delivery;
 #[cfg(test)]
 mod directories;
@@ -11,8 +13,6 @@ mod disks;
 mod forgery;
 #[cfg(test)]
 mod input;
-#[cfg(test)]
-mod items;
 #[cfg(test)]
 mod letters;
 #[cfg(test)]
@@ -27,3 +27,5 @@ mod serving;
 mod shown;
 #[cfg(test)]
 mod three;
+#[cfg(test)]
+mod words;

@@ -64,7 +64,8 @@ fn add_decision(
     add(words, decision.word())
 }
 
-fn add_moment(
+/// Adds the seconds of a moment, or that there is none.
+pub fn add_moment(
     alloc: Global,
     words: &mut Vec<u8>,
     moment: Option<Moment>,
