@@ -1,11 +1,21 @@
-//! Tests of `pec_outside` over its public calls: sources, sinks, disks, depots, clocks and doors in memory.
+//! Tests of `pec_types`, `pec_index`, `pec_link`, `pec_outside` and `pec_chronicle` over their public calls.
 #![tactic(auto)]
 
 #[cfg(test)]
-mod clock_tests;
+mod addresses;
 #[cfg(test)]
-mod disk_tests;
+mod chronicles;
 #[cfg(test)]
-mod door_tests;
+mod clocks;
 #[cfg(test)]
-mod stream_tests;
+mod disks;
+#[cfg(test)]
+mod doors;
+#[cfg(test)]
+mod indexes;
+#[cfg(test)]
+mod links;
+#[cfg(test)]
+mod streams;
+#[cfg(test)]
+mod texts;

@@ -1,0 +1,233 @@
+//! Entries and their bytes, which were written out by hand.
+use crate::entries::encoded;
+use crate::shown::shown;
+use pec_records::{Entry, EntryFault, decode};
+use pec_types::Address;
+use std::alloc::{AllocError, Global};
+
+// Each kind of entry, by its tag: its bytes written out by hand, field by field, and what they say.
+const ENTRIES: [(&str, &str); 10] = [
+    (
+        "00 00000007 000102030405060708090a0b0c0d0e0f101112131415161718191a1b1c1d1e1f",
+        "start 7 000102030405060708090a0b0c0d0e0f101112131415161718191a1b1c1d1e1f",
+    ),
+    (
+        "01 000000006593d090 0003 614062 00000005 53616c7665",
+        "accepted 1704186000 a@b 53616c7665",
+    ),
+    (
+        "02 000000006593d090 0003 614062 08 00000002 0010 626f6240626574612e6578616d706c65 0003 614062 00000002 00ff",
+        "not accepted 1704186000 a@b Virus bob@beta.example a@b 00ff",
+    ),
+    (
+        "03 000000006593d090 00000001 0000000000000002 00000000",
+        "took 1704186000 1 2 ",
+    ),
+    (
+        "04 000000006593d090 ffffffff 00000000000f423f 0010 626f6240626574612e6578616d706c65 02",
+        "decided 1704186000 4294967295 999999 bob@beta.example Refused(MailboxFull)",
+    ),
+    (
+        "05 00000000f48656ff 00000001 0000000000000002 00000003",
+        "charged 4102444799 1 2 3",
+    ),
+    (
+        "06 000000006593d090 00000000 0000000000000000 0003 614062 00 0000000000000000 00000005 53616c7665",
+        "learned 1704186000 0 0 a@b Placed 0 53616c7665",
+    ),
+    (
+        "07 000000006593d090 00000001 0000000000000002 0003 614062",
+        "acked 1704186000 1 2 a@b ",
+    ),
+    ("08 000000006593d090", "ticked 1704186000"),
+    (
+        "09 000000006593d090 00000000 00000002 00ff",
+        "anomaly 1704186000 00ff",
+    ),
+];
+
+#[test]
+fn each_kind_of_entry_is_its_bytes(rt: HostRuntime) {
+    for tag in 0..10 {
+        assert!(rt; is_its_bytes(rt.alloc(), tag), "{tag}");
+    }
+}
+
+/// Whether the entry of a tag has the bytes of its row, and these are read as what it says.
+fn is_its_bytes(alloc: Global, tag: usize) -> bool {
+    let Some((digits, said)) = ENTRIES.get(tag) else {
+        return false;
+    };
+    match bytes_of(alloc, digits) {
+        Some(bytes) => is_written(alloc, tag, &bytes) && says(alloc, &bytes, said),
+        None => false,
+    }
+}
+
+fn is_written(alloc: Global, tag: usize, wanted: &[u8]) -> bool {
+    match encoded(alloc, tag) {
+        Some(bytes) => bytes.as_slice() == wanted,
+        None => false,
+    }
+}
+
+fn says(alloc: Global, bytes: &[u8], said: &str) -> bool {
+    match text_of(alloc, bytes) {
+        Some(text) => text.as_str() == said,
+        None => false,
+    }
+}
+
+/// What the entry of these bytes says.
+fn text_of(alloc: Global, bytes: &[u8]) -> Option<String> {
+    match read(alloc, bytes) {
+        Ok(entry) => shown(alloc, &entry),
+        Err(_) => None,
+    }
+}
+
+fn read(alloc: Global, bytes: &[u8]) -> Result<Entry, EntryFault> {
+    decode(alloc, bytes)
+}
+
+fn fault_of(alloc: Global, bytes: &[u8]) -> Option<EntryFault> {
+    read(alloc, bytes).err()
+}
+
+#[test]
+fn what_is_cut_off_ends_too_early(rt: HostRuntime) {
+    for (digits, said) in &ENTRIES {
+        assert!(rt; ends_too_early(rt.alloc(), digits), "{said}");
+    }
+}
+
+fn ends_too_early(alloc: Global, digits: &str) -> bool {
+    match bytes_of(alloc, digits) {
+        Some(bytes) => has_no_front(alloc, &bytes),
+        None => false,
+    }
+}
+
+/// Whether the bytes end too early wherever they are cut off.
+fn has_no_front(alloc: Global, bytes: &[u8]) -> bool {
+    for n in 0..bytes.len() {
+        if fault_of(alloc, &bytes[..n]) != Some(EntryFault::Syntax(n)) {
+            return false;
+        }
+    }
+    true
+}
+
+// Bytes that are no entry, and the place of the first with which no entry goes on.
+const FAULTS: [(&str, usize); 33] = [
+    ("0a", 0), // there are ten tags, from 0
+    ("ff", 0),
+    ("08 000000006593d090 00", 9), // bytes behind the end
+    (
+        "00 00000007 000102030405060708090a0b0c0d0e0f101112131415161718191a1b1c1d1e1f 20",
+        37,
+    ),
+    ("08 00000000f4865700", 7), // 4,102,444,800 seconds are no moment
+    ("08 00000000f4865800", 7),
+    ("08 00000000f5000000", 5),
+    ("08 0100000000000000", 1),
+    ("05 000000006593d090 00000001 00000000000f4240 00000003", 20), // 1,000,000 is no message
+    ("05 000000006593d090 00000001 00000000000f4300 00000003", 19),
+    ("05 000000006593d090 00000001 0000000100000000 00000003", 16),
+    ("01 000000006593d090 0000 00000000", 10), // no address has 0, 1 or 2 bytes
+    ("01 000000006593d090 0001 61 00000000", 10),
+    ("01 000000006593d090 0002 6140 00000000", 10),
+    ("01 000000006593d090 00ff 614062 00000000", 10), // or 255 and more
+    ("01 000000006593d090 0103 614062 00000000", 9),
+    ("01 000000006593d090 00fe 614062", 14), // one of 254 bytes may begin so
+    ("01 000000006593d090 0003 614042 00000000", 13), // a capital
+    ("01 000000006593d090 0003 414062 00000000", 11),
+    ("01 000000006593d090 0003 616240 00000000", 12), // behind `ab` there is no room for `@` and a letter
+    ("01 000000006593d090 0004 6140622e 00000000", 14), // no address ends with a dot
+    ("01 000000006593d090 0004 6140622d 00000000", 14), // or a hyphen
+    ("01 000000006593d090 0004 614062 00000000", 14), // one byte too many is said
+    ("01 000000006593d090 0003 61406263 00000000", 19), // and one too few: the length is 0x63000000
+    ("01 000000006593d090 0003 614062 00000004 53616c7665", 22), // one byte of five too few is said
+    ("01 000000006593d090 0003 614062 00000006 53616c7665", 23), // and one too many
+    ("01 000000006593d090 0003 614062 ffffffff 53616c7665", 23),
+    ("09 000000006593d090 ffffffff", 13), // 4,294,967,295 addresses, of which none is there
+    ("09 000000006593d090 ffffffff 0003 614062", 18),
+    (
+        "09 000000006593d090 00000001 0003 614062 0003 614062 00000000",
+        27,
+    ), // the second address is read as a length, past the end
+    (
+        "04 000000006593d090 00000001 0000000000000002 0003 614062 04",
+        26,
+    ), // a decision past the last
+    ("02 000000006593d090 0003 614062 00 00000000 00000000", 14), // causes count from 1
+    ("02 000000006593d090 0003 614062 09 00000000 00000000", 14), // to 8
+];
+
+#[test]
+fn faults_stand_at_the_first_wrong_byte(rt: HostRuntime) {
+    for (digits, place) in &FAULTS {
+        assert!(rt; has_fault_at(rt.alloc(), digits, *place), "{digits}");
+    }
+}
+
+fn has_fault_at(alloc: Global, digits: &str, place: usize) -> bool {
+    match bytes_of(alloc, digits) {
+        Some(bytes) => fault_of(alloc, &bytes) == Some(EntryFault::Syntax(place)),
+        None => false,
+    }
+}
+
+// A path of 1,001 addresses, and an address of 254 bytes.
+#[test]
+fn long_lists_and_addresses_are_read(rt: HostRuntime) {
+    assert!(rt; is_long_read(rt.alloc()));
+}
+
+fn is_long_read(alloc: Global) -> bool {
+    match long_bytes(alloc) {
+        Ok(bytes) => is_long_list(alloc, &bytes),
+        Err(_) => false,
+    }
+}
+
+fn is_long_list(alloc: Global, bytes: &[u8]) -> bool {
+    match read(alloc, bytes) {
+        Ok(
+            Entry::Anomaly {
+                accounts,
+                message,
+                ..
+            },
+        ) => are_long(accounts.as_slice()) && message.bytes() == b"!".as_slice(),
+        _ => false,
+    }
+}
+
+fn are_long(accounts: &[Address]) -> bool {
+    match accounts.last() {
+        Some(last) => accounts.len() == 1001 && last.bytes().len() == 254,
+        None => false,
+    }
+}
+
+fn long_bytes(alloc: Global) -> Result<Vec<u8>, AllocError> {
+    let mut bytes = Vec::from_slice(alloc, b"\x09\0\0\0\0\x65\x93\xd0\x90\0\0\x03\xe9")?;
+    put_accounts(&mut bytes)?;
+    Ok(bytes)
+}
+
+fn put_accounts(bytes: &mut Vec<u8>) -> Result<(), AllocError> {
+    for _ in 0..1000 {
+        bytes.extend_from_slice(b"\x00\x03a@b")?;
+    }
+    bytes.extend_from_slice(b"\x00\xfe")?;
+    bytes.extend_from_slice(&[b'a'; 252])?;
+    bytes.extend_from_slice(b"@b\x00\x00\x00\x01!")
+}
+
+/// The bytes that hexadecimal digits stand for, blanks left out.
+fn bytes_of(alloc: Global, digits: &str) -> Option<Vec<u8>> {
+    let text = digits.replace(alloc, " ", "").ok()?;
+    hex::decode(alloc, text.as_bytes()).ok()
+}

@@ -1,5 +1,0 @@
-//! Tests of `pec_frames` over its public calls.
-#![tactic(auto)]
-
-#[cfg(test)]
-mod tests;

@@ -1,0 +1,314 @@
+//! Receipts, notices and acknowledgements of every kind, byte by byte, and read back.
+use crate::houses::{House, house, sealed, written};
+use crate::receipt_texts::{
+    ACCEPTANCE, ACKNOWLEDGEMENT, CHARGE, DELAY, DELIVERY, ERROR, MESSAGE, REFUSAL, SHORT, WHOLE,
+    worded,
+};
+use pec_heads::Head;
+use pec_receipts::{Kind, Receipt, ReceiptView, compose, read};
+use pec_seal::Sealer;
+use pec_types::{Address, Cause, Moment, MsgId, Refusal};
+use std::alloc::{AllocError, Global};
+
+const BOB: &str = "bob@beta.example";
+
+const CARL: &str = "carl@beta.example";
+
+const VIRUS: &str = "X-VerificaSicurezza: errore\n";
+
+/// A kind, who composes it, whom it names, what it is composed as, and the words in that text.
+type Row = (Kind, u32, &'static str, &'static str, [&'static str; 3]);
+
+static ROWS: [Row; 18] = [
+    (Kind::Acceptance, 0, "", ACCEPTANCE, ["", "", ""]),
+    (
+        Kind::NonAcceptance(Cause::Head),
+        0,
+        "",
+        REFUSAL,
+        ["altro", "head", ""],
+    ),
+    (
+        Kind::NonAcceptance(Cause::From),
+        0,
+        "",
+        REFUSAL,
+        ["altro", "from", ""],
+    ),
+    (
+        Kind::NonAcceptance(Cause::To),
+        0,
+        "",
+        REFUSAL,
+        ["altro", "to", ""],
+    ),
+    (
+        Kind::NonAcceptance(Cause::ReversePath),
+        0,
+        "",
+        REFUSAL,
+        ["altro", "reverse-path", ""],
+    ),
+    (
+        Kind::NonAcceptance(Cause::ForwardPath),
+        0,
+        "",
+        REFUSAL,
+        ["altro", "forward-path", ""],
+    ),
+    (
+        Kind::NonAcceptance(Cause::Bcc),
+        0,
+        "",
+        REFUSAL,
+        ["altro", "bcc", ""],
+    ),
+    (
+        Kind::NonAcceptance(Cause::Size),
+        0,
+        "",
+        REFUSAL,
+        ["altro", "size", ""],
+    ),
+    (
+        Kind::NonAcceptance(Cause::Virus),
+        0,
+        "",
+        REFUSAL,
+        ["virus", "virus", VIRUS],
+    ),
+    (Kind::Charge, 1, "", CHARGE, ["", "", ""]),
+    (Kind::Delivery, 1, BOB, DELIVERY, ["completa", WHOLE, "0"]),
+    (
+        Kind::DeliveryError(Refusal::NoMailbox),
+        1,
+        BOB,
+        ERROR,
+        ["no-dest", "no-mailbox", ""],
+    ),
+    (
+        Kind::DeliveryError(Refusal::MailboxFull),
+        1,
+        BOB,
+        ERROR,
+        ["altro", "mailbox-full", ""],
+    ),
+    (
+        Kind::DeliveryError(Refusal::Virus),
+        1,
+        BOB,
+        ERROR,
+        ["virus", "virus", VIRUS],
+    ),
+    (
+        Kind::Warning,
+        0,
+        BOB,
+        DELAY,
+        ["pre", "Entro 12 ore", "12 ore"],
+    ),
+    (
+        Kind::Notice,
+        0,
+        BOB,
+        DELAY,
+        ["man", "Entro 24 ore", "24 ore"],
+    ),
+    (
+        Kind::LateNotice,
+        0,
+        BOB,
+        DELAY,
+        ["man", "Oltre 24 ore", "oltre 24 ore"],
+    ),
+    (Kind::Ack, 0, BOB, ACKNOWLEDGEMENT, ["", "", ""]),
+];
+
+/// Delivery receipts of a primary recipient and of a copy, for each wish.
+static DELIVERIES: [Row; 6] = [
+    (Kind::Delivery, 1, BOB, DELIVERY, ["completa", WHOLE, "0"]),
+    (Kind::Delivery, 1, CARL, DELIVERY, ["completa", "", "2"]),
+    (Kind::Delivery, 1, BOB, DELIVERY, ["sintetica", "", "0"]),
+    (Kind::Delivery, 1, CARL, DELIVERY, ["sintetica", "", "2"]),
+    (Kind::Delivery, 1, BOB, DELIVERY, ["breve", SHORT, "0"]),
+    (Kind::Delivery, 1, CARL, DELIVERY, ["breve", SHORT, "2"]),
+];
+
+/// The tables and the message, by functions without a clause: the proofs of the tests are then spared their texts.
+fn rows() -> &'static [Row] {
+    &ROWS
+}
+
+fn deliveries() -> &'static [Row] {
+    &DELIVERIES
+}
+
+fn message() -> &'static str {
+    MESSAGE
+}
+
+#[test]
+fn every_kind_is_composed_and_read_back(rt: HostRuntime) {
+    for row in rows() {
+        assert!(rt; is_composed(rt.alloc(), row, "completa"), "{:?}", row.0);
+    }
+}
+
+#[test]
+fn a_delivery_receipt_has_of_the_message_what_was_wished(rt: HostRuntime) {
+    for row in deliveries() {
+        assert!(rt;
+            is_composed(rt.alloc(), row, row.4[0]),
+            "{} {}",
+            row.2,
+            row.4[0]
+        );
+    }
+}
+
+/// Whether the receipt of a row is composed as its text, and read as what it was composed of. The message has the wish of this word.
+fn is_composed(alloc: Global, row: &Row, wish: &str) -> bool {
+    let Some(house) = house(alloc, "gamma.example") else {
+        return false;
+    };
+    let Ok(original) = original(alloc, wish) else {
+        return false;
+    };
+    match receipt(alloc, row.0, row.1, row.2, original.as_bytes()) {
+        Some(receipt) => is_given(alloc, &house, row, &receipt, original.as_bytes()),
+        None => false,
+    }
+}
+
+fn is_given(alloc: Global, house: &House, row: &Row, receipt: &Receipt, original: &[u8]) -> bool {
+    match composed(alloc, house, receipt, original) {
+        Some(letter) => {
+            is_wanted(alloc, house, row, &letter) && is_read(alloc, house, receipt, &letter)
+        }
+        None => false,
+    }
+}
+
+/// The message as it was handed in, with the wish of this word.
+fn original(alloc: Global, wish: &str) -> Result<String, AllocError> {
+    let text = message().replace(alloc, "completa", wish)?;
+    written(alloc, text.as_str())
+}
+
+/// The receipt of the message; none where it may not be given.
+fn composed(alloc: Global, house: &House, receipt: &Receipt, original: &[u8]) -> Option<Vec<u8>> {
+    if !receipt.can_be_given(&house.directory) || house.sealer.name(receipt.by).is_none() {
+        return None;
+    }
+    compose(alloc, &house.sealer, &house.directory, receipt, original).ok()
+}
+
+/// Whether a letter is that of a row, as its provider sealed it.
+fn is_wanted(alloc: Global, house: &House, row: &Row, letter: &[u8]) -> bool {
+    match wanted(alloc, house, row) {
+        Some(wanted) => wanted.as_slice() == letter,
+        None => false,
+    }
+}
+
+fn wanted(alloc: Global, house: &House, row: &Row) -> Option<Vec<u8>> {
+    let text = worded(alloc, row.3, row.2, row.4).ok()?;
+    sealed(alloc, house, row.1, text.as_str())
+}
+
+/// Whether a letter is read as what this receipt says.
+fn is_read(alloc: Global, house: &House, receipt: &Receipt, letter: &[u8]) -> bool {
+    match read(alloc, &house.sealer, &house.directory, letter) {
+        Ok(view) => says(&view, receipt),
+        Err(_) => false,
+    }
+}
+
+fn says(view: &ReceiptView, receipt: &Receipt) -> bool {
+    if view.kind != receipt.kind {
+        return false;
+    }
+    if view.id != receipt.id {
+        return false;
+    }
+    if view.by != receipt.by {
+        return false;
+    }
+    if view.moment != receipt.moment {
+        return false;
+    }
+    is_same(&view.recipient, &receipt.recipient)
+}
+
+fn is_same(one: &Option<Address>, other: &Option<Address>) -> bool {
+    match (one, other) {
+        (Some(one), Some(other)) => one.bytes() == other.bytes(),
+        (None, None) => true,
+        _ => false,
+    }
+}
+
+/// A kind, by whom, and of which recipient.
+type Gift = (Kind, u32, &'static str);
+
+/// What may not be given: kinds with and without a recipient, an external and a strange recipient, a provider that isn't there, and
+/// another provider than the message's.
+static NOT_GIVEN: [Gift; 8] = [
+    (Kind::Acceptance, 0, BOB),
+    (Kind::Charge, 1, BOB),
+    (Kind::Delivery, 1, ""),
+    (Kind::Delivery, 1, "x@y.example"),
+    (Kind::Delivery, 1, "alice@alfa.example"),
+    (Kind::Delivery, 3, BOB),
+    (Kind::Acceptance, 1, ""),
+    (Kind::Notice, 1, BOB),
+];
+
+#[test]
+fn no_receipt_is_given_by_or_of_one_whom_it_does_not_concern(rt: HostRuntime) {
+    for gift in &NOT_GIVEN {
+        assert!(rt;
+            is_not_given(rt.alloc(), gift),
+            "{:?} {} {}",
+            gift.0,
+            gift.1,
+            gift.2
+        );
+    }
+}
+
+fn is_not_given(alloc: Global, gift: &Gift) -> bool {
+    let Some(house) = house(alloc, "gamma.example") else {
+        return false;
+    };
+    match receipt(alloc, gift.0, gift.1, gift.2, message().as_bytes()) {
+        Some(receipt) => !receipt.can_be_given(&house.directory),
+        None => false,
+    }
+}
+
+/// What a provider is to say of the message of this text.
+fn receipt(
+    alloc: Global,
+    kind: Kind,
+    by: u32,
+    recipient: &str,
+    original: &[u8],
+) -> Option<Receipt> {
+    let (head, _) = Head::read(alloc, original).ok()?;
+    let facts = head.facts(alloc).ok()??;
+    let recipient = Address::find(alloc, recipient.as_bytes()).ok()?;
+    let moment = Moment::new(1_704_186_060)?;
+    let id = MsgId {
+        provider: 0,
+        number: 1_234,
+    };
+    Some(Receipt {
+        kind,
+        id,
+        by,
+        moment,
+        facts,
+        recipient,
+    })
+}

@@ -1,0 +1,380 @@
+//! The tables of faults of receipts and of acknowledgements: a letter for each row and for each pair of rows that both apply, and letters
+//! that no row refuses.
+use crate::houses::house;
+use crate::reading::{Reader, Row, has_fault, is_fault};
+use crate::receipt_texts::{
+    ACCEPTANCE, ACKNOWLEDGEMENT, CHARGE, DELAY, DELIVERY, ERROR, REFUSAL, WHOLE, worded,
+};
+use pec_types::Disputed::{Identifier, Moment, Recipient, Sealer as Sealed, Sender, Wish};
+use pec_types::LetterFault::{self, Body, Cert, Disagree, Head, NotThis};
+use std::alloc::{AllocError, Global};
+
+/// Of the delivery receipt of the first recipient with the whole message, in the order of the table.
+static DELIVERED: [Row; 27] = [
+    (
+        Head,
+        "MIME-Version: 1.0\nContent-Type: multipart/mixed; boundary=\"",
+        "MIME-Version 1.0\nContent-Type: multipart/mixed; boundary=\"",
+    ),
+    (Body, "--=_pec_0--", "--=_pec_0"),
+    (Body, "boundary=\"=_pec_0\"", "boundary=\"=_pec_1\""),
+    (Cert, "name=\"daticert.xml\"", "name=\"Daticert.xml\""),
+    (Cert, "tipo=\"completa\"/>", "tipo=\"completa\" />"),
+    (
+        NotThis,
+        "X-Ricevuta: avvenuta-consegna",
+        "X-Ricevuta: presa-in-carico",
+    ),
+    (
+        NotThis,
+        "X-Ricevuta: avvenuta-consegna",
+        "X-Trasporto: posta-certificata",
+    ),
+    (
+        NotThis,
+        "tipo=\"avvenuta-consegna\"",
+        "tipo=\"errore-consegna\"",
+    ),
+    (NotThis, "errore=\"nessuno\"", "errore=\"altro\""),
+    (
+        NotThis,
+        "</dati>",
+        "<errore-esteso>12 ore</errore-esteso>\n</dati>",
+    ),
+    (
+        Disagree(Identifier),
+        "<identificativo>pec.0001234",
+        "<identificativo>pec.0001235",
+    ),
+    (
+        Disagree(Identifier),
+        "X-Riferimento-Message-ID: <pec",
+        "X-Riferimento-Message-ID: <PEC",
+    ),
+    (
+        Disagree(Identifier),
+        "pec.0001234@alfa.example",
+        "pec.0001234@alfa.it",
+    ),
+    (Disagree(Sealed), "emittente>beta<", "emittente>alfa<"),
+    (
+        Disagree(Sender),
+        "<mittente>alice@alfa.example<",
+        "<mittente>bob@beta.example<",
+    ),
+    (
+        Disagree(Recipient),
+        "\"certificato\">bob",
+        "\"esterno\">bob",
+    ),
+    (Disagree(Recipient), "\"esterno\">x", "\"certificato\">x"),
+    (
+        Disagree(Recipient),
+        "<consegna>bob@beta.example</consegna>\n",
+        "",
+    ),
+    (
+        Disagree(Recipient),
+        "<consegna>bob@beta.example<",
+        "<consegna>anna@alfa.example<",
+    ),
+    (
+        Disagree(Recipient),
+        "<consegna>bob@beta.example<",
+        "<consegna>x@y.example<",
+    ),
+    (Disagree(Wish), "<ricevuta tipo=\"completa\"/>\n", ""),
+    (
+        Disagree(Wish),
+        "<ricevuta tipo=\"completa\"/>",
+        "<ricevuta tipo=\"breve\"/>",
+    ),
+    (
+        Disagree(Wish),
+        "X-TipoRicevuta: completa\nMessage",
+        "X-TipoRicevuta: sintetica\nMessage",
+    ),
+    (
+        Disagree(Wish),
+        "X-TipoRicevuta: completa\nMessage",
+        "Message",
+    ),
+    (Disagree(Moment), "10:01:00 +0100", "10:01:01 +0100"),
+    (Disagree(Moment), "<ora>10:01:00", "<ora>10:01:02"),
+    (Disagree(Moment), "Date: Tue", "Date: Wed"),
+];
+
+/// Of the acknowledgement by which the first recipient's outcome was taken, in the order of the table.
+static ACKNOWLEDGED: [Row; 11] = [
+    (Head, "Subject:", "Subject"),
+    (
+        Disagree(Identifier),
+        "<pec.0001234@alfa.example>",
+        "pec.0001234@alfa.example",
+    ),
+    (
+        Disagree(Identifier),
+        "X-Riferimento-Message-ID",
+        "X-Riferimento",
+    ),
+    (
+        Disagree(Identifier),
+        "pec.0001234@alfa.example",
+        "pec.1234@alfa.example",
+    ),
+    (
+        Disagree(Identifier),
+        "@alfa.example>\nDate",
+        "@alfa.it>\nDate",
+    ),
+    (
+        Disagree(Recipient),
+        "X-Riscontro: pec.0001234",
+        "X-Riscontro: pec.0001235",
+    ),
+    (
+        Disagree(Recipient),
+        " bob@beta.example",
+        "  bob@beta.example",
+    ),
+    (Disagree(Recipient), " bob@beta.example", " bob"),
+    (Disagree(Moment), "Date: Tue", "Date: Wed"),
+    (Disagree(Moment), "02 Jan", "2 Jan"),
+    (Disagree(Moment), "Date:", "Data:"),
+];
+
+/// A letter that a provider seals: its text, the words in it, and who seals it.
+type Letter = (&'static str, [&'static str; 3], u32);
+
+const ACCEPTED: Letter = (ACCEPTANCE, ["", "", ""], 0);
+
+const REFUSED: Letter = (REFUSAL, ["altro", "size", ""], 0);
+
+const CHARGED: Letter = (CHARGE, ["", "", ""], 1);
+
+const WITH_MESSAGE: Letter = (DELIVERY, ["completa", WHOLE, "0"], 1);
+
+const FULL: Letter = (ERROR, ["altro", "mailbox-full", ""], 1);
+
+const DELAYED: Letter = (DELAY, ["pre", "Entro 12 ore", "12 ore"], 0);
+
+const ACK: Letter = (ACKNOWLEDGEMENT, ["", "", ""], 0);
+
+/// Rows of letters of other kinds.
+static OTHERS: [(Letter, Row); 10] = [
+    (
+        ACCEPTED,
+        (Disagree(Sealed), "emittente>alfa<", "emittente>beta<"),
+    ),
+    (
+        ACCEPTED,
+        (
+            Disagree(Recipient),
+            "</dati>",
+            "<consegna>bob@beta.example</consegna>\n</dati>",
+        ),
+    ),
+    (
+        ACCEPTED,
+        (Disagree(Wish), "<ricevuta tipo=\"completa\"/>\n", ""),
+    ),
+    (REFUSED, (NotThis, "errore=\"altro\"", "errore=\"virus\"")),
+    (
+        REFUSED,
+        (
+            Disagree(Wish),
+            "<errore",
+            "<ricevuta tipo=\"breve\"/>\n<errore",
+        ),
+    ),
+    (
+        CHARGED,
+        (
+            Disagree(Recipient),
+            "<ricezione>bob",
+            "<consegna>bob@beta.example</consegna>\n<ricezione>bob",
+        ),
+    ),
+    (
+        CHARGED,
+        (
+            Disagree(Wish),
+            "<ricezione>bob",
+            "<ricevuta tipo=\"completa\"/>\n<ricezione>bob",
+        ),
+    ),
+    (FULL, (NotThis, "errore=\"altro\"", "errore=\"no-dest\"")),
+    (DELAYED, (NotThis, "12 ore<", "13 ore<")),
+    (
+        DELAYED,
+        (
+            Disagree(Wish),
+            "<consegna>",
+            "<ricevuta tipo=\"breve\"/>\n<consegna>",
+        ),
+    ),
+];
+
+/// Letters that only the message's provider may seal, sealed by another under its own name.
+static ELSEWHERE: [Letter; 3] = [ACCEPTED, REFUSED, DELAYED];
+
+/// What no row looks at: a letter, and what is changed.
+static PASSED: [(Letter, &str, &str); 9] = [
+    (WITH_MESSAGE, WHOLE, ""),
+    (WITH_MESSAGE, "<mittente>alice", "<mittente>anna"),
+    (WITH_MESSAGE, "Message-ID: <avc", "Message-ID: <altro"),
+    (
+        WITH_MESSAGE,
+        "</consegna>",
+        "</consegna>\n<ricezione>bob@beta.example</ricezione>",
+    ),
+    (CHARGED, "<ricezione>bob@beta.example</ricezione>\n", ""),
+    (
+        REFUSED,
+        "X-Ricevuta",
+        "X-VerificaSicurezza: errore\nx-ricevuta",
+    ),
+    (ACK, "ricevuto", "--=_pec_0"),
+    (ACK, " bob@beta.example", " BOB@beta.example"),
+    (ACK, "X-Riscontro", "X-Ricevuta: altro\nx-riscontro"),
+];
+
+/// The tables and their letters, by functions without a clause: the proofs of the tests are then spared their texts.
+fn delivered() -> (Letter, &'static [Row]) {
+    (WITH_MESSAGE, &DELIVERED)
+}
+
+fn acknowledged() -> (Letter, &'static [Row]) {
+    (ACK, &ACKNOWLEDGED)
+}
+
+fn others() -> &'static [(Letter, Row)] {
+    &OTHERS
+}
+
+fn elsewhere() -> &'static [Letter] {
+    &ELSEWHERE
+}
+
+fn passed() -> &'static [(Letter, &'static str, &'static str)] {
+    &PASSED
+}
+
+#[test]
+fn the_first_row_that_applies_is_the_fault(rt: HostRuntime) {
+    let (letter, rows) = delivered();
+    for place in 0..rows.len() {
+        assert!(rt;
+            is_receipt_fault(rt.alloc(), &letter, rows.get(place..)),
+            "row {place}"
+        );
+    }
+}
+
+#[test]
+fn the_first_row_that_applies_is_the_fault_of_an_acknowledgement(rt: HostRuntime) {
+    let (letter, rows) = acknowledged();
+    for place in 0..rows.len() {
+        assert!(rt;
+            is_receipt_fault(rt.alloc(), &letter, rows.get(place..)),
+            "row {place}"
+        );
+    }
+}
+
+#[test]
+fn letters_of_other_kinds_have_the_faults_of_their_rows(rt: HostRuntime) {
+    for (letter, row) in others() {
+        assert!(rt;
+            is_receipt_fault(rt.alloc(), letter, Some(&[*row])),
+            "{}",
+            row.2
+        );
+    }
+}
+
+/// Whether the first of the rows is the fault of the letter, also where a later one applies too.
+fn is_receipt_fault(alloc: Global, letter: &Letter, rows: Option<&[Row]>) -> bool {
+    match (whole(alloc, letter), rows) {
+        (Ok(text), Some(rows)) => {
+            is_fault(alloc, Reader::Receipts, letter.2, text.as_str(), rows)
+        }
+        _ => false,
+    }
+}
+
+#[test]
+fn a_letter_that_the_messages_provider_alone_may_seal_is_sealed_by_no_other(rt: HostRuntime) {
+    for letter in elsewhere() {
+        assert!(rt;
+            is_sealed_by_no_other(rt.alloc(), letter),
+            "{}",
+            letter.1[1]
+        );
+    }
+}
+
+fn is_sealed_by_no_other(alloc: Global, letter: &Letter) -> bool {
+    let fault = Some(Disagree(Sealed));
+    is_changed_to(
+        alloc,
+        letter,
+        "emittente>alfa<",
+        "emittente>beta<",
+        1,
+        fault,
+    )
+}
+
+#[test]
+fn any_provider_acknowledges(rt: HostRuntime) {
+    assert!(rt;
+        is_changed_to(
+            rt.alloc(),
+            &acknowledged().0,
+            "ricevuto",
+            "ricevuto",
+            2,
+            None
+        )
+    );
+}
+
+#[test]
+fn what_no_row_looks_at_is_read(rt: HostRuntime) {
+    for (letter, from, to) in passed() {
+        assert!(rt;
+            is_changed_to(rt.alloc(), letter, from, to, letter.2, None),
+            "{to}"
+        );
+    }
+}
+
+/// Whether the letter with this in the place of that, sealed by this provider, has the fault; with none, whether it is
+/// read.
+fn is_changed_to(
+    alloc: Global,
+    letter: &Letter,
+    from: &str,
+    to: &str,
+    by: u32,
+    fault: Option<LetterFault>,
+) -> bool {
+    let Some(house) = house(alloc, "gamma.example") else {
+        return false;
+    };
+    match edited(alloc, letter, from, to) {
+        Ok(text) => has_fault(alloc, Reader::Receipts, &house, by, text.as_str(), fault),
+        Err(_) => false,
+    }
+}
+
+/// The text of a letter, where this stands everywhere in the place of that.
+fn edited(alloc: Global, letter: &Letter, from: &str, to: &str) -> Result<String, AllocError> {
+    let text = whole(alloc, letter)?;
+    text.replace(alloc, from, to)
+}
+
+fn whole(alloc: Global, letter: &Letter) -> Result<String, AllocError> {
+    worded(alloc, letter.0, "bob@beta.example", letter.1)
+}

@@ -1,0 +1,190 @@
+//! Disks and depots in memory: what is read of what was written, calls that fail, and crashes.
+use pec_outside::{Depot, Disk, Failed, MemDepot, MemDisk};
+use std::alloc::Global;
+
+// Where a piece is written, the piece, and what the disk holds then.
+const WRITES: [(u64, &[u8], &[u8]); 5] = [
+    (0, b"abc", b"abc"),
+    (1, b"XY", b"aXY"), // within
+    (2, b"zzz", b"aXzzz"), // over the end
+    (5, b"!", b"aXzzz!"), // at the end
+    (3, b"", b"aXzzz!"), // nothing
+];
+
+// Where four bytes are read, one row after another, how many there are, and the room then.
+const READS: [(u64, usize, &[u8]); 4] = [
+    (0, 4, b"aXzz"),
+    (4, 2, b"z!zz"),
+    (6, 0, b"z!zz"),
+    (9, 0, b"z!zz"),
+];
+
+#[test]
+fn a_disk_reads_as_it_was_written(rt: HostRuntime) {
+    assert!(rt; reads_as_written(rt.alloc()));
+}
+
+fn reads_as_written(alloc: Global) -> bool {
+    let mut disk = MemDisk::new(alloc, Vec::new(alloc));
+    let mut room = [b'-'; 4];
+    takes_all(&mut disk, &WRITES) && gives_all(&mut disk, &mut room, &READS)
+}
+
+fn takes_all<D: Disk>(disk: &mut D, rows: &[(u64, &[u8], &[u8])]) -> bool {
+    for (at, piece, wanted) in rows {
+        if !takes(disk, *at, piece, wanted) {
+            return false;
+        }
+    }
+    true
+}
+
+fn takes<D: Disk>(disk: &mut D, at: u64, piece: &[u8], wanted: &[u8]) -> bool {
+    disk.write_at(at, piece) == Ok(())
+        && holds(disk, wanted)
+        && disk.size() == Ok(wanted.len() as u64)
+}
+
+/// Whether these bytes are what the disk holds, up to 40.
+fn holds<D: Disk>(disk: &mut D, wanted: &[u8]) -> bool {
+    let mut room = [0; 40];
+    match disk.read_at(0, &mut room) {
+        Ok(count) => match room.get(..count) {
+            Some(bytes) => bytes == wanted,
+            None => false,
+        },
+        Err(_) => false,
+    }
+}
+
+fn gives_all<D: Disk>(disk: &mut D, room: &mut [u8], rows: &[(u64, usize, &[u8])]) -> bool {
+    for (at, count, wanted) in rows {
+        if disk.read_at(*at, room) != Ok(*count) || *room != **wanted {
+            return false;
+        }
+    }
+    true
+}
+
+// A write that fails changes nothing that is read, and each call is counted, those too that fail.
+#[test]
+fn each_call_of_a_disk_can_fail(rt: HostRuntime) {
+    for number in 0..4 {
+        assert!(rt; fails_once(rt.alloc(), number), "call {number}");
+    }
+}
+
+fn fails_once(alloc: Global, number: u64) -> bool {
+    match Vec::from_slice(alloc, &[number]) {
+        Ok(failing) => {
+            let mut disk = MemDisk::new(alloc, failing);
+            fails_at(&mut disk, number)
+                && disk.calls() == 4
+                && disk.size() == Ok(if number == 0 { 0 } else { 3 })
+        }
+        Err(_) => false,
+    }
+}
+
+fn fails_at<D: Disk>(disk: &mut D, number: u64) -> bool {
+    let mut room = [0; 8];
+    disk.write_at(0, b"abc").is_err() == (number == 0)
+        && disk.sync().is_err() == (number == 1)
+        && disk.size().is_err() == (number == 2)
+        && disk.read_at(0, &mut room).is_err() == (number == 3)
+}
+
+// `abcdef` is durable. Then XY is written at 1, a write at 4 fails, and Z is written at 6: pending are the places 1, 2, 4
+// and 6.
+const CRASHES: [(u64, &[u8]); 6] = [
+    (0, b"a\xff\xffd\xfff\xff"),
+    (1, b"aX\xffd\xfff\xff"),
+    (2, b"aXYd\xfff\xff"),
+    (3, b"aXYdef\xff"),
+    (4, b"aXYdefZ"),
+    (9, b"aXYdefZ"),
+];
+
+#[test]
+fn a_crash_keeps_the_first_pending_bytes(rt: HostRuntime) {
+    for (kept, wanted) in &CRASHES {
+        assert!(rt; keeps_first(rt.alloc(), *kept, wanted), "{kept}");
+    }
+}
+
+/// Whether a crash that keeps so many pending bytes leaves this.
+fn keeps_first(alloc: Global, kept: u64, wanted: &[u8]) -> bool {
+    match depot_keeping(alloc, kept) {
+        Some(mut depot) => is_left_by_crashes(&mut depot, wanted),
+        None => false,
+    }
+}
+
+/// A depot whose first disk fails at its call 3, and whose first crash keeps so many pending bytes.
+fn depot_keeping(alloc: Global, kept: u64) -> Option<MemDepot> {
+    let calls = Vec::from_slice(alloc, &[3]).ok()?;
+    let failing = vec![in alloc; calls].ok()?;
+    let kept = Vec::from_slice(alloc, &[kept]).ok()?;
+    Some(MemDepot::new(alloc, failing, kept))
+}
+
+fn is_left_by_crashes<D: Disk + Drop, P: Depot<D = D>>(depot: &mut P, wanted: &[u8]) -> bool {
+    match depot.disk(0) {
+        Ok(mut disk) => {
+            let is_written = is_written(&mut disk);
+            let mut disk = depot.crash(0, disk);
+            let is_left = holds(&mut disk, wanted);
+            // Nothing is pending now, and past the end of the list nothing would be kept.
+            let mut disk = depot.crash(0, disk);
+            is_written && is_left && holds(&mut disk, wanted)
+        }
+        Err(_) => false,
+    }
+}
+
+fn is_written<D: Disk>(disk: &mut D) -> bool {
+    disk.write_at(0, b"abcdef") == Ok(())
+        && disk.sync() == Ok(())
+        && disk.write_at(1, b"XY") == Ok(())
+        && disk.write_at(4, b"!") == Err(Failed)
+        && disk.write_at(6, b"Z") == Ok(())
+}
+
+#[test]
+fn a_depot_gives_the_disk_that_was_kept(rt: HostRuntime) {
+    assert!(rt; gives_what_was_kept(rt.alloc()));
+}
+
+fn gives_what_was_kept(alloc: Global) -> bool {
+    let mut depot = MemDepot::new(alloc, Vec::new(alloc), Vec::new(alloc));
+    keeps_a_written_disk(&mut depot) && has_kept(&mut depot)
+}
+
+/// Writes to a disk, which isn't handed out twice, and keeps it.
+fn keeps_a_written_disk<D: Disk + Drop, P: Depot<D = D>>(depot: &mut P) -> bool {
+    match depot.disk(15) {
+        Ok(mut disk) => {
+            let is_out_once = disk.write_at(0, b"fifteen") == Ok(())
+                && depot.disk(15).is_err()
+                && has_an_empty_disk(depot);
+            depot.keep(15, disk);
+            is_out_once
+        }
+        Err(_) => false,
+    }
+}
+
+/// Whether another provider's disk is another.
+fn has_an_empty_disk<D: Disk + Drop, P: Depot<D = D>>(depot: &mut P) -> bool {
+    match depot.disk(0) {
+        Ok(mut other) => other.size() == Ok(0),
+        Err(_) => false,
+    }
+}
+
+fn has_kept<D: Disk + Drop, P: Depot<D = D>>(depot: &mut P) -> bool {
+    match depot.disk(15) {
+        Ok(mut disk) => holds(&mut disk, b"fifteen"),
+        Err(_) => false,
+    }
+}

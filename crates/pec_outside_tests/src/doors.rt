@@ -1,0 +1,209 @@
+//! Doors in memory: connections that come in, those that fail, and the replies that stay.
+use pec_outside::{Door, Failed, MemDoor, Sink, Source, write_all};
+use std::alloc::{AllocError, Global};
+
+/// The number of a call that isn't made.
+const NEVER: u64 = u64::MAX;
+
+/// At a door with three requests, which are read four bytes at once and answered by two writes.
+struct Row {
+    /// The call of `accept` that fails.
+    accept: u64,
+    /// The connection that is broken, and its call that fails. The list of such calls ends with this connection.
+    broken: (usize, u64),
+    /// What four connections say: what was read, and `.` where it was answered, `!` where it failed, and `-` where none
+    /// came in.
+    said: &'static str,
+    /// The replies, with `!` where closing the connection raised the door's count.
+    replies: &'static str,
+}
+
+const ROWS: [Row; 10] = [
+    Row {
+        accept: NEVER,
+        broken: (0, NEVER),
+        said: "uno.secondo.tre.-",
+        replies: "ok,ok,ok,",
+    },
+    // a call of `accept` that fails loses no request
+    Row {
+        accept: 0,
+        broken: (0, NEVER),
+        said: "-uno.secondo.tre.",
+        replies: "ok,ok,ok,",
+    },
+    Row {
+        accept: 2,
+        broken: (0, NEVER),
+        said: "uno.secondo.-tre.",
+        replies: "ok,ok,ok,",
+    },
+    // each call of a connection in turn: reads, then writes
+    Row {
+        accept: NEVER,
+        broken: (1, 0),
+        said: "uno.!tre.-",
+        replies: "ok,!,ok,",
+    },
+    Row {
+        accept: NEVER,
+        broken: (1, 1),
+        said: "uno.seco!tre.-",
+        replies: "ok,!,ok,",
+    },
+    Row {
+        accept: NEVER,
+        broken: (1, 2),
+        said: "uno.secondo!tre.-",
+        replies: "ok,!,ok,",
+    },
+    Row {
+        accept: NEVER,
+        broken: (1, 3),
+        said: "uno.secondo!tre.-",
+        replies: "ok,!,ok,",
+    },
+    Row {
+        accept: NEVER,
+        broken: (1, 4),
+        said: "uno.secondo!tre.-",
+        replies: "ok,o!,ok,",
+    },
+    // a connection makes no more calls than these
+    Row {
+        accept: NEVER,
+        broken: (1, 5),
+        said: "uno.secondo.tre.-",
+        replies: "ok,ok,ok,",
+    },
+    // both at once
+    Row {
+        accept: 1,
+        broken: (2, 0),
+        said: "uno.-secondo.!",
+        replies: "ok,ok,!,",
+    },
+];
+
+#[test]
+fn a_door_gives_its_requests_and_keeps_the_replies(rt: HostRuntime) {
+    for (place, row) in ROWS.iter().enumerate() {
+        assert!(rt; goes_so(rt.alloc(), row), "row {place}");
+    }
+}
+
+fn goes_so(alloc: Global, row: &Row) -> bool {
+    match door_of(alloc, row.accept, row.broken) {
+        Ok(mut door) => says(alloc, &mut door, row.said) && has_replies(alloc, &door, row.replies),
+        Err(_) => false,
+    }
+}
+
+/// Whether four connections say this.
+fn says<R: Door>(alloc: Global, door: &mut R, wanted: &str) -> bool {
+    match said_of(alloc, door) {
+        Ok(said) => said.as_slice() == wanted.as_bytes(),
+        Err(_) => false,
+    }
+}
+
+fn said_of<R: Door>(alloc: Global, door: &mut R) -> Result<Vec<u8>, AllocError> {
+    let mut said = Vec::new(alloc);
+    for _ in 0..4 {
+        serve_next(door, &mut said)?;
+    }
+    Ok(said)
+}
+
+fn has_replies(alloc: Global, door: &MemDoor, wanted: &str) -> bool {
+    match replies_of(alloc, door) {
+        Ok(replies) => replies.as_slice() == wanted.as_bytes(),
+        Err(_) => false,
+    }
+}
+
+fn door_of(alloc: Global, accept: u64, broken: (usize, u64)) -> Result<MemDoor, AllocError> {
+    let mut requests = Vec::new(alloc);
+    requests.push(Vec::from_slice(alloc, b"uno")?)?;
+    requests.push(Vec::from_slice(alloc, b"secondo")?)?;
+    requests.push(Vec::from_slice(alloc, b"tre")?)?;
+    let mut lists = Vec::new(alloc);
+    for _ in 0..broken.0 {
+        lists.push(Vec::new(alloc))?;
+    }
+    lists.push(Vec::from_slice(alloc, &[broken.1])?)?;
+    Ok(MemDoor::new(alloc, requests, Vec::from_slice(alloc, &[accept])?, lists))
+}
+
+/// Accepts a connection, talks to it and closes it, through the bound alone.
+fn serve_next<R: Door>(door: &mut R, said: &mut Vec<u8>) -> Result<(), AllocError> {
+    match door.accept() {
+        Ok(mut connection) => {
+            let sign = match talk(&mut connection, said) {
+                Ok(()) => b'.',
+                Err(Failed) => b'!',
+            };
+            door.close(connection);
+            said.push(sign)?;
+        }
+        Err(Failed) => said.push(b'-')?,
+    }
+    Ok(())
+}
+
+/// Reads all that a connection has, and answers it.
+fn talk<C: Source + Sink>(connection: &mut C, said: &mut Vec<u8>) -> Result<(), Failed> {
+    let mut room = [0; 4];
+    for _ in 0..u64::MAX {
+        let count = connection.read(&mut room)?;
+        if count == 0 {
+            break;
+        }
+        if said.extend_from_slice(&room[..count]).is_err() {
+            return Err(Failed);
+        }
+    }
+    write_all(connection, b"o")?;
+    write_all(connection, b"k")
+}
+
+fn replies_of(alloc: Global, door: &MemDoor) -> Result<Vec<u8>, AllocError> {
+    let mut text = Vec::new(alloc);
+    for (place, reply) in door.replies().iter().enumerate() {
+        text.extend_from_slice(reply.bytes())?;
+        if door.raised().get(place) == Some(&true) {
+            text.push(b'!')?;
+        }
+        text.push(b',')?;
+    }
+    Ok(text)
+}
+
+// Two connections are out at once: replies stand in the order of closing.
+#[test]
+fn connections_are_closed_in_any_order(rt: HostRuntime) {
+    assert!(rt; keeps_the_order_of_closing(rt.alloc()));
+}
+
+fn keeps_the_order_of_closing(alloc: Global) -> bool {
+    match door_of(alloc, NEVER, (0, NEVER)) {
+        Ok(mut door) => closes_the_second_first(&mut door) && has_replies(alloc, &door, "two,one,"),
+        Err(_) => false,
+    }
+}
+
+fn closes_the_second_first<C: Source + Sink + Drop, R: Door<C = C>>(door: &mut R) -> bool {
+    match door.accept() {
+        Ok(mut first) => match door.accept() {
+            Ok(mut second) => {
+                let is_written = write_all(&mut second, b"two").is_ok()
+                    && write_all(&mut first, b"one").is_ok();
+                door.close(second);
+                door.close(first);
+                is_written
+            }
+            Err(_) => false,
+        },
+        Err(_) => false,
+    }
+}

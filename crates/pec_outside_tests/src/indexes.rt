@@ -1,0 +1,34 @@
+//! Maps from texts to values.
+use pec_index::Index;
+use std::alloc::Global;
+
+// Keys in the order in which they are put, each with a value and whether the value is put there.
+const ROWS: [(&[u8], u32, bool); 4] = [
+    (b"alfa", 7, true),
+    (b"", 8, true), // no byte is a key too
+    (b"alfa", 9, false), // the first value stays
+    (b"alfb", 10, true), // another last byte, another key
+];
+
+#[test]
+fn the_first_value_at_a_key_stays(rt: HostRuntime) {
+    assert!(rt; keeps_first_values(rt.alloc()));
+}
+
+fn keeps_first_values(alloc: Global) -> bool {
+    let mut index = Index::new(alloc);
+    index.get(b"alfa").is_none()
+        && are_put(alloc, &mut index, &ROWS)
+        && index.get(b"alfa") == Some(&7)
+        && index.get(b"") == Some(&8)
+        && index.get(b"alf").is_none()
+}
+
+fn are_put(alloc: Global, index: &mut Index<u32>, rows: &[(&[u8], u32, bool)]) -> bool {
+    for (key, value, is_put) in rows {
+        if index.add(alloc, key, *value) != Ok(*is_put) {
+            return false;
+        }
+    }
+    true
+}

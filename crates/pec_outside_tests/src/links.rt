@@ -1,0 +1,119 @@
+//! Links: the frames that wait, and what befalls them.
+use pec_link::{Link, LinkFault};
+use pec_types::{Frame, Text8};
+use std::alloc::{AllocError, Global};
+
+#[test]
+fn frames_come_in_their_order_and_the_sixty_fifth_comes_back(rt: HostRuntime) {
+    assert!(rt; keeps_64_frames(rt.alloc()));
+}
+
+fn keeps_64_frames(alloc: Global) -> bool {
+    match Link::new(alloc) {
+        Ok(mut link) => {
+            is_filled(alloc, &mut link) && is_full(alloc, &mut link) && drains_in_order(&mut link)
+        }
+        Err(_) => false,
+    }
+}
+
+/// Puts the frames of the bytes 0 to 63. Whether there is room for each.
+fn is_filled(alloc: Global, link: &mut Link) -> bool {
+    for byte in 0..64 {
+        if link.waiting() + link.room() != 64 || !is_put(alloc, link, byte) {
+            return false;
+        }
+    }
+    true
+}
+
+fn is_put(alloc: Global, link: &mut Link, byte: u8) -> bool {
+    match frame_of(alloc, byte) {
+        Ok(frame) => link.put(frame).is_ok(),
+        Err(_) => false,
+    }
+}
+
+fn is_full(alloc: Global, link: &mut Link) -> bool {
+    comes_back(alloc, link)
+        && link.repeat(alloc, 0) == Err(LinkFault::Full)
+        && link.repeat(alloc, 64) == Err(LinkFault::NoFrame)
+}
+
+fn comes_back(alloc: Global, link: &mut Link) -> bool {
+    match frame_of(alloc, 64) {
+        Ok(frame) => match link.put(frame) {
+            Ok(()) => false,
+            Err(back) => back.bytes() == b"@".as_slice(),
+        },
+        Err(_) => false,
+    }
+}
+
+/// Takes the frames of the bytes 0 to 63, and none behind them.
+fn drains_in_order(link: &mut Link) -> bool {
+    for byte in 0..64 {
+        if !is_taken(link, byte) {
+            return false;
+        }
+    }
+    link.take().is_none()
+}
+
+/// Whether the next frame is that of this byte. It waits no more.
+fn is_taken(link: &mut Link, byte: u8) -> bool {
+    match link.take() {
+        Some(frame) => frame.bytes() == [byte].as_slice(),
+        None => false,
+    }
+}
+
+#[test]
+fn frames_are_lost_exchanged_and_repeated_at_their_places(rt: HostRuntime) {
+    assert!(rt; changes_at_places(rt.alloc()));
+}
+
+fn changes_at_places(alloc: Global) -> bool {
+    match Link::new(alloc) {
+        Ok(mut link) => {
+            are_put(alloc, &mut link, b"abcd")
+                && is_changed(alloc, &mut link)
+                && are_taken(&mut link, b"adca")
+                && link.swap(0) == Err(LinkFault::NoFrame)
+        }
+        Err(_) => false,
+    }
+}
+
+fn are_put(alloc: Global, link: &mut Link, bytes: &[u8]) -> bool {
+    for byte in bytes {
+        if !is_put(alloc, link, *byte) {
+            return false;
+        }
+    }
+    true
+}
+
+fn is_changed(alloc: Global, link: &mut Link) -> bool {
+    link.lose(1) == Ok(())
+        && link.swap(1) == Ok(())
+        && link.repeat(alloc, 0) == Ok(())
+        && link.lose(4) == Err(LinkFault::NoFrame)
+        && link.swap(3) == Err(LinkFault::NoFrame)
+}
+
+/// Takes the frames of these bytes, and none behind them.
+fn are_taken(link: &mut Link, bytes: &[u8]) -> bool {
+    for byte in bytes {
+        if !is_taken(link, *byte) {
+            return false;
+        }
+    }
+    link.take().is_none()
+}
+
+/// The frame of one byte.
+fn frame_of(alloc: Global, byte: u8) -> Result<Frame, AllocError> {
+    let bytes = Vec::from_slice(alloc, &[byte])?;
+    Ok(Frame::of(Text8::of(bytes)))
+}

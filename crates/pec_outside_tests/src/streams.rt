@@ -1,0 +1,99 @@
+//! Sources and sinks in memory: pieces of any length, and calls that fail.
+use pec_outside::{Failed, MemSink, MemSource, Sink, Source, write_all};
+use std::alloc::{AllocError, Global};
+
+const TEXT: &[u8] = b"accepted pec.0000000@alfa.example";
+
+#[test]
+fn pieces_of_any_length_give_the_whole_text(rt: HostRuntime) {
+    for piece in [1, 3, 100] {
+        assert!(rt; is_copied(rt.alloc(), piece), "pieces of {piece}");
+    }
+}
+
+fn is_copied(alloc: Global, piece: usize) -> bool {
+    match both(alloc, piece, &[], &[]) {
+        Ok((mut input, mut out)) => copies_all(&mut input, &mut out),
+        Err(_) => false,
+    }
+}
+
+/// Whether a copy gives the rest of the text.
+fn copies_all(input: &mut MemSource, out: &mut MemSink) -> bool {
+    copy(input, out) == Ok(()) && out.bytes() == TEXT
+}
+
+// A read that fails loses nothing: the second copy goes on where the first one stopped.
+#[test]
+fn each_read_can_fail_once(rt: HostRuntime) {
+    for number in 0..12 {
+        assert!(rt; fails_at_read(rt.alloc(), number), "read {number}");
+    }
+}
+
+fn fails_at_read(alloc: Global, number: u64) -> bool {
+    match both(alloc, 3, &[number], &[]) {
+        Ok((mut input, mut out)) => {
+            stops_behind(&mut input, &mut out, number) && copies_all(&mut input, &mut out)
+        }
+        Err(_) => false,
+    }
+}
+
+/// Whether a copy fails behind so many pieces of three bytes.
+fn stops_behind(input: &mut MemSource, out: &mut MemSink, pieces: u64) -> bool {
+    copy(input, out) == Err(Failed)
+        && out.bytes().len() as u64 == pieces.saturating_mul(3)
+        && TEXT.starts_with(out.bytes())
+}
+
+// A write that fails keeps nothing of its piece, and what was written before stays.
+#[test]
+fn each_write_can_fail_once(rt: HostRuntime) {
+    for number in 0..11 {
+        assert!(rt; fails_at_write(rt.alloc(), number), "write {number}");
+    }
+}
+
+fn fails_at_write(alloc: Global, number: u64) -> bool {
+    match both(alloc, 3, &[], &[number]) {
+        Ok((mut input, mut out)) => {
+            stops_behind(&mut input, &mut out, number) && is_completed(&mut out)
+        }
+        Err(_) => false,
+    }
+}
+
+/// Whether the text is there once its rest is written.
+fn is_completed(out: &mut MemSink) -> bool {
+    match TEXT.get(out.bytes().len()..) {
+        Some(rest) => write_all(out, rest) == Ok(()) && out.bytes() == TEXT,
+        None => false,
+    }
+}
+
+/// A source of the text in pieces of so many bytes, which fails at these reads, and a sink that fails at these writes.
+fn both(
+    alloc: Global,
+    piece: usize,
+    reads: &[u64],
+    writes: &[u64],
+) -> Result<(MemSource, MemSink), AllocError> {
+    let bytes = Vec::from_slice(alloc, TEXT)?;
+    let input = MemSource::new(alloc, bytes, piece.max(1), Vec::from_slice(alloc, reads)?);
+    let out = MemSink::new(alloc, Vec::from_slice(alloc, writes)?);
+    Ok((input, out))
+}
+
+// Copies what the source still has, through the bounds alone.
+fn copy<S: Source, W: Sink>(input: &mut S, out: &mut W) -> Result<(), Failed> {
+    let mut room = [0; 8];
+    for _ in 0..u64::MAX {
+        let count = input.read(&mut room)?;
+        if count == 0 {
+            break;
+        }
+        write_all(out, &room[..count])?;
+    }
+    Ok(())
+}

@@ -1,0 +1,125 @@
+//! What boxes say together, and how one is put into another's place.
+
+use crate::counting::Counting;
+use crate::patterns::screen_of;
+use pec_screen::{ReplaceFault, Screen, Screens};
+use std::alloc::Global;
+use std::sync::Arc;
+use std::sync::atomic::{AtomicU64, Ordering};
+
+type Verdict = Option<(u32, u32)>;
+
+/// The screens of two boxes with these patterns each.
+fn screens_of(alloc: Global, first: [&[u8]; 2], second: [&[u8]; 2]) -> Option<Screens> {
+    let first = box_of(alloc, first[0], first[1])?;
+    let second = box_of(alloc, second[0], second[1])?;
+    let boxes = vec![in alloc; first, second].ok()?;
+    Some(Screens::new(boxes))
+}
+
+fn box_of(alloc: Global, first: &[u8], second: &[u8]) -> Option<Box<dyn Screen>> {
+    let screen = screen_of(alloc, first, second).ok()?;
+    let boxed: Box<dyn Screen> = Box::new(alloc, screen).ok()?;
+    Some(boxed)
+}
+
+const VERDICTS: [(&[u8], Verdict); 5] = [
+    (b"a", Some((0, 1))), // both boxes find; the first one's rule
+    (b"b", Some((1, 1))), // the second box alone
+    (b"ab", Some((0, 1))), // each finds another pattern
+    (b"c", Some((0, 0))),
+    (b"d", None), // none
+];
+
+#[test]
+fn the_verdict_is_of_the_first_box_that_finds(rt: HostRuntime) {
+    for (message, wanted) in &VERDICTS {
+        assert!(rt; is_verdict(rt.alloc(), message, *wanted), "{message:?}");
+    }
+    assert!(rt; verdict_of_no_box(rt.alloc()).is_none());
+}
+
+/// Whether this is the verdict of two boxes.
+fn is_verdict(alloc: Global, message: &[u8], wanted: Verdict) -> bool {
+    match screens_of(alloc, [b"c", b"a"], [b"a", b"b"]) {
+        Some(mut screens) => screens.judge(message) == wanted,
+        None => false,
+    }
+}
+
+fn verdict_of_no_box(alloc: Global) -> Verdict {
+    let mut none = Screens::new(Vec::new(alloc));
+    none.judge(b"a")
+}
+
+#[test]
+fn every_box_looks_once_also_behind_one_that_found(rt: HostRuntime) {
+    assert!(rt; looks_once(rt.alloc()));
+}
+
+fn looks_once(alloc: Global) -> bool {
+    match Arc::new(alloc, AtomicU64::new(0)) {
+        Ok(looks) => match counted_screens(alloc, &looks) {
+            Some(mut screens) => are_all_asked(&mut screens, &looks),
+            None => false,
+        },
+        Err(_) => false,
+    }
+}
+
+fn counted_screens(alloc: Global, looks: &Arc<AtomicU64, Global>) -> Option<Screens> {
+    let first = box_of(alloc, b"a", b"b")?;
+    let looks = Arc::try_clone(looks).ok()?;
+    let second: Box<dyn Screen> = Box::new(alloc, Counting { looks, seen: 0 }).ok()?;
+    let boxes = vec![in alloc; first, second].ok()?;
+    Some(Screens::new(boxes))
+}
+
+fn are_all_asked(screens: &mut Screens, looks: &AtomicU64) -> bool {
+    screens.judge(b"a") == Some((0, 0))
+        && looks.load(Ordering::SeqCst) == 1
+        && screens.judge(b"c").is_none()
+        && looks.load(Ordering::SeqCst) == 2
+}
+
+// The place; the verdict on `n`, which the new box alone finds, and on `a` and `b`, each a box's own.
+const PLACES: [(usize, [Verdict; 3]); 4] = [
+    (0, [Some((0, 1)), None, Some((1, 0))]),
+    (1, [Some((1, 1)), Some((0, 0)), None]), // the last place
+    (2, [None, Some((0, 0)), Some((1, 0))]), // behind it: all as it was
+    (usize::MAX, [None, Some((0, 0)), Some((1, 0))]),
+];
+
+#[test]
+fn a_box_takes_the_place_of_one_that_is_no_longer_asked(rt: HostRuntime) {
+    for (place, wanted) in &PLACES {
+        assert!(rt; is_taken(rt.alloc(), *place, *wanted), "{place}");
+    }
+}
+
+/// Whether a new box is taken at a place, and what the boxes say then.
+fn is_taken(alloc: Global, place: usize, wanted: [Verdict; 3]) -> bool {
+    match screens_of(alloc, [b"a", b"-"], [b"b", b"-"]) {
+        Some(mut screens) => takes(alloc, &mut screens, place) && judge(&mut screens, wanted),
+        None => false,
+    }
+}
+
+/// Puts a new box into the place. Whether it is taken where the place is one of two, and comes back elsewhere.
+fn takes(alloc: Global, screens: &mut Screens, place: usize) -> bool {
+    match box_of(alloc, b"m", b"n") {
+        Some(next) => match screens.replace(place, next) {
+            Ok(()) => place < 2,
+            Err((mut back, fault)) => {
+                2 <= place && fault == ReplaceFault::NoSuchPlace && back.look(b"n") == Some(1)
+            }
+        },
+        None => false,
+    }
+}
+
+fn judge(screens: &mut Screens, wanted: [Verdict; 3]) -> bool {
+    screens.judge(b"n") == wanted[0]
+        && screens.judge(b"a") == wanted[1]
+        && screens.judge(b"b") == wanted[2]
+}

@@ -1,0 +1,65 @@
+//! What one screen finds, by rows of its patterns and the message.
+
+use pec_screen::{PatternScreen, Screen};
+use pec_types::Text8;
+use std::alloc::{AllocError, Global};
+
+/// A screen of two patterns.
+pub fn screen_of(alloc: Global, first: &[u8], second: &[u8]) -> Result<PatternScreen, AllocError> {
+    let first = Text8::of(Vec::from_slice(alloc, first)?);
+    let second = Text8::of(Vec::from_slice(alloc, second)?);
+    Ok(PatternScreen::new(vec![in alloc; first, second]?))
+}
+
+// The two patterns, the message; the number that is found.
+const ROWS: [(&[u8], &[u8], &[u8], Option<u32>); 14] = [
+    (b"b", b"a", b"cab", Some(0)), // both occur, the second one earlier in the message
+    (b"b", b"a", b"ca", Some(1)), // the second alone
+    (b"b", b"a", b"cc", None), // none
+    (b"b", b"a", b"", None), // nothing to look at
+    (b"x", b"", b"cab", Some(1)), // an empty pattern occurs everywhere
+    (b"x", b"", b"", Some(1)), // also in an empty message
+    (b"x", b"cab", b"cab", Some(1)), // the whole message
+    (b"cabs", b"scab", b"cab", None), // one byte more than the message, at either end
+    (b"cb", b"ac", b"cab", None), // its bytes, not side by side or in another order
+    (b"aab", b"x", b"aaab", Some(0)), // it begins again within its own front
+    (b"abab", b"bb", b"aababa", Some(0)), // the same, over two bytes
+    (b"CAB", b"x", b"cab", None), // case counts
+    (b"\xff\0", b"x", b"a\xff\0", Some(0)), // any bytes, at the end
+    (b"ab", b"abc", b"abc", Some(0)), // both at one place, the lesser number
+];
+
+#[test]
+fn a_screen_finds_the_least_number_of_a_pattern_that_occurs(rt: HostRuntime) {
+    for (first, second, message, wanted) in &ROWS {
+        assert!(rt;
+            finds(rt.alloc(), first, second, message, *wanted),
+            "{message:?}"
+        );
+    }
+}
+
+/// Whether this number is found, and the look is counted.
+fn finds(alloc: Global, first: &[u8], second: &[u8], message: &[u8], wanted: Option<u32>) -> bool {
+    match screen_of(alloc, first, second) {
+        Ok(mut screen) => screen.look(message) == wanted && screen.seen() == 1,
+        Err(_) => false,
+    }
+}
+
+#[test]
+fn each_look_is_counted_also_where_nothing_is_found(rt: HostRuntime) {
+    assert!(rt; counts_each_look(rt.alloc()));
+}
+
+fn counts_each_look(alloc: Global) -> bool {
+    match screen_of(alloc, b"b", b"a") {
+        Ok(mut screen) => screen.seen() == 0 && finds_twice(&mut screen) && screen.seen() == 3,
+        Err(_) => false,
+    }
+}
+
+/// Looks at a message, at one in which nothing is found, and at the first one again.
+fn finds_twice(screen: &mut PatternScreen) -> bool {
+    screen.look(b"cab") == Some(0) && screen.look(b"c").is_none() && screen.look(b"cab") == Some(0)
+}

@@ -1,0 +1,92 @@
+//! Which messages screens look at, and what is refused for what they find. Worked out by hand.
+
+use crate::admission::{Row, cause};
+use crate::counting::Counting;
+use pec_screen::{PatternScreen, Screen, Screens};
+use pec_types::{Cause, Text8};
+use std::alloc::{AllocError, Global};
+use std::sync::Arc;
+use std::sync::atomic::{AtomicU64, Ordering};
+
+/// A message, the cause for which it isn't accepted under a screen of the pattern `VIRUS`, and how often a box beside it
+/// looks.
+static LOOKS: [(Row, u64); 6] = [
+    (
+        (
+            "1000",
+            "b@b",
+            "From: a@a|To: b@b||VIRUS",
+            Some(Cause::Virus),
+        ),
+        1,
+    ),
+    (
+        (
+            "1000",
+            "b@b",
+            "From: a@a|To: b@b|Subject: VIRUS||",
+            Some(Cause::Virus),
+        ),
+        1,
+    ), // in the head, too
+    (("1000", "b@b", "From: a@a|To: b@b||VIRU S", None), 1),
+    (
+        (
+            "1000",
+            "b@b",
+            "From: a@a|To: b@b|Bcc: x||VIRUS",
+            Some(Cause::Bcc),
+        ),
+        0,
+    ),
+    (
+        ("1", "b@b", "From: a@a|To: b@b||VIRUS", Some(Cause::Size)),
+        0,
+    ),
+    (("1000", "b@b", "VIRUS", Some(Cause::Head)), 0),
+];
+
+/// The table, by a function without a clause: the proof of the test is spared its texts.
+fn looks() -> &'static [(Row, u64)] {
+    &LOOKS
+}
+
+#[test]
+fn screens_look_at_what_no_earlier_row_refuses(rt: HostRuntime) {
+    for (row, looks) in looks() {
+        assert!(rt; is_looked_at(rt.alloc(), row, *looks), "{}", row.2);
+    }
+}
+
+/// Whether the message of a row isn't accepted for its cause, and the box beside the screen of the pattern looks so often.
+fn is_looked_at(alloc: Global, row: &Row, looks: u64) -> bool {
+    let Ok(counted) = Arc::new(alloc, AtomicU64::new(0)) else {
+        return false;
+    };
+    match screens_of(alloc, &counted) {
+        Ok(mut screens) => {
+            cause(alloc, 0, row, &mut screens) == Some(row.3)
+                && counted.load(Ordering::SeqCst) == looks
+        }
+        Err(_) => false,
+    }
+}
+
+fn screens_of(alloc: Global, counted: &Arc<AtomicU64, Global>) -> Result<Screens, AllocError> {
+    let mut screens: Vec<Box<dyn Screen>> = Vec::new(alloc);
+    screens.push(counter(alloc, counted)?)?;
+    screens.push(of_the_pattern(alloc)?)?;
+    Ok(Screens::new(screens))
+}
+
+fn counter(alloc: Global, counted: &Arc<AtomicU64, Global>) -> Result<Box<dyn Screen>, AllocError> {
+    let looks = Arc::try_clone(counted)?;
+    let screen: Box<dyn Screen> = Box::new(alloc, Counting { looks, seen: 0 })?;
+    Ok(screen)
+}
+
+fn of_the_pattern(alloc: Global) -> Result<Box<dyn Screen>, AllocError> {
+    let pattern = Text8::of(Vec::from_slice(alloc, b"VIRUS")?);
+    let screen: Box<dyn Screen> = Box::new(alloc, PatternScreen::new(vec![in alloc; pattern]?))?;
+    Ok(screen)
+}
