@@ -11,12 +11,12 @@ ghost use Rattle.pec_network.specs.Rounds.{AreRooms, BlamesDisks, FramesAreGenui
 
 use crate::laws::what_rests_carries_on;
 use crate::network::Network;
+use crate::turns::take_turn;
 use pec_directory::Directory;
 use pec_outside::Disk;
 use pec_posts::{Arrivals, deliver, rooms};
 use pec_provider::{House, Provider};
 use pec_seal::Sealer;
-use crate::turns::take_turn;
 use pec_types::{Frame, Items, Moment, NoMemory, Turn};
 use std::alloc::Global;
 

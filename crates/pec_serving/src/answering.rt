@@ -11,8 +11,8 @@ ghost use Rattle.pec_serving.specs.Playing.{state_of};
 
 use pec_desk::{NetworkDesk, an_account_sees_its_own};
 use pec_http::{Served, serve_one};
-use pec_playing::{Network, what_is_told_was_counted};
 use pec_outside::{Disk, Sink, Source};
+use pec_playing::{Network, what_is_told_was_counted};
 use pec_screen::Judge;
 use pec_seal::{HmacSealer, Sealer};
 use pec_types::Moment;

@@ -10,8 +10,8 @@ ghost use Rattle.pec_serving.specs.Playing.{PlaysAll, PlaysOne, state_of};
 
 use crate::answering::as_many_providers;
 use crate::stops::Stop;
-use pec_playing::{Network, round, tick, what_is_told_was_counted};
 use pec_outside::{Disk, Sink, write_all};
+use pec_playing::{Network, round, tick, what_is_told_was_counted};
 use pec_seal::Sealer;
 use pec_service::calls_are_joined;
 use pec_types::Moment;

@@ -9,8 +9,8 @@ ghost use Rattle.pec_serving.specs.Serving.{ComesNext, place_of};
 
 use crate::answering::answer;
 use pec_http::Served;
-use pec_playing::Network;
 use pec_outside::{Disk, Door, Ticks};
+use pec_playing::Network;
 use pec_screen::Judge;
 use pec_seal::{HmacSealer, Sealer};
 use pec_types::Moment;

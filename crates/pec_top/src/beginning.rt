@@ -12,9 +12,9 @@ use crate::forms::Form;
 use crate::run::write_last;
 use crate::texts::{not_empty_text, not_fit_text};
 use pec_directory::Directory;
-use pec_serving::{Form as Way, Network, StartFault};
 use pec_outside::{Depot, Disk, Sink};
 use pec_seal::Sealer;
+use pec_serving::{Form as Way, Network, StartFault};
 use std::alloc::Global;
 
 /// The network of a directory, whose journals are made or opened as the form says.

@@ -32,10 +32,13 @@ use crate::survey::{choose_form, holds_something};
 use pec_directory::Directory;
 use pec_house::sealer_of;
 use pec_input::{Opened, Whole, open_directory, read_whole, refused_directory_text};
-use pec_serving::{Ending, Network, NotFit, StartFault, a_trade_says_what_its_parts_say, serve, the_texts_are_a_trade};
 use pec_outside::{Depot, Disk, Door, Sink, Source, Ticks};
 use pec_screen::Judge;
 use pec_seal::{HmacSealer, Sealer};
+use pec_serving::{
+    Ending, Network, NotFit, StartFault, a_trade_says_what_its_parts_say, serve,
+    the_texts_are_a_trade,
+};
 use std::alloc::Global;
 
 /// Runs the program in the form that serves so many connections.

@@ -8,10 +8,10 @@ ghost use Rattle.pec_top.specs.LoopLaws.{LoopLaws};
 
 use pec_directory::Directory;
 use pec_input::lines_are_the_text;
-use pec_serving::Network;
 use pec_outside::{Depot, Disk};
 use pec_runs::{a_run_is_climbed, a_script_is_played_line_by_line};
 use pec_seal::Sealer;
+use pec_serving::Network;
 
 /// The providers of a network are those of its directory, each with links from all of them. It takes no memory.
 pub(crate) fn a_network_is_whole<D, H: Sealer>(network: &Network<D, H>)

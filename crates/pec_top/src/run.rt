@@ -27,10 +27,10 @@ use crate::script::play_script;
 use pec_directory::Directory;
 use pec_house::sealer_of;
 use pec_input::{Buffer, Opened, Opening, open_directory, read_directory, refused_directory_text};
-use pec_serving::{Network, a_trade_says_what_its_parts_say, the_texts_are_a_trade};
 use pec_outside::{Depot, Disk, Sink, Source, write_all};
 use pec_screen::Judge;
 use pec_seal::{HmacSealer, Sealer};
+use pec_serving::{Network, a_trade_says_what_its_parts_say, the_texts_are_a_trade};
 use std::alloc::Global;
 
 /// Runs the program on its words, its input and the disks of a depot.

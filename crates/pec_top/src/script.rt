@@ -14,10 +14,10 @@ use crate::ending::{End, Stop};
 use crate::laws::a_loop_climbs;
 use crate::taking::{LONGEST_LINE, take_found};
 use pec_input::{Buffer, next_line};
-use pec_serving::Network;
 use pec_outside::{Depot, Disk, Sink, Source, write_all};
 use pec_screen::Judge;
 use pec_seal::Sealer;
+use pec_serving::Network;
 use std::alloc::Global;
 
 /// Plays the lines that are left over a network. The lines of each answer are written before the next line is read.

@@ -16,11 +16,11 @@ use crate::ending::End;
 use crate::laws::a_network_is_whole;
 use crate::texts::long_line_text;
 use pec_input::{Found, content};
-use pec_serving::{Network, play, what_a_line_says_can_be_played};
 use pec_outside::{Depot, Disk};
 use pec_screen::Judge;
 use pec_script::{Command, LineFault, refused_text};
 use pec_seal::Sealer;
+use pec_serving::{Network, play, what_a_line_says_can_be_played};
 use pec_types::NoMemory;
 use std::alloc::Global;
 

@@ -8,8 +8,8 @@ ghost use Rattle.pec_runs.specs.Endings as ends;
 ghost use Rattle.pec_top.specs.Shown.{unfit_of};
 
 use pec_directory::Directory;
-use pec_serving::NotFit;
 use pec_script::{Page, lines_are_put_in_their_order};
+use pec_serving::NotFit;
 use pec_types::NoMemory;
 use std::alloc::Global;
 
