@@ -134,19 +134,27 @@ def read_lines(data):
         yield Line(number, text, *found)
 
 
+class Order:
+    """Whether lines stand where a run writes them: those of one command together, as many as its last line counts."""
+
+    def __init__(self):
+        self.part, self.count = "", 0
+
+    def take(self, line):
+        part, last = part_of(line.form), OPEN.get(self.part)
+        if last is not None and part != self.part and line.key != last:
+            raise Unreadable(line.number, f"stands where `{last}` ought to be: {line.text[:100]!r}")
+        count = int(line.said.get("COUNT", line.said["PLACE"] if part == "PLACE" else self.count))
+        if count != self.count:
+            raise Unreadable(line.number, f"counts other than {self.count} lines before it: {line.text[:100]!r}")
+        self.part, self.count = part, self.count + 1 if part else 0
+
+
 def read(data):
     """The transcript of a run."""
-    lines, blocks, part, count = [], [], "", 0
+    lines, blocks, order = [], [], Order()
     for line in read_lines(data):
-        now = part_of(line.form)
-        ends = part and line.key == OPEN[part]
-        if part and now != part and not ends:
-            raise Unreadable(line.number, f"stands where `{OPEN[part]}` ought to be: {line.text[:100]!r}")
-        count = count if part else 0
-        counted = line.said.get("COUNT")
-        if counted is not None and int(counted) != count or now == "PLACE" and int(line.said["PLACE"]) != count:
-            raise Unreadable(line.number, f"counts otherwise than the {count} lines before it: {line.text[:100]!r}")
-        part, count = ("", 0) if ends else (now, count + 1)
+        order.take(line)
         lines.append(line)
         place(blocks, line)
     if len(Transcript(blocks, lines).providers()) > MOST_PROVIDERS:
@@ -157,9 +165,8 @@ def read(data):
 
 def place(blocks, line):
     """Puts the line where it belongs."""
-    inside = line.form.is_turn or line.key == "round"
     last = blocks[-1] if blocks else None
-    if not inside:
+    if not line.form.is_turn and line.key != "round":
         if not isinstance(last, Band):
             blocks.append(Band())
         blocks[-1].lines.append(line)
@@ -168,9 +175,17 @@ def place(blocks, line):
         blocks.append(Round())
     if line.key == "round":
         blocks[-1].end = line
-        return
-    turn = blocks[-1].turns.setdefault(line.said["NAME"], Turn())
-    if line.key == "sent":
+    else:
+        place_in_turn(blocks[-1].turns, line)
+
+
+def place_in_turn(turns, line):
+    """A provider's lines stand together, what it sent behind the others."""
+    name, sent = line.said["NAME"], line.key == "sent"
+    turn = turns.setdefault(name, Turn())
+    if name != next(reversed(turns)) or turn.sent and not sent:
+        raise Unreadable(line.number, f"stands behind lines that a run writes later: {line.text[:100]!r}")
+    if sent:
         turn.sent.append(Sent(line))
     else:
         turn.events.append(line)

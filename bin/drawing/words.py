@@ -109,12 +109,16 @@ class Form:
         return f"(?:{pattern}{absent})" if word in ("ID", "RECIPIENT") else pattern
 
 
-def forms():
-    """The forms of bin/help: lines of four spaces, a form, two spaces or a new line, and its meaning, below a group's title."""
+def parts():
+    """What bin/help says of lines: their forms, and what words in capitals stand for."""
     with open(HELP, encoding="ascii") as file:
-        text = file.read().split("bin/draw > picture.svg\n\n")[1].split("\n\n")[0]
+        return file.read().split("that a picture of bin/draw has at its foot:\n\n")[1].split("\n\n")[:2]
+
+
+def forms():
+    """The forms of bin/help: four spaces, a form, two spaces or a new line, and its meaning, below a group's title."""
     found, group = [], None
-    for piece in re.sub(r"\n {20,}", "  ", text).split("\n"):
+    for piece in re.sub(r"\n {20,}", "  ", parts()[0]).split("\n"):
         if not piece.startswith("    "):
             group = piece.strip()
             continue
