@@ -1,8 +1,8 @@
 //! Networks that begin on empty disks or over journals, and those that don't: depots that fail at each place, journals
 //! that are missing, and journals of others.
 
-use crate::cases::depot_of;
-use crate::net::played;
+use crate::cases::{depot_failing, wrong_line};
+use crate::net::{Outcome, played};
 use pec_directory::Directory;
 use pec_network::{Form, NotFit, StartFault};
 use pec_outside::{Depot, MemDepot};
@@ -10,8 +10,8 @@ use pec_trial::{journal_of, two};
 use std::alloc::Global;
 use std::test::Fail;
 
-/// What lies on the disks of a depot, which disk is out, which calls of disks fail, as `PROVIDER:CALL`, and what the beginning
-/// comes to. The entries of a journal stand in a line each; `-` is an empty disk.
+/// What lies on the disks of a depot, which disk is out, which calls fail, and what the beginning comes to. The entries
+/// of a journal stand in a line each; `-` is an empty disk.
 #[derive(Clone, Copy)]
 struct Start {
     why: &'static str,
@@ -19,7 +19,7 @@ struct Start {
     first: &'static str,
     second: &'static str,
     out: Option<u32>,
-    failing: &'static str,
+    failing: &'static [(u32, u64)],
     fault: Option<StartFault>,
 }
 
@@ -30,7 +30,7 @@ static STARTS: [Start; 14] = [
         first: "-",
         second: "-",
         out: None,
-        failing: "",
+        failing: &[],
         fault: None,
     },
     Start {
@@ -39,7 +39,7 @@ static STARTS: [Start; 14] = [
         first: "start 0",
         second: "-",
         out: None,
-        failing: "",
+        failing: &[],
         fault: Some(StartFault::NotEmpty(0)),
     },
     Start {
@@ -48,7 +48,7 @@ static STARTS: [Start; 14] = [
         first: "-",
         second: "start 1",
         out: None,
-        failing: "",
+        failing: &[],
         fault: Some(StartFault::NotEmpty(1)),
     },
     Start {
@@ -57,7 +57,7 @@ static STARTS: [Start; 14] = [
         first: "start 0\naccepted 5 alice@alfa.example to-bob\nticked 6",
         second: "start 1\nticked 7",
         out: None,
-        failing: "",
+        failing: &[],
         fault: None,
     },
     Start {
@@ -66,7 +66,7 @@ static STARTS: [Start; 14] = [
         first: "-",
         second: "-",
         out: None,
-        failing: "",
+        failing: &[],
         fault: Some(StartFault::NotFit(0, NotFit::Journal(0))),
     },
     Start {
@@ -75,7 +75,7 @@ static STARTS: [Start; 14] = [
         first: "start 0",
         second: "-",
         out: None,
-        failing: "",
+        failing: &[],
         fault: Some(StartFault::NotFit(1, NotFit::Journal(0))),
     },
     Start {
@@ -84,7 +84,7 @@ static STARTS: [Start; 14] = [
         first: "start 1",
         second: "start 0",
         out: None,
-        failing: "",
+        failing: &[],
         fault: Some(StartFault::NotFit(0, NotFit::BadEntry(0))),
     },
     Start {
@@ -93,7 +93,7 @@ static STARTS: [Start; 14] = [
         first: "start 0\nticked 5",
         second: "start 1\nticked 5\nticked 4",
         out: None,
-        failing: "",
+        failing: &[],
         fault: Some(StartFault::NotFit(1, NotFit::BadEntry(2))),
     },
     Start {
@@ -102,7 +102,7 @@ static STARTS: [Start; 14] = [
         first: "start 0\njunk",
         second: "-",
         out: None,
-        failing: "",
+        failing: &[],
         fault: Some(StartFault::NotFit(0, NotFit::BadEntry(1))),
     },
     Start {
@@ -111,7 +111,7 @@ static STARTS: [Start; 14] = [
         first: "-",
         second: "-",
         out: Some(0),
-        failing: "",
+        failing: &[],
         fault: Some(StartFault::DiskFault(0)),
     },
     Start {
@@ -120,7 +120,7 @@ static STARTS: [Start; 14] = [
         first: "-",
         second: "-",
         out: Some(1),
-        failing: "",
+        failing: &[],
         fault: Some(StartFault::DiskFault(1)),
     },
     Start {
@@ -129,7 +129,7 @@ static STARTS: [Start; 14] = [
         first: "start 0",
         second: "start 1",
         out: Some(1),
-        failing: "",
+        failing: &[],
         fault: Some(StartFault::DiskFault(1)),
     },
     Start {
@@ -138,7 +138,7 @@ static STARTS: [Start; 14] = [
         first: "-",
         second: "start 1",
         out: Some(1),
-        failing: "",
+        failing: &[],
         fault: Some(StartFault::NotFit(0, NotFit::Journal(0))),
     },
     Start {
@@ -147,7 +147,7 @@ static STARTS: [Start; 14] = [
         first: "start 0",
         second: "-",
         out: None,
-        failing: "1:0",
+        failing: &[(1, 0)],
         fault: Some(StartFault::NotEmpty(0)),
     },
 ];
@@ -158,7 +158,7 @@ fn starts() -> &'static [Start] {
 }
 
 /// What a beginning comes to, and how many disks the depot has at home behind it.
-#[derive(Clone, Copy)]
+#[derive(Clone, Copy, Debug, PartialEq, Eq)]
 struct Beginning {
     fault: Option<StartFault>,
     at_home: u32,
@@ -166,22 +166,19 @@ struct Beginning {
 
 #[test]
 fn a_network_begins_or_tells_which_disk_came_to_nothing(rt: HostRuntime) -> Result<(), Fail> {
-    begin_all(rt.alloc(), starts())
-}
-
-fn begin_all(alloc: Global, starts: &[Start]) -> Result<(), Fail> {
-    for start in starts {
-        let at_home = if start.out.is_some() { 1 } else { 2 };
-        let begun = begun_with(alloc, start)?;
-        if begun.fault != start.fault || begun.at_home != at_home {
-            return Err(start.why.into());
-        }
+    for start in starts() {
+        let begun = begun_with(rt.alloc(), start)?;
+        let wanted = Beginning {
+            fault: start.fault,
+            at_home: if start.out.is_some() { 1 } else { 2 },
+        };
+        assert_eq!(rt; begun, wanted, "{}", start.why);
     }
     Ok(())
 }
 
 fn begun_with(alloc: Global, start: &Start) -> Result<Beginning, Fail> {
-    let mut depot = depot_of(alloc, start.failing)?;
+    let mut depot = depot_failing(alloc, start.failing, &[])?;
     lay(alloc, &mut depot, start)?;
     begun_over(alloc, start.form, depot)
 }
@@ -217,9 +214,10 @@ fn lay_at(alloc: Global, depot: &mut MemDepot, provider: u32, entries: &str) -> 
 
 fn begun_over(alloc: Global, form: Form, depot: MemDepot) -> Result<Beginning, Fail> {
     let played = played(alloc, form, depot, "")?;
+    let (fault, _, depot) = played.parts();
     Ok(Beginning {
-        fault: played.fault,
-        at_home: at_home(played.depot),
+        fault,
+        at_home: at_home(depot),
     })
 }
 
@@ -239,59 +237,70 @@ fn at_home(mut depot: MemDepot) -> u32 {
 fn a_disk_that_fails_at_any_call_of_the_beginning_is_told(rt: HostRuntime) -> Result<(), Fail> {
     for provider in 0..2u32 {
         for call in 0..7u64 {
-            let told = is_told(rt.alloc(), provider, call)?;
-            assert!(rt; told);
+            let begun = begun_failing(rt.alloc(), (provider, call))?;
+            let wanted = Beginning {
+                fault: Some(StartFault::DiskFault(provider)),
+                at_home: 2,
+            };
+            assert_eq!(rt; begun, wanted);
         }
     }
     Ok(())
 }
 
-/// Whether a fault of this call is told, and all disks are at home then.
-fn is_told(alloc: Global, provider: u32, call: u64) -> Result<bool, Fail> {
-    let failing = format!(in alloc; "{provider}:{call}")?;
-    let depot = depot_of(alloc, failing.as_str())?;
-    let begun = begun_over(alloc, Form::Make, depot)?;
-    Ok(begun.fault == Some(StartFault::DiskFault(provider)) && begun.at_home == 2)
+fn begun_failing(alloc: Global, failing: (u32, u64)) -> Result<Beginning, Fail> {
+    let depot = depot_failing(alloc, &[failing], &[])?;
+    begun_over(alloc, Form::Make, depot)
 }
 
 /// A network that ends and is resumed over its disks has what it had.
 #[test]
 fn a_network_is_resumed_with_what_it_had(rt: HostRuntime) -> Result<(), Fail> {
-    resume(rt.alloc())
-}
-
-/// Plays a script in two networks, one over the disks of the other.
-fn resume(alloc: Global) -> Result<(), Fail> {
-    let depot = depot_behind(alloc, "")?;
-    let played = played(alloc, Form::Open, depot, BEHIND)?;
-    let _depot = played.left()?;
+    let wrong = wrong_behind(rt.alloc())?;
+    assert!(rt; wrong.is_none(), "{wrong:?}");
     Ok(())
 }
 
 /// The first calls of each disk behind its entries, by the provider.
-const FIRST_CALLS: [(u32, &str); 2] = [(0, "0:11"), (1, "1:7")];
+static FIRST_CALLS: [(u32, u64); 2] = [(0, 11), (1, 7)];
 
 #[test]
 fn a_disk_that_fails_as_its_journal_is_opened_is_told(rt: HostRuntime) -> Result<(), Fail> {
     for (provider, call) in FIRST_CALLS {
-        let fault = refused(rt.alloc(), call)?;
-        assert!(rt; fault == Some(StartFault::DiskFault(provider)));
+        let fault = refused(rt.alloc(), (provider, call))?;
+        assert_eq!(rt; fault, Some(StartFault::DiskFault(provider)));
     }
     Ok(())
 }
 
+/// The first wrong line of a script that is played in two networks, one over the disks of the other.
+fn wrong_behind(alloc: Global) -> Result<Option<String>, Fail> {
+    let depot = depot_behind(alloc, &[])?;
+    let played = played(alloc, Form::Open, depot, BEHIND)?;
+    wrong_line(played)
+}
+
 /// Why the network isn't resumed where a call of a disk fails.
-fn refused(alloc: Global, failing: &str) -> Result<Option<StartFault>, Fail> {
-    let depot = depot_behind(alloc, failing)?;
+fn refused(alloc: Global, failing: (u32, u64)) -> Result<Option<StartFault>, Fail> {
+    let depot = depot_behind(alloc, &[failing])?;
     let begun = begun_over(alloc, Form::Open, depot)?;
     Ok(begun.fault)
 }
 
 /// The disks that a network leaves, of which these calls fail.
-fn depot_behind(alloc: Global, failing: &str) -> Result<MemDepot, Fail> {
-    let depot = depot_of(alloc, failing)?;
+fn depot_behind(alloc: Global, failing: &[(u32, u64)]) -> Result<MemDepot, Fail> {
+    let depot = depot_failing(alloc, failing, &[])?;
     let played = played(alloc, Form::Make, depot, BEFORE)?;
-    played.left()
+    left(played)
+}
+
+/// The disks that a network leaves that began and answered each line as it says.
+fn left(played: Outcome) -> Result<MemDepot, Fail> {
+    let (fault, wrong, depot) = played.parts();
+    if fault.is_some() || wrong.is_some() {
+        return Err("a wrong answer before the end".into());
+    }
+    Ok(depot)
 }
 
 const BEFORE: &str = "
@@ -313,24 +322,24 @@ round 1704186003 -> 0 sent 1 1, | 1 took 0/0, decided 0/0 bob@beta.example deliv
 /// A journal that was made with another directory is told by both digests.
 #[test]
 fn journals_of_another_directory_are_not_resumed(rt: HostRuntime) -> Result<(), Fail> {
-    let told = another_is_told(rt.alloc())?;
-    assert!(rt; told);
-    Ok(())
-}
-
-/// Whether journals aren't resumed of which the second was made with another directory.
-fn another_is_told(alloc: Global) -> Result<bool, Fail> {
-    let given = digest(alloc)?;
-    let mut depot = depot_of(alloc, "")?;
-    lay_at(alloc, &mut depot, 0, "start 0")?;
-    lay_at(alloc, &mut depot, 1, "start-of-another 1")?;
-    let begun = begun_over(alloc, Form::Open, depot)?;
+    let given = digest(rt.alloc())?;
+    let fault = fault_of_another(rt.alloc())?;
     let wanted = StartFault::NotFit(1, NotFit::OtherDirectory([7; 32], given));
-    Ok(begun.fault == Some(wanted))
+    assert_eq!(rt; fault, Some(wanted));
+    Ok(())
 }
 
 /// The digest of the directory of the tests.
 fn digest(alloc: Global) -> Result<[u8; 32], Fail> {
     let directory = Directory::read(alloc, two())?;
     Ok(directory.digest(alloc)?)
+}
+
+/// Why journals aren't resumed of which the second was made with another directory.
+fn fault_of_another(alloc: Global) -> Result<Option<StartFault>, Fail> {
+    let mut depot = depot_failing(alloc, &[], &[])?;
+    lay_at(alloc, &mut depot, 0, "start 0")?;
+    lay_at(alloc, &mut depot, 1, "start-of-another 1")?;
+    let begun = begun_over(alloc, Form::Open, depot)?;
+    Ok(begun.fault)
 }

@@ -1,33 +1,67 @@
 //! Scripts over new networks.
 
-use crate::net::played;
+use crate::net::{Outcome, played};
 use pec_network::Form;
 use pec_outside::MemDepot;
-use pec_trial::{first_line, numbers_of};
 use std::alloc::{AllocError, Global};
 use std::test::Fail;
 
-/// Plays cases, each from `~ WHY` on, over a new network. Behind ` -- ` that line may have `0:N` and `1:N`, the calls of disks
-/// that fail, each by its provider's number, and `kept:N`, how many pending bytes a crash keeps, in the order of crashes.
-pub(crate) fn play_cases(alloc: Global, cases: &str) -> Result<(), Fail> {
-    for case in cases.split("\n~ ").skip(1) {
-        play_case(alloc, case)?;
+/// A script over a new network, where the named calls of disks fail, each by its provider's number and its own. A crash
+/// keeps so many pending bytes, in the order of crashes, and none past the list.
+#[derive(Clone, Copy)]
+pub(crate) struct Case {
+    pub(crate) why: &'static str,
+    pub(crate) failing: &'static [(u32, u64)],
+    pub(crate) kept: &'static [u64],
+    pub(crate) script: &'static str,
+}
+
+/// The first line of the cases that isn't answered as it says, and what came.
+pub(crate) fn first_wrong_of(alloc: Global, cases: &[Case]) -> Result<Option<String>, Fail> {
+    for case in cases {
+        let wrong = wrong_in(alloc, case)?;
+        if wrong.is_some() {
+            return Ok(wrong);
+        }
     }
-    Ok(())
+    Ok(None)
 }
 
-fn play_case(alloc: Global, case: &str) -> Result<(), Fail> {
-    let depot = depot_of(alloc, first_line(case))?;
-    let played = played(alloc, Form::Make, depot, case)?;
-    let _depot = played.left()?;
-    Ok(())
+fn wrong_in(alloc: Global, case: &Case) -> Result<Option<String>, Fail> {
+    let depot = depot_failing(alloc, case.failing, case.kept)?;
+    let played = played(alloc, Form::Make, depot, case.script)?;
+    wrong_line(played)
 }
 
-/// A depot of two empty disks, where the calls fail that a line names.
-pub(crate) fn depot_of(alloc: Global, line: &str) -> Result<MemDepot, AllocError> {
+/// The first wrong line of a script whose network began.
+pub(crate) fn wrong_line(played: Outcome) -> Result<Option<String>, Fail> {
+    let (fault, wrong, _) = played.parts();
+    if fault.is_some() {
+        return Err("it doesn't begin".into());
+    }
+    Ok(wrong)
+}
+
+/// A depot of two empty disks, where these calls fail, each by its provider's number and its own.
+pub(crate) fn depot_failing(
+    alloc: Global,
+    failing: &[(u32, u64)],
+    kept: &[u64],
+) -> Result<MemDepot, AllocError> {
     let mut disks = Vec::new(alloc);
-    for whose in ["0", "1"] {
-        disks.push(numbers_of(alloc, line, whose)?)?;
+    for provider in 0..2u32 {
+        disks.push(calls_of(alloc, failing, provider)?)?;
     }
-    Ok(MemDepot::new(alloc, disks, numbers_of(alloc, line, "kept")?))
+    Ok(MemDepot::new(alloc, disks, Vec::from_slice(alloc, kept)?))
+}
+
+/// The failing calls of one provider's disk.
+fn calls_of(alloc: Global, failing: &[(u32, u64)], provider: u32) -> Result<Vec<u64>, AllocError> {
+    let mut calls = Vec::new(alloc);
+    for (whose, call) in failing {
+        if *whose == provider {
+            calls.push(*call)?;
+        }
+    }
+    Ok(calls)
 }

@@ -13,8 +13,8 @@ use pec_network::{Form, Network, StartFault};
 use pec_outside::{MemDepot, MemDisk};
 use pec_seal::{HmacSealer, Sealer};
 use pec_trial::{
-    Answers, account_at, add_number, moment_of, number, play, small, submission_of, text_of, told,
-    told_all, told_item, told_turns, told_word, two, word,
+    Answers, account_at, add_number, first_wrong, moment_of, number, small, submission_of, text_of,
+    told, told_all, told_item, told_turns, told_word, two, word,
 };
 use pec_types::{Frame, Text8};
 use std::alloc::Global;
@@ -39,25 +39,37 @@ impl Drop for Net {
     }
 }
 
-/// How a script was played: why its network didn't begin, and the depot, which has all disks again.
-#[derive(Drop)]
+/// How a script was played: why its network didn't begin, the first line that isn't answered as it says, with what came,
+/// and the depot, which has all disks again.
 pub(crate) struct Outcome {
-    pub(crate) fault: Option<StartFault>,
-    pub(crate) depot: MemDepot,
+    fault: Option<StartFault>,
+    wrong: Option<String>,
+    depot: MemDepot,
 }
 
-impl Outcome {
-    /// The depot of a network that began.
-    pub(crate) fn left(self) -> Result<MemDepot, Fail> {
-        match self.fault {
-            Some(fault) => Err(fault.into()),
-            None => Ok(self.depot),
-        }
+impl Drop for Outcome {
+    fn drop(self) {
+        let Outcome {
+            fault: _,
+            wrong: _,
+            depot: _,
+        } = self;
     }
 }
 
-/// Plays a script in a network of the directory of the tests, which begins over a depot and ends behind the script. Fails
-/// with the first line that isn't answered as it says.
+impl Outcome {
+    /// All that it has, in the order of its fields.
+    pub(crate) fn parts(self) -> (Option<StartFault>, Option<String>, MemDepot) {
+        let Outcome {
+            fault,
+            wrong,
+            depot,
+        } = self;
+        (fault, wrong, depot)
+    }
+}
+
+/// Plays a script in a network of the directory of the tests, which begins over a depot and ends behind the script.
 pub(crate) fn played(
     alloc: Global,
     form: Form,
@@ -102,6 +114,7 @@ fn begun(
         ),
         Err(fault) => Ok(Outcome {
             fault: Some(fault),
+            wrong: None,
             depot,
         }),
     }
@@ -124,9 +137,10 @@ fn of_form(
 }
 
 fn within(mut net: Net, script: &str) -> Result<Outcome, Fail> {
-    play(net.alloc, &mut net, script)?;
+    let wrong = first_wrong(net.alloc, &mut net, script)?;
     Ok(Outcome {
         fault: None,
+        wrong,
         depot: net.closed(),
     })
 }

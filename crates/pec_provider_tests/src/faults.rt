@@ -2,45 +2,133 @@
 
 use crate::desk::{Desk, Who};
 use crate::home::Home;
-use crate::world::play_case;
+use crate::world::{Failing, wrong_line};
 use pec_outside::MemDisk;
 use pec_provider::CreateFault;
-use pec_trial::{first_line, number, two, word};
+use pec_trial::two;
 use std::alloc::{AllocError, Global};
 use std::test::Fail;
 
-/// Kinds of entries, each from `~ KIND PROVIDER NUMBER` on, its number in the provider's journal: a script, and in the last
-/// line the call that appends the entry behind it, and what the same call answers once the provider is opened again: where
-/// the entry isn't in the journal, and where it is.
-const ENTRIES: &str = "
-~ Accepted 0 1
-alfa submit 1704186000 alice@alfa.example bob@beta.example to-bob => accepted 0/0 | accepted 0/1
-~ NotAccepted 0 1
-alfa submit 1704186000 alice@alfa.example bob@beta.example blind => not-accepted 0/0 bcc | not-accepted 0/1 bcc
-~ Took 1 1
+/// An entry that a call appends behind a script, and what the same call answers once the provider is opened again:
+/// where the entry isn't in the journal, and where it is. A call is a line without its answer.
+#[derive(Clone, Copy)]
+struct Entry {
+    why: &'static str,
+    whose: u32,
+    /// Its number in the journal.
+    number: u64,
+    before: &'static str,
+    call: &'static str,
+    without: &'static str,
+    with: &'static str,
+}
+
+static ENTRIES: [Entry; 9] = [
+    Entry {
+        why: "Accepted",
+        whose: 0,
+        number: 1,
+        before: "",
+        call: "alfa submit 1704186000 alice@alfa.example bob@beta.example to-bob",
+        without: "accepted 0/0",
+        with: "accepted 0/1",
+    },
+    Entry {
+        why: "NotAccepted",
+        whose: 0,
+        number: 1,
+        before: "",
+        call: "alfa submit 1704186000 alice@alfa.example bob@beta.example blind",
+        without: "not-accepted 0/0 bcc",
+        with: "not-accepted 0/1 bcc",
+    },
+    Entry {
+        why: "Took",
+        whose: 1,
+        number: 1,
+        before: TAKING,
+        call: "beta arrive 1704186002 alfa 0",
+        without: "took 0/0",
+        with: "repeat envelope 0/0 1",
+    },
+    Entry {
+        why: "Decided",
+        whose: 1,
+        number: 2,
+        before: DECIDING,
+        call: "beta decide 1704186002",
+        without: "decided 0/0 bob@beta.example delivered",
+        with: "none",
+    },
+    Entry {
+        why: "Charged",
+        whose: 0,
+        number: 2,
+        before: LEARNING,
+        call: "alfa arrive 1704186003 beta 0",
+        without: "charged 0/0 1",
+        with: "repeat charge 0/0 1",
+    },
+    Entry {
+        why: "Learned",
+        whose: 0,
+        number: 2,
+        before: LEARNING,
+        call: "alfa arrive 1704186003 beta 1",
+        without: "learned 0/0 bob@beta.example delivered",
+        with: "repeat outcome 0/0 bob@beta.example",
+    },
+    Entry {
+        why: "Acked",
+        whose: 1,
+        number: 3,
+        before: ACKING,
+        call: "beta arrive 1704186004 alfa 0",
+        without: "acked 0/0 bob@beta.example",
+        with: "repeat ack 0/0 bob@beta.example",
+    },
+    Entry {
+        why: "Ticked",
+        whose: 0,
+        number: 2,
+        before: "
+alfa submit 1704186000 alice@alfa.example bob@beta.example to-bob -> accepted 0/0
+",
+        call: "alfa tick 1704229200",
+        without: "warning 0/0 bob@beta.example, 1 marks",
+        with: "0 marks",
+    },
+    Entry {
+        why: "Anomaly",
+        whose: 1,
+        number: 1,
+        before: "",
+        call: "beta arrive 1704186001 for-carl",
+        without: "anomaly 1",
+        with: "dropped",
+    },
+];
+
+const TAKING: &str = "
 alfa submit 1704186000 alice@alfa.example bob@beta.example to-bob -> accepted 0/0
 alfa put 1 64 -> X-Trasporto: posta-certificata, 1 frames
-beta arrive 1704186002 alfa 0 => took 0/0 | repeat envelope 0/0 1
-~ Decided 1 2
+";
+
+const DECIDING: &str = "
 alfa submit 1704186000 alice@alfa.example bob@beta.example to-bob -> accepted 0/0
 alfa put 1 64 -> X-Trasporto: posta-certificata, 1 frames
 beta arrive 1704186002 alfa 0 -> took 0/0
-beta decide 1704186002 => decided 0/0 bob@beta.example delivered | none
-~ Charged 0 2
+";
+
+const LEARNING: &str = "
 alfa submit 1704186000 alice@alfa.example bob@beta.example to-bob -> accepted 0/0
 alfa put 1 64 -> X-Trasporto: posta-certificata, 1 frames
 beta arrive 1704186002 alfa 0 -> took 0/0
 beta decide 1704186002 -> decided 0/0 bob@beta.example delivered
 beta put 0 64 -> X-Ricevuta: presa-in-carico, X-Ricevuta: avvenuta-consegna, 2 frames
-alfa arrive 1704186003 beta 0 => charged 0/0 1 | repeat charge 0/0 1
-~ Learned 0 2
-alfa submit 1704186000 alice@alfa.example bob@beta.example to-bob -> accepted 0/0
-alfa put 1 64 -> X-Trasporto: posta-certificata, 1 frames
-beta arrive 1704186002 alfa 0 -> took 0/0
-beta decide 1704186002 -> decided 0/0 bob@beta.example delivered
-beta put 0 64 -> X-Ricevuta: presa-in-carico, X-Ricevuta: avvenuta-consegna, 2 frames
-alfa arrive 1704186003 beta 1 => learned 0/0 bob@beta.example delivered | repeat outcome 0/0 bob@beta.example
-~ Acked 1 3
+";
+
+const ACKING: &str = "
 alfa submit 1704186000 alice@alfa.example bob@beta.example to-bob -> accepted 0/0
 alfa put 1 64 -> X-Trasporto: posta-certificata, 1 frames
 beta arrive 1704186002 alfa 0 -> took 0/0
@@ -48,77 +136,60 @@ beta decide 1704186002 -> decided 0/0 bob@beta.example delivered
 beta put 0 64 -> X-Ricevuta: presa-in-carico, X-Ricevuta: avvenuta-consegna, 2 frames
 alfa arrive 1704186003 beta 1 -> learned 0/0 bob@beta.example delivered
 alfa put 1 64 -> X-Riscontro: pec.0000000@alfa.example bob@beta.example, 1 frames
-beta arrive 1704186004 alfa 0 => acked 0/0 bob@beta.example | repeat ack 0/0 bob@beta.example
-~ Ticked 0 2
-alfa submit 1704186000 alice@alfa.example bob@beta.example to-bob -> accepted 0/0
-alfa tick 1704229200 => warning 0/0 bob@beta.example, 1 marks | 0 marks
-~ Anomaly 1 1
-beta arrive 1704186001 for-carl => anomaly 1 | dropped
 ";
 
-/// The entries, by a function without a clause: the proof of the test is spared their text.
-fn entries() -> &'static str {
-    ENTRIES
+/// The table, by a function without a clause: the proof of the test is spared its texts.
+fn entries() -> &'static [Entry] {
+    &ENTRIES
+}
+
+/// The first call of a disk in the append of an entry: three calls make a journal, and four append an entry.
+fn first_call(number: u64) -> u64 {
+    number.saturating_mul(4).saturating_add(3)
 }
 
 /// An append writes the entry, syncs, opens its gate, and syncs. Only where the last of these fails is the entry there.
 #[test]
 fn a_fault_of_the_disk_leaves_an_entry_or_none(rt: HostRuntime) -> Result<(), Fail> {
-    play_entries(rt.alloc(), entries())
-}
-
-fn play_entries(alloc: Global, entries: &str) -> Result<(), Fail> {
-    for entry in entries.split("\n~ ").skip(1) {
+    for entry in entries() {
         for call in 0..4u64 {
-            let script = script_of(alloc, entry, call)?;
-            play_case(alloc, script.as_str())?;
+            let wrong = wrong_behind(rt.alloc(), entry, call)?;
+            assert!(rt; wrong.is_none(), "{} {call}: {wrong:?}", entry.why);
         }
     }
     Ok(())
 }
 
-/// The script of an entry where one call of its append fails.
-fn script_of(alloc: Global, entry: &str, call: u64) -> Result<String, Fail> {
-    let (before, last) = entry.split_once(" => ").ok_or("no answers")?;
-    let (before, asked) = before.rsplit_once('\n').ok_or("no script")?;
-    let left = left_of(first_line(last), call);
-    let mut script = heading_of(alloc, entry, call)?;
-    script.push_str(before)?;
-    let faulted = faulted(alloc, word(asked, 0), asked, left)?;
+/// A call that a fault of the disk ends, and the same call while the provider is down and once it is opened again.
+const FAULTED: &str = "
+CALL -> disk-fault
+CALL -> down
+WHO reopen -> interrupted
+CALL -> LEFT
+";
+
+/// The first wrong line where a call of the disk fails as the entry is appended.
+fn wrong_behind(alloc: Global, entry: &Entry, call: u64) -> Result<Option<String>, Fail> {
+    let script = script_of(alloc, entry, call)?;
+    let failing = Failing {
+        whose: entry.whose,
+        call: first_call(entry.number).saturating_add(call),
+    };
+    wrong_line(alloc, &[failing], script.as_str())
+}
+
+fn script_of(alloc: Global, entry: &Entry, call: u64) -> Result<String, AllocError> {
+    let who = if entry.whose == 0 { "alfa" } else { "beta" };
+    let left = if call == 3 { entry.with } else { entry.without };
+    let faulted = with_words(alloc, &[("CALL", entry.call), ("WHO", who), ("LEFT", left)])?;
+    let mut script = String::from_str(alloc, entry.before)?;
     script.push_str(faulted.as_str())?;
     Ok(script)
 }
 
-/// The answer behind a fault of this call.
-fn left_of(answers: &str, call: u64) -> &str {
-    match answers.split_once(" | ") {
-        Some((_, with)) if call == 3 => with,
-        Some((without, _)) => without,
-        None => answers,
-    }
-}
-
-/// The first words of a script, which name the call that fails: three calls make a journal, and four append an entry.
-fn heading_of(alloc: Global, entry: &str, call: u64) -> Result<String, Fail> {
-    let place = number(first_line(entry), 2)?
-        .saturating_mul(4)
-        .saturating_add(3)
-        .saturating_add(call);
-    let mut heading = String::from_str(alloc, word(first_line(entry), 1))?;
-    heading.push(':')?;
-    let place = place.to_string(alloc)?;
-    heading.push_str(place.as_str())?;
-    heading.push(' ')?;
-    Ok(heading)
-}
-
-/// A call that a fault of the disk ends, and the same call while the provider is down and once it is opened again.
-fn faulted(alloc: Global, who: &str, call: &str, left: &str) -> Result<String, AllocError> {
-    let words = [("CALL", call), ("WHO", who), ("LEFT", left)];
-    let mut lines = String::from_str(
-        alloc,
-        "\nCALL -> disk-fault\nCALL -> down\nWHO reopen -> interrupted\nCALL -> LEFT\n",
-    )?;
+/// The lines with these words.
+fn with_words(alloc: Global, words: &[(&str, &str)]) -> Result<String, AllocError> {
+    let mut lines = String::from_str(alloc, FAULTED)?;
     for (word, instead) in words {
         lines = lines.replace(alloc, word, instead)?;
     }
@@ -128,11 +199,13 @@ fn faulted(alloc: Global, who: &str, call: &str, left: &str) -> Result<String, A
 /// While a provider is down nothing is shown and nothing taken; it is opened again with what it had, and owes nothing.
 #[test]
 fn who_is_down_says_no_more(rt: HostRuntime) -> Result<(), Fail> {
-    play_case(rt.alloc(), down())
+    let failing = Failing { whose: 1, call: 14 };
+    let wrong = wrong_line(rt.alloc(), &[failing], DOWN)?;
+    assert!(rt; wrong.is_none(), "{wrong:?}");
+    Ok(())
 }
 
-/// Call 14 of beta's disk fails.
-const DOWN: &str = "1:14
+const DOWN: &str = "
 alfa submit 1704186000 alice@alfa.example bob@beta.example to-bob -> accepted 0/0
 alfa put 1 64 -> X-Trasporto: posta-certificata, 1 frames
 beta arrive 1704186002 alfa 0 -> took 0/0
@@ -161,10 +234,6 @@ alfa arrive 1704186004 beta 0 -> repeat outcome 0/0 bob@beta.example
 alfa mailbox alice@alfa.example -> acceptance 0/0, delivery 0/0 bob@beta.example, 2 items
 beta mailbox bob@beta.example -> envelope 0/0, 1 items
 ";
-
-fn down() -> &'static str {
-    DOWN
-}
 
 /// A journal is made by three calls, and its Start is appended by four. Where one of these fails there is no provider.
 #[test]

@@ -90,14 +90,9 @@ fn cases() -> &'static [Case] {
 fn a_journal_of_others_is_refused_with_the_number_of_its_first_bad_entry(
     rt: HostRuntime,
 ) -> Result<(), Fail> {
-    refuse_all(rt.alloc(), cases())
-}
-
-fn refuse_all(alloc: Global, cases: &[Case]) -> Result<(), Fail> {
-    for case in cases {
-        if fault_of(alloc, case)? != case.fault {
-            return Err(case.why.into());
-        }
+    for case in cases() {
+        let fault = fault_of(rt.alloc(), case)?;
+        assert_eq!(rt; fault, case.fault, "{}", case.why);
     }
     Ok(())
 }

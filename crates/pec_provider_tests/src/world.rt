@@ -4,11 +4,9 @@ use crate::desk::{Desk, Who};
 use crate::home::Home;
 use crate::letters::changed;
 use pec_outside::MemDisk;
-use pec_trial::{
-    Answers, behind, first_line, number, numbers_of, play, text_of, told_word, two, word,
-};
+use pec_trial::{Answers, behind, first_wrong, number, text_of, told_word, two, word};
 use pec_types::Frame;
-use std::alloc::Global;
+use std::alloc::{AllocError, Global};
 use std::test::Fail;
 
 /// The providers of the directory of the tests, and a home from whose seals a forger takes. One that isn't opened again
@@ -31,12 +29,19 @@ impl Drop for World {
     }
 }
 
+/// A call of a provider's disk that fails: the provider's number, and the number of the call, from 0.
+#[derive(Clone, Copy)]
+pub(crate) struct Failing {
+    pub(crate) whose: u32,
+    pub(crate) call: u64,
+}
+
 impl World {
-    /// Providers on empty disks. In the line `0:N` and `1:N` are calls of disks that fail, each by its provider's number.
-    fn new(alloc: Global, line: &str) -> Result<World, Fail> {
+    /// Providers on empty disks, of which these calls fail.
+    fn new(alloc: Global, failing: &[Failing]) -> Result<World, Fail> {
         let forger = Home::of(alloc, two())?;
-        let alfa = desk(alloc, Who::Alfa, numbers_of(alloc, line, "0")?)?;
-        let beta = desk(alloc, Who::Beta, numbers_of(alloc, line, "1")?)?;
+        let alfa = desk(alloc, Who::Alfa, calls_of(alloc, failing, 0)?)?;
+        let beta = desk(alloc, Who::Beta, calls_of(alloc, failing, 1)?)?;
         Ok(World {
             alloc,
             forger,
@@ -139,16 +144,41 @@ fn desk(alloc: Global, who: Who, failing: Vec<u64>) -> Result<Desk, Fail> {
     Ok(Desk::made(alloc, home, who, disk)?)
 }
 
-/// Plays cases, each from `~ WHY` on, over two new providers.
-pub(crate) fn play_cases(alloc: Global, cases: &str) -> Result<(), Fail> {
-    for case in cases.split("\n~ ").skip(1) {
-        play_case(alloc, case)?;
+/// The failing calls of one provider's disk.
+fn calls_of(alloc: Global, failing: &[Failing], whose: u32) -> Result<Vec<u64>, AllocError> {
+    let mut calls = Vec::new(alloc);
+    for one in failing {
+        if one.whose == whose {
+            calls.push(one.call)?;
+        }
     }
-    Ok(())
+    Ok(calls)
 }
 
-/// Plays a script over two new providers, where the calls of disks fail that its first line names.
-pub(crate) fn play_case(alloc: Global, script: &str) -> Result<(), Fail> {
-    let mut world = World::new(alloc, first_line(script))?;
-    play(alloc, &mut world, script)
+/// A script over two providers, and what it is about.
+#[derive(Clone, Copy)]
+pub(crate) struct Case {
+    pub(crate) why: &'static str,
+    pub(crate) script: &'static str,
+}
+
+/// The first line of the cases that isn't answered as it says, and what came.
+pub(crate) fn first_wrong_of(alloc: Global, cases: &[Case]) -> Result<Option<String>, Fail> {
+    for case in cases {
+        let wrong = wrong_line(alloc, &[], case.script)?;
+        if wrong.is_some() {
+            return Ok(wrong);
+        }
+    }
+    Ok(None)
+}
+
+/// The first line of a script that isn't answered as it says where these calls of disks fail, and what came.
+pub(crate) fn wrong_line(
+    alloc: Global,
+    failing: &[Failing],
+    script: &str,
+) -> Result<Option<String>, Fail> {
+    let mut world = World::new(alloc, failing)?;
+    first_wrong(alloc, &mut world, script)
 }

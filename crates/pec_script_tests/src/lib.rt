@@ -1,31 +1,15 @@
-//! Tests of `pec_screen`, `pec_points` and `pec_script` over their public calls.
+//! Tests of `pec_script` over its public calls.
 #![tactic(auto)]
 
 #[cfg(test)]
-mod admission;
-#[cfg(test)]
-mod boxes;
-#[cfg(test)]
-mod counting;
-#[cfg(test)]
-mod decision;
-#[cfg(test)]
-mod limits;
-#[cfg(test)]
-mod patterns;
-#[cfg(test)]
 mod printing;
 #[cfg(test)]
-mod reading;
-#[cfg(test)]
-mod reception;
+mod reading_tests;
 #[cfg(test)]
 mod said;
-#[cfg(test)]
-mod screens;
 #[cfg(test)]
 mod second_reader;
 #[cfg(test)]
 mod values;
 #[cfg(test)]
-mod writing;
+mod writing_tests;

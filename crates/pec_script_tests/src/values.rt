@@ -1,25 +1,22 @@
 //! The directory of the tests, and values whose lines they know.
 
 use pec_directory::Directory;
-use pec_trial::two;
 use pec_types::{
     Address, BookLine, Class, Decision, Due, Event, ItemKind, ItemLine, Items, Letter, Mark,
     Moment, MsgId, ProviderFault, Refusal, Turn,
 };
-use std::alloc::{AllocError, Global};
+use std::alloc::Global;
 
-/// The providers alfa, which has a second domain, and beta.
+const DIRECTORY: &str = "[[provider]]\nname = \"alfa\"\nmailReceipt = \"r@alfa.example\"\n\
+managedDomains = [\"alfa.example\", \"a.b\"]\nkey = \"00000000000000000000000000000000\"\nzone = \"UTC0\"\n\
+[[provider.account]]\naddress = \"alice@alfa.example\"\nquota = 1\nkey = \"k\"\n\
+[[provider]]\nname = \"beta\"\nmailReceipt = \"r@beta.example\"\n\
+managedDomains = [\"beta.example\"]\nkey = \"00000000000000000000000000000000\"\nzone = \"UTC0\"\n\
+[[provider.account]]\naddress = \"bob@beta.example\"\nquota = 1\nkey = \"k\"\n";
+
+/// The providers alfa and beta, with an account each.
 pub fn directory(alloc: Global) -> Option<Directory> {
-    let text = text_of_two(alloc).ok()?;
-    Directory::read(alloc, text.as_str()).ok()
-}
-
-fn text_of_two(alloc: Global) -> Result<String, AllocError> {
-    two().replace(
-        alloc,
-        "[\"alfa.example\"]",
-        "[\"alfa.example\", \"due.example\"]",
-    )
+    Directory::read(alloc, DIRECTORY).ok()
 }
 
 fn bob(alloc: Global) -> Option<Address> {

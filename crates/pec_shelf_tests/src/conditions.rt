@@ -1,12 +1,12 @@
 //! Entries that are no step: one for each condition of each kind of entry, and for its moment.
 
+use crate::lines::Log;
 use crate::playing::Desk;
-use pec_trial::Answers;
 use std::alloc::Global;
 use std::test::Fail;
 
 /// At alfa, on the sender's side: 0/0 for bob is charged and known, 0/1 for bob and carl isn't; 0/2 was refused.
-const SENT: &str = "
+const SENT: &str = "\
 start 0 0 two
 accepted 1704186000 alice@alfa.example alice@alfa.example bob@beta.example -
 accepted 1704186000 alice@alfa.example alice@alfa.example bob@beta.example,carl@beta.example -
@@ -16,7 +16,7 @@ learned 1704186000 0/0 bob@beta.example delivered 1704186000
 ";
 
 /// What is no step behind that, and why.
-const NOT_SENT: &str = "
+const NOT_SENT: &str = "\
 accepted 1704186000 zoe@alfa.example zoe@alfa.example bob@beta.example - # by no account
 accepted 1704186000 bob@beta.example bob@beta.example alice@alfa.example - # by an account of another
 accepted 1704186000 anna@alfa.example alice@alfa.example bob@beta.example - # by another than its sender
@@ -45,7 +45,7 @@ tick 1704185999 # the clock goes back
 
 /// At beta, on the recipient's side: 0/0 is decided for bob and acknowledged, 0/1 is decided for carl, whose mailbox is
 /// full with it, and not for bob; 0/2 is taken for carl and for an address that is no account.
-const RECEIVED: &str = "
+const RECEIVED: &str = "\
 start 0 1 two
 took 1704186000 0/0 alice@alfa.example bob@beta.example -
 decided 1704186000 0/0 bob@beta.example delivered
@@ -56,7 +56,7 @@ took 1704186000 0/2 alice@alfa.example carl@beta.example,nobody@beta.example -
 ";
 
 /// What is no step behind that, and why.
-const NOT_RECEIVED: &str = "
+const NOT_RECEIVED: &str = "\
 took 1704186000 0/0 alice@alfa.example bob@beta.example - # the id was taken
 took 1704186000 0/0 alice@alfa.example carl@beta.example - # the id was taken, for another
 took 1704186000 2/0 alice@alfa.example bob@beta.example - # an id of no provider
@@ -87,66 +87,36 @@ anomaly 1704185999 bob@beta.example # at an earlier moment
 ";
 
 /// What is no first step of alfa, and why.
-const NOT_FIRST: &str = "
+const NOT_FIRST: &str = "\
 start 0 1 two # of another provider
-start 0 0 alfa # of another directory
+start 0 0 one # of another directory
 ";
-
-/// The texts, by functions without a clause: the proof of the test is spared them.
-fn sent() -> &'static str {
-    SENT
-}
-
-fn not_sent() -> &'static str {
-    NOT_SENT
-}
-
-fn received() -> &'static str {
-    RECEIVED
-}
-
-fn not_received() -> &'static str {
-    NOT_RECEIVED
-}
-
-fn not_first() -> &'static str {
-    NOT_FIRST
-}
 
 #[test]
 fn an_entry_that_misses_a_condition_is_no_step(rt: HostRuntime) -> Result<(), Fail> {
-    no_step(rt.alloc(), 0, "", not_first())?;
+    no_step(rt.alloc(), 0, "", NOT_FIRST)?;
     no_step(rt.alloc(), 0, "start 0 0 two", "start 0 0 two # twice")?;
-    no_step(rt.alloc(), 0, sent(), not_sent())?;
-    no_step(rt.alloc(), 1, received(), not_received())
+    no_step(rt.alloc(), 0, SENT, NOT_SENT)?;
+    no_step(rt.alloc(), 1, RECEIVED, NOT_RECEIVED)
 }
 
 /// Fails by the first line that is a step of a provider behind those before, or behind which one of these isn't.
-fn no_step(alloc: Global, me: u32, before: &str, lines: &str) -> Result<(), Fail> {
+fn no_step(alloc: Global, me: u32, before: &'static str, lines: &'static str) -> Result<(), Fail> {
     for line in lines.split('\n') {
-        if !line.is_empty() {
-            refuse(alloc, me, before, line)?;
-        }
-    }
-    Ok(())
-}
-
-fn refuse(alloc: Global, me: u32, before: &str, line: &str) -> Result<(), Fail> {
-    let mut desk = Desk::new(alloc, me)?;
-    take_in(&mut desk, before)?;
-    let came = desk.answer(line)?;
-    if came.as_slice() != b"not-a-step" {
-        return Err(line.into());
-    }
-    Ok(())
-}
-
-/// Fails with the first line that is no step.
-fn take_in(desk: &mut Desk, lines: &str) -> Result<(), Fail> {
-    for line in lines.split('\n') {
-        if !line.is_empty() && desk.answer(line)?.as_slice() != b"step" {
+        if is_step(alloc, me, before, line)? {
             return Err(line.into());
         }
     }
     Ok(())
+}
+
+fn is_step(alloc: Global, me: u32, before: &'static str, line: &'static str) -> Result<bool, Fail> {
+    if line.is_empty() {
+        return Ok(false);
+    }
+    let mut log = Log::new(alloc);
+    let mut desk = Desk::new(alloc, me)?;
+    desk.play_script(&mut log, before);
+    desk.play_line(&mut log, line);
+    Ok(!log.is(b"not-a-step\n"))
 }

@@ -1,20 +1,23 @@
-//! A shelf that is asked by lines: entries, which are done where they are steps, and questions.
+//! A shelf to which the steps of scripts are done, and the lines that come of them.
 
 ghost use Rattle.pec_ledger.specs.OfDirectory.{IsOf};
 ghost use Rattle.pec_ledger.specs.Trade.{Trade};
 ghost use Rattle.pec_shelf.specs.Seen.{IsFor};
 
-use crate::entries::{entry_of, id_at};
-use crate::rows::{facts, found, pair, row};
+use crate::lines::{Log, add_facts, add_letters, add_pair, add_row};
+use crate::reading::step_of;
+use crate::steps::{Act, Id, Question, Step, address_of, entry_of, id_of};
 use pec_directory::Directory;
 use pec_records::Entry;
+use pec_script::{book_text, items_text, marks_text};
 use pec_shelf::{PrepareFault, Shelf, a_directory_has_a_trade, what_is_kept_goes_on};
-use pec_trial::{Answers, account_at, number, small, told_list, told_word, two, word};
-use pec_types::{Mark, NoMemory};
+use pec_trial::two;
+use pec_types::{Address, Mark, NoMemory};
 use std::alloc::Global;
 use std::test::Fail;
 
-/// A shelf and its directory.
+/// A shelf and its directory. An entry that is no step has a line that says so, a clock call its marks, and any other
+/// entry none.
 pub(crate) struct Desk {
     alloc: Global,
     directory: Directory,
@@ -32,29 +35,10 @@ impl Drop for Desk {
     }
 }
 
-/// A line is an entry, which is answered by its marks, `step` where a clock call gave none, or `not-a-step`; or a question.
-impl Answers for Desk {
-    fn answer(&mut self, call: &str) -> Result<Vec<u8>, Fail> {
-        match word(call, 0) {
-            "due" => self.due(call),
-            "undecided" => self.undecided(),
-            "facts" => self.facts(call),
-            "own" => Ok(found(self.alloc, self.shelf.own(number(call, 1)?))?),
-            "taken" => Ok(found(self.alloc, self.shelf.took(id_at(call, 1)?))?),
-            "book" => self.book(call),
-            "mailbox" => self.mailbox(call),
-            "counted" => self.counted(call),
-            "source" => self.source(call),
-            "row" => self.row(call),
-            _ => self.entered(call),
-        }
-    }
-}
-
 impl Desk {
     /// The shelf of a provider before its first entry.
     pub(crate) fn new(alloc: Global, me: u32) -> Result<Desk, Fail> {
-        let directory = Directory::read(alloc, two())?;
+        let directory = directory_of(alloc)?;
         Ok(Desk {
             alloc,
             directory,
@@ -62,12 +46,48 @@ impl Desk {
         })
     }
 
-    fn entered(&mut self, line: &str) -> Result<Vec<u8>, Fail> {
-        let entry = entry_of(self.alloc, line)?;
-        let marks = self.taken_in(&entry)?;
-        match marks {
-            Some(marks) => told_marks(self.alloc, line, &marks),
-            None => told_word(self.alloc, b"not-a-step"),
+    /// Does the steps of a script, line by line.
+    pub(crate) fn play_script(&mut self, log: &mut Log, script: &'static str) {
+        for line in script.split('\n') {
+            if !line.is_empty() {
+                self.play_line(log, line);
+            }
+        }
+    }
+
+    pub(crate) fn play_line(&mut self, log: &mut Log, line: &'static str) {
+        match step_of(line) {
+            Some(step) => self.step(log, &step),
+            None => log.fail(),
+        }
+    }
+
+    /// Does a step, and adds the lines that come of it.
+    pub(crate) fn step(&mut self, log: &mut Log, step: &Step) {
+        match step {
+            Step::Enter(moment, act) => self.enter(log, *moment, act),
+            Step::Ask(question) => self.answer(log, question),
+        }
+    }
+
+    fn enter(&mut self, log: &mut Log, moment: u64, act: &Act) {
+        match entry_of(self.alloc, moment, act) {
+            Some(entry) => self.take_in(log, act, &entry),
+            None => log.fail(),
+        }
+    }
+
+    fn take_in(&mut self, log: &mut Log, act: &Act, entry: &Entry) {
+        match self.taken_in(entry) {
+            Ok(Some(marks)) => self.add_marks(log, act, &marks),
+            Ok(None) => log.put(b"not-a-step\n"),
+            Err(_) => log.fail(),
+        }
+    }
+
+    fn add_marks(&self, log: &mut Log, act: &Act, marks: &[Mark]) {
+        if !marks.is_empty() || is_tick(act) {
+            log.put_text(marks_text(self.alloc, &self.directory, marks));
         }
     }
 
@@ -82,72 +102,102 @@ impl Desk {
         }
     }
 
-    /// `due PROVIDER ROOM`
-    fn due(&self, line: &str) -> Result<Vec<u8>, Fail> {
-        let to = small(line, 1)?;
-        let room = number(line, 2)? as usize;
-        let letters = self.shelf.due(to, room)?;
-        told_list(self.alloc, &letters, b"letters")
+    fn answer(&self, log: &mut Log, question: &Question) {
+        match *question {
+            Question::Due(to, room) => self.add_due(log, to, room),
+            Question::Undecided => self.add_undecided(log),
+            Question::Facts(number) => self.add_facts(log, number),
+            Question::Own(number) => log.add_found(self.shelf.own(number)),
+            Question::Took(id) => self.add_took(log, id),
+            Question::Book(account)
+            | Question::Items(account)
+            | Question::Counted(account)
+            | Question::Source(account, _)
+            | Question::Row(_, account) => self.answer_of(log, account, question),
+        }
     }
 
-    /// `undecided`
-    fn undecided(&self) -> Result<Vec<u8>, Fail> {
+    /// Adds the lines of an answer on an account or a recipient.
+    fn answer_of(&self, log: &mut Log, account: &str, question: &Question) {
+        match address_of(self.alloc, account) {
+            Some(account) => self.answer_on(log, &account, question),
+            None => log.fail(),
+        }
+    }
+
+    fn answer_on(&self, log: &mut Log, account: &Address, question: &Question) {
+        match *question {
+            Question::Book(_) => self.add_book(log, account),
+            Question::Items(_) => self.add_items(log, account),
+            Question::Source(_, place) => log.add_found(self.shelf.source(account, place)),
+            Question::Row(id, _) => self.add_row(log, id, account),
+            _ => log.add_found(Some(self.shelf.counted(account))),
+        }
+    }
+
+    fn add_took(&self, log: &mut Log, id: Id) {
+        match id_of(id) {
+            Some(id) => log.add_found(self.shelf.took(id)),
+            None => log.fail(),
+        }
+    }
+
+    fn add_due(&self, log: &mut Log, to: u32, room: usize) {
+        match self.shelf.due(to, room) {
+            Ok(letters) => add_letters(log, &self.directory, &letters),
+            Err(_) => log.fail(),
+        }
+    }
+
+    fn add_book(&self, log: &mut Log, account: &Address) {
+        match self.shelf.book(account) {
+            Ok(lines) => log.put_text(book_text(self.alloc, &self.directory, &lines)),
+            Err(_) => log.fail(),
+        }
+    }
+
+    fn add_items(&self, log: &mut Log, account: &Address) {
+        match self.shelf.items(account) {
+            Ok(lines) => log.put_text(items_text(self.alloc, &self.directory, &lines)),
+            Err(_) => log.fail(),
+        }
+    }
+
+    fn add_undecided(&self, log: &mut Log) {
         match self.shelf.next_undecided() {
-            Some((id, recipient)) => Ok(pair(self.alloc, id, recipient.bytes())?),
-            None => told_word(self.alloc, b"-"),
+            Some((id, recipient)) => add_pair(log, &self.directory, id, recipient.bytes()),
+            None => log.add_nothing(),
         }
     }
 
-    /// `facts NUMBER`
-    fn facts(&self, line: &str) -> Result<Vec<u8>, Fail> {
-        match self.shelf.facts(number(line, 1)?) {
-            Some(known) => Ok(facts(self.alloc, known)?),
-            None => told_word(self.alloc, b"-"),
+    fn add_facts(&self, log: &mut Log, number: u64) {
+        match self.shelf.facts(number) {
+            Some(facts) => add_facts(log, facts),
+            None => log.add_nothing(),
         }
     }
 
-    /// `book ACCOUNT`
-    fn book(&self, line: &str) -> Result<Vec<u8>, Fail> {
-        let account = account_at(self.alloc, line, 1)?;
-        let lines = self.shelf.book(&account)?;
-        told_list(self.alloc, &lines, b"rows")
-    }
-
-    /// `mailbox ACCOUNT`
-    fn mailbox(&self, line: &str) -> Result<Vec<u8>, Fail> {
-        let account = account_at(self.alloc, line, 1)?;
-        let lines = self.shelf.items(&account)?;
-        told_list(self.alloc, &lines, b"items")
-    }
-
-    /// `counted ACCOUNT`
-    fn counted(&self, line: &str) -> Result<Vec<u8>, Fail> {
-        let account = account_at(self.alloc, line, 1)?;
-        Ok(found(self.alloc, Some(self.shelf.counted(&account)))?)
-    }
-
-    /// `source ACCOUNT PLACE`
-    fn source(&self, line: &str) -> Result<Vec<u8>, Fail> {
-        let place = small(line, 2)?;
-        let account = account_at(self.alloc, line, 1)?;
-        Ok(found(self.alloc, self.shelf.source(&account, place))?)
-    }
-
-    /// `row ID RECIPIENT`
-    fn row(&self, line: &str) -> Result<Vec<u8>, Fail> {
-        let id = id_at(line, 1)?;
-        let recipient = account_at(self.alloc, line, 2)?;
-        match self.shelf.row(id, &recipient) {
-            Some(had) => Ok(row(self.alloc, &had)?),
-            None => told_word(self.alloc, b"-"),
+    fn add_row(&self, log: &mut Log, id: Id, recipient: &Address) {
+        let Some(id) = id_of(id) else {
+            return log.fail();
+        };
+        match self.shelf.row(id, recipient) {
+            Some(row) => add_row(log, row),
+            None => log.add_nothing(),
         }
     }
 }
 
-/// The marks of an entry; `step` for another than a clock call that gave none.
-fn told_marks(alloc: Global, line: &str, marks: &[Mark]) -> Result<Vec<u8>, Fail> {
-    if marks.is_empty() && word(line, 0) != "tick" {
-        return told_word(alloc, b"step");
+fn directory_of(alloc: Global) -> Result<Directory, Fail> {
+    match Directory::read(alloc, two()) {
+        Ok(directory) => Ok(directory),
+        Err(_) => Err("no directory".into()),
     }
-    told_list(alloc, marks, b"marks")
+}
+
+fn is_tick(act: &Act) -> bool {
+    match act {
+        Act::Ticks => true,
+        _ => false,
+    }
 }

@@ -1,11 +1,83 @@
-//! Directories, messages and requests of the tests.
+//! Directories and messages of the tests.
 
-use crate::running::joined;
-use pec_trial::{alfa, two};
-use std::alloc::{AllocError, Global};
+/// The provider `alfa` with the accounts alice and anna.
+pub(crate) const ALFA: &str = r#"[[provider]]
+name = "alfa"
+mailReceipt = "ricevute@alfa.example"
+managedDomains = ["alfa.example"]
+key = "000102030405060708090a0b0c0d0e0f"
+zone = "CET-1CEST,M3.5.0,M10.5.0/3"
+[[provider.account]]
+address = "alice@alfa.example"
+quota = 100
+key = "chiave-alice"
+[[provider.account]]
+address = "anna@alfa.example"
+quota = 100
+key = "chiave-anna"
+"#;
 
-/// The provider `gamma`, of gina.
-const GAMMA: &str = r#"[[provider]]
+/// The providers `alfa`, of alice and anna, and `beta`, of bob and carl.
+pub(crate) const TWO: &str = r#"[[provider]]
+name = "alfa"
+mailReceipt = "ricevute@alfa.example"
+managedDomains = ["alfa.example"]
+key = "000102030405060708090a0b0c0d0e0f"
+zone = "CET-1CEST,M3.5.0,M10.5.0/3"
+[[provider.account]]
+address = "alice@alfa.example"
+quota = 100
+key = "chiave-alice"
+[[provider.account]]
+address = "anna@alfa.example"
+quota = 100
+key = "chiave-anna"
+[[provider]]
+name = "beta"
+mailReceipt = "ricevute@beta.example"
+managedDomains = ["beta.example"]
+key = "101112131415161718191a1b1c1d1e1f"
+zone = "CET-1CEST,M3.5.0,M10.5.0/3"
+[[provider.account]]
+address = "bob@beta.example"
+quota = 100
+key = "chiave-bob"
+[[provider.account]]
+address = "carl@beta.example"
+quota = 1
+key = "chiave-carl"
+"#;
+
+/// The providers `alfa`, of alice and anna, `beta`, of bob and carl, and `gamma`, of gina.
+pub(crate) const THREE: &str = r#"[[provider]]
+name = "alfa"
+mailReceipt = "ricevute@alfa.example"
+managedDomains = ["alfa.example"]
+key = "000102030405060708090a0b0c0d0e0f"
+zone = "CET-1CEST,M3.5.0,M10.5.0/3"
+[[provider.account]]
+address = "alice@alfa.example"
+quota = 100
+key = "chiave-alice"
+[[provider.account]]
+address = "anna@alfa.example"
+quota = 100
+key = "chiave-anna"
+[[provider]]
+name = "beta"
+mailReceipt = "ricevute@beta.example"
+managedDomains = ["beta.example"]
+key = "101112131415161718191a1b1c1d1e1f"
+zone = "CET-1CEST,M3.5.0,M10.5.0/3"
+[[provider.account]]
+address = "bob@beta.example"
+quota = 100
+key = "chiave-bob"
+[[provider.account]]
+address = "carl@beta.example"
+quota = 1
+key = "chiave-carl"
+[[provider]]
 name = "gamma"
 mailReceipt = "ricevute@gamma.example"
 managedDomains = ["gamma.example"]
@@ -18,7 +90,7 @@ key = "chiave-gina"
 "#;
 
 /// The provider `gamma` of three domains, with an account in each.
-const DOMAINS: &str = r#"[[provider]]
+pub(crate) const DOMAINS: &str = r#"[[provider]]
 name = "gamma"
 mailReceipt = "ricevute@gamma.example"
 managedDomains = ["Uno.example", "gamma.example", "Due.example"]
@@ -38,19 +110,8 @@ quota = 1
 key = "c"
 "#;
 
-/// The directory of a name, or a text of one line.
-pub(crate) fn directory_of(alloc: Global, name: &str) -> Result<String, AllocError> {
-    match name {
-        "alfa" => joined(alloc, &[alfa()]),
-        "two" => joined(alloc, &[two()]),
-        "three" => joined(alloc, &[two(), GAMMA]),
-        "domains" => joined(alloc, &[DOMAINS]),
-        line => joined(alloc, &[line, "\n"]),
-    }
-}
-
 /// Messages and frames by their names.
-static MESSAGES: [(&str, &str); 6] = [
+static MESSAGES: [(&str, &str); 5] = [
     (
         "M1",
         "From: alice@alfa.example|To: anna@alfa.example|Subject: Ciao||Salve|",
@@ -68,15 +129,19 @@ static MESSAGES: [(&str, &str); 6] = [
         "From: anna@alfa.example|To: bob@beta.example|Bcc: carl@beta.example||",
     ),
     ("F1", "Per: bob@beta.example|From: x@y.example||ciao|"),
-    (
-        "V1",
-        "From: alice@alfa.example|To: bob@beta.example|Subject: Ciao||PEC-VIRUS-DI-PROVA|",
-    ),
 ];
 
-/// The table, by a function without a clause: the proofs of others are spared its texts.
+/// The tables and texts, by functions without a clause: the proofs of others are spared them.
 fn messages() -> &'static [(&'static str, &'static str)] {
     &MESSAGES
+}
+
+pub(crate) fn alfa() -> &'static str {
+    ALFA
+}
+
+pub(crate) fn two() -> &'static str {
+    TWO
 }
 
 /// The message of this name, or the text itself.
@@ -87,14 +152,4 @@ pub(crate) fn message(name: &str) -> &str {
         }
     }
     name
-}
-
-/// Alice hands a message of 73 bytes for anna in.
-const HAND_IN: &str = "POST /mail/alice@alfa.example/submit HTTP/1.1|x-key: chiave-alice|\
-     x-path: anna@alfa.example|content-length: 73||\
-     From: alice@alfa.example|To: anna@alfa.example|Subject: Ciao||Salve|";
-
-/// The request of this name, or the text itself.
-pub(crate) fn request(name: &str) -> &str {
-    if name == "HAND-IN" { HAND_IN } else { name }
 }

@@ -1,10 +1,9 @@
 //! Disks that fail, crashes, and runs that go on where others left: over memory disks.
 
-use crate::cases::play_cases;
-use crate::running::{depot_of, joined, played, written_out};
+use crate::directories::{ALFA, THREE, TWO, alfa, two};
+use crate::running::{Case, Ran, Run, depot_failing, first_wrong, played, written_out};
 use pec_outside::MemDepot;
 use pec_top::Status;
-use pec_trial::{alfa, two};
 use std::alloc::{AllocError, Global};
 use std::test::Fail;
 
@@ -81,8 +80,7 @@ fn held_in(text: &[u8], delivered: &[u8]) -> Boxes {
 /// Whether a run that a fault of alfa's disk may end or hold up, and further runs over its disks, deliver the message
 /// once or not at all: not at all only where it wasn't accepted.
 fn is_delivered_once(alloc: Global, call: u64) -> Result<bool, AllocError> {
-    let failing = format!(in alloc; "0:{call}")?;
-    let mut depot = depot_of(alloc, failing.as_str())?;
+    let mut depot = depot_failing(alloc, &[(0, call)])?;
     let first = begun(alloc, &mut depot)?;
     if !first.began {
         return Ok(first.is_empty);
@@ -113,7 +111,7 @@ fn a_fault_of_a_disk_loses_no_receipt_and_doubles_none(rt: HostRuntime) -> Resul
 /// Runs the lines of a script one by one, each in a run of its own over the disks that the one before left, and gives
 /// what the last one writes.
 fn cut_up(alloc: Global, lines: &[&str]) -> Result<Vec<u8>, AllocError> {
-    let mut depot = depot_of(alloc, "")?;
+    let mut depot = depot_failing(alloc, &[])?;
     let mut text = Vec::new(alloc);
     let mut form = "run";
     for line in lines {
@@ -136,8 +134,16 @@ fn text_of(
 /// Runs the lines of a script in one run, and gives what it writes.
 fn at_once(alloc: Global, lines: &[&str]) -> Result<Vec<u8>, AllocError> {
     let script = joined(alloc, lines)?;
-    let mut depot = depot_of(alloc, "")?;
+    let mut depot = depot_failing(alloc, &[])?;
     text_of(alloc, &mut depot, "run", script.as_str())
+}
+
+fn joined(alloc: Global, lines: &[&str]) -> Result<String, AllocError> {
+    let mut whole = String::new(alloc);
+    for line in lines {
+        whole.push_str(line)?;
+    }
+    Ok(whole)
 }
 
 /// A script in ten pieces, at whose ends no frame waits.
@@ -175,311 +181,215 @@ fn settled() -> &'static [&'static str] {
 /// A script in one run and the same script cut into ten runs end with the same books and mailboxes.
 #[test]
 fn a_script_may_be_cut_into_runs(rt: HostRuntime) -> Result<(), Fail> {
-    let alike = are_alike(rt.alloc(), settled())?;
-    assert!(rt; alike);
+    let books = written_out(rt.alloc(), SETTLED_BOOKS)?;
+    let once = at_once(rt.alloc(), settled())?;
+    assert!(rt; once.ends_with(books.as_bytes()));
+    let last = cut_up(rt.alloc(), settled())?;
+    assert_eq!(rt; last.as_slice(), books.as_bytes());
     Ok(())
-}
-
-fn are_alike(alloc: Global, lines: &[&str]) -> Result<bool, AllocError> {
-    let books = written_out(alloc, SETTLED_BOOKS)?;
-    let once = at_once(alloc, lines)?;
-    let last = cut_up(alloc, lines)?;
-    Ok(once.ends_with(books.as_bytes()) && last.as_slice() == books.as_bytes())
 }
 
 // A journal is made by three calls of its disk, and an entry is appended by four. So those of a provider's first four
 // entries are 3 to 6 (its Start), 7 to 10, 11 to 14 and 15 to 18.
 
-const CASES: &str = "
-~ where the write of a decision fails it isn't in the journal, and is made again -- 0:15
-$ alfa run
-> submit alfa 1704186000 alice@alfa.example anna@alfa.example {M1}
-accepted I0
-> round 1704186001
-alfa sent alfa 1
-round
-> round 1704186002
-alfa took I0
-alfa fault disk
-round
-> book alice@alfa.example
-down
-> restart alfa
-restarted 3
-> round 1704186003
-alfa decided I0 anna@alfa.example delivered
-alfa sent alfa 2
-round
-> round 1704186004
-alfa learned I0 anna@alfa.example delivered
-alfa repeat envelope I0
-alfa sent alfa 3
-round
-> round 1704186005
-alfa acked I0 anna@alfa.example
-alfa charged I0 alfa
-alfa repeat outcome I0 anna@alfa.example
-alfa sent alfa 1
-round
-> round 1704186006
-alfa repeat ack I0 anna@alfa.example
-round
-> round 1704186007
-round
-> book alice@alfa.example
-I0 anna@alfa.example primary 1704186000 1704186005 - - delivered 1704186003
-book 1
-> mailbox alice@alfa.example
-0 acceptance I0 -
-1 delivery I0 anna@alfa.example
-mailbox 2
-> mailbox anna@alfa.example
-0 envelope I0 -
-mailbox 1
-> restart alfa
-up
-~ and where the sync behind it fails -- 0:16
-$ alfa run
-> submit alfa 1704186000 alice@alfa.example anna@alfa.example {M1}
-accepted I0
-> round 1704186001
-alfa sent alfa 1
-round
-> round 1704186002
-alfa took I0
-alfa fault disk
-round
-> book alice@alfa.example
-down
-> restart alfa
-restarted 3
-> round 1704186003
-alfa decided I0 anna@alfa.example delivered
-alfa sent alfa 2
-round
-> round 1704186004
-alfa learned I0 anna@alfa.example delivered
-alfa repeat envelope I0
-alfa sent alfa 3
-round
-> round 1704186005
-alfa acked I0 anna@alfa.example
-alfa charged I0 alfa
-alfa repeat outcome I0 anna@alfa.example
-alfa sent alfa 1
-round
-> round 1704186006
-alfa repeat ack I0 anna@alfa.example
-round
-> round 1704186007
-round
-> book alice@alfa.example
-I0 anna@alfa.example primary 1704186000 1704186005 - - delivered 1704186003
-book 1
-> mailbox alice@alfa.example
-0 acceptance I0 -
-1 delivery I0 anna@alfa.example
-mailbox 2
-> mailbox anna@alfa.example
-0 envelope I0 -
-mailbox 1
-> restart alfa
-up
-~ and where the write of its gate fails -- 0:17
-$ alfa run
-> submit alfa 1704186000 alice@alfa.example anna@alfa.example {M1}
-accepted I0
-> round 1704186001
-alfa sent alfa 1
-round
-> round 1704186002
-alfa took I0
-alfa fault disk
-round
-> book alice@alfa.example
-down
-> restart alfa
-restarted 3
-> round 1704186003
-alfa decided I0 anna@alfa.example delivered
-alfa sent alfa 2
-round
-> round 1704186004
-alfa learned I0 anna@alfa.example delivered
-alfa repeat envelope I0
-alfa sent alfa 3
-round
-> round 1704186005
-alfa acked I0 anna@alfa.example
-alfa charged I0 alfa
-alfa repeat outcome I0 anna@alfa.example
-alfa sent alfa 1
-round
-> round 1704186006
-alfa repeat ack I0 anna@alfa.example
-round
-> round 1704186007
-round
-> book alice@alfa.example
-I0 anna@alfa.example primary 1704186000 1704186005 - - delivered 1704186003
-book 1
-> mailbox alice@alfa.example
-0 acceptance I0 -
-1 delivery I0 anna@alfa.example
-mailbox 2
-> mailbox anna@alfa.example
-0 envelope I0 -
-mailbox 1
-> restart alfa
-up
-~ where the last sync fails the decision is in the journal, and isn't made again -- 0:18
-$ alfa run
-> submit alfa 1704186000 alice@alfa.example anna@alfa.example {M1}
-accepted I0
-> round 1704186001
-alfa sent alfa 1
-round
-> round 1704186002
-alfa took I0
-alfa fault disk
-round
-> book alice@alfa.example
-down
-> restart alfa
-restarted 4
-> round 1704186003
-alfa sent alfa 2
-round
-> round 1704186004
-alfa learned I0 anna@alfa.example delivered
-alfa repeat envelope I0
-alfa sent alfa 3
-round
-> round 1704186005
-alfa acked I0 anna@alfa.example
-alfa charged I0 alfa
-alfa repeat outcome I0 anna@alfa.example
-alfa sent alfa 1
-round
-> round 1704186006
-alfa repeat ack I0 anna@alfa.example
-round
-> round 1704186007
-round
-> book alice@alfa.example
-I0 anna@alfa.example primary 1704186000 1704186005 - - delivered 1704186002
-book 1
-> mailbox alice@alfa.example
-0 acceptance I0 -
-1 delivery I0 anna@alfa.example
-mailbox 2
-> mailbox anna@alfa.example
-0 envelope I0 -
-mailbox 1
-> restart alfa
-up
-~ frames on links are gone with a run, and what is due is sent again
-$ two run
-> submit alfa 1704186000 alice@alfa.example bob@beta.example {M2}
-accepted I0
-> round 1704186001
-alfa sent beta 1
-round
-$ two resume
-> round 1704186002
-alfa sent beta 1
-round
-> round 1704186003
-alfa sent beta 1
-beta took I0
-beta decided I0 bob@beta.example delivered
-beta sent alfa 2
-round
-> book alice@alfa.example
-I0 bob@beta.example primary 1704186000 - - - open
-book 1
-~ without a journal nothing is resumed
-$ three resume
-> book alice@alfa.example
-not-fit alfa journal 0
-exit 9
-~ where a second journal can't be made the first is neither made again nor resumed without it -- 1:0
-$ three run
-> book alice@alfa.example
-exit 7
-$ three resume
-> book alice@alfa.example
-not-fit beta journal 0
-exit 9
-$ three run
-> book alice@alfa.example
-not-empty alfa
-exit 8
-~ the journals of three providers are resumed together
-$ three run
-> submit gamma 1704186000 gina@gamma.example bob@beta.example {From: gina@gamma.example|To: bob@beta.example||}
-accepted K0
-> round 1704186001
-gamma sent beta 1
-round
-> round 1704186002
-beta took K0
-beta decided K0 bob@beta.example delivered
-beta sent gamma 2
-gamma sent beta 1
-round
-$ three resume
-> mailbox bob@beta.example
-0 envelope K0 -
-mailbox 1
-> round 1704186003
-beta sent gamma 1
-gamma sent beta 1
-round
-> round 1704186004
-beta repeat envelope K0
-beta sent gamma 2
-gamma learned K0 bob@beta.example delivered
-gamma sent beta 1
-round
-> round 1704186005
-beta acked K0 bob@beta.example
-gamma charged K0 beta
-gamma repeat outcome K0 bob@beta.example
-gamma sent beta 1
-round
-> book gina@gamma.example
-K0 bob@beta.example primary 1704186000 1704186005 - - delivered 1704186002
-book 1
-> book alice@alfa.example
-book 0
-";
+const FAULTED: &str =
+    "submit alfa 1704186000 alice@alfa.example anna@alfa.example {M1}\nround 1704186001\nround 1704186002\n\
+book alice@alfa.example\nrestart alfa\nround 1704186003\nround 1704186004\nround 1704186005\nround 1704186006\n\
+round 1704186007\nbook alice@alfa.example\nmailbox alice@alfa.example\nmailbox anna@alfa.example\nrestart alfa\n";
 
-/// The cases, by a function without a clause: the proof of the test is spared their text.
-fn cases() -> &'static str {
-    CASES
+/// The decision isn't in the journal, and comes in the round behind the restart.
+const DECIDED_AGAIN: &str =
+    "accepted I0\nalfa sent alfa 1\nround\nalfa took I0\nalfa fault disk\nround\ndown\nrestarted 3\n\
+alfa decided I0 anna@alfa.example delivered\nalfa sent alfa 2\nround\n\
+alfa learned I0 anna@alfa.example delivered\nalfa repeat envelope I0\nalfa sent alfa 3\nround\n\
+alfa acked I0 anna@alfa.example\nalfa charged I0 alfa\nalfa repeat outcome I0 anna@alfa.example\n\
+alfa sent alfa 1\nround\nalfa repeat ack I0 anna@alfa.example\nround\nround\n\
+I0 anna@alfa.example primary 1704186000 1704186005 - - delivered 1704186003\nbook 1\n\
+0 acceptance I0 -\n1 delivery I0 anna@alfa.example\nmailbox 2\n0 envelope I0 -\nmailbox 1\nup\n";
+
+/// The decision is in the journal, though it was never told.
+const DECIDED_ONCE: &str =
+    "accepted I0\nalfa sent alfa 1\nround\nalfa took I0\nalfa fault disk\nround\ndown\nrestarted 4\n\
+alfa sent alfa 2\nround\n\
+alfa learned I0 anna@alfa.example delivered\nalfa repeat envelope I0\nalfa sent alfa 3\nround\n\
+alfa acked I0 anna@alfa.example\nalfa charged I0 alfa\nalfa repeat outcome I0 anna@alfa.example\n\
+alfa sent alfa 1\nround\nalfa repeat ack I0 anna@alfa.example\nround\nround\n\
+I0 anna@alfa.example primary 1704186000 1704186005 - - delivered 1704186002\nbook 1\n\
+0 acceptance I0 -\n1 delivery I0 anna@alfa.example\nmailbox 2\n0 envelope I0 -\nmailbox 1\nup\n";
+
+const DECIDED_AGAIN_RUN: [Run; 1] = [Run {
+    form: "run",
+    script: FAULTED,
+    output: DECIDED_AGAIN,
+    status: Status::Done,
+}];
+
+const DECIDED_ONCE_RUN: [Run; 1] = [Run {
+    form: "run",
+    script: FAULTED,
+    output: DECIDED_ONCE,
+    status: Status::Done,
+}];
+
+static FIRST: [Case; 3] = [
+    Case {
+        why: "where the write of a decision fails it isn't in the journal, and is made again",
+        directory: ALFA,
+        failing: &[(0, 15)],
+        runs: &DECIDED_AGAIN_RUN,
+    },
+    Case {
+        why: "and where the sync behind it fails",
+        directory: ALFA,
+        failing: &[(0, 16)],
+        runs: &DECIDED_AGAIN_RUN,
+    },
+    Case {
+        why: "and where the write of its gate fails",
+        directory: ALFA,
+        failing: &[(0, 17)],
+        runs: &DECIDED_AGAIN_RUN,
+    },
+];
+
+static SECOND: [Case; 3] = [
+    Case {
+        why: "where the last sync fails the decision is in the journal, and isn't made again",
+        directory: ALFA,
+        failing: &[(0, 18)],
+        runs: &DECIDED_ONCE_RUN,
+    },
+    Case {
+        why: "frames on links are gone with a run, and what is due is sent again",
+        directory: TWO,
+        failing: &[],
+        runs: &[
+            Run {
+                form: "run",
+                script: "submit alfa 1704186000 alice@alfa.example bob@beta.example {M2}\nround 1704186001\n",
+                output: "accepted I0\nalfa sent beta 1\nround\n",
+                status: Status::Done,
+            },
+            Run {
+                form: "resume",
+                script: "round 1704186002\nround 1704186003\nbook alice@alfa.example\n",
+                output: "alfa sent beta 1\nround\nalfa sent beta 1\nbeta took I0\n\
+                         beta decided I0 bob@beta.example delivered\nbeta sent alfa 2\nround\n\
+                         I0 bob@beta.example primary 1704186000 - - - open\nbook 1\n",
+                status: Status::Done,
+            },
+        ],
+    },
+    Case {
+        why: "without a journal nothing is resumed",
+        directory: THREE,
+        failing: &[],
+        runs: &[Run {
+            form: "resume",
+            script: "book alice@alfa.example\n",
+            output: "not-fit alfa journal 0\n",
+            status: Status::NotFit,
+        }],
+    },
+];
+
+static THIRD: [Case; 2] = [
+    Case {
+        why: "where a second journal can't be made the first is neither made again nor resumed without it",
+        directory: THREE,
+        failing: &[(1, 0)],
+        runs: &[
+            Run {
+                form: "run",
+                script: "book alice@alfa.example\n",
+                output: "",
+                status: Status::StartFault,
+            },
+            Run {
+                form: "resume",
+                script: "book alice@alfa.example\n",
+                output: "not-fit beta journal 0\n",
+                status: Status::NotFit,
+            },
+            Run {
+                form: "run",
+                script: "book alice@alfa.example\n",
+                output: "not-empty alfa\n",
+                status: Status::NotEmpty,
+            },
+        ],
+    },
+    Case {
+        why: "the journals of three providers are resumed together",
+        directory: THREE,
+        failing: &[],
+        runs: &[
+            Run {
+                form: "run",
+                script: "submit gamma 1704186000 gina@gamma.example bob@beta.example \
+                         {From: gina@gamma.example|To: bob@beta.example||}\n\
+                         round 1704186001\nround 1704186002\n",
+                output: "accepted K0\ngamma sent beta 1\nround\nbeta took K0\n\
+                         beta decided K0 bob@beta.example delivered\nbeta sent gamma 2\n\
+                         gamma sent beta 1\nround\n",
+                status: Status::Done,
+            },
+            Run {
+                form: "resume",
+                script: "mailbox bob@beta.example\nround 1704186003\nround 1704186004\nround 1704186005\n\
+                         book gina@gamma.example\nbook alice@alfa.example\n",
+                output: "0 envelope K0 -\nmailbox 1\n\
+                         beta sent gamma 1\ngamma sent beta 1\nround\n\
+                         beta repeat envelope K0\nbeta sent gamma 2\n\
+                         gamma learned K0 bob@beta.example delivered\ngamma sent beta 1\nround\n\
+                         beta acked K0 bob@beta.example\n\
+                         gamma charged K0 beta\ngamma repeat outcome K0 bob@beta.example\n\
+                         gamma sent beta 1\nround\n\
+                         K0 bob@beta.example primary 1704186000 1704186005 - - delivered 1704186002\nbook 1\nbook 0\n",
+                status: Status::Done,
+            },
+        ],
+    },
+];
+
+/// The tables, by functions without a clause: the proof of the test is spared their texts.
+fn first() -> &'static [Case] {
+    &FIRST
+}
+
+fn second() -> &'static [Case] {
+    &SECOND
+}
+
+fn third() -> &'static [Case] {
+    &THIRD
 }
 
 #[test]
 fn runs_go_on_where_others_left(rt: HostRuntime) -> Result<(), Fail> {
-    play_cases(rt.alloc(), cases())
+    for cases in [first(), second(), third()] {
+        let wrong = first_wrong(rt.alloc(), cases)?;
+        assert_eq!(rt; wrong, None);
+    }
+    Ok(())
 }
 
 /// Over journals that another directory made, the two digests are told, each in 64 hexadecimal digits.
 #[test]
 fn a_journal_of_another_directory_is_not_opened(rt: HostRuntime) -> Result<(), Fail> {
-    let told = is_told(rt.alloc())?;
-    assert!(rt; told);
+    let again = ran_under_another(rt.alloc())?;
+    assert_eq!(rt; again.status, Status::NotFit);
+    assert!(rt; again.text.starts_with(b"not-fit alfa directory "));
+    assert_eq!(rt; again.text.len(), 23 + 64 + 1 + 64 + 1);
     Ok(())
 }
 
-/// Whether a run under the directory of alfa alone tells so, over disks on which a run under that of two made journals.
-fn is_told(alloc: Global) -> Result<bool, AllocError> {
-    let mut depot = depot_of(alloc, "")?;
+/// A run under the directory of alfa alone over disks on which a run under that of two made journals.
+fn ran_under_another(alloc: Global) -> Result<Ran, Fail> {
+    let mut depot = depot_failing(alloc, &[])?;
     let first = played(alloc, &mut depot, two(), "run", "")?;
-    let again = played(alloc, &mut depot, alfa(), "resume", "")?;
-    let text = again.text.as_slice();
-    let is_told = text.starts_with(b"not-fit alfa directory ")
-        && text.len() == 23 + 64 + 1 + 64 + 1;
-    Ok(first.status == Status::Done && again.status == Status::NotFit && is_told)
+    if first.status != Status::Done {
+        return Err("no journals were made".into());
+    }
+    Ok(played(alloc, &mut depot, alfa(), "resume", "")?)
 }

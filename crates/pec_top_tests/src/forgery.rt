@@ -1,25 +1,38 @@
 //! Frames from outside: a certified message as a forger changes it, and as it is.
 
-use crate::running::{depot_of, played, written_out};
-use crate::shown::shown;
+use crate::directories::two;
+use crate::running::{depot_failing, played, written_out};
 use base64::engine::general_purpose::STANDARD;
-use pec_trial::two;
 use std::alloc::{AllocError, Global};
 use std::test::Fail;
 
-const DELIVERED: &str = "
-> submit alfa 1704186000 alice@alfa.example bob@beta.example {M2}
-> round 1704186001
-> round 1704186002
-> show bob@beta.example 0
-";
+const DELIVERED: &str = "submit alfa 1704186000 alice@alfa.example bob@beta.example {M2}\n\
+round 1704186001\nround 1704186002\nshow bob@beta.example 0\n";
 
 /// The frame of the envelope that bob has in his mailbox once it was delivered.
 fn true_frame(alloc: Global) -> Result<Vec<u8>, Fail> {
-    let envelope = shown(alloc, DELIVERED)?;
+    let envelope = shown(alloc)?;
     let mut frame = Vec::from_slice(alloc, b"Per: bob@beta.example\r\n")?;
     frame.extend_from_slice(&envelope)?;
     Ok(frame)
+}
+
+/// The envelope: the ninth line of what the script writes.
+fn shown(alloc: Global) -> Result<Vec<u8>, Fail> {
+    let text = text_of(alloc, DELIVERED)?;
+    let shown = text
+        .as_slice()
+        .split(|b| *b == b'\n')
+        .nth(8)
+        .ok_or("no line")?;
+    Ok(STANDARD.decode(alloc, shown)?)
+}
+
+/// What a script writes.
+fn text_of(alloc: Global, script: &str) -> Result<Vec<u8>, AllocError> {
+    let mut depot = depot_failing(alloc, &[])?;
+    let ran = played(alloc, &mut depot, two(), "run", script)?;
+    Ok(ran.text)
 }
 
 /// The line that injects a frame on the link from alfa to beta.
@@ -34,17 +47,11 @@ fn injection(alloc: Global, frame: &[u8]) -> Result<String, AllocError> {
 /// A true envelope of which one byte was changed is placed as an anomaly; the true one behind it is taken.
 #[test]
 fn a_changed_envelope_is_an_anomaly_and_the_true_one_is_taken(rt: HostRuntime) -> Result<(), Fail> {
-    let told = are_told_apart(rt.alloc())?;
-    assert!(rt; told);
+    let script = script_of(rt.alloc())?;
+    let text = text_of(rt.alloc(), script.as_str())?;
+    let output = written_out(rt.alloc(), OUTPUT)?;
+    assert_eq!(rt; text.as_slice(), output.as_bytes());
     Ok(())
-}
-
-fn are_told_apart(alloc: Global) -> Result<bool, Fail> {
-    let script = script_of(alloc)?;
-    let mut depot = depot_of(alloc, "")?;
-    let ran = played(alloc, &mut depot, two(), "run", script.as_str())?;
-    let output = written_out(alloc, OUTPUT)?;
-    Ok(ran.text.as_slice() == output.as_bytes())
 }
 
 const OUTPUT: &str =

@@ -2,9 +2,9 @@
 
 ghost use Rattle.std.specs.Prelude.{◌<◌};
 
-use crate::running::{Ran, depot_of, devices_of, input_of, joined, played, run_on, strings};
+use crate::directories::{alfa, two};
+use crate::running::{Ran, depot_failing, input_of, played, run_over};
 use pec_top::Status;
-use pec_trial::{alfa, two};
 use std::alloc::{AllocError, Global};
 use std::test::Fail;
 
@@ -14,20 +14,19 @@ const FIRST: &str =
 const FIRST_OUTPUT: &[u8] = b"accepted pec.0000000@alfa.example\n\
 pec.0000000@alfa.example anna@alfa.example primary 1704186000 - - - open\nbook 1\n";
 
-/// What a run over empty disks writes, where the named reads and writes fail.
+/// What a run over empty disks writes.
 fn ran(
     alloc: Global,
     words: &[&str],
     input: &[u8],
     piece: usize,
-    failing: &str,
+    reads: &[u64],
+    writes: &[u64],
 ) -> Result<Ran, AllocError>
     requires { 0 < piece }
 {
-    let mut depot = depot_of(alloc, "")?;
-    let mut devices = devices_of(alloc, input, piece, failing)?;
-    let words = strings(alloc, words)?;
-    run_on(alloc, &words, &mut devices, &mut depot, Vec::new(alloc))
+    let mut depot = depot_failing(alloc, &[])?;
+    run_over(alloc, &mut depot, words, input, piece, reads, writes)
 }
 
 /// Words that are no form of the program.
@@ -48,6 +47,34 @@ static WRONG_WORDS: [&[&str]; 15] = [
     &["ru"],
     &["--run"],
 ];
+
+/// The tables, by functions without a clause: the proofs of the tests are spared their texts.
+fn wrong_words() -> &'static [&'static [&'static str]] {
+    &WRONG_WORDS
+}
+
+fn inputs() -> &'static [Begun] {
+    &BEGUN
+}
+
+fn faults() -> &'static [(&'static str, &'static str, &'static [u8])] {
+    &FAULTS
+}
+
+fn long_inputs() -> &'static [Long] {
+    &LONG
+}
+
+/// Whatever stands in the input, and whether it can be read or not.
+#[test]
+fn other_words_are_answered_with_the_usage(rt: HostRuntime) -> Result<(), Fail> {
+    let input = input_of(rt.alloc(), alfa(), FIRST)?;
+    for words in wrong_words() {
+        let ran = ran(rt.alloc(), words, &input, 7, &[0], &[])?;
+        assert!(rt; ran.is(b"usage\n", Status::Usage));
+    }
+    Ok(())
+}
 
 /// Words, an input, and what is written for them.
 #[derive(Clone, Copy)]
@@ -85,21 +112,194 @@ static BEGUN: [Begun; 4] = [
     },
 ];
 
-/// Each row has a text of the directory, what stands there instead, and the fault of that; a `|` is a line feed.
-const FAULTS: &str = r#"
-[[provider]] => [[provider => not-toml
-|name = "beta" => |name = "Beta" => bad-field 1 name
-mailReceipt => mailreceipt => bad-field 0 mailReceipt
-["beta.example"] => [] => bad-field 1 managedDomains
-quota = 1| => quota = 1000001| => bad-field 1 quota
-name = "beta" => name = "alfa" => name-twice 1
-["beta.example"] => ["beta.example", "Alfa.example"] => domain-twice 1
-carl@beta.example => carl@-beta.example => bad-address 1 2
-anna@alfa.example => anna@beta.example => account-outside 0 2
-carl@beta.example => Bob@beta.example => account-twice 1 2
-101112131415161718191a1b1c1d1e1f => 101112131415161718191A1B1C1D1E1F => bad-key 1
-1d1e1f"|zone = "CET-1CEST,M3.5.0,M10.5.0/3" => 1d1e1f"|zone = "nonsense!" => bad-zone 1
-"#;
+#[test]
+fn words_and_directories_come_first(rt: HostRuntime) -> Result<(), Fail> {
+    for begun in inputs() {
+        let ran = ran(rt.alloc(), begun.words, begun.input, 7, &[], &[])?;
+        assert!(rt; ran.is(begun.output, begun.status));
+    }
+    Ok(())
+}
+
+#[test]
+fn an_input_without_a_mark_has_no_script(rt: HostRuntime) -> Result<(), Fail> {
+    let ran = ran(rt.alloc(), &["run"], alfa().as_bytes(), 7, &[], &[])?;
+    assert!(rt; ran.is(b"refused no-script\n", Status::Refused));
+    Ok(())
+}
+
+/// Each row has a text of the directory, what stands there instead, and the fault of that.
+static FAULTS: [(&str, &str, &[u8]); 12] = [
+    (
+        "[[provider]]",
+        "[[provider",
+        b"refused directory not-toml\n",
+    ),
+    (
+        "\nname = \"beta\"",
+        "\nname = \"Beta\"",
+        b"refused directory bad-field 1 name\n",
+    ),
+    (
+        "mailReceipt",
+        "mailreceipt",
+        b"refused directory bad-field 0 mailReceipt\n",
+    ),
+    (
+        "[\"beta.example\"]",
+        "[]",
+        b"refused directory bad-field 1 managedDomains\n",
+    ),
+    (
+        "quota = 1\n",
+        "quota = 1000001\n",
+        b"refused directory bad-field 1 quota\n",
+    ),
+    (
+        "name = \"beta\"",
+        "name = \"alfa\"",
+        b"refused directory name-twice 1\n",
+    ),
+    (
+        "[\"beta.example\"]",
+        "[\"beta.example\", \"Alfa.example\"]",
+        b"refused directory domain-twice 1\n",
+    ),
+    (
+        "carl@beta.example",
+        "carl@-beta.example",
+        b"refused directory bad-address 1 2\n",
+    ),
+    (
+        "anna@alfa.example",
+        "anna@beta.example",
+        b"refused directory account-outside 0 2\n",
+    ),
+    (
+        "carl@beta.example",
+        "Bob@beta.example",
+        b"refused directory account-twice 1 2\n",
+    ),
+    (
+        "101112131415161718191a1b1c1d1e1f",
+        "101112131415161718191A1B1C1D1E1F",
+        b"refused directory bad-key 1\n",
+    ),
+    (
+        "1d1e1f\"\nzone = \"CET-1CEST,M3.5.0,M10.5.0/3\"",
+        "1d1e1f\"\nzone = \"nonsense!\"",
+        b"refused directory bad-zone 1\n",
+    ),
+];
+
+#[test]
+fn a_directory_is_refused_for_its_first_fault(rt: HostRuntime) -> Result<(), Fail> {
+    for (there, instead, output) in faults() {
+        let ran = ran_with(rt.alloc(), there, instead)?;
+        assert!(rt; ran.is(output, Status::Refused), "{instead}");
+    }
+    Ok(())
+}
+
+/// A run under the directory of two, where another text stands in place of one.
+fn ran_with(alloc: Global, there: &str, instead: &str) -> Result<Ran, AllocError> {
+    let directory = two().replacen(alloc, there, instead, 1)?;
+    let mut depot = depot_failing(alloc, &[])?;
+    played(alloc, &mut depot, directory.as_str(), "run", "")
+}
+
+/// An input may come in pieces of one byte, and its lines may end with a carriage return.
+#[test]
+fn pieces_and_ends_are_taken_as_they_come(rt: HostRuntime) -> Result<(), Fail> {
+    let input = input_of(rt.alloc(), alfa(), FIRST)?;
+    let by_bytes = is_first(rt.alloc(), &input, 1)?;
+    assert!(rt; by_bytes);
+    let ended = with_returns(rt.alloc(), &input)?;
+    let with_ends = is_first(rt.alloc(), &ended, 1000)?;
+    assert!(rt; with_ends);
+    Ok(())
+}
+
+fn is_first(alloc: Global, input: &[u8], piece: usize) -> Result<bool, AllocError>
+    requires { 0 < piece }
+{
+    let ran = ran(alloc, &["run"], input, piece, &[], &[])?;
+    Ok(ran.text.as_slice() == FIRST_OUTPUT)
+}
+
+/// Wherever an input is cut it writes a front, or what the cut line says. Every seventh cut is enough to meet each kind
+/// of place.
+#[test]
+fn cuts_are_taken_as_they_come(rt: HostRuntime) -> Result<(), Fail> {
+    let input = input_of(rt.alloc(), alfa(), FIRST)?;
+    for cut in 0..input.len() {
+        if cut % 7 == 0 {
+            let front = is_front_of_first(rt.alloc(), &input[..cut])?;
+            assert!(rt; front, "cut at {cut}");
+        }
+    }
+    Ok(())
+}
+
+/// The bytes with a carriage return before each line feed.
+fn with_returns(alloc: Global, input: &[u8]) -> Result<Vec<u8>, AllocError> {
+    let mut ended = Vec::new(alloc);
+    for b in input {
+        if *b == b'\n' {
+            ended.push(b'\r')?;
+        }
+        ended.push(*b)?;
+    }
+    Ok(ended)
+}
+
+/// A cut inside the last word of a line leaves less of a message, or the address of nobody.
+fn is_front_of_first(alloc: Global, input: &[u8]) -> Result<bool, AllocError> {
+    let ran = ran(alloc, &["run"], input, 64, &[], &[])?;
+    Ok(is_front(&ran))
+}
+
+fn is_front(ran: &Ran) -> bool {
+    if ran.status == Status::Refused || FIRST_OUTPUT.starts_with(&ran.text) {
+        return true;
+    }
+    if ran.text.ends_with(b"no-account\n") {
+        return true;
+    }
+    ran.text.as_slice() == b"not-accepted pec.0000000@alfa.example head\n".as_slice()
+}
+
+#[test]
+fn each_read_can_fail(rt: HostRuntime) -> Result<(), Fail> {
+    let input = input_of(rt.alloc(), alfa(), FIRST)?;
+    for call in 0..6u64 {
+        let told = is_stopped(rt.alloc(), &input, &[call], &[], Status::ReadFault)?;
+        assert!(rt; told, "read {call}");
+    }
+    Ok(())
+}
+
+#[test]
+fn each_write_can_fail(rt: HostRuntime) -> Result<(), Fail> {
+    let input = input_of(rt.alloc(), alfa(), FIRST)?;
+    for call in 0..2u64 {
+        let told = is_stopped(rt.alloc(), &input, &[], &[call], Status::WriteFault)?;
+        assert!(rt; told, "write {call}");
+    }
+    Ok(())
+}
+
+/// Whether a run where these reads and writes fail ends so, and writes a front.
+fn is_stopped(
+    alloc: Global,
+    input: &[u8],
+    reads: &[u64],
+    writes: &[u64],
+    status: Status,
+) -> Result<bool, AllocError> {
+    let ran = ran(alloc, &["run"], input, 60, reads, writes)?;
+    Ok(ran.status == status && FIRST_OUTPUT.starts_with(&ran.text))
+}
 
 /// So many times a byte between two texts, and what is written for that.
 #[derive(Clone, Copy)]
@@ -163,205 +363,6 @@ static LONG: [Long; 6] = [
     },
 ];
 
-/// The tables, by functions without a clause: the proofs of the tests are spared their texts.
-fn wrong_words() -> &'static [&'static [&'static str]] {
-    &WRONG_WORDS
-}
-
-fn inputs() -> &'static [Begun] {
-    &BEGUN
-}
-
-fn faults() -> &'static str {
-    FAULTS
-}
-
-fn long_inputs() -> &'static [Long] {
-    &LONG
-}
-
-/// Whatever stands in the input, and whether it can be read or not.
-#[test]
-fn other_words_are_answered_with_the_usage(rt: HostRuntime) -> Result<(), Fail> {
-    for words in wrong_words() {
-        let right = is_usage(rt.alloc(), words)?;
-        assert!(rt; right);
-    }
-    Ok(())
-}
-
-fn is_usage(alloc: Global, words: &[&str]) -> Result<bool, AllocError> {
-    let input = input_of(alloc, alfa(), FIRST)?;
-    let ran = ran(alloc, words, &input, 7, "in:0")?;
-    Ok(ran.is(b"usage\n", Status::Usage))
-}
-
-#[test]
-fn words_and_directories_come_first(rt: HostRuntime) -> Result<(), Fail> {
-    for begun in inputs() {
-        let right = begins(rt.alloc(), begun)?;
-        assert!(rt; right);
-    }
-    Ok(())
-}
-
-fn begins(alloc: Global, begun: &Begun) -> Result<bool, AllocError> {
-    let ran = ran(alloc, begun.words, begun.input, 7, "")?;
-    Ok(ran.is(begun.output, begun.status))
-}
-
-#[test]
-fn an_input_without_a_mark_has_no_script(rt: HostRuntime) -> Result<(), Fail> {
-    let right = has_no_script(rt.alloc())?;
-    assert!(rt; right);
-    Ok(())
-}
-
-fn has_no_script(alloc: Global) -> Result<bool, AllocError> {
-    let ran = ran(alloc, &["run"], alfa().as_bytes(), 7, "")?;
-    Ok(ran.is(b"refused no-script\n", Status::Refused))
-}
-
-#[test]
-fn a_directory_is_refused_for_its_first_fault(rt: HostRuntime) -> Result<(), Fail> {
-    refuse_all(rt.alloc(), faults())
-}
-
-fn refuse_all(alloc: Global, faults: &str) -> Result<(), Fail> {
-    for row in faults.split('\n').skip(1) {
-        if !row.is_empty() && !is_refused(alloc, row)? {
-            return Err(row.into());
-        }
-    }
-    Ok(())
-}
-
-/// Whether a run is refused so under the directory of two, where another text stands in place of one.
-fn is_refused(alloc: Global, row: &str) -> Result<bool, Fail> {
-    let (there, behind) = row.split_once(" => ").ok_or("no text")?;
-    let (instead, fault) = behind.split_once(" => ").ok_or("no fault")?;
-    let directory = with_text(alloc, there, instead)?;
-    let output = joined(alloc, &["refused directory ", fault, "\n"])?;
-    let mut depot = depot_of(alloc, "")?;
-    let ran = played(alloc, &mut depot, directory.as_str(), "run", "")?;
-    Ok(ran.is(output.as_bytes(), Status::Refused))
-}
-
-/// The directory of two, where another text stands in place of one.
-fn with_text(alloc: Global, there: &str, instead: &str) -> Result<String, AllocError> {
-    let there = there.replace(alloc, "|", "\n")?;
-    let instead = instead.replace(alloc, "|", "\n")?;
-    two().replacen(alloc, there.as_str(), instead.as_str(), 1)
-}
-
-/// An input may come in pieces of one byte, and its lines may end with a carriage return.
-#[test]
-fn pieces_and_ends_are_taken_as_they_come(rt: HostRuntime) -> Result<(), Fail> {
-    let taken = are_taken(rt.alloc())?;
-    assert!(rt; taken);
-    Ok(())
-}
-
-fn are_taken(alloc: Global) -> Result<bool, AllocError> {
-    let input = input_of(alloc, alfa(), FIRST)?;
-    let ended = with_returns(alloc, &input)?;
-    Ok(is_first(alloc, &input, 1)? && is_first(alloc, &ended, 1000)?)
-}
-
-fn is_first(alloc: Global, input: &[u8], piece: usize) -> Result<bool, AllocError>
-    requires { 0 < piece }
-{
-    let ran = ran(alloc, &["run"], input, piece, "")?;
-    Ok(ran.text.as_slice() == FIRST_OUTPUT)
-}
-
-/// The bytes with a carriage return before each line feed.
-fn with_returns(alloc: Global, input: &[u8]) -> Result<Vec<u8>, AllocError> {
-    let mut ended = Vec::new(alloc);
-    for b in input {
-        if *b == b'\n' {
-            ended.push(b'\r')?;
-        }
-        ended.push(*b)?;
-    }
-    Ok(ended)
-}
-
-/// Wherever an input is cut it writes a front, or what the cut line says. Every seventh cut is enough to meet each kind
-/// of place.
-#[test]
-fn cuts_are_taken_as_they_come(rt: HostRuntime) -> Result<(), Fail> {
-    let input = input_of(rt.alloc(), alfa(), FIRST)?;
-    let taken = are_fronts(rt.alloc(), &input)?;
-    assert!(rt; taken);
-    Ok(())
-}
-
-fn are_fronts(alloc: Global, input: &[u8]) -> Result<bool, AllocError> {
-    for cut in 0..input.len() {
-        if cut % 7 == 0 && !is_front_of_first(alloc, &input[..cut])? {
-            return Ok(false);
-        }
-    }
-    Ok(true)
-}
-
-/// A cut inside the last word of a line leaves less of a message, or the address of nobody.
-fn is_front_of_first(alloc: Global, input: &[u8]) -> Result<bool, AllocError> {
-    let ran = ran(alloc, &["run"], input, 64, "")?;
-    Ok(is_front(&ran))
-}
-
-fn is_front(ran: &Ran) -> bool {
-    if ran.status == Status::Refused || FIRST_OUTPUT.starts_with(&ran.text) {
-        return true;
-    }
-    if ran.text.ends_with(b"no-account\n") {
-        return true;
-    }
-    ran.text.as_slice() == b"not-accepted pec.0000000@alfa.example head\n".as_slice()
-}
-
-#[test]
-fn each_read_can_fail(rt: HostRuntime) -> Result<(), Fail> {
-    for call in ["in:0", "in:1", "in:2", "in:3", "in:4", "in:5"] {
-        let told = is_stopped(rt.alloc(), call, Status::ReadFault)?;
-        assert!(rt; told, "{call}");
-    }
-    Ok(())
-}
-
-#[test]
-fn each_write_can_fail(rt: HostRuntime) -> Result<(), Fail> {
-    for call in ["out:0", "out:1"] {
-        let told = is_stopped(rt.alloc(), call, Status::WriteFault)?;
-        assert!(rt; told, "{call}");
-    }
-    Ok(())
-}
-
-/// Whether a run where this read or write fails ends so, and writes a front.
-fn is_stopped(alloc: Global, call: &str, status: Status) -> Result<bool, AllocError> {
-    let input = input_of(alloc, alfa(), FIRST)?;
-    let ran = ran(alloc, &["run"], &input, 60, call)?;
-    Ok(ran.status == status && FIRST_OUTPUT.starts_with(&ran.text))
-}
-
-#[test]
-fn the_limits_of_an_input_are_kept(rt: HostRuntime) -> Result<(), Fail> {
-    for long in long_inputs() {
-        let kept = is_kept(rt.alloc(), long)?;
-        assert!(rt; kept);
-    }
-    Ok(())
-}
-
-fn is_kept(alloc: Global, long: &Long) -> Result<bool, AllocError> {
-    let input = long_input(alloc, long)?;
-    let ran = ran(alloc, &["run"], &input, 1_000_000, "")?;
-    Ok(ran.is(long.output, long.status))
-}
-
 /// The bytes of a long input: behind `%%` stands the directory of alfa and the mark.
 fn long_input(alloc: Global, long: &Long) -> Result<Vec<u8>, AllocError> {
     let mut input = front_of(alloc, long.front)?;
@@ -376,4 +377,14 @@ fn front_of(alloc: Global, front: &str) -> Result<Vec<u8>, AllocError> {
         return input_of(alloc, alfa(), "");
     }
     Vec::from_slice(alloc, front.as_bytes())
+}
+
+#[test]
+fn the_limits_of_an_input_are_kept(rt: HostRuntime) -> Result<(), Fail> {
+    for long in long_inputs() {
+        let input = long_input(rt.alloc(), long)?;
+        let ran = ran(rt.alloc(), &["run"], &input, 1_000_000, &[], &[])?;
+        assert!(rt; ran.is(long.output, long.status));
+    }
+    Ok(())
 }

@@ -2,10 +2,9 @@
 //! Lines end with a line feed here and with CRLF in the letters; words in capitals stand for those of a row.
 
 /// The words that a row doesn't give itself.
-static USUAL: [(&str, &str); 8] = [
+static USUAL: [(&str, &str); 7] = [
     ("WISH", ""),
     ("ORIGINAL", ""),
-    ("ATTACHED", ORIGINAL),
     ("PROVIDER", "alfa"),
     ("RECIPIENT", "bob@beta.example"),
     ("DATE", "Tue, 02 Jan 2024"),
@@ -18,17 +17,8 @@ pub(crate) fn usual() -> &'static [(&'static str, &'static str)] {
     &USUAL
 }
 
-/// The text of a name.
-pub(crate) fn text_named(name: &str) -> &'static str {
-    match name {
-        "ENVELOPE" => ENVELOPE,
-        "ANOMALY" => ANOMALY,
-        _ => RECEIPT,
-    }
-}
-
 /// A receipt or notice to alice of a message of hers.
-const RECEIPT: &str = r#"X-Ricevuta: KIND
+pub(crate) const RECEIPT: &str = r#"X-Ricevuta: KIND
 WISHMessage-ID: <NAME@PROVIDER.example>
 X-Riferimento-Message-ID: <pec.0000000@alfa.example>
 Date: DATE HOUR +0100
@@ -73,7 +63,7 @@ CERTIFIED
 "#;
 
 /// The part of a delivery receipt that has the message.
-const ORIGINAL: &str = r#"--=_pec_0
+pub(crate) const ORIGINAL: &str = r#"--=_pec_0
 Content-Type: message/rfc822; name="postacert.eml"
 Content-Disposition: attachment; filename="postacert.eml"
 
@@ -86,7 +76,7 @@ Salve
 "#;
 
 /// The envelope of a message of alice to bob.
-const ENVELOPE: &str = r#"X-Trasporto: posta-certificata
+pub(crate) const ENVELOPE: &str = r#"X-Trasporto: posta-certificata
 X-TipoRicevuta: completa
 Message-ID: <pec.0000000@alfa.example>
 Date: Tue, 02 Jan 2024 10:00:00 +0100
@@ -132,7 +122,7 @@ Content-Disposition: attachment; filename="daticert.xml"
 "#;
 
 /// What beta makes of a message that is no certified mail, as its journal's entry 1.
-const ANOMALY: &str = r#"X-Trasporto: errore
+pub(crate) const ANOMALY: &str = r#"X-Trasporto: errore
 Message-ID: <ano.1@beta.example>
 Date: Tue, 02 Jan 2024 10:00:01 +0100
 From: posta-certificata@beta.example

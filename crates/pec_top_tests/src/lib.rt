@@ -2,8 +2,6 @@
 #![tactic(auto)]
 
 #[cfg(test)]
-mod cases;
-#[cfg(test)]
 mod delivery;
 #[cfg(test)]
 mod directories;
@@ -13,6 +11,8 @@ mod disks;
 mod forgery;
 #[cfg(test)]
 mod input;
+#[cfg(test)]
+mod items;
 #[cfg(test)]
 mod letters;
 #[cfg(test)]
@@ -27,5 +27,3 @@ mod serving;
 mod shown;
 #[cfg(test)]
 mod three;
-#[cfg(test)]
-mod words;

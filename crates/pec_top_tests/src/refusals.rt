@@ -1,185 +1,190 @@
 //! Commands and lines that are refused, and journals that aren't taken. All outputs were worked out by hand.
 
-use crate::cases::play_cases;
-use crate::running::{Ran, depot_of, joined, played, written_out};
+use crate::directories::{ALFA, TWO, two};
+use crate::running::{Case, Ran, Run, depot_failing, first_wrong, played, written_out};
 use pec_top::Status;
-use pec_trial::two;
 use std::alloc::{AllocError, Global};
 use std::test::Fail;
 
-const CASES: &str = "
-~ a message that breaks a row of the table of admission isn't accepted
-$ two run
-> submit alfa 1704186000 alice@alfa.example bob@beta.example {M4}
-not-accepted I0 reverse-path
-> submit alfa 1704186000 anna@alfa.example bob@beta.example {M4}
-not-accepted I1 bcc
-> submit beta 1704186000 bob@beta.example a@b VG86IGFAYgoK
-not-accepted J0 from
-> book anna@alfa.example
-book 0
-> mailbox anna@alfa.example
-0 non-acceptance I1 -
-mailbox 1
-~ of an account that is none, a provider that is down and a clock that is behind, the first is told
-$ two run
-> submit alfa 1704186000 alice@alfa.example anna@alfa.example {M1}
-accepted I0
-> tick alfa 1704185999
-clock-back 1704186000
-> submit alfa 1704185999 zoe@alfa.example anna@alfa.example {M1}
-no-account
-> submit alfa 1704185999 alice@alfa.example anna@alfa.example {M1}
-clock-back 1704186000
-> crash alfa
-crashed
-> submit alfa 1 zoe@alfa.example anna@alfa.example {M1}
-no-account
-> submit alfa 1 alice@alfa.example anna@alfa.example {M1}
-down
-> tick alfa 1
-down
-> book zoe@alfa.example
-no-account
-> book alice@alfa.example
-down
-> mailbox alice@alfa.example
-down
-> show alice@alfa.example 9
-down
-> mailbox bob@beta.example
-mailbox 0
-> round 1704185000
-alfa down
-round
-~ a provider whose clock is ahead takes and sends nothing in a round, and the others do
-$ two run
-> submit alfa 1704186000 alice@alfa.example bob@beta.example {M2}
-accepted I0
-> tick beta 1704186005
-ticked
-> round 1704186001
-alfa sent beta 1
-beta clock-back 1704186005
-round
-> round 1704186005
-alfa sent beta 1
-beta took I0
-beta decided I0 bob@beta.example delivered
-beta sent alfa 2
-round
-~ where no frame waits none is lost, repeated or swapped; and who is up isn't restarted
-$ two run
-> lose alfa beta 0
-no-frame
-> repeat alfa beta 0
-no-frame
-> swap alfa beta 0
-no-frame
-> restart alfa
-up
-> show alice@alfa.example 0
-no-item
-> show zoe@alfa.example 0
-no-account
-~ a journal isn't made on a disk that holds one, and is opened again
-$ alfa run
-> submit alfa 1704186000 alice@alfa.example anna@alfa.example {M1}
-accepted I0
-$ alfa run
-> submit alfa 1704186000 alice@alfa.example anna@alfa.example {M1}
-not-empty alfa
-exit 8
-$ alfa resume
-> book alice@alfa.example
-I0 anna@alfa.example primary 1704186000 - - - open
-book 1
-~ an empty disk isn't resumed
-$ two resume
-> book alice@alfa.example
-not-fit alfa journal 0
-exit 9
-~ a line is refused for its first fault, behind the lines before it
-$ two run
-> # a remark
->
-> book alice@alfa.example
-book 0
-> inject alfa beta ???
-refused line 4 bad-base64 3
-> book bob@beta.example
-exit 3
-~ what needs no disk is refused before the disk is asked, and who is down says no more -- 0:11 0:12
-$ two run
-> submit alfa 1704186000 alice@alfa.example anna@alfa.example {M1}
-accepted I0
-> submit alfa 1704186001 bob@beta.example anna@alfa.example {M1}
-no-account
-> submit alfa 1704185999 alice@alfa.example anna@alfa.example {no message}
-clock-back 1704186000
-> tick alfa 1704185999
-clock-back 1704186000
-> restart alfa
-up
-> show alice@alfa.example 1
-no-item
-> tick alfa 1704186001
-fault disk
-> tick alfa 1704185999
-down
-> show alice@alfa.example 1
-down
-> restart alfa
-fault disk
-> book alice@alfa.example
-down
-> restart alfa
-restarted 2
-> tick alfa 1704186001
-ticked
-> tick alfa 1704186000
-clock-back 1704186001
-";
+const ROW: &str = "submit alfa 1704186000 alice@alfa.example anna@alfa.example {M1}\n";
+
+static FIRST: [Case; 3] = [
+    Case {
+        why: "a message that breaks a row of the table of admission isn't accepted",
+        directory: TWO,
+        failing: &[],
+        runs: &[Run {
+            form: "run",
+            script: "submit alfa 1704186000 alice@alfa.example bob@beta.example {M4}\n\
+                     submit alfa 1704186000 anna@alfa.example bob@beta.example {M4}\n\
+                     submit beta 1704186000 bob@beta.example a@b VG86IGFAYgoK\n\
+                     book anna@alfa.example\nmailbox anna@alfa.example\n",
+            output: "not-accepted I0 reverse-path\nnot-accepted I1 bcc\nnot-accepted J0 from\nbook 0\n\
+                     0 non-acceptance I1 -\nmailbox 1\n",
+            status: Status::Done,
+        }],
+    },
+    Case {
+        why: "of an account that is none, a provider that is down and a clock that is behind, the first is told",
+        directory: TWO,
+        failing: &[],
+        runs: &[Run {
+            form: "run",
+            script: "submit alfa 1704186000 alice@alfa.example anna@alfa.example {M1}\n\
+                     tick alfa 1704185999\nsubmit alfa 1704185999 zoe@alfa.example anna@alfa.example {M1}\n\
+                     submit alfa 1704185999 alice@alfa.example anna@alfa.example {M1}\ncrash alfa\n\
+                     submit alfa 1 zoe@alfa.example anna@alfa.example {M1}\n\
+                     submit alfa 1 alice@alfa.example anna@alfa.example {M1}\ntick alfa 1\n\
+                     book zoe@alfa.example\nbook alice@alfa.example\nmailbox alice@alfa.example\n\
+                     show alice@alfa.example 9\nmailbox bob@beta.example\nround 1704185000\n",
+            output: "accepted I0\nclock-back 1704186000\nno-account\nclock-back 1704186000\ncrashed\n\
+                     no-account\ndown\ndown\nno-account\ndown\ndown\ndown\nmailbox 0\nalfa down\nround\n",
+            status: Status::Done,
+        }],
+    },
+    Case {
+        why: "a provider whose clock is ahead takes and sends nothing in a round, and the others do",
+        directory: TWO,
+        failing: &[],
+        runs: &[Run {
+            form: "run",
+            script: "submit alfa 1704186000 alice@alfa.example bob@beta.example {M2}\ntick beta 1704186005\n\
+                     round 1704186001\nround 1704186005\n",
+            output: "accepted I0\nticked\nalfa sent beta 1\nbeta clock-back 1704186005\nround\n\
+                     alfa sent beta 1\nbeta took I0\nbeta decided I0 bob@beta.example delivered\n\
+                     beta sent alfa 2\nround\n",
+            status: Status::Done,
+        }],
+    },
+];
+
+static SECOND: [Case; 3] = [
+    Case {
+        why: "where no frame waits none is lost, repeated or swapped; and who is up isn't restarted",
+        directory: TWO,
+        failing: &[],
+        runs: &[Run {
+            form: "run",
+            script: "lose alfa beta 0\nrepeat alfa beta 0\nswap alfa beta 0\nrestart alfa\nshow alice@alfa.example 0\n\
+                     show zoe@alfa.example 0\n",
+            output: "no-frame\nno-frame\nno-frame\nup\nno-item\nno-account\n",
+            status: Status::Done,
+        }],
+    },
+    Case {
+        why: "a journal isn't made on a disk that holds one, and is opened again",
+        directory: ALFA,
+        failing: &[],
+        runs: &[
+            Run {
+                form: "run",
+                script: ROW,
+                output: "accepted I0\n",
+                status: Status::Done,
+            },
+            Run {
+                form: "run",
+                script: ROW,
+                output: "not-empty alfa\n",
+                status: Status::NotEmpty,
+            },
+            Run {
+                form: "resume",
+                script: "book alice@alfa.example\n",
+                output: "I0 anna@alfa.example primary 1704186000 - - - open\nbook 1\n",
+                status: Status::Done,
+            },
+        ],
+    },
+    Case {
+        why: "an empty disk isn't resumed",
+        directory: TWO,
+        failing: &[],
+        runs: &[Run {
+            form: "resume",
+            script: "book alice@alfa.example\n",
+            output: "not-fit alfa journal 0\n",
+            status: Status::NotFit,
+        }],
+    },
+];
+
+static THIRD: [Case; 2] = [
+    Case {
+        why: "a line is refused for its first fault, behind the lines before it",
+        directory: TWO,
+        failing: &[],
+        runs: &[Run {
+            form: "run",
+            script: "# a remark\n\nbook alice@alfa.example\ninject alfa beta ???\nbook bob@beta.example\n",
+            output: "book 0\nrefused line 4 bad-base64 3\n",
+            status: Status::Refused,
+        }],
+    },
+    Case {
+        why: "what needs no disk is refused before the disk is asked, and who is down says no more",
+        directory: TWO,
+        failing: &[(0, 11), (0, 12)],
+        runs: &[Run {
+            form: "run",
+            script: "submit alfa 1704186000 alice@alfa.example anna@alfa.example {M1}\n\
+                     submit alfa 1704186001 bob@beta.example anna@alfa.example {M1}\n\
+                     submit alfa 1704185999 alice@alfa.example anna@alfa.example {no message}\n\
+                     tick alfa 1704185999\nrestart alfa\nshow alice@alfa.example 1\n\
+                     tick alfa 1704186001\ntick alfa 1704185999\nshow alice@alfa.example 1\n\
+                     restart alfa\nbook alice@alfa.example\nrestart alfa\ntick alfa 1704186001\n\
+                     tick alfa 1704186000\n",
+            output: "accepted I0\nno-account\nclock-back 1704186000\nclock-back 1704186000\nup\nno-item\n\
+                     fault disk\ndown\ndown\nfault disk\ndown\nrestarted 2\nticked\nclock-back 1704186001\n",
+            status: Status::Done,
+        }],
+    },
+];
 
 /// Lines that say no command, and the fault of each. The tests of pec_script have each fault of each command.
-const LINES: &str = "
-Book alice@alfa.example => unknown-word
- book alice@alfa.example => unknown-word
-book => arity
-crash alfa  => arity
-round 01 => bad-number 1
-book bob => bad-address 1
-inject alfa beta ??? => bad-base64 3
-crash gamma => unknown-provider 1
-swap alfa gamma x => unknown-provider 2
-";
+static LINES: [(&str, &str); 9] = [
+    ("Book alice@alfa.example", "unknown-word"),
+    (" book alice@alfa.example", "unknown-word"),
+    ("book", "arity"),
+    ("crash alfa ", "arity"),
+    ("round 01", "bad-number 1"),
+    ("book bob", "bad-address 1"),
+    ("inject alfa beta ???", "bad-base64 3"),
+    ("crash gamma", "unknown-provider 1"),
+    ("swap alfa gamma x", "unknown-provider 2"),
+];
 
-/// The texts, by functions without a clause: the proofs of the tests are spared them.
-fn cases() -> &'static str {
-    CASES
+/// The tables, by functions without a clause: the proofs of the tests are spared their texts.
+fn first() -> &'static [Case] {
+    &FIRST
 }
 
-fn lines() -> &'static str {
-    LINES
+fn second() -> &'static [Case] {
+    &SECOND
+}
+
+fn third() -> &'static [Case] {
+    &THIRD
+}
+
+fn lines() -> &'static [(&'static str, &'static str)] {
+    &LINES
 }
 
 #[test]
 fn what_is_refused_is_told_by_its_first_cause(rt: HostRuntime) -> Result<(), Fail> {
-    play_cases(rt.alloc(), cases())
+    for cases in [first(), second(), third()] {
+        let wrong = first_wrong(rt.alloc(), cases)?;
+        assert_eq!(rt; wrong, None);
+    }
+    Ok(())
 }
 
 #[test]
 fn a_line_that_says_no_command_ends_the_run(rt: HostRuntime) -> Result<(), Fail> {
-    refuse_all(rt.alloc(), lines())
-}
-
-fn refuse_all(alloc: Global, lines: &str) -> Result<(), Fail> {
-    for row in lines.split('\n') {
-        if let Some((line, fault)) = row.split_once(" => ") {
-            if !is_refused_for(alloc, line, fault)? {
-                return Err(row.into());
-            }
-        }
+    for (line, fault) in lines() {
+        let refused = is_refused_for(rt.alloc(), line, fault)?;
+        assert!(rt; refused, "{line}");
     }
     Ok(())
 }
@@ -188,9 +193,17 @@ fn refuse_all(alloc: Global, lines: &str) -> Result<(), Fail> {
 fn is_refused_for(alloc: Global, line: &str, fault: &str) -> Result<bool, AllocError> {
     let script = joined(alloc, &[line, "\nbook alice@alfa.example\n"])?;
     let output = joined(alloc, &["refused line 1 ", fault, "\n"])?;
-    let mut depot = depot_of(alloc, "")?;
+    let mut depot = depot_failing(alloc, &[])?;
     let ran = played(alloc, &mut depot, two(), "run", script.as_str())?;
     Ok(ran.is(output.as_bytes(), Status::Refused))
+}
+
+fn joined(alloc: Global, texts: &[&str]) -> Result<String, AllocError> {
+    let mut whole = String::new(alloc);
+    for text in texts {
+        whole.push_str(text)?;
+    }
+    Ok(whole)
 }
 
 /// A message of 69 bytes of head and so many of body, to bob and carl.
@@ -210,22 +223,17 @@ fn submission_of(alloc: Global, body: u32) -> Result<String, AllocError> {
 /// Where the limit is 1000, a message of 500 bytes may go to two recipients, and one of 501 bytes may not.
 #[test]
 fn a_message_counts_once_for_each_recipient(rt: HostRuntime) -> Result<(), Fail> {
-    let counts = counts(rt.alloc())?;
-    assert!(rt; counts);
+    let ran = ran_with_limit(rt.alloc())?;
+    let output = written_out(rt.alloc(), "accepted I0\nnot-accepted I1 size\n")?;
+    assert_eq!(rt; ran.text.as_slice(), output.as_bytes());
     Ok(())
-}
-
-fn counts(alloc: Global) -> Result<bool, AllocError> {
-    let ran = ran_with_limit(alloc)?;
-    let output = written_out(alloc, "accepted I0\nnot-accepted I1 size\n")?;
-    Ok(ran.text.as_slice() == output.as_bytes())
 }
 
 fn ran_with_limit(alloc: Global) -> Result<Ran, AllocError> {
     let limit = "name = \"alfa\"\nlimit = 1000";
     let directory = two().replacen(alloc, "name = \"alfa\"", limit, 1)?;
     let script = two_submissions(alloc)?;
-    let mut depot = depot_of(alloc, "")?;
+    let mut depot = depot_failing(alloc, &[])?;
     played(
         alloc,
         &mut depot,
@@ -255,7 +263,7 @@ fn is_full(alloc: Global) -> Result<bool, AllocError> {
     let more = "inject alfa beta {F1}\nrepeat alfa beta 0\nrepeat alfa beta 64\n";
     let script = many(alloc, "inject alfa beta {F1}\n", more)?;
     let output = many(alloc, "injected\n", "link-full\nlink-full\nno-frame\n")?;
-    let mut depot = depot_of(alloc, "")?;
+    let mut depot = depot_failing(alloc, &[])?;
     let ran = played(alloc, &mut depot, two(), "run", script.as_str())?;
     Ok(ran.is(output.as_bytes(), Status::Done))
 }

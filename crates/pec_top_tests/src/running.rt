@@ -1,23 +1,89 @@
-//! Runs of the program over devices in memory, and what they write.
+//! Cases: runs of the program, one after another over the disks of one depot, and what each has to write.
 
 ghost use Rattle.std.specs.Prelude.{◌<◌};
 
 use crate::directories::message;
 use base64::engine::general_purpose::STANDARD;
-use pec_outside::{MemDepot, MemDoor, MemSink, MemSource, MemTicks};
-use pec_screen::Screens;
+use pec_outside::{
+    Depot, Door, MemDepot, MemDoor, MemSink, MemSource, MemTicks, Sink, Source, Ticks,
+};
+use pec_screen::{Judge, NoScreens};
 use pec_top::{Status, run_pec};
-use pec_trial::numbers_of;
 use pec_types::Moment;
 use std::alloc::{AllocError, Global};
 
-/// The devices of a run beside its depot.
-#[derive(Drop)]
-pub(crate) struct Devices {
-    pub(crate) source: MemSource,
-    pub(crate) sink: MemSink,
-    pub(crate) ticks: MemTicks,
-    pub(crate) door: MemDoor,
+/// One run: its form, its script, what it has to write, and its status. In a script `{..}` holds a message or its name,
+/// and its base64 is written; in an output `I0` to `I2` are the first messages of alfa, `J0` is beta's, `K0` gamma's.
+#[derive(Clone, Copy)]
+pub(crate) struct Run {
+    pub(crate) form: &'static str,
+    pub(crate) script: &'static str,
+    pub(crate) output: &'static str,
+    pub(crate) status: Status,
+}
+
+/// Runs in a folder of their own, where the named calls of disks fail: each by its provider's number and its own.
+#[derive(Clone, Copy)]
+pub(crate) struct Case {
+    pub(crate) why: &'static str,
+    pub(crate) directory: &'static str,
+    pub(crate) failing: &'static [(u32, u64)],
+    pub(crate) runs: &'static [Run],
+}
+
+/// What the first case is about that doesn't come as it says.
+pub(crate) fn first_wrong(
+    alloc: Global,
+    cases: &[Case],
+) -> Result<Option<&'static str>, AllocError> {
+    for case in cases {
+        if !comes(alloc, case)? {
+            return Ok(Some(case.why));
+        }
+    }
+    Ok(None)
+}
+
+fn comes(alloc: Global, case: &Case) -> Result<bool, AllocError> {
+    let mut depot = depot_failing(alloc, case.failing)?;
+    for run in case.runs {
+        if !runs(alloc, &mut depot, case.directory, run)? {
+            return Ok(false);
+        }
+    }
+    Ok(true)
+}
+
+/// Whether a run writes what it has to, and ends with its status.
+fn runs(
+    alloc: Global,
+    depot: &mut MemDepot,
+    directory: &str,
+    run: &Run,
+) -> Result<bool, AllocError> {
+    let wanted = written_out(alloc, run.output)?;
+    let ran = played(alloc, depot, directory, run.form, run.script)?;
+    Ok(ran.is(wanted.as_bytes(), run.status))
+}
+
+/// A depot of three empty disks, where these calls fail, each by its provider's number and its own.
+pub(crate) fn depot_failing(alloc: Global, failing: &[(u32, u64)]) -> Result<MemDepot, AllocError> {
+    let mut disks = Vec::new(alloc);
+    for provider in 0..3u32 {
+        disks.push(calls_of(alloc, failing, provider)?)?;
+    }
+    Ok(MemDepot::new(alloc, disks, Vec::new(alloc)))
+}
+
+/// The failing calls of one provider's disk.
+fn calls_of(alloc: Global, failing: &[(u32, u64)], provider: u32) -> Result<Vec<u64>, AllocError> {
+    let mut calls = Vec::new(alloc);
+    for (whose, call) in failing {
+        if *whose == provider {
+            calls.push(*call)?;
+        }
+    }
+    Ok(calls)
 }
 
 /// What a run wrote, and its status.
@@ -43,41 +109,117 @@ pub(crate) fn played(
     script: &str,
 ) -> Result<Ran, AllocError> {
     let input = input_of(alloc, directory, script)?;
-    let mut devices = devices_of(alloc, &input, 1000, "")?;
-    let words = strings(alloc, &[form])?;
-    run_on(alloc, &words, &mut devices, depot, Vec::new(alloc))
+    run_over(alloc, depot, &[form], &input, 1000, &[], &[])
 }
 
-/// Runs the program on these words, with a list of screens for each provider.
-pub(crate) fn run_on(
+/// The input of a script behind a directory.
+pub(crate) fn input_of(
     alloc: Global,
-    words: &[String],
-    devices: &mut Devices,
+    directory: &str,
+    script: &str,
+) -> Result<Vec<u8>, AllocError> {
+    let lines = script_of(alloc, script)?;
+    let mut input = Vec::from_slice(alloc, directory.as_bytes())?;
+    input.extend_from_slice(b"%%\n")?;
+    input.extend_from_slice(&lines)?;
+    Ok(input)
+}
+
+/// Runs the program over a depot on these words and this input, given in pieces, where the named reads and writes fail.
+pub(crate) fn run_over(
+    alloc: Global,
     depot: &mut MemDepot,
-    screens: Vec<Screens>,
+    words: &[&str],
+    input: &[u8],
+    piece: usize,
+    reads: &[u64],
+    writes: &[u64],
+) -> Result<Ran, AllocError>
+    requires { 0 < piece }
+{
+    let none: Vec<NoScreens> = Vec::new(alloc);
+    run_under(alloc, depot, words, input, piece, reads, writes, none)
+}
+
+/// The same with screens, a list for each provider.
+pub(crate) fn run_under<J: Judge>(
+    alloc: Global,
+    depot: &mut MemDepot,
+    words: &[&str],
+    input: &[u8],
+    piece: usize,
+    reads: &[u64],
+    writes: &[u64],
+    screens: Vec<J>,
+) -> Result<Ran, AllocError>
+    requires { 0 < piece }
+{
+    let mut ticks = clock(alloc, &[])?;
+    let mut door = MemDoor::new(alloc, Vec::new(alloc), Vec::new(alloc), Vec::new(alloc));
+    let given = strings(alloc, words)?;
+    let mut source = source_of(alloc, input, piece, reads)?;
+    let mut sink = MemSink::new(alloc, Vec::from_slice(alloc, writes)?);
+    let status = status_of(
+        alloc,
+        &given,
+        &mut source,
+        &mut sink,
+        depot,
+        &mut ticks,
+        &mut door,
+        screens,
+    );
+    outcome(alloc, &sink, status)
+}
+
+/// A clock that stands still, where these calls fail.
+pub(crate) fn clock(alloc: Global, failing: &[u64]) -> Result<MemTicks, AllocError> {
+    let Some(moment) = Moment::new(1_704_186_000) else {
+        return Err(AllocError);
+    };
+    let moments = vec![in alloc; moment]?;
+    Ok(MemTicks::new(alloc, moments, Vec::from_slice(alloc, failing)?))
+}
+
+/// Runs the program on these words and a directory, with a clock and a door, where the named writes fail.
+pub(crate) fn run_serving(
+    alloc: Global,
+    depot: &mut MemDepot,
+    ticks: &mut MemTicks,
+    door: &mut MemDoor,
+    words: &[&str],
+    directory: &str,
+    writes: &[u64],
 ) -> Result<Ran, AllocError> {
-    let status = status_of(alloc, words, devices, depot, screens);
-    outcome(alloc, &devices.sink, status)
+    let given = strings(alloc, words)?;
+    let mut source = source_of(alloc, directory.as_bytes(), 1000, &[])?;
+    let mut sink = MemSink::new(alloc, Vec::from_slice(alloc, writes)?);
+    let none: Vec<NoScreens> = Vec::new(alloc);
+    let status = status_of(
+        alloc,
+        &given,
+        &mut source,
+        &mut sink,
+        depot,
+        ticks,
+        door,
+        none,
+    );
+    outcome(alloc, &sink, status)
 }
 
 /// The one call of the program.
-fn status_of(
+fn status_of<S: Source, W: Sink, P: Depot, T: Ticks, R: Door, J: Judge>(
     alloc: Global,
     words: &[String],
-    devices: &mut Devices,
-    depot: &mut MemDepot,
-    screens: Vec<Screens>,
+    source: &mut S,
+    sink: &mut W,
+    depot: &mut P,
+    ticks: &mut T,
+    door: &mut R,
+    screens: Vec<J>,
 ) -> Status {
-    run_pec(
-        alloc,
-        words,
-        &mut devices.source,
-        &mut devices.sink,
-        depot,
-        &mut devices.ticks,
-        &mut devices.door,
-        screens,
-    )
+    run_pec(alloc, words, source, sink, depot, ticks, door, screens)
 }
 
 fn outcome(alloc: Global, sink: &MemSink, status: Status) -> Result<Ran, AllocError> {
@@ -85,7 +227,7 @@ fn outcome(alloc: Global, sink: &MemSink, status: Status) -> Result<Ran, AllocEr
     Ok(Ran { text, status })
 }
 
-pub(crate) fn strings(alloc: Global, words: &[&str]) -> Result<Vec<String>, AllocError> {
+fn strings(alloc: Global, words: &[&str]) -> Result<Vec<String>, AllocError> {
     let mut strings = Vec::new(alloc);
     for word in words {
         strings.push(String::from_str(alloc, word)?)?;
@@ -93,66 +235,26 @@ pub(crate) fn strings(alloc: Global, words: &[&str]) -> Result<Vec<String>, Allo
     Ok(strings)
 }
 
-/// A depot of three empty disks, where the calls fail that a line names, as `PROVIDER:CALL`, by the provider's number.
-pub(crate) fn depot_of(alloc: Global, line: &str) -> Result<MemDepot, AllocError> {
-    let mut disks = Vec::new(alloc);
-    for whose in ["0", "1", "2"] {
-        disks.push(numbers_of(alloc, line, whose)?)?;
-    }
-    Ok(MemDepot::new(alloc, disks, Vec::new(alloc)))
-}
-
-/// An input in pieces, a clock that stands still, and a door at which nobody asks; the calls fail that a line names, as
-/// `in:CALL`, `out:CALL` and `clock:CALL`.
-pub(crate) fn devices_of(
+fn source_of(
     alloc: Global,
     input: &[u8],
     piece: usize,
-    line: &str,
-) -> Result<Devices, AllocError>
-    requires { 0 < piece }
-{
-    let source = source_of(alloc, input, piece, line)?;
-    let sink = MemSink::new(alloc, numbers_of(alloc, line, "out")?);
-    let ticks = clock_of(alloc, line)?;
-    let door = MemDoor::new(alloc, Vec::new(alloc), Vec::new(alloc), Vec::new(alloc));
-    Ok(Devices {
-        source,
-        sink,
-        ticks,
-        door,
-    })
-}
-
-fn source_of(alloc: Global, input: &[u8], piece: usize, line: &str) -> Result<MemSource, AllocError>
+    reads: &[u64],
+) -> Result<MemSource, AllocError>
     requires { 0 < piece }
 {
     let bytes = Vec::from_slice(alloc, input)?;
-    let failing = numbers_of(alloc, line, "in")?;
-    Ok(MemSource::new(alloc, bytes, piece, failing))
+    let reads = Vec::from_slice(alloc, reads)?;
+    Ok(MemSource::new(alloc, bytes, piece, reads))
 }
 
-fn clock_of(alloc: Global, line: &str) -> Result<MemTicks, AllocError> {
-    let Some(moment) = Moment::new(1_704_186_000) else {
-        return Err(AllocError);
-    };
-    let moments = vec![in alloc; moment]?;
-    Ok(MemTicks::new(alloc, moments, numbers_of(alloc, line, "clock")?))
-}
-
-/// The input of a script behind a directory. In the script `{..}` holds a message or its name, and its base64 is written,
-/// with CRLF for each `|`.
-pub(crate) fn input_of(
-    alloc: Global,
-    directory: &str,
-    script: &str,
-) -> Result<Vec<u8>, AllocError> {
-    let mut input = Vec::from_slice(alloc, directory.as_bytes())?;
-    input.extend_from_slice(b"%%\n")?;
-    for part in script.split('{') {
-        add_part(alloc, &mut input, part)?;
+/// A script where `{..}` holds a message or its name: its base64 is written, with CRLF for each `|`.
+fn script_of(alloc: Global, text: &str) -> Result<Vec<u8>, AllocError> {
+    let mut script = Vec::new(alloc);
+    for part in text.split('{') {
+        add_part(alloc, &mut script, part)?;
     }
-    Ok(input)
+    Ok(script)
 }
 
 fn add_part(alloc: Global, script: &mut Vec<u8>, part: &str) -> Result<(), AllocError> {
@@ -207,13 +309,4 @@ pub(crate) fn with_words(
         written = written.replace(alloc, word, instead)?;
     }
     Ok(written)
-}
-
-/// Texts, one behind the other.
-pub(crate) fn joined(alloc: Global, texts: &[&str]) -> Result<String, AllocError> {
-    let mut whole = String::new(alloc);
-    for text in texts {
-        whole.push_str(text)?;
-    }
-    Ok(whole)
 }

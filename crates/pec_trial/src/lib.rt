@@ -11,9 +11,9 @@ mod submissions;
 mod words;
 
 pub use answers::{told, told_all, told_item, told_list, told_turns, told_word};
-pub use directories::{alfa, text_of, two};
+pub use directories::{TWO, text_of, two};
 pub use journals::journal_of;
 pub use reading::{account_at, behind, moment_of, number, small, word};
-pub use scripts::{Answers, first_line, numbers_of, play};
+pub use scripts::{Answers, first_wrong};
 pub use submissions::{Submission, submission_of};
-pub use words::{Told, add, add_moment, add_number};
+pub use words::{Told, add, add_number};

@@ -64,8 +64,7 @@ fn add_decision(
     add(words, decision.word())
 }
 
-/// Adds the seconds of a moment, or that there is none.
-pub fn add_moment(
+fn add_moment(
     alloc: Global,
     words: &mut Vec<u8>,
     moment: Option<Moment>,

@@ -1,14 +1,17 @@
 //! Receipts, notices and acknowledgements of every kind, byte by byte, and read back.
-use crate::houses::{House, house, sealed, written};
-use crate::receipt_texts::{
+use crate::texts::{
     ACCEPTANCE, ACKNOWLEDGEMENT, CHARGE, DELAY, DELIVERY, ERROR, MESSAGE, REFUSAL, SHORT, WHOLE,
     worded,
 };
+use pec_directory::Directory;
 use pec_heads::Head;
+use pec_house::sealer_of;
+use pec_letters_tests::{directory, sealed, written};
 use pec_receipts::{Kind, Receipt, ReceiptView, compose, read};
-use pec_seal::Sealer;
+use pec_seal::{HmacSealer, Sealer};
 use pec_types::{Address, Cause, Moment, MsgId, Refusal};
 use std::alloc::{AllocError, Global};
+use std::test::Fail;
 
 const BOB: &str = "bob@beta.example";
 
@@ -148,45 +151,41 @@ fn message() -> &'static str {
 }
 
 #[test]
-fn every_kind_is_composed_and_read_back(rt: HostRuntime) {
+fn every_kind_is_composed_and_read_back(rt: HostRuntime) -> Result<(), Fail> {
+    let directory = directory(rt.alloc(), "gamma.example")?;
+    let sealer = sealer_of(rt.alloc(), &directory)?;
     for row in rows() {
-        assert!(rt; is_composed(rt.alloc(), row, "completa"), "{:?}", row.0);
+        assert!(rt; is_composed(rt.alloc(), &sealer, &directory, row, "completa")?);
     }
+    Ok(())
 }
 
 #[test]
-fn a_delivery_receipt_has_of_the_message_what_was_wished(rt: HostRuntime) {
+fn a_delivery_receipt_has_of_the_message_what_was_wished(rt: HostRuntime) -> Result<(), Fail> {
+    let directory = directory(rt.alloc(), "gamma.example")?;
+    let sealer = sealer_of(rt.alloc(), &directory)?;
     for row in deliveries() {
-        assert!(rt;
-            is_composed(rt.alloc(), row, row.4[0]),
-            "{} {}",
-            row.2,
-            row.4[0]
-        );
+        assert!(rt; is_composed(rt.alloc(), &sealer, &directory, row, row.4[0])?);
     }
+    Ok(())
 }
 
 /// Whether the receipt of a row is composed as its text, and read as what it was composed of. The message has the wish of this word.
-fn is_composed(alloc: Global, row: &Row, wish: &str) -> bool {
-    let Some(house) = house(alloc, "gamma.example") else {
-        return false;
-    };
-    let Ok(original) = original(alloc, wish) else {
-        return false;
-    };
-    match receipt(alloc, row.0, row.1, row.2, original.as_bytes()) {
-        Some(receipt) => is_given(alloc, &house, row, &receipt, original.as_bytes()),
-        None => false,
+fn is_composed(
+    alloc: Global,
+    sealer: &HmacSealer,
+    directory: &Directory,
+    row: &Row,
+    wish: &str,
+) -> Result<bool, Fail> {
+    let original = original(alloc, wish)?;
+    let receipt = receipt(alloc, row.0, row.1, row.2, original.as_bytes())?;
+    let letter = composed(alloc, sealer, directory, &receipt, original.as_bytes())?;
+    let wanted = wanted(alloc, sealer, row)?;
+    if letter.as_slice() != wanted.as_slice() {
+        return Ok(false);
     }
-}
-
-fn is_given(alloc: Global, house: &House, row: &Row, receipt: &Receipt, original: &[u8]) -> bool {
-    match composed(alloc, house, receipt, original) {
-        Some(letter) => {
-            is_wanted(alloc, house, row, &letter) && is_read(alloc, house, receipt, &letter)
-        }
-        None => false,
-    }
+    Ok(is_read(alloc, sealer, directory, &receipt, &letter))
 }
 
 /// The message as it was handed in, with the wish of this word.
@@ -195,30 +194,35 @@ fn original(alloc: Global, wish: &str) -> Result<String, AllocError> {
     written(alloc, text.as_str())
 }
 
-/// The receipt of the message; none where it may not be given.
-fn composed(alloc: Global, house: &House, receipt: &Receipt, original: &[u8]) -> Option<Vec<u8>> {
-    if !receipt.can_be_given(&house.directory) || house.sealer.name(receipt.by).is_none() {
-        return None;
+fn composed(
+    alloc: Global,
+    sealer: &HmacSealer,
+    directory: &Directory,
+    receipt: &Receipt,
+    original: &[u8],
+) -> Result<Vec<u8>, Fail> {
+    if !receipt.can_be_given(directory) || sealer.name(receipt.by).is_none() {
+        return Err("it may not be given".into());
     }
-    compose(alloc, &house.sealer, &house.directory, receipt, original).ok()
+    let letter = compose(alloc, sealer, directory, receipt, original)?;
+    Ok(letter)
 }
 
-/// Whether a letter is that of a row, as its provider sealed it.
-fn is_wanted(alloc: Global, house: &House, row: &Row, letter: &[u8]) -> bool {
-    match wanted(alloc, house, row) {
-        Some(wanted) => wanted.as_slice() == letter,
-        None => false,
-    }
-}
-
-fn wanted(alloc: Global, house: &House, row: &Row) -> Option<Vec<u8>> {
-    let text = worded(alloc, row.3, row.2, row.4).ok()?;
-    sealed(alloc, house, row.1, text.as_str())
+/// The letter of a row, as its provider sealed it.
+fn wanted(alloc: Global, sealer: &HmacSealer, row: &Row) -> Result<Vec<u8>, Fail> {
+    let text = worded(alloc, row.3, row.2, row.4)?;
+    sealed(alloc, sealer, row.1, text.as_str())
 }
 
 /// Whether a letter is read as what this receipt says.
-fn is_read(alloc: Global, house: &House, receipt: &Receipt, letter: &[u8]) -> bool {
-    match read(alloc, &house.sealer, &house.directory, letter) {
+fn is_read(
+    alloc: Global,
+    sealer: &HmacSealer,
+    directory: &Directory,
+    receipt: &Receipt,
+    letter: &[u8],
+) -> bool {
+    match read(alloc, sealer, directory, letter) {
         Ok(view) => says(&view, receipt),
         Err(_) => false,
     }
@@ -265,26 +269,13 @@ static NOT_GIVEN: [Gift; 8] = [
 ];
 
 #[test]
-fn no_receipt_is_given_by_or_of_one_whom_it_does_not_concern(rt: HostRuntime) {
-    for gift in &NOT_GIVEN {
-        assert!(rt;
-            is_not_given(rt.alloc(), gift),
-            "{:?} {} {}",
-            gift.0,
-            gift.1,
-            gift.2
-        );
+fn no_receipt_is_given_by_or_of_one_whom_it_does_not_concern(rt: HostRuntime) -> Result<(), Fail> {
+    let directory = directory(rt.alloc(), "gamma.example")?;
+    for (kind, by, recipient) in &NOT_GIVEN {
+        let receipt = receipt(rt.alloc(), *kind, *by, recipient, message().as_bytes())?;
+        assert!(rt; !receipt.can_be_given(&directory));
     }
-}
-
-fn is_not_given(alloc: Global, gift: &Gift) -> bool {
-    let Some(house) = house(alloc, "gamma.example") else {
-        return false;
-    };
-    match receipt(alloc, gift.0, gift.1, gift.2, message().as_bytes()) {
-        Some(receipt) => !receipt.can_be_given(&house.directory),
-        None => false,
-    }
+    Ok(())
 }
 
 /// What a provider is to say of the message of this text.
@@ -294,16 +285,16 @@ fn receipt(
     by: u32,
     recipient: &str,
     original: &[u8],
-) -> Option<Receipt> {
-    let (head, _) = Head::read(alloc, original).ok()?;
-    let facts = head.facts(alloc).ok()??;
-    let recipient = Address::find(alloc, recipient.as_bytes()).ok()?;
-    let moment = Moment::new(1_704_186_060)?;
+) -> Result<Receipt, Fail> {
+    let (head, _) = Head::read(alloc, original)?;
+    let facts = head.facts(alloc)?.ok_or("no facts")?;
+    let recipient = Address::find(alloc, recipient.as_bytes())?;
+    let moment = Moment::new(1_704_186_060).ok_or("no moment")?;
     let id = MsgId {
         provider: 0,
         number: 1_234,
     };
-    Some(Receipt {
+    Ok(Receipt {
         kind,
         id,
         by,

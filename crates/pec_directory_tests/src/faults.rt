@@ -1,6 +1,6 @@
 //! Which texts are directories, and which fault each other text has. Expected values are those of the tests that
 //! docs/formats.md lists, worked by hand.
-use crate::directories::{crowd, lines};
+use crate::texts::{crowd, lines};
 use pec_directory::DirectoryFault::{
     self, AccountOutside, AccountTwice, BadAddress, BadField, BadKey, BadZone, DomainTwice,
     NameTwice, NoProvider, NotToml, TooMany,
@@ -20,15 +20,24 @@ const SHORT: &str =
      key = \"00000000000000000000000000000000\"~zone = \"UTC0\"~[[provider.account]]~address = \"u@b.x\"~\
      quota = 1~key = \"k\"~[[provider.account]]~address = \"v@b.x\"~quota = 1~key = \"k\"~";
 
-/// Whether the directory of short texts, changed as the row says, has the fault.
-fn is_right(alloc: Global, row: &Row) -> bool {
-    match changed(alloc, row.0, row.1) {
-        Some(text) => has_fault(alloc, text.as_str(), row.2),
+/// What is put where in the first row that has another fault; none where each has its own.
+fn first_wrong(alloc: Global, rows: &[Row]) -> Option<&'static str> {
+    for (from, to, fault) in rows {
+        if !changes_to(alloc, from, to, *fault) {
+            return Some(*to);
+        }
+    }
+    None
+}
+
+/// Whether the directory of short texts, with this in the place of that and of the rest of its line, has the fault.
+fn changes_to(alloc: Global, from: &str, to: &str, fault: Option<DirectoryFault>) -> bool {
+    match changed(alloc, from, to) {
+        Some(text) => has_fault(alloc, text.as_str(), fault),
         None => false,
     }
 }
 
-/// The directory of short texts with this in the place of that and of the rest of its line.
 fn changed(alloc: Global, from: &str, to: &str) -> Option<String> {
     let (front, rest) = SHORT.split_once(from)?;
     let (_, back) = rest.split_once('~')?;
@@ -51,7 +60,7 @@ fn has_fault(alloc: Global, text: &str, wanted: Option<DirectoryFault>) -> bool 
     }
 }
 
-static NAMES: [Row; 12] = [
+const NAMES: [Row; 12] = [
     // no closing bracket
     ("[[provider]]", "[[provider", Some(NotToml)),
     // no name
@@ -90,7 +99,12 @@ static NAMES: [Row; 12] = [
     ),
 ];
 
-static DOMAINS: [Row; 9] = [
+#[test]
+fn a_provider_has_a_name_and_a_receipt_address(rt: HostRuntime) {
+    assert_eq!(rt; first_wrong(rt.alloc(), &NAMES), None);
+}
+
+const DOMAINS: [Row; 9] = [
     // a text, and no list
     (
         "managed",
@@ -149,7 +163,12 @@ static DOMAINS: [Row; 9] = [
     ),
 ];
 
-static KEYS: [Row; 14] = [
+#[test]
+fn a_domain_stands_behind_posta_certificata(rt: HostRuntime) {
+    assert_eq!(rt; first_wrong(rt.alloc(), &DOMAINS), None);
+}
+
+const KEYS: [Row; 14] = [
     // a number
     ("key", "key = 1", Some(BadField(0, Field::Key))),
     // 31 digits
@@ -216,7 +235,12 @@ static KEYS: [Row; 14] = [
     ),
 ];
 
-static NUMBERS: [Row; 19] = [
+#[test]
+fn a_key_is_hexadecimal_and_a_zone_a_rule(rt: HostRuntime) {
+    assert_eq!(rt; first_wrong(rt.alloc(), &KEYS), None);
+}
+
+const NUMBERS: [Row; 19] = [
     // below the least
     (
         "name",
@@ -305,7 +329,12 @@ static NUMBERS: [Row; 19] = [
     ),
 ];
 
-static ACCOUNTS: [Row; 9] = [
+#[test]
+fn numbers_are_within_their_bounds_and_keys_are_seen(rt: HostRuntime) {
+    assert_eq!(rt; first_wrong(rt.alloc(), &NUMBERS), None);
+}
+
+const ACCOUNTS: [Row; 9] = [
     // a number
     ("address", "address = 1", Some(BadField(0, Field::Address))),
     // no address
@@ -354,7 +383,12 @@ static ACCOUNTS: [Row; 9] = [
     ),
 ];
 
-static FIRSTS: [Row; 17] = [
+#[test]
+fn an_account_is_in_its_providers_domains_and_nobody_elses(rt: HostRuntime) {
+    assert_eq!(rt; first_wrong(rt.alloc(), &ACCOUNTS), None);
+}
+
+const FIRSTS: [Row; 17] = [
     // a name twice
     (r#"name = "b"#, r#"name = "alfa""#, Some(NameTwice(1))),
     // a domain twice
@@ -451,31 +485,9 @@ static FIRSTS: [Row; 17] = [
     ),
 ];
 
-/// What a table shows, and its rows; by a function without a clause: the proof of the test is spared their texts.
-fn tables() -> [(&'static str, &'static [Row]); 6] {
-    [
-        ("a provider has a name and a receipt address", &NAMES),
-        ("a domain stands behind posta certificata", &DOMAINS),
-        ("a key is hexadecimal and a zone a rule", &KEYS),
-        (
-            "numbers are within their bounds and keys are seen",
-            &NUMBERS,
-        ),
-        (
-            "an account is in its providers domains and nobody elses",
-            &ACCOUNTS,
-        ),
-        ("the first of two faults is the answer", &FIRSTS),
-    ]
-}
-
 #[test]
-fn a_text_is_a_directory_or_has_its_first_fault(rt: HostRuntime) {
-    for (what, rows) in tables() {
-        for row in rows {
-            assert!(rt; is_right(rt.alloc(), row), "{what}: {}", row.1);
-        }
-    }
+fn the_first_of_two_faults_is_the_answer(rt: HostRuntime) {
+    assert_eq!(rt; first_wrong(rt.alloc(), &FIRSTS), None);
 }
 
 // Texts of their own.
@@ -519,9 +531,20 @@ const TEXTS: [(&str, Option<DirectoryFault>); 10] = [
 
 #[test]
 fn providers_are_a_list_of_tables(rt: HostRuntime) {
-    for (text, fault) in &TEXTS {
-        assert!(rt; is_read_as(rt.alloc(), text, *fault), "{text}");
+    assert_eq!(rt; first_wrong_text(rt.alloc(), &TEXTS), None);
+}
+
+/// The first text that has another fault; none where each has its own.
+fn first_wrong_text(
+    alloc: Global,
+    rows: &[(&'static str, Option<DirectoryFault>)],
+) -> Option<&'static str> {
+    for (text, fault) in rows {
+        if !is_read_as(alloc, text, *fault) {
+            return Some(*text);
+        }
     }
+    None
 }
 
 fn is_read_as(alloc: Global, text: &str, fault: Option<DirectoryFault>) -> bool {
@@ -531,16 +554,20 @@ fn is_read_as(alloc: Global, text: &str, fault: Option<DirectoryFault>) -> bool 
     }
 }
 
-// The last two accounts of these directories are at their second provider.
+// The last account of these directories is at their second provider.
 #[test]
-fn ten_thousand_accounts_are_taken_and_one_more_is_too_many(rt: HostRuntime) {
-    assert!(rt; is_crowd_read_as(rt.alloc(), 9_998, None));
-    assert!(rt; is_crowd_read_as(rt.alloc(), 9_999, Some(TooMany)));
+fn ten_thousand_accounts_are_taken(rt: HostRuntime) {
+    assert!(rt; is_crowd_read_as(rt.alloc(), 9_999, None));
+}
+
+#[test]
+fn one_account_more_is_too_many(rt: HostRuntime) {
+    assert!(rt; is_crowd_read_as(rt.alloc(), 10_000, Some(TooMany)));
 }
 
 fn is_crowd_read_as(alloc: Global, accounts: u32, fault: Option<DirectoryFault>) -> bool {
     match crowd(alloc, accounts) {
-        Some(text) => has_fault(alloc, text.as_str(), fault),
-        None => false,
+        Ok(text) => has_fault(alloc, text.as_str(), fault),
+        Err(_) => false,
     }
 }

@@ -1,11 +1,11 @@
 //! Lines of output against lines that were written out by hand, and read again by the tests' own reader.
 
-use crate::printing::{Printed, Row, is_right};
+use crate::printing::{Printed, Row, first_wrong};
 use crate::second_reader::Form;
 use pec_script::{Answer, LineFault, Unfit};
 use pec_types::{Cause, ItemKind, Kind, MsgId, ProviderFault, Refusal, Submitted};
 
-static BOOK: [Row; 1] = [Row {
+const BOOK: [Row; 1] = [Row {
     printed: Printed::Book,
     form: Some(Form::Book),
     text: "pec.0000007@alfa.example bob@beta.example primary 1704186000 1704186001 1704186002 1704186003 delivered \
@@ -15,8 +15,13 @@ pec.0000007@alfa.example bob@beta.example primary 1704186000 - - - open\n\
 book 3\n",
 }];
 
+#[test]
+fn a_book_has_a_line_for_each_pair(rt: HostRuntime) {
+    assert_eq!(rt; first_wrong(rt.alloc(), &BOOK), None);
+}
+
 // An item of each kind. Causes of non-acceptance and of delivery errors aren't printed.
-static MAILBOXES: [Row; 11] = [
+const MAILBOXES: [Row; 11] = [
     Row {
         printed: Printed::Mailbox(ItemKind::Envelope),
         form: Some(Form::Mailbox),
@@ -74,8 +79,13 @@ static MAILBOXES: [Row; 11] = [
     },
 ];
 
+#[test]
+fn a_mailbox_has_a_line_for_each_item(rt: HostRuntime) {
+    assert_eq!(rt; first_wrong(rt.alloc(), &MAILBOXES), None);
+}
+
 // What fell due; a mark of nothing has no line.
-static MARKS: [Row; 2] = [
+const MARKS: [Row; 2] = [
     Row {
         printed: Printed::Marks,
         form: Some(Form::Ticks),
@@ -91,8 +101,13 @@ ticked\n",
     },
 ];
 
+#[test]
+fn a_clock_call_has_a_line_for_each_notice(rt: HostRuntime) {
+    assert_eq!(rt; first_wrong(rt.alloc(), &MARKS), None);
+}
+
 // The lines of a round in which the first provider did one thing.
-static EVENTS: [Row; 13] = [
+const EVENTS: [Row; 13] = [
     Row {
         printed: Printed::Event(0),
         form: Some(Form::Round),
@@ -160,8 +175,13 @@ static EVENTS: [Row; 13] = [
     },
 ];
 
+#[test]
+fn a_turn_has_a_line_for_each_event(rt: HostRuntime) {
+    assert_eq!(rt; first_wrong(rt.alloc(), &EVENTS), None);
+}
+
 // How many frames were put to the first provider, how the turn ended, and the lines of the round.
-static TURNS: [Row; 6] = [
+const TURNS: [Row; 6] = [
     Row {
         printed: Printed::Turn(0, None),
         form: None,
@@ -194,8 +214,13 @@ static TURNS: [Row; 6] = [
     },
 ];
 
+#[test]
+fn a_turn_ends_with_what_it_sent(rt: HostRuntime) {
+    assert_eq!(rt; first_wrong(rt.alloc(), &TURNS), None);
+}
+
 // Want of memory has no line.
-static REFUSALS: [Row; 8] = [
+const REFUSALS: [Row; 8] = [
     Row {
         printed: Printed::Refusal(ProviderFault::DiskFault),
         form: None,
@@ -238,7 +263,12 @@ static REFUSALS: [Row; 8] = [
     },
 ];
 
-static ANSWERS: [Row; 15] = [
+#[test]
+fn a_refusal_has_its_line(rt: HostRuntime) {
+    assert_eq!(rt; first_wrong(rt.alloc(), &REFUSALS), None);
+}
+
+const ANSWERS: [Row; 15] = [
     Row {
         printed: Printed::Answer(Answer::Lost),
         form: None,
@@ -317,12 +347,17 @@ f0f0f0f0f0f0f0f0f0f0f0f0f0f0f0f0f0f0f0f0f0f0f0f0f0f0f0f0f0f0f0f0\n",
     },
 ];
 
+#[test]
+fn an_answer_has_its_line(rt: HostRuntime) {
+    assert_eq!(rt; first_wrong(rt.alloc(), &ANSWERS), None);
+}
+
 const ID: MsgId = MsgId {
     provider: 1,
     number: 12,
 };
 
-static SUBMISSIONS: [Row; 9] = [
+const SUBMISSIONS: [Row; 9] = [
     Row {
         printed: Printed::Submitted(Submitted::Accepted(ID)),
         form: Some(Form::Submission),
@@ -370,25 +405,7 @@ static SUBMISSIONS: [Row; 9] = [
     },
 ];
 
-/// What a table shows, and its rows; by a function without a clause: the proof of the test is spared their texts.
-fn tables() -> [(&'static str, &'static [Row]); 8] {
-    [
-        ("a book has a line for each pair", &BOOK),
-        ("a mailbox has a line for each item", &MAILBOXES),
-        ("a clock call has a line for each notice", &MARKS),
-        ("a turn has a line for each event", &EVENTS),
-        ("a turn ends with what it sent", &TURNS),
-        ("a refusal has its line", &REFUSALS),
-        ("an answer has its line", &ANSWERS),
-        ("a submission has its line", &SUBMISSIONS),
-    ]
-}
-
 #[test]
-fn what_is_answered_has_its_lines(rt: HostRuntime) {
-    for (what, rows) in tables() {
-        for row in rows {
-            assert!(rt; is_right(rt.alloc(), row), "{what}: {}", row.text);
-        }
-    }
+fn a_submission_has_its_line(rt: HostRuntime) {
+    assert_eq!(rt; first_wrong(rt.alloc(), &SUBMISSIONS), None);
 }

@@ -7,6 +7,7 @@ use pec_points::{Admission, admit};
 use pec_screen::{Judge, NoScreens};
 use pec_types::{Address, Cause, Class, Facts, Recipient};
 use std::alloc::Global;
+use std::test::Fail;
 
 /// A directory of two providers, of which the first has the limit `LIMIT` and the second gives none.
 const DIRECTORY: &str =
@@ -189,17 +190,12 @@ fn tables() -> [(&'static str, u32, &'static [Row]); 6] {
 }
 
 #[test]
-fn a_message_is_refused_for_its_cause(rt: HostRuntime) {
+fn a_message_is_refused_for_its_cause(rt: HostRuntime) -> Result<(), Fail> {
     for (why, provider, rows) in tables() {
-        for row in rows {
-            assert!(rt; has_cause(rt.alloc(), provider, row), "{why}: {}", row.2);
-        }
+        let wrong = first_wrong(rt.alloc(), provider, rows)?;
+        assert!(rt; wrong.is_none(), "{why}: {wrong:?}");
     }
-}
-
-/// Whether the message of a row is answered by its cause at the provider of this number.
-fn has_cause(alloc: Global, provider: u32, row: &Row) -> bool {
-    cause(alloc, provider, row, &mut NoScreens) == Some(row.3)
+    Ok(())
 }
 
 /// A message that is accepted.
@@ -211,15 +207,17 @@ static ACCEPTED: Row = (
 );
 
 #[test]
-fn an_accepted_message_comes_with_its_facts(rt: HostRuntime) {
-    assert!(rt; is_accepted(rt.alloc()));
+fn an_accepted_message_comes_with_its_facts(rt: HostRuntime) -> Result<(), Fail> {
+    let accepted = is_accepted(rt.alloc())?;
+    assert!(rt; accepted);
+    Ok(())
 }
 
 /// Whether [`ACCEPTED`] is accepted with its facts.
-fn is_accepted(alloc: Global) -> bool {
-    match answer(alloc, 0, &ACCEPTED, &mut NoScreens) {
-        Some(Admission::Accepted(facts)) => says(&facts),
-        _ => false,
+fn is_accepted(alloc: Global) -> Result<bool, Fail> {
+    match answer(alloc, 0, &ACCEPTED, &mut NoScreens)? {
+        Admission::Accepted(facts) => Ok(says(&facts)),
+        Admission::Not(_) => Ok(false),
     }
 }
 
@@ -237,65 +235,94 @@ fn is(recipient: &Recipient, address: &[u8], class: Class) -> bool {
     recipient.class == class && recipient.address.bytes() == address
 }
 
-/// The cause for which the provider of a number doesn't accept the message of a row, if there is one; none at all where
-/// memory is wanting.
+/// The place of the first row whose message isn't answered by its cause at the provider of this number; none where each
+/// is.
+fn first_wrong(alloc: Global, provider: u32, rows: &[Row]) -> Result<Option<usize>, Fail> {
+    for (place, row) in rows.iter().enumerate() {
+        if cause(alloc, provider, row, &mut NoScreens)? != row.3 {
+            return Ok(Some(place));
+        }
+    }
+    Ok(None)
+}
+
+/// The cause for which the provider of a number doesn't accept the message of a row, if there is one.
 pub(crate) fn cause<J: Judge>(
     alloc: Global,
     provider: u32,
     row: &Row,
     screens: &mut J,
-) -> Option<Option<Cause>> {
+) -> Result<Option<Cause>, Fail> {
     match answer(alloc, provider, row, screens)? {
-        Admission::Accepted(_) => Some(None),
-        Admission::Not(cause) => Some(Some(cause)),
+        Admission::Accepted(_) => Ok(None),
+        Admission::Not(cause) => Ok(Some(cause)),
     }
 }
 
 /// What it answers on this message, whose lines end with `|`.
-fn answer<J: Judge>(alloc: Global, provider: u32, row: &Row, screens: &mut J) -> Option<Admission> {
+fn answer<J: Judge>(
+    alloc: Global,
+    provider: u32,
+    row: &Row,
+    screens: &mut J,
+) -> Result<Admission, Fail> {
     let directory = directory_of(alloc, row.0)?;
     if provider >= directory.count() {
-        return None;
+        return Err("no such provider".into());
     }
     answer_in(alloc, &directory, provider, row, screens)
 }
 
-/// The same in a directory, where the account a@a hands the message in.
 fn answer_in<J: Judge>(
     alloc: Global,
     directory: &Directory,
     provider: u32,
     row: &Row,
     screens: &mut J,
-) -> Option<Admission>
+) -> Result<Admission, Fail>
     requires { provider < length directory.now }
 {
-    let sender = Address::read(alloc, b"A@a").ok()?;
     let path = path_of(alloc, row.1)?;
-    let message = row.2.replace(alloc, "|", "\n").ok()?;
-    admit(
+    let message = row.2.replace(alloc, "|", "\n")?;
+    let answer = answer_to(
         alloc,
         directory,
         provider,
-        &sender,
         &path,
         message.as_bytes(),
         screens,
-    )
-    .ok()
+    )?;
+    Ok(answer)
 }
 
-fn directory_of(alloc: Global, limit: &str) -> Option<Directory> {
-    let text = DIRECTORY.replace(alloc, "LIMIT", limit).ok()?;
-    Directory::read(alloc, text.as_str()).ok()
+/// What it answers on a message of the account a@a.
+fn answer_to<J: Judge>(
+    alloc: Global,
+    directory: &Directory,
+    provider: u32,
+    path: &[Address],
+    message: &[u8],
+    screens: &mut J,
+) -> Result<Admission, Fail>
+    requires { provider < length directory.now }
+{
+    let sender = Address::read(alloc, b"A@a")?;
+    match admit(alloc, directory, provider, &sender, path, message, screens) {
+        Ok(admission) => Ok(admission),
+        Err(_) => Err("no memory".into()),
+    }
+}
+
+fn directory_of(alloc: Global, limit: &str) -> Result<Directory, Fail> {
+    let text = DIRECTORY.replace(alloc, "LIMIT", limit)?;
+    Ok(Directory::read(alloc, text.as_str())?)
 }
 
 /// The addresses of a path, which are parted by spaces.
-fn path_of(alloc: Global, text: &str) -> Option<Vec<Address>> {
+fn path_of(alloc: Global, text: &str) -> Result<Vec<Address>, Fail> {
     let mut path = Vec::new(alloc);
     for address in text.split(' ') {
-        path.push(Address::read(alloc, address.as_bytes()).ok()?)
-            .ok()?;
+        path.push(Address::read(alloc, address.as_bytes())?)?;
     }
-    Some(path)
+    Ok(path)
 }
