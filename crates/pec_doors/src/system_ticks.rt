@@ -8,6 +8,9 @@ use pec_types::Moment;
 use std::marker::Model;
 use std::rt::Clock;
 
+#[cfg(test)]
+mod tests;
+
 /// The system's clock, in whole seconds since 1970-01-01T00:00:00Z. What it answers isn't told. This project's profile.
 #[derive(Drop)]
 pub struct SystemTicks<R> {

@@ -13,6 +13,9 @@ use std::net::{Ipv4Addr, Net, TcpListener, TcpStream};
 use std::rt::Clock;
 use std::time::Duration;
 
+#[cfg(test)]
+mod tests;
+
 /// A TCP port of this machine alone (127.0.0.1). What its clients send isn't told, nor what reaches them. This project's
 /// profile.
 ///
