@@ -81,7 +81,7 @@ fn sealer_of(alloc: Global, name: &[u8], key: &[u8]) -> Option<HmacSealer>
     let names = vec![in alloc; name].ok()?;
     let key = Vec::from_slice(alloc, key).ok()?;
     let keys = vec![in alloc; Text8::of(key)].ok()?;
-    Some(HmacSealer::new(names, keys))
+    HmacSealer::new(alloc, names, keys).ok()
 }
 
 /// The text of test case 2 under its tag, which another program wrote in base64.
@@ -227,7 +227,7 @@ fn two_providers(alloc: Global) -> Option<HmacSealer> {
     names.push(Text::new(alloc, b"alfa").ok()?).ok()?;
     names.push(Text::new(alloc, b"beta").ok()?).ok()?;
     let keys = two_keys(alloc)?;
-    Some(HmacSealer::new(names, keys))
+    HmacSealer::new(alloc, names, keys).ok()
 }
 
 fn two_keys(alloc: Global) -> Option<Vec<Text8>>

@@ -21,7 +21,7 @@ pub fn sealer_of(alloc: Global, directory: &Directory) -> Result<HmacSealer, NoM
     let names = names(alloc, directory)?;
     let keys = keys(alloc, directory)?;
     names_and_keys_can_seal(directory);
-    let sealer = HmacSealer::new(names, keys);
+    let sealer = HmacSealer::new(alloc, names, keys)?;
     Ok(sealer)
 }
 

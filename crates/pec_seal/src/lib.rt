@@ -4,6 +4,7 @@
 
 mod hmac;
 mod lines;
+mod pads;
 mod sealers;
 mod seals;
 

@@ -13,6 +13,6 @@ pub returns-clause-fits : goal.returns-clause-fits
 returns-clause-fits c =
     let providers = providers_of c.args.directory.now
     in let same =
-    c.new-sealer.ensures ∙ ap (λ (names : Path). hmac_seals names c.in_ok-keys.keys.items) c.in_ok-names.ensures
+    c.in_ok-sealer.ensures ∙ ap (λ (names : Path). hmac_seals names c.in_ok-keys.keys.items) c.in_ok-names.ensures
     ∙ ap (λ (keys : Path). hmac_seals (names_of providers) keys) c.in_ok-keys.ensures
     in subst (λ (seals : Seals). Fits seals providers) (sym same) (sealer_fits providers)

@@ -1,6 +1,6 @@
 use Rattle.std.proofs.Common.{arith, rules, bit_xor}
 use Rattle.std.proofs.lemmas.List.Edits.{map_over_more}
-use Rattle.pec_seal.proofs.hmac.padded.Goals as goal
+use Rattle.pec_seal.proofs.pads.padded.Goals as goal
 
 pub loop-byte-preserved : goal.loop-byte-preserved
 loop-byte-preserved c =

@@ -1,6 +1,6 @@
 use Rattle.std.proofs.Common.{◌≡◌, ◌++◌, take, drop}
 use Rattle.pec_seal.specs.Hmac.{padded}
-use Rattle.pec_seal.proofs.hmac.padded.Given as goal
+use Rattle.pec_seal.proofs.pads.padded.Given as goal
 
 abbrev pub invariant-loop-byte : goal.invariant-loop-byte
 invariant-loop-byte l =
