@@ -1,25 +1,27 @@
 -- What a run leaves on its disks: the journals of the state behind its last answer, unless memory ran out in a command.
-use Rattle.std.proofs.Common.{◌≡◌, ℕ, ◌<◌, ◌⊎◌, inl, inr, List, [], ◌++◌, Bool, true, false, refl, ap, sym, subst, ◌∙◌}
-use Rattle.std.proofs.Common.{Option, Some, None}
+use Rattle.std.proofs.Common.{◌≡◌, ℕ, ◌<◌, ◌≤◌, ◌⊎◌, inl, inr, List, [], ◌++◌, Bool, true, false, refl, ap, sym, subst, ◌∙◌}
+use Rattle.std.proofs.Common.{Option, Some, None, arith, get_or, length}
 use Rattle.std.specs.Prelude.{slice_get}
 use Rattle.std.specs.Option.{option_to_list}
+use Rattle.std.proofs.lemmas.Bool.{cases_lt}
 use Rattle.std.proofs.lemmas.List.{append-nil}
-use Rattle.std.proofs.lemmas.Option.{get_or_from_slice_get, none-some, slice_get_within}
+use Rattle.std.proofs.lemmas.Option.{get_or_from_slice_get, none-some, slice_get-get_or, slice_get_within}
 use Rattle.pec_types.specs.Bytes.{Bytes}
 use Rattle.pec_records.specs.declared.entries.Entry.{Entry}
 use Rattle.pec_chronicle.specs.Chronicle.{IsJournalOf}
 use Rattle.pec_ledger.specs.Network.{Site, chosen, interrupted_at, journal_at}
 use Rattle.pec_ledger.specs.Trade.{Trade}
 use Rattle.pec_plays.specs.Commands.{Command, Luck}
-use Rattle.pec_runs.specs.Happened.{Asked, Begun, Happened, Stage, by_next, outcome_at, outcome_of, stage_of}
-use Rattle.pec_runs.specs.Openings.{Disks, Form, IsLeft, Next, NoMore, Holds, Unfits, Fails, Stops, next_of, opened_all}
+use Rattle.pec_runs.specs.Happened.{Asked, Begun, Halted, Happened, Over, Stage, by_next, outcome_at, outcome_of, stage_of}
+use Rattle.pec_runs.specs.Openings.{Disks, Form, Run, Resume, IsLeft, IsSpared, IsUntouched, Next, NoMore, Holds, Unfits, Fails, Stops, form_in, next_of, opened_all}
 use Rattle.pec_runs.specs.Plays.{Rest}
-use Rattle.pec_runs.specs.Ran.{Behind, Counts, HasBegun, LeavesOff, Ran, Within, command_in_hand, world}
+use Rattle.pec_runs.specs.Ran.{Behind, Counts, HasBegun, IsAt, LeavesOff, Ran, Within, command_in_hand, world}
 use Rattle.pec_runs.specs.ScriptLines.{Script}
 use Rattle.pec_runs.specs.Statuses.{Status}
 use Rattle.pec_runs.specs.Statuses as statuses
 use Rattle.pec_runs.proofs.BeginningLemmas.{journal_opened, none_interrupted}
 use Rattle.pec_runs.proofs.RunLemmas.{has_begun}
+use Rattle.pec_runs.proofs.StageLemmas.{has_all}
 
 -- ---- no command in hand
 
@@ -122,3 +124,50 @@ module _ (asked : Asked) (status : Status) (unread before after : Option Bytes) 
       (subst (λ (s : List Site). IsLeft s p bytes) (after_opened not_all)
       (leaves_journals (λ e f. not_all f) p bytes (slice_get_within ran.happened.opening.journals p journal there)
       found))
+
+-- ---- a disk that held a byte
+
+module _ (asked : Asked) (status : Status) (unread before after : Option Bytes) (tells : Type 0)
+    (old_disks new_disks : Disks)
+    (old new : Counts) (ran : Ran asked status unread before after tells old_disks new_disks old new) (p : ℕ) (was : Bytes)
+    (held : old_disks.reads p was) (some : 0 < length was) where
+  spared : (next : Next) → IsSpared Run next was
+  spared NoMore = tt
+  spared Holds = tt
+  spared (Unfits unfit) = tt
+  spared Fails = some
+  spared Stops = some
+
+  -- no journal is made on it
+  unmade : (script : Script) → HasBegun tells old_disks new_disks old new ran.happened status asked Run script
+      → p < next_of ran.happened.opening → ⊥
+  unmade script begun within =
+      let none : was ≡ [] = (begun.opening.each p (get_or ran.happened.opening.journals p [])
+      (slice_get-get_or ran.happened.opening.journals p [] within)).1 was held
+      in let size : length was ≡ 0 = ap (λ (bytes : Bytes). length bytes) none
+      in omega (arith, size, some)
+
+  behind_made : (script : Script) → HasBegun tells old_disks new_disks old new ran.happened status asked Run script
+      → next_of ran.happened.opening ≤ p → IsUntouched old_disks new_disks p was
+  behind_made script begun past = elim (cases_lt (next_of ran.happened.opening) p) [
+    | inl behind ↦ begun.disks.others p behind was held
+    | inr here ↦
+        let same : next_of ran.happened.opening ≡ p = omega (arith, here, past)
+        in subst (λ (k : ℕ). IsUntouched old_disks new_disks k was) same
+        (begun.disks.next was (subst (λ (k : ℕ). old_disks.reads k was) (sym same) held) (spared ran.happened.opening.next))
+  ]
+
+  -- no form but `resume` goes on with journals that are there
+  pub survives : (form_in asked.words ≡ Some Resume → ⊥) → IsUntouched old_disks new_disks p was
+  survives apart = at (stage_of asked ran.happened.early ran.happened.parts) refl ran.is_at
+    where
+      at : (stage : Stage) → stage_of asked ran.happened.early ran.happened.parts ≡ stage
+          → IsAt tells old_disks new_disks old new ran.happened status asked stage → IsUntouched old_disks new_disks p was
+      at (Over end) e untouched = untouched p was held
+      at Halted e untouched = untouched p was held
+      at (Begun Resume script) e begun =
+          absurd (apart (has_all asked ran.happened.early ran.happened.parts Resume script e).words_are)
+      at (Begun Run script) e begun = elim (cases_lt p (next_of ran.happened.opening)) [
+        | inl within ↦ absurd (unmade script begun within)
+        | inr past ↦ behind_made script begun past
+      ]

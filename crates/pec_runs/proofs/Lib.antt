@@ -12,6 +12,7 @@ pub mod PlaceLemmas
 pub mod QuietLemmas
 pub mod ResumeLemmas
 pub mod RunLemmas
+pub mod SettingLemmas
 pub mod StageLemmas
 pub mod StatusLemmas
 pub mod StepLemmas

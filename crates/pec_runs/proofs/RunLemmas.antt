@@ -1,9 +1,12 @@
 -- A run from its beginning: its state is Sound, and its commands can be said.
-use Rattle.std.proofs.Common.{◌≡◌, ℕ, zero, suc, ◌<◌, ◌⊎◌, inl, inr, List, [], ◌∷◌, length, refl, ap, sym, subst, ◌∙◌, arith, Option, Some}
+use Rattle.std.proofs.Common.{◌≡◌, ℕ, zero, suc, ◌<◌, ◌⊎◌, inl, inr, List, [], ◌∷◌, length, refl, ap, sym, subst, ◌∙◌, arith, Option, Some, Result, Ok}
 use Rattle.std.specs.Prelude.{slice_get}
 use Rattle.std.specs.List.{AllByRecursion}
 use Rattle.std.proofs.lemmas.Option.{none-some, same_Some}
 use Rattle.pec_types.specs.Bytes.{Bytes}
+use Rattle.pec_directory.specs.Directory.{Provider}
+use Rattle.pec_directory.specs.declared.faults.DirectoryFault.{DirectoryFault}
+use Rattle.pec_input.specs.Directory.{directory_in}
 use Rattle.pec_records.specs.declared.entries.Entry.{Entry}
 use Rattle.pec_chronicle.specs.Chronicle.{IsJournalOf}
 use Rattle.pec_ledger.specs.Ledger.{Fit}
@@ -12,7 +15,7 @@ use Rattle.pec_ledger.specs.Trade.{Trade}
 use Rattle.pec_ledger.specs.TradeLaws.{IsTrade}
 use Rattle.pec_plays.specs.Commands.{Command, Luck, played}
 use Rattle.pec_plays.specs.Scripts.{AllUnforged, IsUnforged, script}
-use Rattle.pec_runs.specs.Happened.{Asked, Begun, Happened, Stage, by_next, outcome_at, outcome_of, stage_of}
+use Rattle.pec_runs.specs.Happened.{Asked, Begun, Happened, IsSetting, Stage, by_next, outcome_at, outcome_of, providers_in, stage_of}
 use Rattle.pec_runs.specs.Headline.{AllHonest, CanBeSaid, IsHonest}
 use Rattle.pec_runs.specs.Openings.{AreLeft, Disks, Form, IsLeft, IsNext, IsOpening, Next, NoMore, Opening, Resume, Run, next_of, opened_all}
 use Rattle.pec_runs.specs.Resuming.{IsFoundSo}
@@ -108,8 +111,20 @@ module _ (asked : Asked) (status : Status) (unread before after : Option Bytes) 
   pub has_begun : HasBegun tells old_disks new_disks old new ran.happened status asked form script
   has_begun = subst (λ (s : Stage). IsAt tells old_disks new_disks old new ran.happened status asked s) begun ran.is_at
 
+  pub is_setting : IsSetting (providers_in ran.happened.setting) ran.happened.setting
+  is_setting =
+      let is = ran.setting form script begun all.providers all.directory
+      in subst (λ (providers : List Provider). IsSetting providers ran.happened.setting) (sym is.kept) is
+
+  pub directory_is : directory_in ran.happened.parts.directory ≡ Ok (providers_in ran.happened.setting)
+  directory_is =
+      all.directory ∙ ap so (sym (ran.setting form script begun all.providers all.directory).kept)
+    where
+      so : List Provider → Result (List Provider) DirectoryFault
+      so providers = Ok providers
+
   pub is_world : IsTrade (world ran.happened)
-  is_world = (ran.setting form script begun all.providers all.directory).world
+  is_world = is_setting.world
 
   pub commands_can : ReadsSo → AllByRecursion CanBeSaid script.commands
   commands_can reads =

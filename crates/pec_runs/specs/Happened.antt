@@ -4,6 +4,7 @@ use Rattle.std.specs.Prelude.{◌≡◌, nat_lt, Bool, true, false, List, [], le
 use Rattle.pec_types.specs.Bytes.{Bytes}
 use Rattle.pec_directory.specs.Directory.{Kept, Provider, providers_of}
 use Rattle.pec_directory.specs.Lawful.{IsLawful}
+use Rattle.pec_directory.specs.Zones.{AreByRule}
 use Rattle.pec_directory.specs.declared.faults.DirectoryFault.{DirectoryFault}
 use Rattle.pec_seal.specs.Hmac.{hmac_seals}
 use Rattle.pec_seal.specs.Seals.{Seals}
@@ -38,10 +39,12 @@ trade_in setting = trade_of setting.kept setting.seals
 abbrev pub providers_in : Setting → List Provider
 providers_in setting = providers_of setting.kept
 
--- The setting is that of these providers: they are kept, each seals with its own name and key, and their world meets
--- all laws of the trade.
+-- The setting is that of these providers: they are kept, each zone is of its provider's rule, each seals with its own
+-- name and key, and their world meets all laws of the trade. Two settings of the same providers have one world: law
+-- `providers_have_one_world`.
 pub record IsSetting (providers : List Provider) (setting : Setting) : Type 0 where
   pub kept : providers_in setting ≡ providers
+  pub zones : AreByRule setting.kept
   pub lawful : IsLawful providers
   pub seals : setting.seals ≡ hmac_seals (names_of providers) (keys_of providers)
   pub world : IsTrade (trade_in setting)

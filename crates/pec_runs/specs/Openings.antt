@@ -102,28 +102,34 @@ abbrev pub IsLeft : List Site → ℕ → Bytes → Type 0
 IsLeft sites provider bytes =
     (choice : Bool) × IsJournalOf (journal_at sites provider ++ chosen choice (interrupted_at sites provider)) bytes
 
--- A disk of which the run had no journal reads as it did; but for one on which a journal was being made.
-abbrev pub IsUnread : Form → Next → Type 0
-IsUnread Run Fails = ⊥
-IsUnread Run Stops = ⊥
-IsUnread _ _ = Unit {0}
+-- A provider's disk, which held these bytes, is untouched: it reads so, and a crash leaves nothing that it wouldn't have
+-- left before.
+pub record IsUntouched (old new : Disks) (provider : ℕ) (was : Bytes) : Type 0 where
+  pub reads : (bytes : Bytes) → new.reads provider bytes → bytes ≡ was
+  pub crash : (image : Bytes) → new.may_leave provider image → old.may_leave provider image
+
+-- A disk that came to nothing, and held these bytes, has to be untouched; but for an empty one on which a journal was
+-- being made.
+abbrev pub IsSpared : Form → Next → Bytes → Type 0
+IsSpared Run Fails was = 0 < length was
+IsSpared Run Stops was = 0 < length was
+IsSpared _ _ was = Unit {0}
 
 -- The disks, once the run is over: each whose journal was made or opened reads as that, and a crash leaves nothing
--- else; the others read as they did.
+-- else; the others are untouched.
 pub record AreLeft (old new : Disks) (form : Form) (opening : Opening) (sites : List Site) : Type 0 where
   pub reads : (provider : ℕ) → provider < next_of opening → (bytes : Bytes) → new.reads provider bytes
       → IsLeft sites provider bytes
   pub crash : (provider : ℕ) → provider < next_of opening → (bytes : Bytes) → new.may_leave provider bytes
       → IsLeft sites provider bytes
-  pub next : IsUnread form opening.next → (was bytes : Bytes) → old.reads (next_of opening) was
-      → new.reads (next_of opening) bytes → bytes ≡ was
-  pub others : (provider : ℕ) → next_of opening < provider → (was bytes : Bytes) → old.reads provider was
-      → new.reads provider bytes → bytes ≡ was
+  pub next : (was : Bytes) → old.reads (next_of opening) was → IsSpared form opening.next was
+      → IsUntouched old new (next_of opening) was
+  pub others : (provider : ℕ) → next_of opening < provider → (was : Bytes) → old.reads provider was
+      → IsUntouched old new provider was
 
--- No disk was asked for: each reads as it did.
+-- No disk was asked for, and none was written.
 abbrev pub AreUntouched : Disks → Disks → Type 0
-AreUntouched old new = (provider : ℕ) (was bytes : Bytes) → old.reads provider was → new.reads provider bytes
-    → bytes ≡ was
+AreUntouched old new = (provider : ℕ) (was : Bytes) → old.reads provider was → IsUntouched old new provider was
 
 -- ---- a depot
 

@@ -1,5 +1,6 @@
--- Runs without faults: no count of faults rose (`NoFaults`); and the one transcript of such a run (`transcript`), a
--- function of its words, its input, its world and the journals that it had. This project's profile.
+-- Runs without faults: no count of faults rose (`NoFaults`); the one transcript of such a run (`transcript`), a
+-- function of its words, its input, its world and the journals that it had; and two runs that wrote it (`WroteAlike`).
+-- This project's profile.
 use Rattle.std.specs.Prelude.{◌≡◌, ℕ, ◌-◌, ◌^◌, ◌<◌, false, List, [], Option, Some}
 use Rattle.pec_types.specs.Bytes.{Bytes}
 use Rattle.pec_outside.specs.Flow.{followed_by}
@@ -49,3 +50,10 @@ pub record TellsTranscript (asked : Asked) (happened : Happened) (status : Statu
     : Type 0 where
   pub status_is : status_at (transcript asked happened).finish ≡ Some status
   pub written : after ≡ followed_by before (outcome_text (providers_in happened.setting) (transcript asked happened))
+
+-- Two runs wrote alike: they have one status, and wrote the same bytes behind what their outputs held.
+pub record WroteAlike (status other : Status) (before after other_before other_after : Option Bytes) : Type 0 where
+  pub status_is : other ≡ status
+  pub text : Bytes
+  pub written : after ≡ followed_by before text
+  pub again : other_after ≡ followed_by other_before text

@@ -1,5 +1,5 @@
 -- What a status says of a run, row by row: `HasEnded`, `IsDone`. This project's profile.
-use Rattle.std.specs.Prelude.{◌≡◌, List, ◌++◌, length, Option}
+use Rattle.std.specs.Prelude.{◌≡◌, ◌++◌, length, Option}
 use Rattle.pec_types.specs.Bytes.{Bytes}
 use Rattle.pec_outside.specs.Flow.{followed_by}
 use Rattle.pec_runs.specs.AnswerLines.{answers_text}

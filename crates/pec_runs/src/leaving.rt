@@ -1,9 +1,9 @@
-ghost use Rattle.std.specs.Prelude.{◌≡◌, ◌≢◌, ◌<◌, ◌⊎◌, ℕ, List, Option, Some, slice_get};
+ghost use Rattle.std.specs.Prelude.{◌≡◌, ◌≢◌, ◌<◌, ◌⊎◌, ℕ, List, Option, Some, length, slice_get};
 ghost use Rattle.pec_types.specs.Bytes.{Bytes};
 ghost use Rattle.pec_records.specs.declared.entries.Entry.{Entry};
 ghost use Rattle.pec_chronicle.specs.Chronicle.{IsJournalOf};
 ghost use Rattle.pec_runs.specs.Happened.{Asked, Begun, outcome_of, stage_of};
-ghost use Rattle.pec_runs.specs.Openings.{disks_at, Form, IsLeft, NoMore, next_of};
+ghost use Rattle.pec_runs.specs.Openings.{disks_at, Form, IsLeft, IsUntouched, NoMore, Resume, form_in, next_of};
 ghost use Rattle.pec_runs.specs.Ran.{Counts, RanOver};
 ghost use Rattle.pec_runs.specs.ScriptLines.{Script};
 ghost use Rattle.pec_runs.specs.Statuses.{Status};
@@ -36,4 +36,17 @@ pub fn a_run_leaves_its_journals<P: Depot>()
         → (disks_at (P.tells × P.D.tells) P.D.sight (P.home left)).reads provider bytes
         ⊎ (disks_at (P.tells × P.D.tells) P.D.sight (P.home left)).may_leave provider bytes
         → IsJournalOf journal bytes }
+{}
+
+/// A journal that is there survives: only `resume` goes on with journals that it finds, and any other run leaves each
+/// disk that held a byte untouched, as it reads and as a crash may leave it, whatever its status.
+pub fn a_journal_that_is_there_survives<P: Depot>()
+    ensures { (asked : Asked) (status : Status) (unread before after : Option Bytes) (depot left : P)
+        (old new : Counts)
+        → RanOver (P.tells × P.D.tells) P.D.sight asked status unread before after (P.home depot) (P.home left) old new
+        → form_in asked.words ≢ Some Resume
+        → (provider : ℕ) (was : Bytes)
+        → (disks_at (P.tells × P.D.tells) P.D.sight (P.home depot)).reads provider was → 0 < length was
+        → IsUntouched (disks_at (P.tells × P.D.tells) P.D.sight (P.home depot))
+        (disks_at (P.tells × P.D.tells) P.D.sight (P.home left)) provider was }
 {}

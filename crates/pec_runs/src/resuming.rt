@@ -6,7 +6,7 @@ ghost use Rattle.pec_ledger.specs.Network.{Site, journals_in};
 ghost use Rattle.pec_ledger.specs.Trade.{Trade};
 ghost use Rattle.pec_plays.specs.Commands.{Command, Luck};
 ghost use Rattle.pec_plays.specs.Scripts.{script};
-ghost use Rattle.pec_runs.specs.Happened.{Asked, Begun, outcome_of, stage_of};
+ghost use Rattle.pec_runs.specs.Happened.{Asked, Begun, outcome_of, providers_in, stage_of};
 ghost use Rattle.pec_runs.specs.Headline.{AllHonest, IsBook, IsHonest};
 ghost use Rattle.pec_runs.specs.Openings.{disks_at, Form, NoMore, Resume};
 ghost use Rattle.pec_runs.specs.Ran.{Counts, RanOver, beginning, command_in_hand, world};
@@ -14,6 +14,7 @@ ghost use Rattle.pec_runs.specs.Resuming.{IsAtRest, IsFoundSo, resumed};
 ghost use Rattle.pec_runs.specs.ScriptLines.{Script};
 ghost use Rattle.pec_runs.specs.Statuses.{Status};
 
+use crate::settings::providers_have_one_world;
 use pec_chronicle::a_disk_holds_one_list;
 use pec_ledger::{licences_stand, soundness};
 use pec_outside::Depot;
@@ -43,9 +44,9 @@ pub fn a_script_may_be_cut()
         → IsBook trade sites address lines → IsBook trade (resumed trade sites) address lines }
 {}
 
-/// A run that resumes on the disks that another left, as they read then or as a crash left them, begins with journals
-/// that fit, however the other ended, where no forged frame was injected: each is the journal of the state that it
-/// left, with its interrupted entry or without it.
+/// A run that resumes on the disks that another left, as they read then or as a crash left them, in a directory of the
+/// same providers, begins with journals that fit, however the other ended, where no forged frame was injected: each is
+/// the journal of the state that it left, with its interrupted entry or without it.
 pub fn a_resumed_run_begins_where_the_last_left<P: Depot>()
     ensures { (asked others : Asked) (status other : Status)
         (unread before after other_unread other_before other_after : Option Bytes)
@@ -58,7 +59,7 @@ pub fn a_resumed_run_begins_where_the_last_left<P: Depot>()
         → stage_of asked ran.happened.early ran.happened.parts ≡ Begun form script → ran.happened.opening.next ≡ NoMore
         → stage_of others again.happened.early again.happened.parts ≡ Begun Resume rest
         → again.happened.opening.next ≡ NoMore
-        → again.happened.setting ≡ ran.happened.setting
+        → providers_in again.happened.setting ≡ providers_in ran.happened.setting
         → ((provider : ℕ) → provider < (world ran.happened).providers
         → IsFoundSo (disks_at (P.tells × P.D.tells) P.D.sight (P.home left))
         (disks_at (P.tells × P.D.tells) P.D.sight (P.home found)) provider)
@@ -69,6 +70,7 @@ pub fn a_resumed_run_begins_where_the_last_left<P: Depot>()
         → IsHonest (world ran.happened) (outcome_of asked ran.happened).after command)
         → Fit (world again.happened) (journals_in again.happened.opening.journals) }
 {
+    providers_have_one_world();
     a_disk_holds_one_list();
     a_network_stays_sound();
     licences_stand();

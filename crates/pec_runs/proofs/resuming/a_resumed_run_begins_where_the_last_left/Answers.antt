@@ -1,9 +1,8 @@
 -- What a run leaves fits, and the next one begins with it: from the lemmas.
-use Rattle.std.proofs.Common.{ap}
-use Rattle.pec_runs.specs.Happened.{Setting, trade_in}
 use Rattle.pec_runs.specs.Openings.{Resume}
 use Rattle.pec_runs.specs.Ran.{world}
-use Rattle.pec_runs.proofs.RunLemmas.{again_fit, all_there, fits_left, has_begun, is_world}
+use Rattle.pec_runs.proofs.RunLemmas.{again_fit, all_there, fits_left, has_begun, is_setting, is_world}
+use Rattle.pec_runs.proofs.SettingLemmas.{same_world}
 use Rattle.pec_runs.proofs.resuming.a_resumed_run_begins_where_the_last_left.Goals as goal
 
 pub returns : goal.returns
@@ -21,7 +20,10 @@ returns g c =
       ends = c.a_network_stays_sound.ensures.ends trade is;
     })
     (c.soundness.ensures.start trade) c.a_line_has_one_reading.ensures at_hand fit honest hand
-    in again_fit _ _ trade (world again.happened) (ap (λ (s : Setting). trade_in s) same)
+    in let one = same_world c.providers_have_one_world.ensures ran.happened.setting again.happened.setting
+    (is_setting words status unread before after _ _ _ old between ran form script begun)
+    (is_setting others other other_unread other_before other_after _ _ _ behind new again Resume rest begun_again) same
+    in again_fit _ _ trade (world again.happened) one
     (c.licences_stand.ensures.conditions trade)
     first.left fits _ form ran.happened.opening again.happened.opening
     (all_there trade _ form ran.happened.opening first.opening at_hand)
