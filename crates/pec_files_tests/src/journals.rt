@@ -1,3 +1,4 @@
+//! Journals: the files that they open over, the bytes by which they grow, and calls of the disk that fail.
 use crate::dealt::Dealt;
 use pec_journal::{AppendFault, CreateFault, ENTRY_LIMIT, JOURNAL_LIMIT, Journal, OpenFault};
 use pec_outside::{Depot, Disk, MemDepot, MemDisk};
@@ -31,17 +32,9 @@ const FILES: [(&[u8], &str); 16] = [
 
 #[test]
 fn a_journal_opens_over_its_file_alone(rt: HostRuntime) {
-    assert_eq!(rt; first_mistold(rt.alloc(), &FILES), None);
-}
-
-/// The first bytes over which something else is told; none where each row's is.
-fn first_mistold(alloc: Global, rows: &[(&'static [u8], &str)]) -> Option<&'static [u8]> {
-    for (bytes, wanted) in rows {
-        if !tells(alloc, bytes, wanted) {
-            return Some(*bytes);
-        }
+    for (bytes, wanted) in &FILES {
+        assert!(rt; tells(rt.alloc(), bytes, wanted));
     }
-    None
 }
 
 /// Whether reopening a disk that holds these bytes tells this.
@@ -96,25 +89,18 @@ const FLIPS: [&str; 29] = [
 
 #[test]
 fn each_cut_and_each_turned_bit_is_told(rt: HostRuntime) {
-    assert_eq!(rt; first_wrong_cut(rt.alloc(), &CUTS), None);
-    assert_eq!(rt; first_wrong_flip(rt.alloc(), &FLIPS), None);
-}
-
-fn first_wrong_cut(alloc: Global, places: &[u64]) -> Option<usize> {
-    for (at, place) in places.iter().enumerate() {
-        if !is_cut_told(alloc, at, *place) {
-            return Some(at);
-        }
+    for at in 0..29 {
+        assert!(rt; is_cut_told(rt.alloc(), at), "cut at {at}");
+        assert!(rt; is_flip_told(rt.alloc(), at), "turned at {at}");
     }
-    None
 }
 
-fn is_cut_told(alloc: Global, at: usize, place: u64) -> bool {
-    match no_journal(alloc, place) {
-        Ok(wanted) => match FILE.get(..at) {
-            Some(bytes) => tells(alloc, bytes, wanted.as_str()),
-            None => false,
-        },
+fn is_cut_told(alloc: Global, at: usize) -> bool {
+    let (Some(bytes), Some(place)) = (FILE.get(..at), CUTS.get(at)) else {
+        return false;
+    };
+    match no_journal(alloc, *place) {
+        Ok(wanted) => tells(alloc, bytes, wanted.as_str()),
         Err(_) => false,
     }
 }
@@ -123,21 +109,12 @@ fn no_journal(alloc: Global, place: u64) -> Result<String, AllocError> {
     format!(in alloc; "NotAJournal({place})")
 }
 
-fn first_wrong_flip(alloc: Global, rows: &[&str]) -> Option<usize> {
-    for (at, wanted) in rows.iter().enumerate() {
-        if !is_flip_told(alloc, at, wanted) {
-            return Some(at);
-        }
-    }
-    None
-}
-
-fn is_flip_told(alloc: Global, at: usize, wanted: &str) -> bool {
+fn is_flip_told(alloc: Global, at: usize) -> bool {
     let mut bytes = FILE;
-    match bytes.get_mut(at) {
-        Some(byte) => *byte ^= 1,
-        None => return false,
-    }
+    let (Some(byte), Some(wanted)) = (bytes.get_mut(at), FLIPS.get(at)) else {
+        return false;
+    };
+    *byte ^= 1;
     tells(alloc, &bytes, wanted)
 }
 
@@ -209,18 +186,18 @@ fn stays_as_it_is(alloc: Global, disk: MemDisk) -> bool {
 #[test]
 fn an_entry_is_there_or_not_after_each_crash(rt: HostRuntime) {
     for call in 7..12 {
-        assert_eq!(rt; first_wrong_crash(rt.alloc(), call), None, "call {call}");
+        assert!(rt; is_told_after_each_crash(rt.alloc(), call), "call {call}");
     }
 }
 
-/// The first number of pending bytes whose crash goes otherwise where this call fails; none where each goes so.
-fn first_wrong_crash(alloc: Global, call: u64) -> Option<u64> {
+/// Whether it goes so where this call fails, however many pending bytes a crash keeps.
+fn is_told_after_each_crash(alloc: Global, call: u64) -> bool {
     for kept in 0..8 {
         if !is_there_or_not(alloc, call, kept) {
-            return Some(kept);
+            return false;
         }
     }
-    None
+    true
 }
 
 fn is_there_or_not(alloc: Global, call: u64, kept: u64) -> bool {
@@ -259,8 +236,8 @@ fn answered(call: u64) -> (Answer, Answer) {
     }
 }
 
-// The entries after a crash that kept so many pending bytes, where this call failed. At the last sync the open gate alone
-// is pending.
+// The entries after a crash that kept so many pending bytes, where this call failed. At the last sync the open gate
+// alone is pending.
 fn left_by(call: u64, kept: u64) -> &'static str {
     match (call, kept) {
         (11, _) | (10, 1..) => "ab;cd;",
@@ -284,17 +261,15 @@ fn crashed(alloc: Global, disk: MemDisk, kept: Vec<u64>) -> MemDisk {
 #[test]
 fn a_disk_that_fails_gives_no_journal(rt: HostRuntime) {
     for call in 0..4 {
-        assert_eq!(rt;
-            is_made(rt.alloc(), call),
-            Some(3 <= call),
+        assert!(rt;
+            is_made(rt.alloc(), call) == Some(3 <= call),
             "call {call} of create"
         );
     }
     // Two calls make the file, then a sync, the size, the header and the two gates are asked for.
     for call in 2..8 {
-        assert_eq!(rt;
-            is_reopened(rt.alloc(), call),
-            Some(7 <= call),
+        assert!(rt;
+            is_reopened(rt.alloc(), call) == Some(7 <= call),
             "call {call} of reopen"
         );
     }
