@@ -1,5 +1,5 @@
 -- Why a journal that is opened again is refused, and that a provider's own never is.
-use Rattle.std.proofs.Common.{◌≡◌, ℕ, zero, suc, ◌+◌, ◌<◌, ◌⊎◌, Bool, true, not, List, [], ◌∷◌, ◌++◌, length, map, fold, take, get_or, inl, inr, refl, sym, ap, subst, ◌∙◌, arith, Option, Some, None, Result, Ok, Err, length-append}
+use Rattle.std.proofs.Common.{◌≡◌, ℕ, zero, suc, ◌+◌, ◌<◌, ◌⊎◌, Bool, true, false, not, List, [], ◌∷◌, ◌++◌, length, map, fold, take, get_or, inl, inr, refl, sym, ap, subst, ◌∙◌, arith, Option, Some, None, Result, Ok, Err, length-append}
 use Rattle.std.specs.Prelude.{◌≢◌, IfErr, slice_get}
 use Rattle.std.specs.Str.{bytes_eq}
 use Rattle.std.proofs.lemmas.Bool.{false≢true}
@@ -28,7 +28,7 @@ use Rattle.pec_shelf.specs.Prepared.{AreSteps, IsStep}
 use Rattle.pec_shelf.specs.Seen.{Seen}
 use Rattle.pec_stock.specs.declared.faults.ReopenFault.{ReopenFault}
 use Rattle.pec_stock.specs.declared.faults.ReopenFault.TheVariants as faults
-use Rattle.pec_stock.specs.Opening.{IsBad, IsCutOff, IsElsewhere, IsOutside, IsUnfit, NotOwn, ReadsTo, StopsAt, WhyNot, as_reopened}
+use Rattle.pec_stock.specs.Opening.{IsBad, IsCutOff, IsElsewhere, IsHere, IsOutside, IsUnfit, NotOwn, ReadsTo, StopsAt, WhyNot, as_reopened}
 use Rattle.pec_stock.specs.Stock.{Holds, IsOwn}
 use Rattle.pec_stock.specs.Stocking.{AllSteps}
 use Rattle.pec_stock.proofs.Agreeing.{steps_push}
@@ -143,6 +143,25 @@ elsewhere_at trade (x ∷ rest) e number kept given first is digest differs = re
   given_is = digest;
   differs = differs;
 }
+
+-- a Start with this digest
+pub here_at : (trade : Trade) (list : List Entry) (e : Entry) (number : ℕ) (kept given : Bytes) → slice_get list 0 ≡ Some e
+    → e ≡ entries.Start number kept → given ≡ trade.digest → kept ≡ given → IsHere trade list
+here_at trade [] e number kept given first is digest same = absurd (none-some e first)
+here_at trade (x ∷ rest) e number kept given first is digest same = record {
+  number = number;
+  rest = rest;
+  is = ap (λ (y : Entry). y ∷ rest)
+      (same_Some x e first ∙ is ∙ ap (λ (d : Bytes). entries.Start number d) (same ∙ digest));
+}
+
+not_false : (b : Bool) → not b ≡ false → b ≡ true
+not_false true e = refl
+not_false false e = absurd (false≢true (sym e))
+
+pub alike : (a b x y : Bytes) → x ≡ a → y ≡ b → not (bytes_eq x y) ≡ false → a ≡ b
+alike a b x y first second like =
+    sym first ∙ ((bytes_eq-Decides x y).0 (not_false (bytes_eq x y) like) ∙ second)
 
 pub differ : (a b x y : Bytes) → x ≡ a → y ≡ b → not (bytes_eq x y) ≡ true → a ≡ b → ⊥
 differ a b x y first second unlike e =

@@ -49,9 +49,15 @@ pub record IsElsewhere (trade : Trade) (list : List Entry) (kept given : Bytes) 
   pub given_is : given ≡ trade.digest
   pub differs : kept ≢ given
 
--- They have no Start, or one is no step.
+-- They begin with a Start of this directory.
+pub record IsHere (trade : Trade) (list : List Entry) : Type 0 where
+  pub number : ℕ
+  pub rest : List Entry
+  pub is : list ≡ entries.Start number trade.digest ∷ rest
+
+-- They have no Start; or they begin with one of this directory, and one of them is no step.
 abbrev pub IsBad : Trade → ℕ → List Entry → ℕ → Type 0
-IsBad trade me list number = ((number ≡ 0) × (Begins list → ⊥)) ⊎ (Begins list × StopsAt trade me number list)
+IsBad trade me list number = ((number ≡ 0) × (Begins list → ⊥)) ⊎ (IsHere trade list × StopsAt trade me number list)
 
 -- Why these entries aren't the provider's own.
 abbrev pub NotOwn : Trade → ℕ → List Entry → ReopenFault → Type 0

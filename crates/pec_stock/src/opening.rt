@@ -12,7 +12,7 @@ ghost use Rattle.pec_ledger.specs.OfDirectory.{IsOf};
 ghost use Rattle.pec_ledger.specs.Trade.{Trade};
 ghost use Rattle.pec_chronicle.specs.Chronicle.{IsJournalOf, Stands};
 ghost use Rattle.pec_chronicle.specs.declared.faults.CreateFault.TheVariants as create;
-ghost use Rattle.pec_stock.specs.Opening.{CutOff, IsOutside, IsUnfit, NotOwn, WhyNot};
+ghost use Rattle.pec_stock.specs.Opening.{CutOff, IsHere, IsOutside, IsUnfit, NotOwn, WhyNot};
 ghost use Rattle.pec_stock.specs.Stock.{Agree, Holds, IsOwn};
 ghost use Rattle.pec_stock.specs.declared.faults.ReopenFault.TheVariants as reopen;
 
@@ -235,6 +235,7 @@ fn judge(
 /// Whether entries begin with the Start of a journal of this directory.
 fn begins(alloc: Global, directory: &Directory, entries: &[Entry]) -> Result<(), ReopenFault>
     ensures begins { OnOk result (Begins entries.now) }
+    ensures here { (trade : Trade) → IsOf directory.now trade → OnOk result (IsHere trade entries.now) }
     ensures not_own { (trade : Trade) (me : ℕ) → IsOf directory.now trade → IfErr result (NotOwn trade me entries.now) }
 {
     let Some(Entry::Start { digest, .. }) = entries.first() else {
