@@ -17,11 +17,12 @@ use Rattle.pec_chronicle.specs.declared.faults.CreateFault.{CreateFault}
 use Rattle.pec_chronicle.specs.declared.faults.CreateFault.TheVariants as create
 use Rattle.pec_stock.specs.Opening.{IsOutside, IsUnfit}
 use Rattle.pec_stock.specs.Stock.{IsOwn}
+use Rattle.pec_stock.specs.Unchanged.{IsUnchanged}
 use Rattle.pec_stock.specs.declared.faults.ReopenFault.{ReopenFault}
 use Rattle.pec_stock.specs.declared.faults.ReopenFault.TheVariants as reopen
 use Rattle.pec_provider.specs.Provider.{Desk, ProviderState, Runs, desk_of, fresh}
 use Rattle.pec_seal.specs.Seals.{Seals}
-use Rattle.pec_network.specs.Beginning.{IsAbout, IsAsItWas, IsBack, IsBegun, IsLeft, Says}
+use Rattle.pec_network.specs.Beginning.{IsAbout, IsBack, IsBegun, IsLeft, IsUnwritten, Says}
 use Rattle.pec_network.specs.Starting.{unmade_as, unopened_as}
 use Rattle.pec_network.specs.declared.faults.StartFault.{StartFault}
 use Rattle.pec_network.specs.declared.faults.StartFault.TheVariants as faults
@@ -34,19 +35,22 @@ no_bytes : (bytes : Bytes) → length bytes ≡ 0 → bytes ≡ []
 no_bytes [] e = refl
 no_bytes (byte ∷ bytes) e = absurd (omega arith)
 
--- ---- a disk that is as it was
+-- ---- a disk that is unchanged
 
-as_before : (old new : Sight) → Stays old new → IsAsItWas old new
+as_before : (old new : Sight) → Stays old new → IsUnchanged old new
 as_before old new stays = record { seen = stays.seen; crash = stays.crash }
 
-at_rest : (old new : Sight) → Rests old new → IsAsItWas old new
+at_rest : (old new : Sight) → Rests old new → IsUnchanged old new
 at_rest old new rests = record { seen = rests.seen; crash = rests.crash }
 
-pub left_so : (form : Form) (fault : StartFault) (old new : Sight) → IsAsItWas old new → IsLeft form fault old new
+unwritten : (old new : Sight) → (length old.seen ≢ 0 → Rests old new) → IsUnwritten old new
+unwritten old new rests some = at_rest old new (rests (λ none. absurd (omega arith)))
+
+pub left_so : (form : Form) (fault : StartFault) (old new : Sight) → IsUnchanged old new → IsLeft form fault old new
 left_so forms.Make (faults.NotEmpty number) old new same = same
-left_so forms.Make (faults.DiskFault number) old new same = tt
+left_so forms.Make (faults.DiskFault number) old new same = λ some. same
 left_so forms.Make (faults.NotFit number why) old new same = same
-left_so forms.Make faults.NoMemory old new same = tt
+left_so forms.Make faults.NoMemory old new same = λ some. same
 left_so forms.Open fault old new same = same
 
 -- ---- refusals
@@ -120,15 +124,26 @@ module _ {D : Type 0} (tells reads : Type 0) (sight : D → Sight) (kept : List 
 
   pub unmade_back : (fault : CreateFault) (was now : D)
       → (reads → fault ≡ create.NotEmpty → (length (sight was).seen ≢ 0) × Rests (sight was) (sight now))
+      → (reads → length (sight was).seen ≢ 0 → Rests (sight was) (sight now))
       → IsBack tells reads sight kept forms.Make me (unmade_as me fault) was (Some now)
-  unmade_back create.NotEmpty was now not_empty = record {
+  unmade_back create.NotEmpty was now not_empty as_it_was = record {
     now = now;
     is = refl;
     left = λ r. at_rest (sight was) (sight now) (not_empty r refl).1;
     says = λ r. let some = (not_empty r refl).0 in omega arith;
   }
-  unmade_back create.DiskFault was now not_empty = record { now = now; is = refl; left = λ r. tt; says = λ r. tt }
-  unmade_back create.NoMemory was now not_empty = record { now = now; is = refl; left = λ r. tt; says = λ r. tt }
+  unmade_back create.DiskFault was now not_empty as_it_was = record {
+    now = now;
+    is = refl;
+    left = λ r. unwritten (sight was) (sight now) (as_it_was r);
+    says = λ r. tt;
+  }
+  unmade_back create.NoMemory was now not_empty as_it_was = record {
+    now = now;
+    is = refl;
+    left = λ r. unwritten (sight was) (sight now) (as_it_was r);
+    says = λ r. tt;
+  }
 
   unopened_says : (fault : ReopenFault) (bytes : Bytes)
       → ((trade : Trade) (list : List Entry) → IsOf kept trade → IsOwn trade me list → IsJournalOf list bytes → IsOutside fault)

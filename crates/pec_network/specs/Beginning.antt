@@ -16,6 +16,7 @@ use Rattle.pec_ledger.specs.Trade.{Trade}
 use Rattle.pec_chronicle.specs.Chronicle.{IsJournalOf, Stands}
 use Rattle.pec_stock.specs.Opening.{IsUnfit}
 use Rattle.pec_stock.specs.Stock.{IsOwn}
+use Rattle.pec_stock.specs.Unchanged.{IsUnchanged}
 use Rattle.pec_stock.specs.declared.faults.ReopenFault.{ReopenFault}
 use Rattle.pec_stock.specs.declared.faults.ReopenFault.TheVariants as reopen
 use Rattle.pec_provider.specs.Provider.{ProviderState, desk_of, fresh}
@@ -79,16 +80,15 @@ Says kept me bytes (faults.NotEmpty number) = 0 < length bytes
 Says kept me bytes (faults.NotFit number why) = IsNotOwn kept me bytes why
 Says kept me bytes _ = Unit {0}
 
--- A disk reads as it did, and a crash leaves nothing that it wouldn't have left.
-pub record IsAsItWas (old new : Sight) : Type 0 where
-  pub seen : new.seen ≡ old.seen
-  pub crash : (image : Bytes) → new.may_leave image → old.may_leave image
+-- Nothing was written on a disk that held a byte: a journal that was there survives.
+abbrev pub IsUnwritten : Sight → Sight → Type 0
+IsUnwritten old new = 0 < length old.seen → IsUnchanged old new
 
--- The disk that came to nothing is as it was; but for one on which a journal was being made.
+-- The disk that came to nothing is unchanged; but for an empty one on which a journal was being made.
 abbrev pub IsLeft : Form → StartFault → Sight → Sight → Type 0
-IsLeft forms.Make (faults.DiskFault number) old new = Unit {0}
-IsLeft forms.Make faults.NoMemory old new = Unit {0}
-IsLeft _ _ old new = IsAsItWas old new
+IsLeft forms.Make (faults.DiskFault number) old new = IsUnwritten old new
+IsLeft forms.Make faults.NoMemory old new = IsUnwritten old new
+IsLeft _ _ old new = IsUnchanged old new
 
 -- A fault of a disk is told only where the depot's count of faults rose, or that of the disk as it last stood at home.
 abbrev pub BlamesDisk : (old new : ℕ) → (last left : ℕ → ℕ) → StartFault → Type 0

@@ -12,6 +12,7 @@ ghost use Rattle.pec_screen.specs.VerdictReading.{finds};
 ghost use Rattle.pec_trade.specs.TradeOf.{trade_of};
 ghost use Rattle.pec_network.specs.Carrying.{AllCarryOn, NoneFalls};
 ghost use Rattle.pec_network.specs.Changing.{ChangesOnly, HasRisenAt};
+ghost use Rattle.pec_network.specs.Looking.{OnlyLooks};
 ghost use Rattle.pec_network.specs.Network.{sites};
 ghost use Rattle.pec_network.specs.Playing.{IsPlayed};
 
@@ -91,6 +92,10 @@ impl<D: Disk, S: Sealer> Network<D, S> {
             (Submit provider moment sender.now path.now message.now
             (finds_in (map J.patterns screens.old) provider message.now)))
             (sites self.old) (sites self.new) result }
+        // Of the provider's own screens each has looked once exactly where the message came to them; no other has.
+        ensures looked { OnlyLooks provider (case_at (providers_of self.old.kept) provider sender.now path.now
+            message.now (finds_in (map J.patterns screens.old) provider message.now))
+            (map J.seen screens.old) (map J.seen screens.new) result }
         ensures patterns { map J.patterns screens.new ≡ map J.patterns screens.old }
         ensures others { ChangesOnly provider self.old self.new }
         ensures carries { D.tells → (journals : Journals) → AllCarryOn D.sight

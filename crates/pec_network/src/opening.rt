@@ -34,7 +34,7 @@ pub enum Form {
 impl<D: Disk, S: Sealer + Drop> Network<D, S> {
     /// A network on empty disks: each provider's journal is made, with its Start. It is refused where the depot doesn't
     /// hand out a disk or the disk fails (`DiskFault`), where one holds a byte (`NotEmpty`), and for want of memory. A
-    /// disk on which a journal was being made may hold bytes then.
+    /// disk that was empty may hold bytes then; one that held a byte is unchanged.
     pub fn create<P: Depot<D = D>>(
         alloc: Global,
         directory: Directory,

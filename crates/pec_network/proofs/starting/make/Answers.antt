@@ -13,7 +13,7 @@ pub returns-in-Err-clause-back : goal.returns-in-Err-clause-back
 returns-in-Err-clause-back g c =
     rw c.unmade.ensures
     (unmade_back g.D.Disk.tells g.D.Disk.tells g.D.Disk.sight c.args.house.now.directory.now c.args.house.now.me c.in-Err.fault c.args.disk c.in-Err.disk
-    c.in-Err.ensures.not_empty)
+    c.in-Err.ensures.not_empty c.in-Err.ensures.as_it_was)
 
 pub returns-in-Err-clause-disk_fault : goal.returns-in-Err-clause-disk_fault
 returns-in-Err-clause-disk_fault g c =
