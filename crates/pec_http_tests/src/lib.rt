@@ -2,12 +2,14 @@
 #![tactic(auto)]
 
 #[cfg(test)]
-mod answer_tests;
+mod answers;
 #[cfg(test)]
-mod connection_tests;
+mod connections;
 #[cfg(test)]
 mod desk;
 #[cfg(test)]
 mod serving;
+#[cfg(test)]
+mod submissions;
 #[cfg(test)]
 mod wire;

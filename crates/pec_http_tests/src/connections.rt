@@ -35,17 +35,9 @@ const SIZES: [(usize, u16); 4] = [(65_535, 200), (65_536, 200), (65_537, 431), (
 
 #[test]
 fn a_head_has_at_most_65536_bytes(rt: HostRuntime) {
-    assert_eq!(rt; first_wrong_size(rt.alloc(), &SIZES), None);
-}
-
-/// The first number of bytes that a head is answered otherwise with; none where each is answered so.
-fn first_wrong_size(alloc: Global, rows: &[(usize, u16)]) -> Option<usize> {
-    for (bytes, status) in rows {
-        if !has_size_answered(alloc, *bytes, *status) {
-            return Some(*bytes);
-        }
+    for (bytes, status) in &SIZES {
+        assert!(rt; has_size_answered(rt.alloc(), *bytes, *status), "{bytes}");
     }
-    None
 }
 
 fn has_size_answered(alloc: Global, bytes: usize, status: u16) -> bool {
@@ -60,26 +52,25 @@ const FRONT: &[u8] = b"GET /mail/anna@alfa.example/book HTTP/1.1\r\nx-key: chiav
 
 const NO_FRONT: &[u8] = b"GET /nowhere\r\nx-key\r\n";
 
-// How many lines a head has behind its first, and the status of the answer.
-const LINES: [(u32, u16); 4] = [(63, 200), (64, 200), (65, 431), (1000, 431)];
-
-// The same of what is no head: too many lines are found before that.
-const NO_LINES: [(u32, u16); 2] = [(64, 400), (65, 431)];
+// What a head begins with, how many lines it has behind its first, and the status of the answer.
+const LINES: [(&[u8], u32, u16); 6] = [
+    (FRONT, 63, 200),
+    (FRONT, 64, 200),
+    (FRONT, 65, 431),
+    (FRONT, 1000, 431),
+    // of what is no head too many lines are found before that
+    (NO_FRONT, 64, 400),
+    (NO_FRONT, 65, 431),
+];
 
 #[test]
 fn a_head_has_at_most_64_lines(rt: HostRuntime) {
-    assert_eq!(rt; first_wrong_count(rt.alloc(), FRONT, &LINES), None);
-    assert_eq!(rt; first_wrong_count(rt.alloc(), NO_FRONT, &NO_LINES), None);
-}
-
-/// The first number of lines that a head is answered otherwise with; none where each is answered so.
-fn first_wrong_count(alloc: Global, front: &[u8], rows: &[(u32, u16)]) -> Option<u32> {
-    for (lines, status) in rows {
-        if !has_count_answered(alloc, front, *lines, *status) {
-            return Some(*lines);
-        }
+    for (front, lines, status) in &LINES {
+        assert!(rt;
+            has_count_answered(rt.alloc(), front, *lines, *status),
+            "{lines}"
+        );
     }
-    None
 }
 
 fn has_count_answered(alloc: Global, front: &[u8], lines: u32, status: u16) -> bool {
@@ -140,7 +131,7 @@ const SUBMISSION: &[u8] =
 #[test]
 fn each_call_of_a_connection_can_fail(rt: HostRuntime) {
     assert!(rt; answers(rt.alloc(), SUBMISSION, 16, 201, 1));
-    assert_eq!(rt; first_untold_fault(rt.alloc()), None);
+    assert!(rt; first_untold_fault(rt.alloc()).is_none());
 }
 
 /// The first call whose failure isn't told truly; none where each one's is.
@@ -182,7 +173,7 @@ const LETTERS: &[u8; 32] = b"GETPOSTmail/anna@alf.exbook \r\n:1";
 // Random bytes are answered, and nothing is asked of the desk.
 #[test]
 fn a_thousand_random_requests_are_answered(rt: HostRuntime) {
-    assert_eq!(rt; first_random_wrong(rt.alloc(), 1000), None);
+    assert!(rt; first_random_wrong(rt.alloc(), 1000).is_none());
 }
 
 /// The number of the first of so many random requests that isn't refused; none where each is.
