@@ -48,26 +48,17 @@ pub struct Row {
     pub text: &'static str,
 }
 
-/// The text of the first row that is printed otherwise, or isn't read again; none where each is.
-pub fn first_wrong(alloc: Global, rows: &[Row]) -> Option<&'static str> {
+/// Whether the row is printed as its text, and read again where it can be.
+pub fn is_right(alloc: Global, row: &Row) -> bool {
     let Some(directory) = directory(alloc) else {
-        return Some("no directory");
+        return false;
     };
-    for row in rows {
-        if !is_right(alloc, &directory, row) {
-            return Some(row.text);
-        }
-    }
-    None
-}
-
-fn is_right(alloc: Global, directory: &Directory, row: &Row) -> bool {
     let wanted = row.text.as_bytes();
-    if !is_printed(alloc, directory, row.printed, wanted) {
+    if !is_printed(alloc, &directory, row.printed, wanted) {
         return false;
     }
     match row.form {
-        Some(form) => is_read_again(alloc, directory, form, wanted),
+        Some(form) => is_read_again(alloc, &directory, form, wanted),
         None => true,
     }
 }

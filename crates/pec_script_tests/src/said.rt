@@ -5,22 +5,12 @@ use pec_script::{Command, refused_text};
 use pec_types::{Address, Moment, NoMemory};
 use std::alloc::{AllocError, Global};
 
-/// The first line that says something else than its row has; none where each says that.
-pub fn first_wrong(alloc: Global, rows: &[(&'static str, &'static str)]) -> Option<&'static str> {
-    let Some(directory) = directory(alloc) else {
-        return Some("no directory");
-    };
-    for (line, wanted) in rows {
-        if !says(alloc, &directory, line.as_bytes(), wanted.as_bytes()) {
-            return Some(*line);
-        }
-    }
-    None
-}
-
 /// Whether the line says this.
-pub fn says(alloc: Global, directory: &Directory, line: &[u8], wanted: &[u8]) -> bool {
-    match said(alloc, directory, line) {
+pub fn says(alloc: Global, line: &[u8], wanted: &[u8]) -> bool {
+    let Some(directory) = directory(alloc) else {
+        return false;
+    };
+    match said(alloc, &directory, line) {
         Ok(said) => said.as_slice() == wanted,
         Err(_) => false,
     }

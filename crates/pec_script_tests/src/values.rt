@@ -1,22 +1,17 @@
 //! The directory of the tests, and values whose lines they know.
 
 use pec_directory::Directory;
+use pec_trial::two_with_due;
 use pec_types::{
     Address, BookLine, Class, Decision, Due, Event, ItemKind, ItemLine, Items, Letter, Mark,
     Moment, MsgId, ProviderFault, Refusal, Turn,
 };
 use std::alloc::Global;
 
-const DIRECTORY: &str = "[[provider]]\nname = \"alfa\"\nmailReceipt = \"r@alfa.example\"\n\
-managedDomains = [\"alfa.example\", \"a.b\"]\nkey = \"00000000000000000000000000000000\"\nzone = \"UTC0\"\n\
-[[provider.account]]\naddress = \"alice@alfa.example\"\nquota = 1\nkey = \"k\"\n\
-[[provider]]\nname = \"beta\"\nmailReceipt = \"r@beta.example\"\n\
-managedDomains = [\"beta.example\"]\nkey = \"00000000000000000000000000000000\"\nzone = \"UTC0\"\n\
-[[provider.account]]\naddress = \"bob@beta.example\"\nquota = 1\nkey = \"k\"\n";
-
-/// The providers alfa and beta, with an account each.
+/// The providers alfa, which has a second domain, and beta.
 pub fn directory(alloc: Global) -> Option<Directory> {
-    Directory::read(alloc, DIRECTORY).ok()
+    let text = two_with_due(alloc).ok()?;
+    Directory::read(alloc, text.as_str()).ok()
 }
 
 fn bob(alloc: Global) -> Option<Address> {

@@ -3,7 +3,7 @@
 use std::alloc::{AllocError, Global};
 
 /// The providers `alfa`, of alice and anna, and `beta`, of bob and of carl, who has room for one message.
-pub const TWO: &str = r#"[[provider]]
+const TWO: &str = r#"[[provider]]
 name = "alfa"
 mailReceipt = "ricevute@alfa.example"
 managedDomains = ["alfa.example"]
@@ -36,6 +36,23 @@ key = "chiave-carl"
 /// The same, by a function without a clause: the proofs of others are spared its text.
 pub fn two() -> &'static str {
     TWO
+}
+
+/// The same, where `alfa` has a second domain, `due.example`.
+pub fn two_with_due(alloc: Global) -> Result<String, AllocError> {
+    two().replace(
+        alloc,
+        "[\"alfa.example\"]",
+        "[\"alfa.example\", \"due.example\"]",
+    )
+}
+
+/// The provider `alfa` alone.
+pub fn alfa() -> &'static str {
+    match two().split_once("[[provider]]\nname = \"beta\"") {
+        Some((alfa, _)) => alfa,
+        None => two(),
+    }
 }
 
 /// Messages and frames by their names; `|` stands for the end of a line.

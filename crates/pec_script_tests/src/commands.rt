@@ -1,10 +1,12 @@
-use crate::said::{first_wrong, says};
-use crate::values::directory;
-use pec_directory::Directory;
+//! Lines of a script: what they say, or why they are refused.
+use crate::said::says;
 use std::alloc::{AllocError, Global};
 
-// A line of each command, and what it says. Names are numbers, addresses are in lower case, bytes are decoded.
-const COMMANDS: [(&str, &str); 12] = [
+/// A line, and what it says.
+type Row = (&'static str, &'static str);
+
+// A line of each command. Names are numbers, addresses are in lower case, bytes are decoded.
+const COMMANDS: [Row; 12] = [
     (
         "submit alfa 1704186000 Alice@Alfa.example bob@beta.example,CARL@beta.example,bob@beta.example U2FsdmU=",
         "submit 0 1704186000 alice@alfa.example bob@beta.example carl@beta.example bob@beta.example Salve",
@@ -25,37 +27,24 @@ const COMMANDS: [(&str, &str); 12] = [
 // One word too few, one too many, and a last word that is empty: whatever stands in the others.
 #[test]
 fn words_are_counted_first(rt: HostRuntime) {
-    assert_eq!(rt; first_uncounted(rt.alloc(), &COMMANDS), None);
-}
-
-/// The first line whose words aren't counted before they are read; none where each line's are.
-fn first_uncounted(alloc: Global, rows: &[(&'static str, &'static str)]) -> Option<&'static str> {
-    let Some(directory) = directory(alloc) else {
-        return Some("no directory");
-    };
-    for (line, _) in rows {
-        if !has_other_counts(alloc, &directory, line) {
-            return Some(*line);
-        }
+    for (line, _) in &COMMANDS {
+        assert!(rt; has_other_counts(rt.alloc(), line), "{line}");
     }
-    None
 }
 
 /// Whether the line has another number of words than its command where its last word is cut off, and where another
 /// or an empty one stands behind it.
-fn has_other_counts(alloc: Global, directory: &Directory, line: &str) -> bool {
+fn has_other_counts(alloc: Global, line: &str) -> bool {
     let Some((few, _)) = line.rsplit_once(' ') else {
         return false;
     };
-    is_arity(alloc, directory, few, "")
-        && is_arity(alloc, directory, line, " ")
-        && is_arity(alloc, directory, line, " x")
+    is_arity(alloc, few, "") && is_arity(alloc, line, " ") && is_arity(alloc, line, " x")
 }
 
 /// Whether the line of this front and this end is refused for the number of its words.
-fn is_arity(alloc: Global, directory: &Directory, front: &str, end: &str) -> bool {
+fn is_arity(alloc: Global, front: &str, end: &str) -> bool {
     match repeated(alloc, front, end, 1, "") {
-        Ok(line) => says(alloc, directory, &line, b"refused line 7 arity\n"),
+        Ok(line) => says(alloc, &line, b"refused line 7 arity\n"),
         Err(_) => false,
     }
 }
@@ -77,7 +66,7 @@ fn repeated(
 }
 
 // Lines that are no commands.
-const REFUSED: [(&str, &str); 43] = [
+const REFUSED: [Row; 43] = [
     // The first words of lines, and lines whose words are too few before any is wrong.
     ("", "refused line 7 unknown-word\n"),
     (" ", "refused line 7 unknown-word\n"),
@@ -132,7 +121,7 @@ const REFUSED: [(&str, &str); 43] = [
 ];
 
 // Arguments as they are written, and others that are near.
-const SPELLINGS: [(&str, &str); 43] = [
+const SPELLINGS: [Row; 43] = [
     // Moments and places: zeros in front, signs, and the numbers at and past each bound.
     ("round 0", "round 0"),
     ("round 9", "round 9"),
@@ -201,17 +190,32 @@ const SPELLINGS: [(&str, &str); 43] = [
 
 #[test]
 fn a_command_is_read_by_its_form(rt: HostRuntime) {
-    assert_eq!(rt; first_wrong(rt.alloc(), &COMMANDS), None);
+    for (line, wanted) in &COMMANDS {
+        assert!(rt;
+            says(rt.alloc(), line.as_bytes(), wanted.as_bytes()),
+            "{line}"
+        );
+    }
 }
 
 #[test]
 fn a_line_is_refused_for_its_first_fault(rt: HostRuntime) {
-    assert_eq!(rt; first_wrong(rt.alloc(), &REFUSED), None);
+    for (line, wanted) in &REFUSED {
+        assert!(rt;
+            says(rt.alloc(), line.as_bytes(), wanted.as_bytes()),
+            "{line}"
+        );
+    }
 }
 
 #[test]
 fn an_argument_has_one_spelling(rt: HostRuntime) {
-    assert_eq!(rt; first_wrong(rt.alloc(), &SPELLINGS), None);
+    for (line, wanted) in &SPELLINGS {
+        assert!(rt;
+            says(rt.alloc(), line.as_bytes(), wanted.as_bytes()),
+            "{line}"
+        );
+    }
 }
 
 #[test]
@@ -231,11 +235,8 @@ fn takes_path(alloc: Global, more: u32) -> bool {
 
 /// Whether a submission with so many addresses in its path behind the first says this.
 fn path_says(alloc: Global, more: u32, wanted: &[u8]) -> bool {
-    let Some(directory) = directory(alloc) else {
-        return false;
-    };
     match repeated(alloc, "submit alfa 1 a@b a@b", ",a@b", more, " ") {
-        Ok(line) => says(alloc, &directory, &line, wanted),
+        Ok(line) => says(alloc, &line, wanted),
         Err(_) => false,
     }
 }

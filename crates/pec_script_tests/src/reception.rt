@@ -4,7 +4,6 @@ use crate::reception::Change::{Again, Astray, ForOneAt, Nothing, Of, SealedBy, U
 use pec_points::{Arrived, Reception, receive};
 use pec_types::{Address, Letter, MsgId};
 use std::alloc::Global;
-use std::test::Fail;
 
 /// The provider that receives. The others are 1 and 2.
 const ME: u32 = 0;
@@ -32,14 +31,15 @@ struct Seen {
     rooms: u32,
 }
 
-/// The letter of a kind. All of them name the same message, and the charge is that of provider 1.
-fn letter_of(alloc: Global, kind: Kind) -> Result<Option<Letter>, Fail> {
+/// The letter of a kind, if it is one; none at all where memory is wanting. All of them name the same message, and the
+/// charge is that of provider 1.
+fn letter_of(alloc: Global, kind: Kind) -> Option<Option<Letter>> {
     let id = MsgId {
         provider: ME,
         number: 7,
     };
-    let recipient = Address::read(alloc, b"b@b")?;
-    Ok(match kind {
+    let recipient = Address::read(alloc, b"b@b").ok()?;
+    Some(match kind {
         Kind::Envelope => Some(Letter::Envelope { id, to: ME }),
         Kind::Charge => Some(Letter::Charge { id, by: 1 }),
         Kind::Outcome => Some(Letter::Outcome { id, recipient }),
@@ -49,7 +49,7 @@ fn letter_of(alloc: Global, kind: Kind) -> Result<Option<Letter>, Fail> {
 }
 
 /// What is done with the frame.
-fn reception_of(alloc: Global, seen: Seen) -> Result<Reception, Fail> {
+fn reception_of(alloc: Global, seen: Seen) -> Option<Reception> {
     let letter = letter_of(alloc, seen.kind)?;
     let arrived = Arrived {
         letter,
@@ -61,7 +61,7 @@ fn reception_of(alloc: Global, seen: Seen) -> Result<Reception, Fail> {
         done: seen.done,
         accounts_with_room: seen.rooms,
     };
-    Ok(receive(ME, &arrived))
+    Some(receive(ME, &arrived))
 }
 
 /// Who has to have sealed the letter.
@@ -173,12 +173,15 @@ fn combination(number: u32) -> Seen {
 }
 
 #[test]
-fn every_combination_is_received_by_the_rows(rt: HostRuntime) -> Result<(), Fail> {
+fn every_combination_is_received_by_the_rows(rt: HostRuntime) {
     for number in 0..COMBINATIONS {
-        let seen = combination(number);
-        assert!(rt; reception_of(rt.alloc(), seen)? == by_rows(seen));
+        assert!(rt; is_received_by_rows(rt.alloc(), number), "{number}");
     }
-    Ok(())
+}
+
+fn is_received_by_rows(alloc: Global, number: u32) -> bool {
+    let seen = combination(number);
+    reception_of(alloc, seen) == Some(by_rows(seen))
 }
 
 /// The frame of a kind that is all that its row wants, at a provider where no account has room.
@@ -291,12 +294,14 @@ fn near_misses() -> &'static [Row] {
 }
 
 #[test]
-fn each_row_answers_and_its_near_misses_fall_to_the_last_two(rt: HostRuntime) -> Result<(), Fail> {
+fn each_row_answers_and_its_near_misses_fall_to_the_last_two(rt: HostRuntime) {
     for row in near_misses() {
-        let reception = reception_of(rt.alloc(), seen_in(row))?;
-        assert!(rt; reception == row.3, "{:?}", row.3);
+        assert!(rt;
+            reception_of(rt.alloc(), seen_in(row)) == Some(row.3),
+            "{:?}",
+            row.3
+        );
     }
-    Ok(())
 }
 
 /// What is seen of the frame of a row.

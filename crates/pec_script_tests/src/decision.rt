@@ -2,7 +2,6 @@
 
 use pec_points::decide;
 use pec_types::{Decision, Refusal};
-use std::test::Fail;
 
 const NO_MAILBOX: Decision = Decision::Refused(Refusal::NoMailbox);
 
@@ -30,17 +29,11 @@ const ROOMS: [Row; 11] = [
 ];
 
 #[test]
-fn what_is_decided_goes_by_account_and_room(rt: HostRuntime) -> Result<(), Fail> {
-    assert_eq!(rt; first_wrong(&ROOMS), None);
-    Ok(())
-}
-
-/// The place of the first row on which something else is decided; none where there is none.
-fn first_wrong(rows: &[Row]) -> Option<usize> {
-    for (place, (account, count, quota, decision)) in rows.iter().enumerate() {
-        if decide(*account, *count, *quota, false) != *decision {
-            return Some(place);
-        }
+fn what_is_decided_goes_by_account_and_room(rt: HostRuntime) {
+    for (account, count, quota, decision) in &ROOMS {
+        assert!(rt;
+            decide(*account, *count, *quota, false) == *decision,
+            "{count} of {quota}"
+        );
     }
-    None
 }

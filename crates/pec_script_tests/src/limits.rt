@@ -2,7 +2,6 @@
 
 use pec_points::{Due, timed};
 use pec_types::Moment;
-use std::test::Fail;
 
 /// The moment of acceptance.
 const ACCEPTED: u64 = 1_704_186_000;
@@ -58,19 +57,10 @@ const TIMES: [Row; 34] = [
 ];
 
 #[test]
-fn what_is_due_goes_by_the_time_table(rt: HostRuntime) -> Result<(), Fail> {
-    assert_eq!(rt; first_wrong(&TIMES), None);
-    Ok(())
-}
-
-/// The place of the first row at whose time something else is due; none where there is none.
-fn first_wrong(rows: &[Row]) -> Option<usize> {
-    for (place, row) in rows.iter().enumerate() {
-        if due(row) != Some(row.5) {
-            return Some(place);
-        }
+fn what_is_due_goes_by_the_time_table(rt: HostRuntime) {
+    for row in &TIMES {
+        assert!(rt; due(row) == Some(row.5), "{}", row.0);
     }
-    None
 }
 
 /// What is due; none where there is no such moment.

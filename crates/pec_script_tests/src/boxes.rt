@@ -33,28 +33,18 @@ const VERDICTS: [(&[u8], Verdict); 5] = [
 
 #[test]
 fn the_verdict_is_of_the_first_box_that_finds(rt: HostRuntime) {
-    assert_eq!(rt; first_other_verdict(rt.alloc(), &VERDICTS), None);
-    assert_eq!(rt; verdict_of_no_box(rt.alloc()), None);
+    for (message, wanted) in &VERDICTS {
+        assert!(rt; is_verdict(rt.alloc(), message, *wanted), "{message:?}");
+    }
+    assert!(rt; verdict_of_no_box(rt.alloc()).is_none());
 }
 
-/// The first message on which the verdict of two boxes is another; none where it is that of each row.
-fn first_other_verdict(alloc: Global, rows: &[(&'static [u8], Verdict)]) -> Option<&'static [u8]> {
+/// Whether this is the verdict of two boxes.
+fn is_verdict(alloc: Global, message: &[u8], wanted: Verdict) -> bool {
     match screens_of(alloc, [b"c", b"a"], [b"a", b"b"]) {
-        Some(mut screens) => first_judged_otherwise(&mut screens, rows),
-        None => Some(b"no screens"),
+        Some(mut screens) => screens.judge(message) == wanted,
+        None => false,
     }
-}
-
-fn first_judged_otherwise(
-    screens: &mut Screens,
-    rows: &[(&'static [u8], Verdict)],
-) -> Option<&'static [u8]> {
-    for (message, wanted) in rows {
-        if screens.judge(message) != *wanted {
-            return Some(*message);
-        }
-    }
-    None
 }
 
 fn verdict_of_no_box(alloc: Global) -> Verdict {
@@ -102,19 +92,12 @@ const PLACES: [(usize, [Verdict; 3]); 4] = [
 
 #[test]
 fn a_box_takes_the_place_of_one_that_is_no_longer_asked(rt: HostRuntime) {
-    assert_eq!(rt; first_other_place(rt.alloc(), &PLACES), None);
-}
-
-/// The first place at which a new box is taken otherwise; none where it is taken at each as its row has it.
-fn first_other_place(alloc: Global, rows: &[(usize, [Verdict; 3])]) -> Option<usize> {
-    for (place, wanted) in rows {
-        if !is_taken(alloc, *place, *wanted) {
-            return Some(*place);
-        }
+    for (place, wanted) in &PLACES {
+        assert!(rt; is_taken(rt.alloc(), *place, *wanted), "{place}");
     }
-    None
 }
 
+/// Whether a new box is taken at a place, and what the boxes say then.
 fn is_taken(alloc: Global, place: usize, wanted: [Verdict; 3]) -> bool {
     match screens_of(alloc, [b"a", b"-"], [b"b", b"-"]) {
         Some(mut screens) => takes(alloc, &mut screens, place) && judge(&mut screens, wanted),

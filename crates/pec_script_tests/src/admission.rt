@@ -7,7 +7,6 @@ use pec_points::{Admission, admit};
 use pec_screen::{Judge, NoScreens};
 use pec_types::{Address, Cause, Class, Facts, Recipient};
 use std::alloc::Global;
-use std::test::Fail;
 
 /// A directory of two providers, of which the first has the limit `LIMIT` and the second gives none.
 const DIRECTORY: &str =
@@ -19,8 +18,9 @@ key = \"101112131415161718191a1b1c1d1e1f\"\nzone = \"UTC0\"\n";
 /// The limit of the first provider, a path and a message, and the cause for which it isn't accepted.
 pub(crate) type Row = (&'static str, &'static str, &'static str, Option<Cause>);
 
-/// A row each, and what is equal in its eyes.
-static CAUSES: [Row; 16] = [
+/// Messages at the first provider.
+static CAUSES: [Row; 46] = [
+    // A row each, and what is equal in its eyes.
     // A first line without a colon; no empty line.
     ("1000", "b@b", "From a@a|To: b@b||", Some(Cause::Head)),
     ("1000", "b@b", "From: a@a|To: b@b|", Some(Cause::Head)),
@@ -84,10 +84,7 @@ static CAUSES: [Row; 16] = [
         None,
     ),
     ("1000", "B@B C@C", "FROM: <A@A>|TO: B@B|CC: C@C||X", None),
-];
-
-/// In each of these messages all rows from one on apply, as far as they can together.
-static ALL_FROM_ONE: [Row; 8] = [
+    // In each of these messages all rows from one on apply, as far as they can together.
     ("1", "c@c", "Bcc: x|Cc:|", Some(Cause::Head)),
     ("1", "c@c", "Bcc: x|Cc:||", Some(Cause::From)),
     ("1", "c@c", "From: c@a|Bcc: x|Cc:||", Some(Cause::To)),
@@ -111,10 +108,8 @@ static ALL_FROM_ONE: [Row; 8] = [
     ),
     ("1", "b@b", "From: a@a|Bcc: x|To: b@b||", Some(Cause::Bcc)),
     ("1", "b@b", "From: a@a|To: b@b||", Some(Cause::Size)),
-];
-
-/// Without a head no other row applies, and without a sender and recipients no size is over.
-static PAIRS: [Row; 13] = [
+    // Of two rows that apply it is the earlier. Without a head no other row applies, and without a sender and
+    // recipients no size is over.
     ("99", "b@b", "Subject: x||", Some(Cause::From)), // rows 2, 3
     ("99", "b@b", "To: b@b||", Some(Cause::From)), // rows 2, 4
     ("99", "c@c", "From: a@a, a@a|To: b@b||", Some(Cause::From)), // rows 2, 5
@@ -138,10 +133,7 @@ static PAIRS: [Row; 13] = [
     ), // rows 5, 6
     ("1", "c@c", "From: a@a|To: b@b||", Some(Cause::ForwardPath)), // rows 5, 7
     ("1", "b@b", "From: a@a|To: b@b|Bcc: x||", Some(Cause::Bcc)), // rows 6, 7
-];
-
-/// The bytes count once for each different recipient.
-static SIZES: [Row; 8] = [
+    // The bytes count once for each different recipient.
     // 19 bytes for one recipient, and a byte more.
     ("19", "b@b", "From: a@a|To: b@b||", None),
     ("18", "b@b", "From: a@a|To: b@b||", Some(Cause::Size)),
@@ -168,34 +160,29 @@ static SIZES: [Row; 8] = [
         "From: a@a|To: b@b,B@b|Cc: b@b||",
         Some(Cause::Size),
     ),
+    // A message that is too long for the first provider.
+    ("19", "b@b", "From: a@a|To: b@b||X", Some(Cause::Size)),
 ];
 
-/// A message that is too long for the first provider.
-static LONG: [Row; 1] = [("19", "b@b", "From: a@a|To: b@b||X", Some(Cause::Size))];
+/// The last of them at the second one, which gives no limit of its own.
+static ELSEWHERE: Row = ("19", "b@b", "From: a@a|To: b@b||X", None);
 
-/// The same message at the second one, which gives no limit of its own.
-static ELSEWHERE: [Row; 1] = [("19", "b@b", "From: a@a|To: b@b||X", None)];
-
-/// What a table shows, the provider that is asked, and the rows; by a function without a clause: the proof of the test is
-/// spared their texts.
-fn tables() -> [(&'static str, u32, &'static [Row]); 6] {
-    [
-        ("each row refuses for its cause", 0, &CAUSES),
-        ("of all that apply it is the first", 0, &ALL_FROM_ONE),
-        ("of two that apply it is the earlier", 0, &PAIRS),
-        ("bytes count for each different recipient", 0, &SIZES),
-        ("the limit is that of the provider", 0, &LONG),
-        ("and of no other", 1, &ELSEWHERE),
-    ]
+/// The table, by a function without a clause: the proof of the test is spared its texts.
+fn causes() -> &'static [Row] {
+    &CAUSES
 }
 
 #[test]
-fn a_message_is_refused_for_its_cause(rt: HostRuntime) -> Result<(), Fail> {
-    for (why, provider, rows) in tables() {
-        let wrong = first_wrong(rt.alloc(), provider, rows)?;
-        assert!(rt; wrong.is_none(), "{why}: {wrong:?}");
+fn a_message_is_refused_for_its_cause(rt: HostRuntime) {
+    for row in causes() {
+        assert!(rt; has_cause(rt.alloc(), 0, row), "{}", row.2);
     }
-    Ok(())
+    assert!(rt; has_cause(rt.alloc(), 1, &ELSEWHERE));
+}
+
+/// Whether the message of a row is answered by its cause at the provider of this number.
+fn has_cause(alloc: Global, provider: u32, row: &Row) -> bool {
+    cause(alloc, provider, row, &mut NoScreens) == Some(row.3)
 }
 
 /// A message that is accepted.
@@ -207,17 +194,15 @@ static ACCEPTED: Row = (
 );
 
 #[test]
-fn an_accepted_message_comes_with_its_facts(rt: HostRuntime) -> Result<(), Fail> {
-    let accepted = is_accepted(rt.alloc())?;
-    assert!(rt; accepted);
-    Ok(())
+fn an_accepted_message_comes_with_its_facts(rt: HostRuntime) {
+    assert!(rt; is_accepted(rt.alloc()));
 }
 
 /// Whether [`ACCEPTED`] is accepted with its facts.
-fn is_accepted(alloc: Global) -> Result<bool, Fail> {
-    match answer(alloc, 0, &ACCEPTED, &mut NoScreens)? {
-        Admission::Accepted(facts) => Ok(says(&facts)),
-        Admission::Not(_) => Ok(false),
+fn is_accepted(alloc: Global) -> bool {
+    match answer(alloc, 0, &ACCEPTED, &mut NoScreens) {
+        Some(Admission::Accepted(facts)) => says(&facts),
+        _ => false,
     }
 }
 
@@ -235,94 +220,65 @@ fn is(recipient: &Recipient, address: &[u8], class: Class) -> bool {
     recipient.class == class && recipient.address.bytes() == address
 }
 
-/// The place of the first row whose message isn't answered by its cause at the provider of this number; none where each
-/// is.
-fn first_wrong(alloc: Global, provider: u32, rows: &[Row]) -> Result<Option<usize>, Fail> {
-    for (place, row) in rows.iter().enumerate() {
-        if cause(alloc, provider, row, &mut NoScreens)? != row.3 {
-            return Ok(Some(place));
-        }
-    }
-    Ok(None)
-}
-
-/// The cause for which the provider of a number doesn't accept the message of a row, if there is one.
+/// The cause for which the provider of a number doesn't accept the message of a row, if there is one; none at all where
+/// memory is wanting.
 pub(crate) fn cause<J: Judge>(
     alloc: Global,
     provider: u32,
     row: &Row,
     screens: &mut J,
-) -> Result<Option<Cause>, Fail> {
+) -> Option<Option<Cause>> {
     match answer(alloc, provider, row, screens)? {
-        Admission::Accepted(_) => Ok(None),
-        Admission::Not(cause) => Ok(Some(cause)),
+        Admission::Accepted(_) => Some(None),
+        Admission::Not(cause) => Some(Some(cause)),
     }
 }
 
 /// What it answers on this message, whose lines end with `|`.
-fn answer<J: Judge>(
-    alloc: Global,
-    provider: u32,
-    row: &Row,
-    screens: &mut J,
-) -> Result<Admission, Fail> {
+fn answer<J: Judge>(alloc: Global, provider: u32, row: &Row, screens: &mut J) -> Option<Admission> {
     let directory = directory_of(alloc, row.0)?;
     if provider >= directory.count() {
-        return Err("no such provider".into());
+        return None;
     }
     answer_in(alloc, &directory, provider, row, screens)
 }
 
+/// The same in a directory, where the account a@a hands the message in.
 fn answer_in<J: Judge>(
     alloc: Global,
     directory: &Directory,
     provider: u32,
     row: &Row,
     screens: &mut J,
-) -> Result<Admission, Fail>
+) -> Option<Admission>
     requires { provider < length directory.now }
 {
+    let sender = Address::read(alloc, b"A@a").ok()?;
     let path = path_of(alloc, row.1)?;
-    let message = row.2.replace(alloc, "|", "\n")?;
-    let answer = answer_to(
+    let message = row.2.replace(alloc, "|", "\n").ok()?;
+    admit(
         alloc,
         directory,
         provider,
+        &sender,
         &path,
         message.as_bytes(),
         screens,
-    )?;
-    Ok(answer)
+    )
+    .ok()
 }
 
-/// What it answers on a message of the account a@a.
-fn answer_to<J: Judge>(
-    alloc: Global,
-    directory: &Directory,
-    provider: u32,
-    path: &[Address],
-    message: &[u8],
-    screens: &mut J,
-) -> Result<Admission, Fail>
-    requires { provider < length directory.now }
-{
-    let sender = Address::read(alloc, b"A@a")?;
-    match admit(alloc, directory, provider, &sender, path, message, screens) {
-        Ok(admission) => Ok(admission),
-        Err(_) => Err("no memory".into()),
-    }
-}
-
-fn directory_of(alloc: Global, limit: &str) -> Result<Directory, Fail> {
-    let text = DIRECTORY.replace(alloc, "LIMIT", limit)?;
-    Ok(Directory::read(alloc, text.as_str())?)
+fn directory_of(alloc: Global, limit: &str) -> Option<Directory> {
+    let text = DIRECTORY.replace(alloc, "LIMIT", limit).ok()?;
+    Directory::read(alloc, text.as_str()).ok()
 }
 
 /// The addresses of a path, which are parted by spaces.
-fn path_of(alloc: Global, text: &str) -> Result<Vec<Address>, Fail> {
+fn path_of(alloc: Global, text: &str) -> Option<Vec<Address>> {
     let mut path = Vec::new(alloc);
     for address in text.split(' ') {
-        path.push(Address::read(alloc, address.as_bytes())?)?;
+        path.push(Address::read(alloc, address.as_bytes()).ok()?)
+            .ok()?;
     }
-    Ok(path)
+    Some(path)
 }

@@ -31,19 +31,15 @@ const ROWS: [(&[u8], &[u8], &[u8], Option<u32>); 14] = [
 
 #[test]
 fn a_screen_finds_the_least_number_of_a_pattern_that_occurs(rt: HostRuntime) {
-    assert_eq!(rt; first_wrong(rt.alloc(), &ROWS), None);
-}
-
-/// The place of the first row in which another number is found, or the look isn't counted; none where each is right.
-fn first_wrong(alloc: Global, rows: &[(&[u8], &[u8], &[u8], Option<u32>)]) -> Option<usize> {
-    for (place, (first, second, message, wanted)) in rows.iter().enumerate() {
-        if !finds(alloc, first, second, message, *wanted) {
-            return Some(place);
-        }
+    for (first, second, message, wanted) in &ROWS {
+        assert!(rt;
+            finds(rt.alloc(), first, second, message, *wanted),
+            "{message:?}"
+        );
     }
-    None
 }
 
+/// Whether this number is found, and the look is counted.
 fn finds(alloc: Global, first: &[u8], second: &[u8], message: &[u8], wanted: Option<u32>) -> bool {
     match screen_of(alloc, first, second) {
         Ok(mut screen) => screen.look(message) == wanted && screen.seen() == 1,

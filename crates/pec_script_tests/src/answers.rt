@@ -1,6 +1,6 @@
 //! Lines of output against lines that were written out by hand, and read again by the tests' own reader.
 
-use crate::printing::{Printed, Row, first_wrong};
+use crate::printing::{Printed, Row, is_right};
 use crate::second_reader::Form;
 use pec_script::{Answer, LineFault, Unfit};
 use pec_types::{Cause, ItemKind, Kind, MsgId, ProviderFault, Refusal, Submitted};
@@ -17,7 +17,9 @@ book 3\n",
 
 #[test]
 fn a_book_has_a_line_for_each_pair(rt: HostRuntime) {
-    assert_eq!(rt; first_wrong(rt.alloc(), &BOOK), None);
+    for row in &BOOK {
+        assert!(rt; is_right(rt.alloc(), row), "{}", row.text);
+    }
 }
 
 // An item of each kind. Causes of non-acceptance and of delivery errors aren't printed.
@@ -81,7 +83,9 @@ const MAILBOXES: [Row; 11] = [
 
 #[test]
 fn a_mailbox_has_a_line_for_each_item(rt: HostRuntime) {
-    assert_eq!(rt; first_wrong(rt.alloc(), &MAILBOXES), None);
+    for row in &MAILBOXES {
+        assert!(rt; is_right(rt.alloc(), row), "{}", row.text);
+    }
 }
 
 // What fell due; a mark of nothing has no line.
@@ -103,7 +107,9 @@ ticked\n",
 
 #[test]
 fn a_clock_call_has_a_line_for_each_notice(rt: HostRuntime) {
-    assert_eq!(rt; first_wrong(rt.alloc(), &MARKS), None);
+    for row in &MARKS {
+        assert!(rt; is_right(rt.alloc(), row), "{}", row.text);
+    }
 }
 
 // The lines of a round in which the first provider did one thing.
@@ -177,7 +183,9 @@ const EVENTS: [Row; 13] = [
 
 #[test]
 fn a_turn_has_a_line_for_each_event(rt: HostRuntime) {
-    assert_eq!(rt; first_wrong(rt.alloc(), &EVENTS), None);
+    for row in &EVENTS {
+        assert!(rt; is_right(rt.alloc(), row), "{}", row.text);
+    }
 }
 
 // How many frames were put to the first provider, how the turn ended, and the lines of the round.
@@ -216,7 +224,9 @@ const TURNS: [Row; 6] = [
 
 #[test]
 fn a_turn_ends_with_what_it_sent(rt: HostRuntime) {
-    assert_eq!(rt; first_wrong(rt.alloc(), &TURNS), None);
+    for row in &TURNS {
+        assert!(rt; is_right(rt.alloc(), row), "{}", row.text);
+    }
 }
 
 // Want of memory has no line.
@@ -265,7 +275,9 @@ const REFUSALS: [Row; 8] = [
 
 #[test]
 fn a_refusal_has_its_line(rt: HostRuntime) {
-    assert_eq!(rt; first_wrong(rt.alloc(), &REFUSALS), None);
+    for row in &REFUSALS {
+        assert!(rt; is_right(rt.alloc(), row), "{}", row.text);
+    }
 }
 
 const ANSWERS: [Row; 15] = [
@@ -349,7 +361,9 @@ f0f0f0f0f0f0f0f0f0f0f0f0f0f0f0f0f0f0f0f0f0f0f0f0f0f0f0f0f0f0f0f0\n",
 
 #[test]
 fn an_answer_has_its_line(rt: HostRuntime) {
-    assert_eq!(rt; first_wrong(rt.alloc(), &ANSWERS), None);
+    for row in &ANSWERS {
+        assert!(rt; is_right(rt.alloc(), row), "{}", row.text);
+    }
 }
 
 const ID: MsgId = MsgId {
@@ -407,5 +421,7 @@ const SUBMISSIONS: [Row; 9] = [
 
 #[test]
 fn a_submission_has_its_line(rt: HostRuntime) {
-    assert_eq!(rt; first_wrong(rt.alloc(), &SUBMISSIONS), None);
+    for row in &SUBMISSIONS {
+        assert!(rt; is_right(rt.alloc(), row), "{}", row.text);
+    }
 }
