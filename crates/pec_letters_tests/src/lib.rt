@@ -1,16 +1,26 @@
-//! Tests of `pec_letters` over its public calls, with the directory and the sealing of tests of letters. Letters that are expected were
-//! composed by another program; the fault of an edited one was found by hand in this project's table.
+//! Tests of `pec_directory`, `pec_letters` and `pec_receipts` over their public calls. Letters that are expected were
+//! composed by another program; the fault of an edited one was found by hand in this project's tables.
 #![tactic(auto)]
 
-mod providers;
-mod sealing;
-
-pub use providers::directory;
-pub use sealing::{sealed, written};
-
 #[cfg(test)]
-mod composing;
+mod directories;
 #[cfg(test)]
-mod reading;
+mod directory_faults;
 #[cfg(test)]
-mod texts;
+mod edited;
+#[cfg(test)]
+mod houses;
+#[cfg(test)]
+mod letter_texts;
+#[cfg(test)]
+mod letters_composed;
+#[cfg(test)]
+mod letters_read;
+#[cfg(test)]
+mod lookups;
+#[cfg(test)]
+mod receipt_texts;
+#[cfg(test)]
+mod receipts_composed;
+#[cfg(test)]
+mod receipts_read;

@@ -1,19 +1,15 @@
-//! The table of faults: a letter for each row and for each pair of rows that both apply, and letters that no row refuses.
-use crate::texts::{SALVE, SALVE_ENVELOPE, SALVE_SEAL};
-use crate::{directory, sealed, written};
-use pec_directory::Directory;
-use pec_house::sealer_of;
+//! The table of faults: a letter for each row and for each pair of rows that both apply, and letters that no row
+//! refuses.
+use crate::edited::{Reader, Row, has_fault, has_fault_with, is_fault, is_unsealed};
+use crate::houses::{House, joined, sealed, written};
+use crate::letter_texts::{SALVE, SALVE_ENVELOPE, SALVE_SEAL};
 use pec_letters::{EnvelopeView, read_envelope};
-use pec_seal::HmacSealer;
 use pec_types::Disputed::{Identifier, Moment, Recipient, Sealer as Sealed, Sender, Wish};
-use pec_types::LetterFault::{self, Body, Cert, Disagree, Head, NotThis, Seal};
+use pec_types::LetterFault::{self, Body, Cert, Disagree, Head, NotThis};
 use std::alloc::{AllocError, Global};
 use std::test::Fail;
 
-/// A fault, and what is changed in a letter: everywhere that stands in the place of this.
-type Row = (LetterFault, &'static str, &'static str);
-
-/// Each fault with what is changed in the envelope of `SALVE`: everywhere that stands in the place of this. In the order of the table.
+/// Each fault with what is changed in the envelope of `SALVE`, in the order of the table.
 static ROWS: [Row; 37] = [
     (Head, "MIME-Version: 1.0", "MIME-Version 1.0"),
     (Body, "multipart/mixed", "text/plain"),
@@ -149,60 +145,90 @@ static PASSED: [(&str, &str); 8] = [
 
 #[test]
 fn the_first_row_that_applies_is_the_fault(rt: HostRuntime) -> Result<(), Fail> {
-    let directory = directory(rt.alloc(), "gamma.example")?;
-    let sealer = sealer_of(rt.alloc(), &directory)?;
-    assert_eq!(rt; first_wrong(rt.alloc(), &sealer, &directory, rows())?, None);
+    for place in 0..rows().len() {
+        assert!(rt; is_envelope_fault(rt.alloc(), place)?, "row {place}");
+    }
     Ok(())
+}
+
+fn is_envelope_fault(alloc: Global, place: usize) -> Result<bool, Fail> {
+    match rows().get(place..) {
+        Some(rows) => is_fault(alloc, Reader::Envelopes, 0, salve_envelope(), rows),
+        None => Ok(false),
+    }
 }
 
 #[test]
 fn what_no_row_looks_at_is_read(rt: HostRuntime) -> Result<(), Fail> {
-    let directory = directory(rt.alloc(), "gamma.example")?;
-    let sealer = sealer_of(rt.alloc(), &directory)?;
     for (from, to) in passed() {
-        let letter = salve_envelope().replace(rt.alloc(), *from, *to)?;
-        assert!(rt; is_read(rt.alloc(), &sealer, &directory, letter.as_str())?);
+        assert!(rt; is_passed(rt.alloc(), from, to)?, "{to}");
     }
     Ok(())
 }
 
-/// Letters that a stranger makes of one of ours: under its seal with other bytes behind it, and with its seal line twice. What is sealed
-/// by us in the same form is another thing.
+fn is_passed(alloc: Global, from: &str, to: &str) -> Result<bool, Fail> {
+    let letter = salve_envelope().replace(alloc, from, to)?;
+    is_read(alloc, letter.as_str())
+}
+
+/// Letters that a stranger makes of one of ours: under its seal with other bytes behind it, and with its seal line
+/// twice. What is sealed by us in the same form is another thing.
 #[test]
 fn a_seal_is_of_the_bytes_behind_it(rt: HostRuntime) -> Result<(), Fail> {
-    let directory = directory(rt.alloc(), "gamma.example")?;
-    let sealer = sealer_of(rt.alloc(), &directory)?;
+    let whole = whole(rt.alloc())?;
     let exchanged = exchanged(rt.alloc(), salve_envelope())?;
-    assert!(rt; fault_of(rt.alloc(), &sealer, &directory, 0, exchanged.as_str())?.is_none());
-    let letter = written(rt.alloc(), salve_envelope())?;
-    let whole = joined(rt.alloc(), &[salve_seal(), letter.as_str()])?;
-    assert!(rt; !is_unsealed(rt.alloc(), &sealer, &directory, whole.as_str()));
+    assert!(rt; !is_unsealed(rt.alloc(), Reader::Envelopes, whole.as_str())?);
+    assert!(rt; has_fault(rt.alloc(), Reader::Envelopes, 0, exchanged.as_str(), None)?);
     for other in [salve_envelope(), exchanged.as_str(), whole.as_str()] {
-        let text = joined(rt.alloc(), &[salve_seal(), other])?;
-        assert!(rt; is_unsealed(rt.alloc(), &sealer, &directory, text.as_str()));
+        assert!(rt; is_unsealed_behind(rt.alloc(), other)?);
     }
     Ok(())
+}
+
+/// The letter as it is sent, under its seal.
+fn whole(alloc: Global) -> Result<String, AllocError> {
+    let letter = written(alloc, salve_envelope())?;
+    joined(alloc, &[salve_seal(), letter.as_str()])
+}
+
+/// Whether this, behind the seal of our letter, is sealed by nobody.
+fn is_unsealed_behind(alloc: Global, other: &str) -> Result<bool, Fail> {
+    let text = joined(alloc, &[salve_seal(), other])?;
+    is_unsealed(alloc, Reader::Envelopes, text.as_str())
 }
 
 #[test]
 fn no_other_provider_seals_a_message(rt: HostRuntime) -> Result<(), Fail> {
-    let directory = directory(rt.alloc(), "gamma.example")?;
-    let sealer = sealer_of(rt.alloc(), &directory)?;
-    let letter = salve_envelope().replace(rt.alloc(), "emittente>alfa<", "emittente>beta<")?;
-    let fault = fault_of(rt.alloc(), &sealer, &directory, 1, letter.as_str())?;
-    assert!(rt; fault == Some(Disagree(Sealed)));
+    let fault = Some(Disagree(Sealed));
+    assert!(rt; is_edited_to(rt.alloc(), 1, "emittente>alfa<", "emittente>beta<", fault)?);
     Ok(())
 }
 
 #[test]
 fn an_original_with_a_line_too_long_has_no_sender(rt: HostRuntime) -> Result<(), Fail> {
-    let directory = directory(rt.alloc(), "gamma.example")?;
-    let sealer = sealer_of(rt.alloc(), &directory)?;
     let long = "x".repeat(rt.alloc(), 10_000)?;
-    let letter = salve_envelope().replace(rt.alloc(), "Ciao\n\nSalve", long.as_str())?;
-    let fault = fault_of(rt.alloc(), &sealer, &directory, 0, letter.as_str())?;
-    assert!(rt; fault == Some(Disagree(Sender)));
+    let fault = Some(Disagree(Sender));
+    assert!(rt; is_edited_to(rt.alloc(), 0, "Ciao\n\nSalve", long.as_str(), fault)?);
     Ok(())
+}
+
+/// Whether our letter with this in the place of that, sealed by this provider, has the fault.
+fn is_edited_to(
+    alloc: Global,
+    by: u32,
+    from: &str,
+    to: &str,
+    fault: Option<LetterFault>,
+) -> Result<bool, Fail> {
+    has_fault_with(
+        alloc,
+        Reader::Envelopes,
+        by,
+        salve_envelope(),
+        from,
+        to,
+        fault,
+    )
 }
 
 /// The tables and the texts, by functions without a clause: the proofs of the tests are then spared them.
@@ -226,79 +252,12 @@ fn salve_seal() -> &'static str {
     SALVE_SEAL
 }
 
-/// The place of the first row that isn't the fault of each letter to which it and a later one apply; none where each is.
-fn first_wrong(
-    alloc: Global,
-    sealer: &HmacSealer,
-    directory: &Directory,
-    rows: &[Row],
-) -> Result<Option<usize>, Fail> {
-    for (place, (fault, from, to)) in rows.iter().enumerate() {
-        let letter = salve_envelope().replace(alloc, *from, *to)?;
-        let sealed = keeps_fault(
-            alloc,
-            sealer,
-            directory,
-            letter.as_str(),
-            *fault,
-            &rows[place..],
-        )?;
-        // A letter that nobody sealed, whatever else is wrong with it.
-        if !sealed || !is_unsealed(alloc, sealer, directory, letter.as_str()) {
-            return Ok(Some(place));
-        }
-    }
-    Ok(None)
-}
-
-/// Whether the letter, to which the first of the rows applies, has this fault, also where a further row applies to it.
-fn keeps_fault(
-    alloc: Global,
-    sealer: &HmacSealer,
-    directory: &Directory,
-    letter: &str,
-    fault: LetterFault,
-    rows: &[Row],
-) -> Result<bool, Fail> {
-    for (_, from, to) in rows.iter().skip(1) {
-        let further = letter.replace(alloc, *from, *to)?;
-        if fault_of(alloc, sealer, directory, 0, further.as_str())? != Some(fault) {
-            return Ok(false);
-        }
-    }
-    Ok(fault_of(alloc, sealer, directory, 0, letter)? == Some(fault))
-}
-
-/// Why a letter that a provider sealed is no envelope.
-fn fault_of(
-    alloc: Global,
-    sealer: &HmacSealer,
-    directory: &Directory,
-    provider: u32,
-    letter: &str,
-) -> Result<Option<LetterFault>, Fail> {
-    let text = sealed(alloc, sealer, provider, letter)?;
-    Ok(read_envelope(alloc, sealer, directory, text.as_slice()).err())
-}
-
-/// Whether nobody sealed a text.
-fn is_unsealed(alloc: Global, sealer: &HmacSealer, directory: &Directory, text: &str) -> bool {
-    matches!(
-        read_envelope(alloc, sealer, directory, text.as_bytes()),
-        Err(Seal)
-    )
-}
-
 /// Whether a letter that the first provider sealed is read as the envelope of `SALVE`.
-fn is_read(
-    alloc: Global,
-    sealer: &HmacSealer,
-    directory: &Directory,
-    letter: &str,
-) -> Result<bool, Fail> {
+fn is_read(alloc: Global, letter: &str) -> Result<bool, Fail> {
+    let house = House::of(alloc, "gamma.example")?;
     let original = written(alloc, salve())?;
-    let text = sealed(alloc, sealer, 0, letter)?;
-    match read_envelope(alloc, sealer, directory, text.as_slice()) {
+    let text = sealed(alloc, &house, 0, letter)?;
+    match read_envelope(alloc, &house.sealer, &house.directory, text.as_slice()) {
         Ok(view) => Ok(is_salve(&view, original.as_bytes())),
         Err(_) => Ok(false),
     }
@@ -335,13 +294,4 @@ fn exchanged(alloc: Global, letter: &str) -> Result<String, Fail> {
         "--=_pec_0--\n",
     ];
     Ok(joined(alloc, &pieces)?)
-}
-
-/// The pieces, one behind the other.
-fn joined(alloc: Global, pieces: &[&str]) -> Result<String, AllocError> {
-    let mut text = String::new(alloc);
-    for piece in pieces {
-        text.push_str(piece)?;
-    }
-    Ok(text)
 }

@@ -1,14 +1,12 @@
 //! Receipts, notices and acknowledgements of every kind, byte by byte, and read back.
-use crate::texts::{
+use crate::houses::{House, sealed, written};
+use crate::receipt_texts::{
     ACCEPTANCE, ACKNOWLEDGEMENT, CHARGE, DELAY, DELIVERY, ERROR, MESSAGE, REFUSAL, SHORT, WHOLE,
     worded,
 };
-use pec_directory::Directory;
 use pec_heads::Head;
-use pec_house::sealer_of;
-use pec_letters_tests::{directory, sealed, written};
 use pec_receipts::{Kind, Receipt, ReceiptView, compose, read};
-use pec_seal::{HmacSealer, Sealer};
+use pec_seal::Sealer;
 use pec_types::{Address, Cause, Moment, MsgId, Refusal};
 use std::alloc::{AllocError, Global};
 use std::test::Fail;
@@ -152,40 +150,32 @@ fn message() -> &'static str {
 
 #[test]
 fn every_kind_is_composed_and_read_back(rt: HostRuntime) -> Result<(), Fail> {
-    let directory = directory(rt.alloc(), "gamma.example")?;
-    let sealer = sealer_of(rt.alloc(), &directory)?;
     for row in rows() {
-        assert!(rt; is_composed(rt.alloc(), &sealer, &directory, row, "completa")?);
+        assert!(rt; is_composed(rt.alloc(), row, "completa")?);
     }
     Ok(())
 }
 
 #[test]
 fn a_delivery_receipt_has_of_the_message_what_was_wished(rt: HostRuntime) -> Result<(), Fail> {
-    let directory = directory(rt.alloc(), "gamma.example")?;
-    let sealer = sealer_of(rt.alloc(), &directory)?;
     for row in deliveries() {
-        assert!(rt; is_composed(rt.alloc(), &sealer, &directory, row, row.4[0])?);
+        assert!(rt; is_composed(rt.alloc(), row, row.4[0])?);
     }
     Ok(())
 }
 
-/// Whether the receipt of a row is composed as its text, and read as what it was composed of. The message has the wish of this word.
-fn is_composed(
-    alloc: Global,
-    sealer: &HmacSealer,
-    directory: &Directory,
-    row: &Row,
-    wish: &str,
-) -> Result<bool, Fail> {
+/// Whether the receipt of a row is composed as its text, and read as what it was composed of. The message has the wish
+/// of this word.
+fn is_composed(alloc: Global, row: &Row, wish: &str) -> Result<bool, Fail> {
+    let house = House::of(alloc, "gamma.example")?;
     let original = original(alloc, wish)?;
     let receipt = receipt(alloc, row.0, row.1, row.2, original.as_bytes())?;
-    let letter = composed(alloc, sealer, directory, &receipt, original.as_bytes())?;
-    let wanted = wanted(alloc, sealer, row)?;
+    let letter = composed(alloc, &house, &receipt, original.as_bytes())?;
+    let wanted = wanted(alloc, &house, row)?;
     if letter.as_slice() != wanted.as_slice() {
         return Ok(false);
     }
-    Ok(is_read(alloc, sealer, directory, &receipt, &letter))
+    Ok(is_read(alloc, &house, &receipt, &letter))
 }
 
 /// The message as it was handed in, with the wish of this word.
@@ -196,33 +186,26 @@ fn original(alloc: Global, wish: &str) -> Result<String, AllocError> {
 
 fn composed(
     alloc: Global,
-    sealer: &HmacSealer,
-    directory: &Directory,
+    house: &House,
     receipt: &Receipt,
     original: &[u8],
 ) -> Result<Vec<u8>, Fail> {
-    if !receipt.can_be_given(directory) || sealer.name(receipt.by).is_none() {
+    if !receipt.can_be_given(&house.directory) || house.sealer.name(receipt.by).is_none() {
         return Err("it may not be given".into());
     }
-    let letter = compose(alloc, sealer, directory, receipt, original)?;
+    let letter = compose(alloc, &house.sealer, &house.directory, receipt, original)?;
     Ok(letter)
 }
 
 /// The letter of a row, as its provider sealed it.
-fn wanted(alloc: Global, sealer: &HmacSealer, row: &Row) -> Result<Vec<u8>, Fail> {
+fn wanted(alloc: Global, house: &House, row: &Row) -> Result<Vec<u8>, Fail> {
     let text = worded(alloc, row.3, row.2, row.4)?;
-    sealed(alloc, sealer, row.1, text.as_str())
+    sealed(alloc, house, row.1, text.as_str())
 }
 
 /// Whether a letter is read as what this receipt says.
-fn is_read(
-    alloc: Global,
-    sealer: &HmacSealer,
-    directory: &Directory,
-    receipt: &Receipt,
-    letter: &[u8],
-) -> bool {
-    match read(alloc, sealer, directory, letter) {
+fn is_read(alloc: Global, house: &House, receipt: &Receipt, letter: &[u8]) -> bool {
+    match read(alloc, &house.sealer, &house.directory, letter) {
         Ok(view) => says(&view, receipt),
         Err(_) => false,
     }
@@ -255,8 +238,8 @@ fn is_same(one: &Option<Address>, other: &Option<Address>) -> bool {
 /// A kind, by whom, and of which recipient.
 type Gift = (Kind, u32, &'static str);
 
-/// What may not be given: kinds with and without a recipient, an external and a strange recipient, a provider that isn't there, and
-/// another provider than the message's.
+/// What may not be given: kinds with and without a recipient, an external and a strange recipient, a provider that
+/// isn't there, and another provider than the message's.
 static NOT_GIVEN: [Gift; 8] = [
     (Kind::Acceptance, 0, BOB),
     (Kind::Charge, 1, BOB),
@@ -270,10 +253,10 @@ static NOT_GIVEN: [Gift; 8] = [
 
 #[test]
 fn no_receipt_is_given_by_or_of_one_whom_it_does_not_concern(rt: HostRuntime) -> Result<(), Fail> {
-    let directory = directory(rt.alloc(), "gamma.example")?;
+    let house = House::of(rt.alloc(), "gamma.example")?;
     for (kind, by, recipient) in &NOT_GIVEN {
         let receipt = receipt(rt.alloc(), *kind, *by, recipient, message().as_bytes())?;
-        assert!(rt; !receipt.can_be_given(&directory));
+        assert!(rt; !receipt.can_be_given(&house.directory));
     }
     Ok(())
 }

@@ -1,20 +1,13 @@
-//! The tables of faults of receipts and of acknowledgements: a letter for each row and for each pair of rows that both apply, and letters
-//! that no row refuses.
-use crate::texts::{
+//! The tables of faults of receipts and of acknowledgements: a letter for each row and for each pair of rows that both
+//! apply, and letters that no row refuses.
+use crate::edited::{Reader, Row, has_fault_with, is_fault};
+use crate::receipt_texts::{
     ACCEPTANCE, ACKNOWLEDGEMENT, CHARGE, DELAY, DELIVERY, ERROR, REFUSAL, WHOLE, worded,
 };
-use pec_directory::Directory;
-use pec_house::sealer_of;
-use pec_letters_tests::{directory, sealed};
-use pec_receipts::read;
-use pec_seal::HmacSealer;
 use pec_types::Disputed::{Identifier, Moment, Recipient, Sealer as Sealed, Sender, Wish};
-use pec_types::LetterFault::{self, Body, Cert, Disagree, Head, NotThis, Seal};
+use pec_types::LetterFault::{self, Body, Cert, Disagree, Head, NotThis};
 use std::alloc::{AllocError, Global};
 use std::test::Fail;
-
-/// A fault with what is changed in a letter: everywhere that stands in the place of this.
-type Row = (LetterFault, &'static str, &'static str);
 
 /// Of the delivery receipt of the first recipient with the whole message, in the order of the table.
 static DELIVERED: [Row; 27] = [
@@ -269,119 +262,97 @@ fn passed() -> &'static [(Letter, &'static str, &'static str)] {
 
 #[test]
 fn the_first_row_that_applies_is_the_fault(rt: HostRuntime) -> Result<(), Fail> {
-    let directory = directory(rt.alloc(), "gamma.example")?;
-    let sealer = sealer_of(rt.alloc(), &directory)?;
     let (letter, rows) = delivered();
-    assert!(rt; have_faults(rt.alloc(), &sealer, &directory, &letter, rows)?);
-    let (letter, rows) = acknowledged();
-    assert!(rt; have_faults(rt.alloc(), &sealer, &directory, &letter, rows)?);
-    for (letter, row) in others() {
-        assert!(rt; have_faults(rt.alloc(), &sealer, &directory, letter, &[*row])?);
+    for place in 0..rows.len() {
+        assert!(rt;
+            is_fault_at(rt.alloc(), &letter, rows, place)?,
+            "row {place}"
+        );
     }
     Ok(())
+}
+
+#[test]
+fn the_first_row_that_applies_is_the_fault_of_an_acknowledgement(
+    rt: HostRuntime,
+) -> Result<(), Fail> {
+    let (letter, rows) = acknowledged();
+    for place in 0..rows.len() {
+        assert!(rt;
+            is_fault_at(rt.alloc(), &letter, rows, place)?,
+            "row {place}"
+        );
+    }
+    Ok(())
+}
+
+#[test]
+fn letters_of_other_kinds_have_the_faults_of_their_rows(rt: HostRuntime) -> Result<(), Fail> {
+    for (letter, row) in others() {
+        assert!(rt; is_fault_at(rt.alloc(), letter, &[*row], 0)?, "{}", row.2);
+    }
+    Ok(())
+}
+
+/// Whether the row of this place is the fault of the letter, also where a later one applies too.
+fn is_fault_at(alloc: Global, letter: &Letter, rows: &[Row], place: usize) -> Result<bool, Fail> {
+    let text = whole(alloc, letter)?;
+    match rows.get(place..) {
+        Some(rows) => is_fault(alloc, Reader::Receipts, letter.2, text.as_str(), rows),
+        None => Ok(false),
+    }
 }
 
 #[test]
 fn a_letter_that_the_messages_provider_alone_may_seal_is_sealed_by_no_other(
     rt: HostRuntime,
 ) -> Result<(), Fail> {
-    let directory = directory(rt.alloc(), "gamma.example")?;
-    let sealer = sealer_of(rt.alloc(), &directory)?;
+    let fault = Some(Disagree(Sealed));
     for letter in elsewhere() {
-        let text = edited(rt.alloc(), letter, "emittente>alfa<", "emittente>beta<")?;
-        let fault = fault_of(rt.alloc(), &sealer, &directory, 1, text.as_str())?;
-        assert!(rt; fault == Some(Disagree(Sealed)));
+        assert!(rt;
+            is_edited_to(
+                rt.alloc(),
+                letter,
+                1,
+                "emittente>alfa<",
+                "emittente>beta<",
+                fault
+            )?
+        );
     }
     Ok(())
 }
 
 #[test]
 fn any_provider_acknowledges(rt: HostRuntime) -> Result<(), Fail> {
-    let directory = directory(rt.alloc(), "gamma.example")?;
-    let sealer = sealer_of(rt.alloc(), &directory)?;
-    let text = whole(rt.alloc(), &acknowledged().0)?;
-    assert!(rt; fault_of(rt.alloc(), &sealer, &directory, 2, text.as_str())?.is_none());
+    let (letter, _) = acknowledged();
+    assert!(rt; is_edited_to(rt.alloc(), &letter, 2, "ricevuto", "ricevuto", None)?);
     Ok(())
 }
 
 #[test]
 fn what_no_row_looks_at_is_read(rt: HostRuntime) -> Result<(), Fail> {
-    let directory = directory(rt.alloc(), "gamma.example")?;
-    let sealer = sealer_of(rt.alloc(), &directory)?;
     for (letter, from, to) in passed() {
-        let text = edited(rt.alloc(), letter, *from, *to)?;
-        assert!(rt; fault_of(rt.alloc(), &sealer, &directory, letter.2, text.as_str())?.is_none());
+        assert!(rt;
+            is_edited_to(rt.alloc(), letter, letter.2, from, to, None)?,
+            "{to}"
+        );
     }
     Ok(())
 }
 
-/// Whether each row is the fault of the letter to which it applies, and of all to which a later one applies too; unsealed, none is a letter.
-fn have_faults(
+/// Whether the letter with this in the place of that, sealed by this provider, has the fault; with none, whether it is
+/// read.
+fn is_edited_to(
     alloc: Global,
-    sealer: &HmacSealer,
-    directory: &Directory,
     letter: &Letter,
-    rows: &[Row],
-) -> Result<bool, Fail> {
-    for (place, (fault, from, to)) in rows.iter().enumerate() {
-        let text = edited(alloc, letter, *from, *to)?;
-        let by = letter.2;
-        let sealed = keeps_fault(
-            alloc,
-            sealer,
-            directory,
-            by,
-            text.as_str(),
-            *fault,
-            &rows[place..],
-        )?;
-        if !sealed || !is_unsealed(alloc, sealer, directory, text.as_str()) {
-            return Ok(false);
-        }
-    }
-    Ok(true)
-}
-
-/// Whether the letter of this provider, to which the first of the rows applies, has this fault, also where a further row applies to it.
-fn keeps_fault(
-    alloc: Global,
-    sealer: &HmacSealer,
-    directory: &Directory,
     by: u32,
-    letter: &str,
-    fault: LetterFault,
-    rows: &[Row],
+    from: &str,
+    to: &str,
+    fault: Option<LetterFault>,
 ) -> Result<bool, Fail> {
-    for (_, from, to) in rows.iter().skip(1) {
-        let further = letter.replace(alloc, *from, *to)?;
-        if fault_of(alloc, sealer, directory, by, further.as_str())? != Some(fault) {
-            return Ok(false);
-        }
-    }
-    Ok(fault_of(alloc, sealer, directory, by, letter)? == Some(fault))
-}
-
-/// Why a letter that a provider sealed is no receipt.
-fn fault_of(
-    alloc: Global,
-    sealer: &HmacSealer,
-    directory: &Directory,
-    by: u32,
-    letter: &str,
-) -> Result<Option<LetterFault>, Fail> {
-    let text = sealed(alloc, sealer, by, letter)?;
-    Ok(read(alloc, sealer, directory, text.as_slice()).err())
-}
-
-/// Whether nobody sealed a text.
-fn is_unsealed(alloc: Global, sealer: &HmacSealer, directory: &Directory, text: &str) -> bool {
-    matches!(read(alloc, sealer, directory, text.as_bytes()), Err(Seal))
-}
-
-/// The text of a letter, where this stands everywhere in the place of that.
-fn edited(alloc: Global, letter: &Letter, from: &str, to: &str) -> Result<String, AllocError> {
     let text = whole(alloc, letter)?;
-    text.replace(alloc, from, to)
+    has_fault_with(alloc, Reader::Receipts, by, text.as_str(), from, to, fault)
 }
 
 fn whole(alloc: Global, letter: &Letter) -> Result<String, AllocError> {

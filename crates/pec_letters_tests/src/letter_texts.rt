@@ -1,5 +1,5 @@
-//! Messages and the letters that carry them. Lines end with a line feed here and with CRLF in the tests, and `GAMMA` stands for
-//! the domain of the third provider.
+//! Messages and the letters that carry them. Lines end with a line feed here and with CRLF in the tests, and `GAMMA`
+//! stands for the domain of the third provider.
 
 /// A message of one primary recipient.
 pub(crate) const SALVE: &str = r#"From: alice@alfa.example

@@ -1,5 +1,5 @@
-//! A message and the receipts about it, unsealed, as another program composed them. Lines end with a line feed here and with
-//! CRLF in the tests; RECIPIENT, %1, %2 and %3 stand for words of the row.
+//! A message and the receipts about it, unsealed, as another program composed them. Lines end with a line feed here and
+//! with CRLF in the tests; RECIPIENT, %1, %2 and %3 stand for words of the row.
 
 use std::alloc::{AllocError, Global};
 

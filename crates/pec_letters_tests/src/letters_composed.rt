@@ -1,18 +1,11 @@
 //! Envelopes and anomalies, byte by byte.
-ghost use Rattle.std.specs.Prelude.{◌<◌, length};
-ghost use Rattle.pec_directory.specs.Directory.{providers_of};
-ghost use Rattle.pec_letters.specs.Fitting.{Fits};
-
-use crate::texts::{
+use crate::houses::{House, sealed, written};
+use crate::letter_texts::{
     HEADLESS, HEADLESS_ANOMALY, LONGEST, LONGEST_ENVELOPE, PROVA, PROVA_ANOMALY, SALVE,
     SALVE_ENVELOPE, SALVE_SEAL, UFFICIO, UFFICIO_ENVELOPE,
 };
-use crate::{directory, sealed, written};
-use pec_directory::Directory;
 use pec_heads::Head;
-use pec_house::sealer_of;
 use pec_letters::{compose_anomaly, compose_envelope};
-use pec_seal::{HmacSealer, Sealer};
 use pec_types::{Moment, MsgId};
 use std::alloc::{AllocError, Global};
 use std::test::Fail;
@@ -95,26 +88,30 @@ fn anomalies() -> &'static [Row] {
 
 #[test]
 fn an_envelope_is_composed_byte_by_byte(rt: HostRuntime) -> Result<(), Fail> {
-    let directory = directory(rt.alloc(), LONGEST_DOMAIN)?;
-    let sealer = sealer_of(rt.alloc(), &directory)?;
     for row in envelopes() {
-        let message = in_full(rt.alloc(), row.message)?;
-        let letter = envelope(rt.alloc(), &sealer, &directory, row, message.as_bytes())?;
-        assert!(rt; is_letter_of(rt.alloc(), &sealer, row, &letter)?);
+        assert!(rt; is_envelope(rt.alloc(), row)?, "{}", row.moment);
     }
     Ok(())
 }
 
+fn is_envelope(alloc: Global, row: &Row) -> Result<bool, Fail> {
+    let house = House::of(alloc, LONGEST_DOMAIN)?;
+    let letter = envelope(alloc, &house, row)?;
+    is_letter_of(alloc, &house, row, &letter)
+}
+
 #[test]
 fn an_anomaly_is_composed_byte_by_byte(rt: HostRuntime) -> Result<(), Fail> {
-    let directory = directory(rt.alloc(), LONGEST_DOMAIN)?;
-    let sealer = sealer_of(rt.alloc(), &directory)?;
     for row in anomalies() {
-        let message = in_full(rt.alloc(), row.message)?;
-        let letter = anomaly(rt.alloc(), &sealer, &directory, row, message.as_bytes())?;
-        assert!(rt; is_letter_of(rt.alloc(), &sealer, row, &letter)?);
+        assert!(rt; is_anomaly(rt.alloc(), row)?, "{}", row.moment);
     }
     Ok(())
+}
+
+fn is_anomaly(alloc: Global, row: &Row) -> Result<bool, Fail> {
+    let house = House::of(alloc, LONGEST_DOMAIN)?;
+    let letter = anomaly(alloc, &house, row)?;
+    is_letter_of(alloc, &house, row, &letter)
 }
 
 /// The text of a message, with the third provider's domain.
@@ -123,57 +120,52 @@ fn in_full(alloc: Global, text: &str) -> Result<String, AllocError> {
     written(alloc, text.as_str())
 }
 
-/// The envelope of a message of its sender's provider.
-fn envelope(
-    alloc: Global,
-    sealer: &HmacSealer,
-    directory: &Directory,
-    row: &Row,
-    original: &[u8],
-) -> Result<Vec<u8>, Fail>
-    requires { Fits (⟦<HmacSealer as Sealer>⟧.seals sealer.now) (providers_of directory.now) }
-{
-    let (head, _) = Head::read(alloc, original)?;
+/// The envelope of a row's message, of its sender's provider.
+fn envelope(alloc: Global, house: &House, row: &Row) -> Result<Vec<u8>, Fail> {
+    let original = in_full(alloc, row.message)?;
+    let (head, _) = Head::read(alloc, original.as_bytes())?;
     let facts = head.facts(alloc)?.ok_or("no facts")?;
-    let provider = directory.home_of(&facts.sender).ok_or("no home")?;
+    let provider = house.directory.home_of(&facts.sender).ok_or("no home")?;
     let moment = Moment::new(row.moment).ok_or("no moment")?;
     let id = MsgId {
         provider,
         number: 0,
     };
-    let letter = compose_envelope(alloc, sealer, directory, id, moment, &facts, original)?;
+    let letter = compose_envelope(
+        alloc,
+        &house.sealer,
+        &house.directory,
+        id,
+        moment,
+        &facts,
+        original.as_bytes(),
+    )?;
     Ok(letter)
 }
 
-/// The anomaly in which a provider hands on a message.
-fn anomaly(
-    alloc: Global,
-    sealer: &HmacSealer,
-    directory: &Directory,
-    row: &Row,
-    message: &[u8],
-) -> Result<Vec<u8>, Fail>
-    requires fits { Fits (⟦<HmacSealer as Sealer>⟧.seals sealer.now) (providers_of directory.now) }
-{
+/// The anomaly in which a provider hands on a row's message.
+fn anomaly(alloc: Global, house: &House, row: &Row) -> Result<Vec<u8>, Fail> {
     let provider = row.provider;
-    if provider >= directory.count() {
+    if provider >= house.directory.count() {
         return Err("no such provider".into());
     }
+    let message = in_full(alloc, row.message)?;
     let moment = Moment::new(row.moment).ok_or("no moment")?;
     let letter = compose_anomaly(
-        alloc, sealer, directory, provider, row.number, moment, message,
+        alloc,
+        &house.sealer,
+        &house.directory,
+        provider,
+        row.number,
+        moment,
+        message.as_bytes(),
     )?;
     Ok(letter)
 }
 
 /// Whether these are the bytes of the row's letter, under the seal of its provider.
-fn is_letter_of(
-    alloc: Global,
-    sealer: &HmacSealer,
-    row: &Row,
-    letter: &[u8],
-) -> Result<bool, Fail> {
+fn is_letter_of(alloc: Global, house: &House, row: &Row, letter: &[u8]) -> Result<bool, Fail> {
     let wanted = row.letter.replace(alloc, "GAMMA", LONGEST_DOMAIN)?;
-    let wanted = sealed(alloc, sealer, row.provider, wanted.as_str())?;
+    let wanted = sealed(alloc, house, row.provider, wanted.as_str())?;
     Ok(wanted.as_slice() == letter && letter.starts_with(row.seal.as_bytes()))
 }

@@ -1,9 +1,9 @@
 //! What is looked up in a directory. Expected values are read off the directory's text by hand.
-use crate::texts::{address_of, directory, first_alone};
+use crate::directories::{address_of, directory, first_alone};
 use pec_cert::Zone;
 use pec_directory::{Account, Directory, Provider};
 use pec_types::Text;
-use std::alloc::{AllocError, Global};
+use std::alloc::Global;
 
 /// An account: its address, its quota and its key.
 type Entry = (&'static [u8], u64, &'static [u8]);
@@ -89,34 +89,22 @@ const PLACES_OF_FIRST: [Place; 2] = [
 
 #[test]
 fn an_address_has_a_home_and_may_be_an_account(rt: HostRuntime) {
-    assert_eq!(rt;
-        first_misplaced(rt.alloc(), directory(rt.alloc()), &PLACES),
-        None
-    );
-    assert_eq!(rt;
-        first_misplaced(rt.alloc(), first_alone(rt.alloc()), &PLACES_OF_FIRST),
-        None
-    );
-}
-
-/// The first address that has another home or account; none where each has its own.
-fn first_misplaced(
-    alloc: Global,
-    directory: Option<Directory>,
-    rows: &[Place],
-) -> Option<&'static [u8]> {
-    let Some(directory) = directory else {
-        return Some(b"no directory");
-    };
-    for row in rows {
-        if !is_placed(alloc, &directory, row) {
-            return Some(row.address);
-        }
+    for row in &PLACES {
+        assert!(rt; is_placed(rt.alloc(), directory(rt.alloc()), row));
     }
-    None
 }
 
-fn is_placed(alloc: Global, directory: &Directory, row: &Place) -> bool {
+#[test]
+fn a_directory_of_one_provider_has_no_other_home(rt: HostRuntime) {
+    for row in &PLACES_OF_FIRST {
+        assert!(rt; is_placed(rt.alloc(), first_alone(rt.alloc()), row));
+    }
+}
+
+fn is_placed(alloc: Global, directory: Option<Directory>, row: &Place) -> bool {
+    let Some(directory) = directory else {
+        return false;
+    };
     match address_of(alloc, row.address) {
         Some(address) => {
             directory.home_of(&address) == row.home
@@ -172,23 +160,15 @@ const STANDINGS: [Standing; 5] = [
 
 #[test]
 fn certified_addresses_and_accounts_are_told_apart(rt: HostRuntime) {
-    assert_eq!(rt; first_mistaken(rt.alloc(), &STANDINGS), None);
-}
-
-/// The first address that is told otherwise; none where each is told as its row has it.
-fn first_mistaken(alloc: Global, rows: &[Standing]) -> Option<&'static [u8]> {
-    let Some(directory) = directory(alloc) else {
-        return Some(b"no directory");
-    };
-    for row in rows {
-        if !is_standing(alloc, &directory, row) {
-            return Some(row.address);
-        }
+    for row in &STANDINGS {
+        assert!(rt; is_standing(rt.alloc(), row));
     }
-    None
 }
 
-fn is_standing(alloc: Global, directory: &Directory, row: &Standing) -> bool {
+fn is_standing(alloc: Global, row: &Standing) -> bool {
+    let Some(directory) = directory(alloc) else {
+        return false;
+    };
     match address_of(alloc, row.address) {
         Some(address) => {
             directory.is_certified(&address) == row.certified
@@ -202,36 +182,24 @@ fn is_standing(alloc: Global, directory: &Directory, row: &Standing) -> bool {
 // Names, and the numbers of their providers, of which there are two. A capital is another byte.
 const NAMES: [(&[u8], Option<u32>); 3] = [(b"alfa", Some(0)), (b"beta", Some(1)), (b"Beta", None)];
 
-// Of the first provider alone.
-const NAMES_OF_FIRST: [(&[u8], Option<u32>); 1] = [(b"beta", None)];
-
 #[test]
 fn a_name_is_one_providers(rt: HostRuntime) {
-    assert_eq!(rt; first_misnamed(directory(rt.alloc()), 2, &NAMES), None);
-    assert_eq!(rt;
-        first_misnamed(first_alone(rt.alloc()), 1, &NAMES_OF_FIRST),
-        None
-    );
+    for (name, number) in &NAMES {
+        assert!(rt; is_named(directory(rt.alloc()), 2, name, *number));
+    }
+    assert!(rt; is_named(first_alone(rt.alloc()), 1, b"beta", None));
 }
 
-/// The first name that is another provider's than its row has it, of a directory of so many; none where each is its.
-fn first_misnamed(
-    directory: Option<Directory>,
-    count: u32,
-    rows: &[(&'static [u8], Option<u32>)],
-) -> Option<&'static [u8]> {
-    let Some(directory) = directory else {
-        return Some(b"no directory");
-    };
-    if directory.count() != count || directory.provider(count).is_some() {
-        return Some(b"another count");
-    }
-    for (name, number) in rows {
-        if directory.named(name) != *number {
-            return Some(*name);
+/// Whether the directory has so many providers, and the name is that of this one.
+fn is_named(directory: Option<Directory>, count: u32, name: &[u8], number: Option<u32>) -> bool {
+    match directory {
+        Some(directory) => {
+            directory.count() == count
+                && directory.provider(count).is_none()
+                && directory.named(name) == number
         }
+        None => false,
     }
-    None
 }
 
 // Texts, and the providers and the numbers of the messages that they name.
@@ -255,26 +223,15 @@ const TEXTS: [(&[u8], Option<(u32, u64)>); 11] = [
 
 #[test]
 fn a_text_names_a_message_where_it_is_printed_so(rt: HostRuntime) {
-    assert_eq!(rt; first_unread(rt.alloc(), &TEXTS), None);
-}
-
-/// The first text that names another message; none where each names its own.
-fn first_unread(
-    alloc: Global,
-    rows: &[(&'static [u8], Option<(u32, u64)>)],
-) -> Option<&'static [u8]> {
-    let Some(directory) = directory(alloc) else {
-        return Some(b"no directory");
-    };
-    for (text, named) in rows {
-        if !names(alloc, &directory, text, *named) {
-            return Some(*text);
-        }
+    for (text, named) in &TEXTS {
+        assert!(rt; names(rt.alloc(), text, *named));
     }
-    None
 }
 
-fn names(alloc: Global, directory: &Directory, text: &[u8], named: Option<(u32, u64)>) -> bool {
+fn names(alloc: Global, text: &[u8], named: Option<(u32, u64)>) -> bool {
+    let Some(directory) = directory(alloc) else {
+        return false;
+    };
     match directory.id_of(alloc, text) {
         Ok(Some(id)) => named == Some((id.provider, id.number)),
         Ok(None) => named.is_none(),
@@ -321,30 +278,28 @@ const PROVIDERS: [Shown; 2] = [
 
 #[test]
 fn a_provider_is_shown_as_its_text_says(rt: HostRuntime) {
-    assert_eq!(rt; first_misshown(rt.alloc(), &PROVIDERS), None);
+    for row in &PROVIDERS {
+        assert!(rt; is_shown(rt.alloc(), row));
+    }
 }
 
-/// The first provider that is shown otherwise; none where each is shown as its row has it.
-fn first_misshown(alloc: Global, rows: &[Shown]) -> Option<&'static [u8]> {
-    let Some(directory) = directory(alloc) else {
-        return Some(b"no directory");
-    };
-    if !directory.first_domain(2).is_empty() {
-        return Some(b"a third domain");
-    }
-    for row in rows {
-        if !is_shown(&directory, row) {
-            return Some(row.name);
+fn is_shown(alloc: Global, row: &Shown) -> bool {
+    match directory(alloc) {
+        Some(directory) => {
+            has_domain(&directory, row.number, row.first)
+                && is_provider(directory.provider(row.number), row)
         }
+        None => false,
     }
-    None
 }
 
-fn is_shown(directory: &Directory, row: &Shown) -> bool {
-    if directory.first_domain(row.number) != row.first {
-        return false;
-    }
-    match directory.provider(row.number) {
+/// Whether this is the provider's first domain; that of a third provider is empty.
+fn has_domain(directory: &Directory, number: u32, first: &[u8]) -> bool {
+    directory.first_domain(number) == first && directory.first_domain(2).is_empty()
+}
+
+fn is_provider(provider: Option<&Provider>, row: &Shown) -> bool {
+    match provider {
         Some(provider) => {
             has_texts(provider, row)
                 && are_domains(provider.domains(), row.domains)
@@ -396,29 +351,20 @@ fn has_key_and_zone(beta: &Provider) -> bool {
 // As `sha256sum` (GNU coreutils) gives it for the canonical text, written out by hand.
 #[test]
 fn a_digest_is_that_of_the_canonical_text(rt: HostRuntime) {
-    assert!(rt;
-        has_digest(
-            rt.alloc(),
-            "650ac76bf12687978cc1a9683ba637c59fc4f5e104ec183beebd4ed60987180b"
-        )
-    );
+    assert!(rt; has_digest(rt.alloc(), DIGEST));
 }
+
+const DIGEST: &str = "650ac76bf12687978cc1a9683ba637c59fc4f5e104ec183beebd4ed60987180b";
 
 fn has_digest(alloc: Global, wanted: &str) -> bool {
-    match directory(alloc) {
-        Some(directory) => is_digest(alloc, &directory, wanted),
-        None => false,
-    }
-}
-
-fn is_digest(alloc: Global, directory: &Directory, wanted: &str) -> bool {
-    match digest_of(alloc, directory) {
+    match digest(alloc) {
         Some(digest) => digest.as_str() == wanted,
         None => false,
     }
 }
 
-fn digest_of(alloc: Global, directory: &Directory) -> Option<String> {
+fn digest(alloc: Global) -> Option<String> {
+    let directory = directory(alloc)?;
     let digest = directory.digest(alloc).ok()?;
     hex::encode(alloc, digest).ok()
 }
