@@ -3,6 +3,7 @@ pub mod CountLemmas
 pub mod KeptLemmas
 pub mod LineLemmas
 pub mod LinkLemmas
+pub mod LookLemmas
 pub mod PlayLemmas
 pub mod RestartLemmas
 pub mod RoundLemmas

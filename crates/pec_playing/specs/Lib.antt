@@ -1,4 +1,5 @@
 pub mod Doing
+pub mod Looking
 pub mod OfNetworks
 pub mod Playing
 pub mod Saying

@@ -1,14 +1,14 @@
 -- What the crates above name of networks and of their providers: this crate hands it on, so that they needn't list what
 -- stands below.
 pub use Rattle.pec_letters.specs.Fitting.{Fits}
-pub use Rattle.pec_network.specs.Beginning.{AllBegun, BlamesDisk, IsAbout, IsAsItWas, IsBegun, IsLeft, IsRefused}
+pub use Rattle.pec_network.specs.Beginning.{AllBegun, BlamesDisk, IsAbout, IsBegun, IsLeft, IsRefused, IsUnwritten}
 pub use Rattle.pec_network.specs.Beginning.{NoneFell, Says, all_rested, journals_had, reopened_as, rested}
 pub use Rattle.pec_network.specs.Carrying.{AllStand, NoneFalls}
 pub use Rattle.pec_network.specs.Changing.{HasRisenAt}
 pub use Rattle.pec_network.specs.Homes.{AllAt}
 pub use Rattle.pec_network.specs.Network.{IsOfDirectory, NetworkState, sites, sites_of}
-pub use Rattle.pec_network.specs.OfProviders.{ChronicleState, Desk, IsJournalOf, IsUnfit, ProviderState, Stands}
-pub use Rattle.pec_network.specs.OfProviders.{desk_of, luck_of, site_of}
+pub use Rattle.pec_network.specs.OfProviders.{ChronicleState, Desk, IsJournalOf, IsUnchanged, IsUnfit, ProviderState}
+pub use Rattle.pec_network.specs.OfProviders.{Stands, desk_of, luck_of, site_of}
 pub use Rattle.pec_network.specs.Playing.{IsPlayed}
 pub use Rattle.pec_network.specs.declared.faults.NotFit.{NotFit}
 pub use Rattle.pec_network.specs.declared.faults.StartFault.{StartFault}

@@ -8,6 +8,7 @@ ghost use Rattle.pec_network.specs.Network.{sites};
 ghost use Rattle.pec_runs.specs.ScriptLines.{command_in};
 ghost use Rattle.pec_screen.specs.Screened.{finds_in};
 ghost use Rattle.pec_playing.specs.Doing.{Does};
+ghost use Rattle.pec_playing.specs.Looking.{LooksBy};
 ghost use Rattle.pec_playing.specs.Playing.{CanPlay, HasPlayed, HasStopped, counts_in};
 
 use crate::accounts::{book, mailbox, show};
@@ -52,7 +53,10 @@ pub fn play<D: Disk, S: Sealer, P: Depot<D = D>, J: Judge>(
     ensures home { P.tells → Alike (P.home depot.old) (P.home depot.new) }
     ensures last { Alike (P.last depot.old) (P.last depot.new) }
     ensures depot_later { P.faults depot.old ≤ P.faults depot.new }
-    // Screens keep what they look for.
+    // Screens look at submissions alone, each once at most, and keep what they look for.
+    ensures looked { LooksBy (providers_of network.old.kept)
+        (command_in (finds_in (map J.patterns screens.old)) command)
+        (map J.seen screens.old) (map J.seen screens.new) }
     ensures patterns { map J.patterns screens.new ≡ map J.patterns screens.old }
 {
     play_command(alloc, network, depot, screens, command)
@@ -73,6 +77,9 @@ fn play_command<D: Disk, S: Sealer, P: Depot<D = D>, J: Judge>(
     ensures home { P.tells → Alike (P.home depot.old) (P.home depot.new) }
     ensures last { Alike (P.last depot.old) (P.last depot.new) }
     ensures later { P.faults depot.old ≤ P.faults depot.new }
+    ensures looked { LooksBy (providers_of network.old.kept)
+        (command_in (finds_in (map J.patterns screens.old)) command)
+        (map J.seen screens.old) (map J.seen screens.new) }
     ensures patterns { map J.patterns screens.new ≡ map J.patterns screens.old }
 {
     match command {

@@ -6,6 +6,7 @@ ghost use Rattle.pec_plays.specs.Commands.{Submit, Tick};
 ghost use Rattle.pec_screen.specs.Screened.{finds_in};
 ghost use Rattle.pec_trade.specs.TradeOf.{trade_of};
 ghost use Rattle.pec_playing.specs.Doing.{Does};
+ghost use Rattle.pec_playing.specs.Looking.{LooksBy};
 
 use crate::refusals::refusal_text;
 use pec_network::Network;
@@ -44,6 +45,10 @@ pub(crate) fn submit<D: Disk, S: Sealer, J: Judge>(
     ensures does { Does D.sight D.faults D.tells (trade_of network.old.kept (S.seals network.old.sealer))
         (Submit provider moment sender.now path.now message.now
         (finds_in (map J.patterns screens.old) provider message.now)) network.old network.new result }
+    ensures looked { LooksBy (providers_of network.old.kept)
+        (Submit provider moment sender.now path.now message.now
+        (finds_in (map J.patterns screens.old) provider message.now))
+        (map J.seen screens.old) (map J.seen screens.new) }
     ensures patterns { map J.patterns screens.new ≡ map J.patterns screens.old }
 {
     as_many_providers(network);

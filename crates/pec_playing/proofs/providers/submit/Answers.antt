@@ -6,6 +6,7 @@ use Rattle.pec_screen.specs.Screened.{finds_in}
 use Rattle.pec_trade.specs.TradeOf.{trade_of}
 use Rattle.pec_playing.proofs.AskLemmas.{call_refuses, call_says, call_stops, submitted_told, submit_of}
 use Rattle.pec_playing.proofs.KeptLemmas.{as_many, keeps_others}
+use Rattle.pec_playing.proofs.LookLemmas.{may_look}
 use Rattle.pec_playing.proofs.providers.submit.Goals as goal
 
 pub returns-in-Ok-clause-does : goal.returns-in-Ok-clause-does
@@ -85,3 +86,15 @@ returns-in_err-text-in-Err-clause-does g c =
     (finds_in (map g.J.Judge.patterns c.args.screens.now) c.args.provider c.args.message.now)) Submits
     c.submit_screened.result c.submit_screened.ensures.plays c.from_residual-in_err-text-in-Err.result
     c.from_residual-in_err-text-in-Err.ensures.0
+
+pub returns-in-Ok-clause-looked : goal.returns-in-Ok-clause-looked
+returns-in-Ok-clause-looked g c = may_look c.args.provider _ _ _ c.submit_screened.result c.submit_screened.ensures.looked
+
+pub returns-in-Err-clause-looked : goal.returns-in-Err-clause-looked
+returns-in-Err-clause-looked g c = may_look c.args.provider _ _ _ c.submit_screened.result c.submit_screened.ensures.looked
+
+pub returns-in_err-text-in-Ok-clause-looked : goal.returns-in_err-text-in-Ok-clause-looked
+returns-in_err-text-in-Ok-clause-looked g c = may_look c.args.provider _ _ _ c.submit_screened.result c.submit_screened.ensures.looked
+
+pub returns-in_err-text-in-Err-clause-looked : goal.returns-in_err-text-in-Err-clause-looked
+returns-in_err-text-in-Err-clause-looked g c = may_look c.args.provider _ _ _ c.submit_screened.result c.submit_screened.ensures.looked
