@@ -2,4 +2,5 @@ pub mod DeskLemmas
 pub mod KeyLemmas
 pub mod LimitLemmas
 pub mod OwnLemmas
+pub mod PassLemmas
 pub mod ShareLemmas

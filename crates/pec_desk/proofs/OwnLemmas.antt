@@ -7,7 +7,7 @@ use Rattle.pec_types.specs.Bytes.{Bytes, Path}
 use Rattle.pec_types.specs.declared.turns.ProviderFault.{ProviderFault}
 use Rattle.pec_types.specs.declared.turns.ProviderFault.TheVariants as faults
 use Rattle.pec_types.specs.declared.turns.Submitted.{Submitted}
-use Rattle.pec_directory.specs.Directory.{Kept, account_home, providers_of}
+use Rattle.pec_directory.specs.Directory.{Kept, Provider, account_home, providers_of}
 use Rattle.pec_seal.specs.Seals.{Seals}
 use Rattle.pec_ledger.specs.Network.{Site}
 use Rattle.pec_network.specs.OfProviders.{luck_of}
@@ -24,6 +24,7 @@ use Rattle.pec_desk.specs.Desks.{DeskState, HandsIn, answers_of, domain_at, worl
 use Rattle.pec_service.specs.Passes.{pass_of}
 use Rattle.pec_service.specs.Own.{IsFaultOf, IsFaultReply, Share, asker, reply_to, reply_with, share_at, shown_to}
 use Rattle.pec_desk.specs.Shares.{asking_share, share_of}
+use Rattle.pec_desk.proofs.PassLemmas.{pass_same}
 use Rattle.pec_desk.proofs.ShareLemmas.{book_is, book_of_nobody, item_is, item_of_nobody, items_is, items_of_nobody, submission_is}
 
 -- a request asks one thing
@@ -141,7 +142,8 @@ module _ {D S : Type 0} (sight : D → Sight) (count : D → ℕ) (tells : Type 
   is_fault (Ok (See address looked)) reply fault = inl fault
   is_fault (Err stop) reply fault = absurd fault
 
-  module _ (one other after last : DeskState D S) (kept_same : one.network.kept ≡ other.network.kept)
+  module _ (one other after last : DeskState D S)
+      (providers_same : providers_of one.network.kept ≡ providers_of other.network.kept)
       (moment_same : one.moment ≡ other.moment) where
     same_asker : (asker' : Option Bytes)
         → ((account : Bytes) → asker' ≡ Some account → share_of seals one account ≡ share_of seals other account)
@@ -155,7 +157,7 @@ module _ {D S : Type 0} (sight : D → Sight) (count : D → ℕ) (tells : Type 
     same_reply asked same =
         ap (λ (share : Option Share). reply_to (providers_of one.network.kept) one.moment share asked)
         (same_asker (asker asked) same)
-        ∙ ap (λ (k : List Kept). reply_to (providers_of k) one.moment (asking_share seals other asked) asked) kept_same
+        ∙ ap (λ (ps : List Provider). reply_to ps one.moment (asking_share seals other asked) asked) providers_same
         ∙ ap (λ (m : ℕ). reply_to (providers_of other.network.kept) m (asking_share seals other asked) asked) moment_same
 
     pub apart : AsksOne → (input : Bytes) (reply again : Reply)
@@ -167,7 +169,8 @@ module _ {D S : Type 0} (sight : D → Sight) (count : D → ℕ) (tells : Type 
         let asked = answer.asked
         in let asks = answer.asks
         in let asks' : Asks (pass_of other.network.kept) input asked =
-        subst (λ (k : List Kept). Asks (pass_of k) input asked) kept_same asks
+        subst (λ (pass : Bytes → Bytes → Pass). Asks pass input asked)
+        (pass_same one.network.kept other.network.kept providers_same) asks
         in elim (own_answer one after asks_one input reply answer asked asks) [
           | inr fault ↦ inr (inl (is_fault asked reply fault))
           | inl own ↦ elim (own_answer other last asks_one input again answer' asked asks') [

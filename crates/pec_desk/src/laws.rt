@@ -17,7 +17,7 @@ use pec_seal::Sealer;
 /// The law of accounts: what a request is answered is a function of the request, the moment, the directory, and the share
 /// of the account that asks, which is its own book and items, what its provider comes to and what that provider's screens
 /// look for; but for want of memory, and, of a submission, for a fault of that provider's disk. So the desks of two
-/// networks of one directory, in which that account has the same share, answer the same.
+/// networks of the same providers, in which that account has the same share, answer the same.
 pub fn an_account_sees_its_own<D: Disk, S: Sealer>()
     ensures own { (desk after : DeskState D S) (input : Bytes) (reply : ReplyShown)
         → IsAnswer (answers_of D.sight D.faults D.tells S.seals) desk input after reply
@@ -25,7 +25,7 @@ pub fn an_account_sees_its_own<D: Disk, S: Sealer>()
         → (reply ≡ reply_to (providers_of desk.network.kept) desk.moment (asking_share S.seals desk asked) asked)
         ⊎ IsFaultOf asked reply }
     ensures apart { (one other after last : DeskState D S) (input : Bytes) (reply again : ReplyShown)
-        → one.network.kept ≡ other.network.kept → one.moment ≡ other.moment
+        → providers_of one.network.kept ≡ providers_of other.network.kept → one.moment ≡ other.moment
         → ((asked : Result Question StopShown) (account : Bytes) → Asks (pass_of one.network.kept) input asked
         → asker asked ≡ Some account → share_of S.seals one account ≡ share_of S.seals other account)
         → IsAnswer (answers_of D.sight D.faults D.tells S.seals) one input after reply

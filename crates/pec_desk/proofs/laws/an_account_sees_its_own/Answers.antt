@@ -6,7 +6,7 @@ returns g c = record {
   own = λ desk after input reply answer asked asks.
       own_answer g.D.Disk.sight g.D.Counted.faults g.D.Disk.tells g.S.Sealer.seals desk after
       c.a_request_asks_one_thing.ensures input reply answer asked asks;
-  apart = λ one other after last input reply again kept moment same answer answer'.
-      apart g.D.Disk.sight g.D.Counted.faults g.D.Disk.tells g.S.Sealer.seals one other after last kept moment
+  apart = λ one other after last input reply again providers moment same answer answer'.
+      apart g.D.Disk.sight g.D.Counted.faults g.D.Disk.tells g.S.Sealer.seals one other after last providers moment
       c.a_request_asks_one_thing.ensures input reply again same answer answer';
 }
