@@ -1,8 +1,9 @@
-ghost use Rattle.std.specs.Prelude.{◌≡◌, ℕ, List, [], map};
+ghost use Rattle.std.specs.Prelude.{◌≡◌, ℕ, List, [], ◌∷◌, map};
 ghost use Rattle.pec_screen.specs.VerdictReading.{verdict};
 ghost use Rattle.pec_screen.specs.Verdicts.{counted};
 
 use crate::looking::Screen;
+use crate::patterns::PatternScreen;
 use crate::screens::Screens;
 
 /// What judges messages by boxes of patterns, as `Screens` do. Crates above take any that does.
@@ -28,6 +29,18 @@ impl Judge for Screens {
 
     fn judge(&mut self, message: &[u8]) -> Option<(u32, u32)> {
         Screens::judge(self, message)
+    }
+}
+
+/// One screen judges alone: the place of what it finds is 0.
+impl Judge for PatternScreen {
+    ghost patterns = { λ screen. ⟦<PatternScreen as Screen>⟧.patterns screen ∷ [] };
+
+    ghost seen = { λ screen. ⟦<PatternScreen as Screen>⟧.seen screen ∷ [] };
+
+    fn judge(&mut self, message: &[u8]) -> Option<(u32, u32)> {
+        let rule = self.look(message)?;
+        Some((0, rule))
     }
 }
 
