@@ -1,7 +1,7 @@
 -- What the program names of networks, of their providers and of the commands that are played over them: this crate hands
 -- it on, so that the program needn't list what stands below.
 pub use Rattle.pec_playing.specs.OfNetworks.{AllAt, AllBegun, AllStand, BlamesDisk, ChronicleState, Desk, Fits, Form}
-pub use Rattle.pec_playing.specs.OfNetworks.{IsAbout, IsAsItWas, IsBegun, IsJournalOf, IsLeft, IsOfDirectory}
+pub use Rattle.pec_playing.specs.OfNetworks.{IsAbout, IsBegun, IsJournalOf, IsLeft, IsOfDirectory, IsUnchanged, IsUnwritten}
 pub use Rattle.pec_playing.specs.OfNetworks.{IsRefused, IsUnfit, NetworkState, NoneFalls, NoneFell, NotFit}
 pub use Rattle.pec_playing.specs.OfNetworks.{ProviderState, Says, Stands, StartFault, Waiting, all_rested, desk_of}
 pub use Rattle.pec_playing.specs.OfNetworks.{journals_had, reopened_as, rested, site_of, sites, sites_of, trade_of}

@@ -13,17 +13,18 @@ use Rattle.pec_ledger.specs.OfDirectory.{IsOf}
 use Rattle.pec_ledger.specs.Trade.{Trade}
 use Rattle.pec_serving.specs.OfNetworks.{ChronicleState, IsJournalOf, Stands}
 use Rattle.pec_seal.specs.Seals.{Seals}
-use Rattle.pec_serving.specs.OfNetworks.{AllBegun, Desk, IsAbout, IsBegun, IsLeft as LeftAt, IsRefused, IsUnfit, NotFit, ProviderState, Says, all_rested, journals_had, reopened_as, rested, trade_of}
+use Rattle.pec_serving.specs.OfNetworks.{AllBegun, Desk, IsAbout, IsBegun, IsLeft as LeftAt, IsRefused, IsUnchanged, IsUnfit, NotFit, ProviderState, Says, all_rested, journals_had, reopened_as, rested, trade_of}
 use Rattle.pec_serving.specs.OfNetworks.reasons as reasons
 use Rattle.pec_serving.specs.OfNetworks.{StartFault}
 use Rattle.pec_serving.specs.OfNetworks.faults as faults
-use Rattle.pec_runs.specs.Openings.{AreLeft, Disks, IsHad, IsLeft, IsNext, IsOpening, IsUnread, Next, NoMore}
+use Rattle.pec_runs.specs.Openings.{AreLeft, Disks, IsHad, IsLeft, IsNext, IsOpening, IsSpared, IsUntouched, Next, NoMore}
 use Rattle.pec_runs.specs.Openings.{Stops, disks_at, fault_of, opened, opened_all}
 use Rattle.pec_runs.specs.Openings as runs
 use Rattle.pec_top.specs.Shown.{form_shown, unfit_of, way_of}
 use Rattle.pec_top.specs.Starting.{next_by}
 use Rattle.pec_top.specs.declared.forms.Form.{Form}
 use Rattle.pec_top.specs.declared.forms.Form.TheVariants as forms
+use Rattle.pec_top.proofs.RunningLemmas.{untouched_by, untouched_same}
 
 -- ---- lists
 
@@ -208,32 +209,33 @@ module _ {D : Type 0} (tells reads : Type 0) (sight : D → Sight) (kept : List 
           slice_get_mapped f (y ∷ xs) zero x e = ap (λ z. Some (f z)) (same_Some y x e)
           slice_get_mapped f (y ∷ xs) (suc k) x e = slice_get_mapped f xs k x e
 
-      -- a disk that came to nothing reads as it did
+      -- a disk that came to nothing is unchanged; but for an empty one on which a journal was being made
       next_left : (way : Form) (why : StartFault) (next : Next) → (next ≡ next_by why) ⊎ (next ≡ Stops)
-          → IsUnread (form_shown way) next → (was now : Sight) → LeftAt (way_of way) why was now → now.seen ≡ was.seen
-      next_left forms.Run (faults.NotEmpty number) next which unread was now left = left.seen
-      next_left forms.Run (faults.DiskFault number) next (inl e) unread was now left =
-          absurd (subst (IsUnread runs.Run) e unread)
-      next_left forms.Run (faults.DiskFault number) next (inr e) unread was now left =
-          absurd (subst (IsUnread runs.Run) e unread)
-      next_left forms.Run (faults.NotFit number why) next which unread was now left = left.seen
-      next_left forms.Run faults.NoMemory next (inl e) unread was now left =
-          absurd (subst (IsUnread runs.Run) e unread)
-      next_left forms.Run faults.NoMemory next (inr e) unread was now left =
-          absurd (subst (IsUnread runs.Run) e unread)
-      next_left forms.Resume (faults.NotEmpty number) next which unread was now left = left.seen
-      next_left forms.Resume (faults.DiskFault number) next which unread was now left = left.seen
-      next_left forms.Resume (faults.NotFit number why) next which unread was now left = left.seen
-      next_left forms.Resume faults.NoMemory next which unread was now left = left.seen
+          → (was now : Sight) → IsSpared (form_shown way) next was.seen → LeftAt (way_of way) why was now
+          → IsUnchanged was now
+      next_left forms.Run (faults.NotEmpty number) next which was now spared left = left
+      next_left forms.Run (faults.DiskFault number) next (inl e) was now spared left =
+          left (subst (λ (n : Next). IsSpared runs.Run n was.seen) e spared)
+      next_left forms.Run (faults.DiskFault number) next (inr e) was now spared left =
+          left (subst (λ (n : Next). IsSpared runs.Run n was.seen) e spared)
+      next_left forms.Run (faults.NotFit number why) next which was now spared left = left
+      next_left forms.Run faults.NoMemory next (inl e) was now spared left =
+          left (subst (λ (n : Next). IsSpared runs.Run n was.seen) e spared)
+      next_left forms.Run faults.NoMemory next (inr e) was now spared left =
+          left (subst (λ (n : Next). IsSpared runs.Run n was.seen) e spared)
+      next_left forms.Resume (faults.NotEmpty number) next which was now spared left = left
+      next_left forms.Resume (faults.DiskFault number) next which was now spared left = left
+      next_left forms.Resume (faults.NotFit number why) next which was now spared left = left
+      next_left forms.Resume faults.NoMemory next which was now spared left = left
 
-      next_same : (next : Next) → (next ≡ next_by fault) ⊎ (next ≡ Stops) → IsUnread (form_shown form) next
-          → (was bytes : Bytes) → Old.reads Next_ was → New.reads Next_ bytes → bytes ≡ was
-      next_same next which unread was bytes old now =
+      next_untouched : (next : Next) → (next ≡ next_by fault) ⊎ (next ≡ Stops) → (was : Bytes)
+          → Old.reads Next_ was → IsSpared (form_shown form) next was → IsUntouched Old New Next_ was
+      next_untouched next which was old spared =
           let back = refused.next old.0.0 old.1.0 old.1.1
-          in let same : back.now ≡ now.1.0 = same_Some back.now now.1.0 (sym back.is ∙ now.1.1)
-          in sym now.1.2 ∙ (ap (λ (d : D). (sight d).seen) (sym same)
-          ∙ (next_left form fault next which unread (sight old.1.0) (sight back.now) (back.left old.0.1)
-          ∙ old.1.2))
+          in let same = next_left form fault next which (sight old.1.0) (sight back.now)
+          (subst (IsSpared (form_shown form) next) (sym old.1.2) spared) (back.left old.0.1)
+          in untouched_by (tells × reads) sight home new Next_ was old (λ now is.
+          subst (λ (d : D). IsUnchanged (sight old.1.0) (sight d)) (same_Some back.now now (sym back.is ∙ is)) same)
 
       pub left_part : (next : Next) → (next ≡ next_by fault) ⊎ (next ≡ Stops)
           → AreLeft Old New (form_shown form) (record { journals = Had; next = next }) (opened_all World Had)
@@ -243,11 +245,10 @@ module _ {D : Type 0} (tells reads : Type 0) (sight : D → Sight) (kept : List 
             (had_left k within read.0 read.1.0 read.1.1 (sight read.1.0).seen (reads_so read.0.1 read.1.0));
         crash = λ k within bytes leaves.
             had_left k within leaves.0 leaves.1.0 leaves.1.1 bytes leaves.1.2;
-        next = λ unread was bytes old now.
-            next_same next which unread was bytes
-            (subst (λ (k : ℕ). Old.reads k was) size old) (subst (λ (k : ℕ). New.reads k bytes) size now);
-        others = λ k far was bytes old now.
-            let same = refused.behind old.0.0 k (omega (arith, size, far))
-            in sym now.1.2 ∙ (ap (λ (d : D). (sight d).seen)
-            (same_Some now.1.0 old.1.0 (sym now.1.1 ∙ (same ∙ old.1.1))) ∙ old.1.2);
+        next = λ was old spared.
+            subst (λ (k : ℕ). IsUntouched Old New k was) (sym size)
+            (next_untouched next which was (subst (λ (k : ℕ). Old.reads k was) size old) spared);
+        others = λ k far was old.
+            untouched_same (tells × reads) sight home new k was old
+            (λ told. refused.behind told.0.0 k (omega (arith, size, far)));
       }

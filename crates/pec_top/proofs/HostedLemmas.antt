@@ -56,14 +56,15 @@ journals_hosted tells sight reads_so asked status before after setting form jour
 -- ---- the same, of disks as they were a while before
 
 module _ (asked : Asked) (status : Status) (before after : Option Bytes) (old mid new : Disks)
-    (on : (k : ℕ) (bytes : Bytes) → old.reads k bytes → mid.reads k bytes) (here there : Outside) (early from upto : ℕ → ℕ)
+    (on : (k : ℕ) (bytes : Bytes) → old.reads k bytes → mid.reads k bytes)
+    (back : (k : ℕ) (bytes : Bytes) → mid.may_leave k bytes → old.may_leave k bytes) (here there : Outside) (early from upto : ℕ → ℕ)
     (sooner : (k : ℕ) → early k ≤ from k) (setting : Setting) (course : Course) (form : Form) where
   none_since : ServesNone asked status before after mid new here there from upto setting course form
       → ServesNone asked status before after old new here there early upto setting course form
   none_since none = record {
     told = none.told;
     outside = none.outside;
-    disks = left_since old mid new on form course.opening (opened_all (trade_in setting) course.opening.journals) none.disks;
+    disks = left_since old mid new on back form course.opening (opened_all (trade_in setting) course.opening.journals) none.disks;
   }
 
   goes_since : (next : Next) → GoesOn asked status before after mid new here there from upto setting course form next
@@ -75,7 +76,7 @@ module _ (asked : Asked) (status : Status) (before after : Option Bytes) (old mi
     is = serves.is;
     told = serves.told;
     later = serves.later;
-    disks = left_since old mid new on form course.opening serves.network.sites serves.disks;
+    disks = left_since old mid new on back form course.opening serves.network.sites serves.disks;
   }
   goes_since Holds none = none_since none
   goes_since (Unfits unfit) none = none_since none

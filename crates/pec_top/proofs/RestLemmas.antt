@@ -7,10 +7,10 @@ use Rattle.pec_outside.specs.DiskModel.{Sight}
 use Rattle.pec_records.specs.declared.entries.Entry.{Entry}
 use Rattle.pec_ledger.specs.Network.{Site}
 use Rattle.pec_ledger.specs.Trade.{Trade}
-use Rattle.pec_serving.specs.OfNetworks.{IsAsItWas}
-use Rattle.pec_runs.specs.Openings.{AreLeft, AreUntouched, Disks, Form, Run, Resume, IsHad, IsNext, IsOpening, Next, NoMore, Holds, Unfits, Fails, Stops, Opening, disks_at, next_of}
+use Rattle.pec_serving.specs.OfNetworks.{IsUnchanged}
+use Rattle.pec_runs.specs.Openings.{AreLeft, AreUntouched, Disks, Form, Run, Resume, IsHad, IsNext, IsOpening, IsUntouched, Next, NoMore, Holds, Unfits, Fails, Stops, Opening, disks_at, next_of}
 use Rattle.pec_top.specs.Surveys.{AreAsTheyWere, HoldsSo, IsAsBefore}
-use Rattle.pec_top.proofs.RunningLemmas.{untouched}
+use Rattle.pec_top.proofs.RunningLemmas.{untouched_by}
 
 module _ {D : Type 0} (reads : Type 0) (sight : D → Sight) where
   pub rest_none : (home : ℕ → Option D) → AreAsTheyWere reads sight home home
@@ -50,16 +50,16 @@ module _ {D : Type 0} (home_tells reads : Type 0) (sight : D → Sight) (old new
       in (read.0, (at.0, at.1, (at.2 read.0.1).seen ∙ read.1.2))
 
   before_it : (k : ℕ) (now : D) → home_tells → new k ≡ Some now
-      → (was : D) × (old k ≡ Some was) × (reads → IsAsItWas (sight was) (sight now))
+      → (was : D) × (old k ≡ Some was) × (reads → IsUnchanged (sight was) (sight now))
   before_it k now told is = so (old k) refl (rest told k)
     where
       so : (o : Option D) → old k ≡ o → IsAsBefore reads sight o (new k)
-          → (was : D) × (old k ≡ Some was) × (reads → IsAsItWas (sight was) (sight now))
+          → (was : D) × (old k ≡ Some was) × (reads → IsUnchanged (sight was) (sight now))
       so None e at = absurd (none-some now (sym at ∙ is))
       so (Some was) e at = (
         was,
         e,
-        subst (λ (d : D). reads → IsAsItWas (sight was) (sight d)) (same_Some at.0 now (sym at.1 ∙ is)) at.2,
+        subst (λ (d : D). reads → IsUnchanged (sight was) (sight d)) (same_Some at.0 now (sym at.1 ∙ is)) at.2,
       )
 
   pub reads_back : (k : ℕ) (bytes : Bytes) → New.reads k bytes → Old.reads k bytes
@@ -72,8 +72,10 @@ module _ {D : Type 0} (home_tells reads : Type 0) (sight : D → Sight) (old new
       in (leaves.0, (b.0, b.1, (b.2 leaves.0.1).crash bytes leaves.1.2))
 
   pub untouched_rest : AreUntouched Old New
-  untouched_rest k was bytes before now =
-      untouched (home_tells × reads) sight old k was bytes before (reads_back k bytes now)
+  untouched_rest k was before = untouched_by (home_tells × reads) sight old new k was before (λ now is.
+      let b = before_it k now before.0.0 is
+      in subst (λ (d : D). IsUnchanged (sight d) (sight now)) (same_Some b.0 before.1.0 (sym b.1 ∙ before.1.1))
+      (b.2 before.0.1))
 
   pub home_rest : home_tells → (k : ℕ) → old k ≢ None → new k ≢ None
   home_rest told k some gone = so (old k) refl (rest told k)
@@ -120,14 +122,21 @@ module _ (trade : Trade) (old mid : Disks) (on : (k : ℕ) (bytes : Bytes) → o
   }
 
 pub left_since : (old mid new : Disks) → ((k : ℕ) (bytes : Bytes) → old.reads k bytes → mid.reads k bytes)
+    → ((k : ℕ) (bytes : Bytes) → mid.may_leave k bytes → old.may_leave k bytes)
     → (form : Form) (opening : Opening) (sites : List Site) → AreLeft mid new form opening sites
     → AreLeft old new form opening sites
-left_since old mid new on form opening sites left = record {
+left_since old mid new on back form opening sites left = record {
   reads = left.reads;
   crash = left.crash;
-  next = λ unread was bytes before now. left.next unread was bytes (on (next_of opening) was before) now;
-  others = λ k far was bytes before now. left.others k far was bytes (on k was before) now;
+  next = λ was before spared. since (next_of opening) was (left.next was (on (next_of opening) was before) spared);
+  others = λ k far was before. since k was (left.others k far was (on k was before));
 }
+  where
+    since : (k : ℕ) (was : Bytes) → IsUntouched mid new k was → IsUntouched old new k was
+    since k was same = record {
+      reads = same.reads;
+      crash = λ image leaves. back k image (same.crash image leaves);
+    }
 
 pub left_until : (old mid new : Disks) → ((k : ℕ) (bytes : Bytes) → new.reads k bytes → mid.reads k bytes)
     → ((k : ℕ) (bytes : Bytes) → new.may_leave k bytes → mid.may_leave k bytes)
@@ -136,18 +145,24 @@ pub left_until : (old mid new : Disks) → ((k : ℕ) (bytes : Bytes) → new.re
 left_until old mid new read_back leave_back form opening sites left = record {
   reads = λ k within bytes read. left.reads k within bytes (read_back k bytes read);
   crash = λ k within bytes leaves. left.crash k within bytes (leave_back k bytes leaves);
-  next = λ unread was bytes before now. left.next unread was bytes before (read_back (next_of opening) bytes now);
-  others = λ k far was bytes before now. left.others k far was bytes before (read_back k bytes now);
+  next = λ was before spared. until (next_of opening) was (left.next was before spared);
+  others = λ k far was before. until k was (left.others k far was before);
 }
+  where
+    until : (k : ℕ) (was : Bytes) → IsUntouched old mid k was → IsUntouched old new k was
+    until k was same = record {
+      reads = λ bytes now. same.reads bytes (read_back k bytes now);
+      crash = λ image leaves. same.crash image (leave_back k image leaves);
+    }
 
--- a disk that couldn't be looked at again reads as it did
+-- a disk that couldn't be looked at again is unchanged
 pub left_failing : (old new : Disks) (journals : List (List Entry)) (sites : List Site)
     → AreLeft old new Resume (record { journals = journals; next = Stops }) sites
     → AreLeft old new Resume (record { journals = journals; next = Fails }) sites
 left_failing old new journals sites left = record {
   reads = left.reads;
   crash = left.crash;
-  next = λ unread was bytes before now. left.next tt was bytes before now;
+  next = λ was before spared. left.next was before tt;
   others = left.others;
 }
 

@@ -21,7 +21,8 @@ use Rattle.pec_runs.specs.Endings.{End, end_text}
 use Rattle.pec_runs.specs.Endings as ends
 use Rattle.pec_runs.specs.Happened.{Asked, Begun, Halted, Happened, IsSetting, Over, Setting, Stage, by_directory, by_form}
 use Rattle.pec_runs.specs.Happened.{by_next, by_script, outcome_at, outcome_of, providers_in, stage_of, trade_in}
-use Rattle.pec_runs.specs.Openings.{AreLeft, AreUntouched, Disks, Form, IsOpening, Next, NoMore, Holds, Unfits, Fails}
+use Rattle.pec_serving.specs.OfNetworks.{IsUnchanged}
+use Rattle.pec_runs.specs.Openings.{AreLeft, AreUntouched, Disks, Form, IsOpening, IsUntouched, Next, NoMore, Holds, Unfits, Fails}
 use Rattle.pec_runs.specs.Openings.{Stops, Opening, disks_at, form_in}
 use Rattle.pec_plays.specs.Commands.{Luck}
 use Rattle.pec_runs.specs.Plays.{Outcome, Rest, Stopped}
@@ -34,10 +35,29 @@ use Rattle.pec_top.specs.Running.{RanSo, disk_counts, parts_behind}
 
 -- ---- disks that nobody asked for
 
+module _ {D : Type 0} (tells : Type 0) (sight : D → Sight) (old new : ℕ → Option D) where
+  -- what is at a provider's place now is an unchanged disk
+  pub untouched_by : (k : ℕ) (was : Bytes) (before : (disks_at tells sight old).reads k was)
+      → ((now : D) → new k ≡ Some now → IsUnchanged (sight before.1.0) (sight now))
+      → IsUntouched (disks_at tells sight old) (disks_at tells sight new) k was
+  untouched_by k was before unchanged = record {
+    reads = λ bytes now. sym now.1.2 ∙ ((unchanged now.1.0 now.1.1).seen ∙ before.1.2);
+    crash = λ image leaves.
+        (before.0, (before.1.0, before.1.1, (unchanged leaves.1.0 leaves.1.1).crash image leaves.1.2));
+  }
+
+  -- or the same one
+  pub untouched_same : (k : ℕ) (was : Bytes) → (disks_at tells sight old).reads k was
+      → ((disks_at tells sight old).reads k was → new k ≡ old k)
+      → IsUntouched (disks_at tells sight old) (disks_at tells sight new) k was
+  untouched_same k was before same = untouched_by k was before (λ now is.
+      subst (λ (d : D). IsUnchanged (sight before.1.0) (sight d))
+      (same_Some before.1.0 now (sym before.1.1 ∙ (sym (same before) ∙ is)))
+      (record { seen = refl; crash = λ image leaves. leaves }))
+
 pub untouched : {D : Type 0} (tells : Type 0) (sight : D → Sight) (home : ℕ → Option D)
     → AreUntouched (disks_at tells sight home) (disks_at tells sight home)
-untouched tells sight home = λ k was bytes old now.
-    sym now.1.2 ∙ (ap (λ d. (sight d).seen) (same_Some now.1.0 old.1.0 (sym now.1.1 ∙ old.1.1)) ∙ old.1.2)
+untouched tells sight home = λ k was before. untouched_same tells sight home home k was before (λ told. refl)
 
 -- ---- inputs
 

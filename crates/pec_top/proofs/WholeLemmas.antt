@@ -18,7 +18,7 @@ use Rattle.pec_plays.specs.Commands.{Luck}
 use Rattle.pec_serving.specs.OfNetworks.{Waiting, waiting_for}
 use Rattle.pec_runs.specs.Climbing.{Comes, Place}
 use Rattle.pec_runs.specs.Happened.{Asked, IsSetting, Setting, providers_in, trade_in}
-use Rattle.pec_runs.specs.Openings.{AreLeft, Disks, Form, IsLeft, IsOpening, NoMore, disks_at, form_in, opened_all}
+use Rattle.pec_runs.specs.Openings.{AreLeft, Disks, Form, IsLeft, IsOpening, IsUntouched, NoMore, disks_at, form_in, opened_all}
 use Rattle.pec_runs.specs.Plays.{MayPlay, Outcome, Rest}
 use Rattle.pec_runs.specs.Ran.{LeavesOff, Tells, command_in_hand}
 use Rattle.pec_runs.specs.ScriptLines.{Script, script_of}
@@ -28,7 +28,7 @@ use Rattle.pec_top.specs.Running.{RanSo, parts_behind}
 use Rattle.pec_top.specs.Scripts.{AreKept, ScriptRan}
 use Rattle.pec_top.proofs.ComingLemmas.{rose_on}
 use Rattle.pec_top.proofs.HadLemmas.{left_so}
-use Rattle.pec_top.proofs.RunningLemmas.{ran_begun}
+use Rattle.pec_top.proofs.RunningLemmas.{ran_begun, untouched_same}
 
 there : {X : Type 0} (xs : List X) (k : ℕ) → k < length xs → X
 there [] k l = absurd (omega (arith, l))
@@ -138,12 +138,10 @@ module _ {D : Type 0} (tells : Type 0) (sight : D → Sight)
       in subst (λ (s : List Site). IsLeft s k bytes) (sym (same told))
       (x.2 bytes (subst (λ (d : D). (sight d).may_leave bytes) (sym one) leaves))
 
-  untouched_at : (k : ℕ) → count ≤ k → (was bytes : Bytes) → (disks_at tells sight old).reads k was
-      → (disks_at tells sight new).reads k bytes → bytes ≡ was
-  untouched_at k past was bytes before now =
-      let here = kept.elsewhere now.0 k past ∙ apart now.0 k past
-      in sym now.1.2 ∙ (ap (λ (d : D). (sight d).seen)
-      (same_Some now.1.0 before.1.0 (sym now.1.1 ∙ (here ∙ before.1.1))) ∙ before.1.2)
+  untouched_at : (k : ℕ) → count ≤ k → (was : Bytes) → (disks_at tells sight old).reads k was
+      → IsUntouched (disks_at tells sight old) (disks_at tells sight new) k was
+  untouched_at k past was before =
+      untouched_same tells sight old new k was before (λ told. kept.elsewhere told.0 k past ∙ apart told.0 k past)
 
   pub left_whole : AreLeft (disks_at tells sight old) (disks_at tells sight new) form
       (record { journals = journals; next = NoMore }) left
@@ -154,9 +152,8 @@ module _ {D : Type 0} (tells : Type 0) (sight : D → Sight)
         (reads_so read.0 read.1.0));
     crash = λ k within bytes leaves.
         left_at k (omega (arith, size, within)) leaves.0 leaves.1.0 leaves.1.1 bytes leaves.1.2;
-    next = λ unread was bytes before now.
-        untouched_at (length journals) (omega (arith, size)) was bytes before now;
-    others = λ k far was bytes before now. untouched_at k (omega (arith, size, far)) was bytes before now;
+    next = λ was before spared. untouched_at (length journals) (omega (arith, size)) was before;
+    others = λ k far was before. untouched_at k (omega (arith, size, far)) was before;
   }
 
 -- what a law of pec_runs says: the counts may be taken earlier

@@ -1,14 +1,14 @@
 -- A look at the disks of a depot, which leaves each as it was: `AreAsTheyWere`. This project's profile.
 use Rattle.std.specs.Prelude.{◌≡◌, ℕ, ◌<◌, Bool, [], length, Option, Some, None, MatchBool}
 use Rattle.pec_outside.specs.DiskModel.{Sight}
-use Rattle.pec_serving.specs.OfNetworks.{IsAsItWas}
+use Rattle.pec_serving.specs.OfNetworks.{IsUnchanged}
 
 -- `reads`: whether disks tell what they hold.
 module _ {D : Type 0} (reads : Type 0) (sight : D → Sight) where
   -- what is at home at a provider's place, by what was: nothing, or a disk that reads as that one did
   abbrev pub IsAsBefore : Option D → Option D → Type 0
   IsAsBefore None now = now ≡ None
-  IsAsBefore (Some was) now = (disk : D) × (now ≡ Some disk) × (reads → IsAsItWas (sight was) (sight disk))
+  IsAsBefore (Some was) now = (disk : D) × (now ≡ Some disk) × (reads → IsUnchanged (sight was) (sight disk))
 
   abbrev pub AreAsTheyWere : (ℕ → Option D) → (ℕ → Option D) → Type 0
   AreAsTheyWere old new = (provider : ℕ) → IsAsBefore (old provider) (new provider)

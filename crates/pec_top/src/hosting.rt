@@ -25,7 +25,7 @@ ghost use Rattle.pec_top.specs.Surveys.{AreAsTheyWere};
 use crate::beginning::{begin, end_at_start};
 use crate::ending::{End, Stop};
 use crate::forms::Form;
-use crate::laws::{a_directory_is_lawful, a_disk_reads_as_an_image, a_network_is_whole};
+use crate::laws::{a_disk_reads_as_an_image, a_network_is_whole};
 use crate::run::write_last;
 use crate::status::{Status, end_status, stop_status};
 use crate::survey::{choose_form, holds_something};
@@ -174,7 +174,6 @@ fn serve_opened<W: Sink, P: Depot, T: Ticks, R: Door, J: Judge>(
     ensures out { R.out door.new ≡ R.out door.old }
 {
     the_texts_are_a_trade::<HmacSealer>();
-    a_directory_is_lawful(&directory);
     let sealer = sealer_of(alloc, &directory)?;
     let Ok(form) = choose_form(depot, directory.count()) else {
         return Err(Stop::StartFault);

@@ -1,12 +1,10 @@
 ghost use Rattle.std.specs.Prelude.{List};
-ghost use Rattle.pec_directory.specs.Directory.{Provider, providers_of};
-ghost use Rattle.pec_directory.specs.Lawful.{IsLawful};
+ghost use Rattle.pec_directory.specs.Directory.{Provider};
 ghost use Rattle.pec_ledger.specs.Trade.{Trade};
 ghost use Rattle.pec_serving.specs.OfNetworks.{IsOfDirectory};
 ghost use Rattle.pec_screen.specs.Screened.{Finds};
 ghost use Rattle.pec_top.specs.LoopLaws.{LoopLaws};
 
-use pec_directory::Directory;
 use pec_input::lines_are_the_text;
 use pec_outside::{Depot, Disk};
 use pec_runs::{a_run_is_climbed, a_script_is_played_line_by_line};
@@ -18,13 +16,6 @@ pub(crate) fn a_network_is_whole<D, H: Sealer>(network: &Network<D, H>)
     ensures { IsOfDirectory network.now.kept (H.seals network.now.sealer) network.now.providers network.now.waiting }
 {
     network.directory();
-}
-
-/// A directory that was opened is lawful. It takes no memory.
-pub(crate) fn a_directory_is_lawful(directory: &Directory)
-    ensures { IsLawful (providers_of directory.now) }
-{
-    directory.count();
 }
 
 /// A disk as it reads is one of its images.

@@ -20,9 +20,7 @@ ghost use Rattle.pec_top.specs.Shown.{form_shown, result_shown};
 use crate::beginning::{begin, end_at_start};
 use crate::ending::{End, Stop};
 use crate::forms::Form;
-use crate::laws::{
-    a_directory_is_lawful, a_disk_reads_as_an_image, a_loop_climbs, a_network_is_whole,
-};
+use crate::laws::{a_disk_reads_as_an_image, a_loop_climbs, a_network_is_whole};
 use crate::script::play_script;
 use pec_directory::Directory;
 use pec_house::sealer_of;
@@ -181,8 +179,9 @@ fn run_opened<S: Source, W: Sink, P: Depot, J: Judge>(
     a_trade_says_what_its_parts_say();
     the_texts_are_a_trade::<HmacSealer>();
     a_disk_reads_as_an_image::<P::D>();
-    a_directory_is_lawful(&directory);
     a_loop_climbs::<P>();
+    // (a directory is lawful, and its zones are by its rules)
+    directory.count();
     let sealer = sealer_of(alloc, &directory)?;
     match begin(alloc, form, directory, sealer, depot) {
         Ok(network) => {

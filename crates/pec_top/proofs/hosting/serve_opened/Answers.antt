@@ -14,7 +14,7 @@ use Rattle.pec_top.specs.Shown.{form_shown}
 use Rattle.pec_top.proofs.FlowLemmas.{followed_by-nil}
 use Rattle.pec_top.proofs.HostedLemmas.{journals_since}
 use Rattle.pec_top.proofs.HostingLemmas.{served_begun, served_halted, served_unlooked}
-use Rattle.pec_top.proofs.RestLemmas.{reads_on, untouched_rest}
+use Rattle.pec_top.proofs.RestLemmas.{leaves_back, reads_on, untouched_rest}
 use Rattle.pec_top.proofs.RunningLemmas.{untouched}
 use Rattle.pec_top.proofs.hosting.serve_opened.Goals as goal
 
@@ -53,9 +53,10 @@ returns-in_default-clause-served g c = λ bytes unread short opens input.
     let setting : Setting = record { kept = kept; seals = seals } in
     let is_setting : IsSetting (providers_of kept) setting = record {
       kept = refl;
-      lawful = c.a_directory_is_lawful.ensures;
+      zones = c.count.ensures.zones;
+      lawful = c.count.ensures.lawful;
       seals = c.in_ok-sealer.ensures.exact;
-      world = c.the_texts_are_a_trade.ensures.trade c.in_ok-sealer.sealer kept c.a_directory_is_lawful.ensures
+      world = c.the_texts_are_a_trade.ensures.trade c.in_ok-sealer.sealer kept c.count.ensures.lawful
           c.in_ok-sealer.ensures.fits;
     } in
     let new = g.P.Depot.home c.choose_form.new.depot in
@@ -82,9 +83,10 @@ returns-clause-served g c = λ bytes unread short opens input.
     let setting : Setting = record { kept = kept; seals = seals } in
     let is_setting : IsSetting (providers_of kept) setting = record {
       kept = refl;
-      lawful = c.a_directory_is_lawful.ensures;
+      zones = c.count.ensures.zones;
+      lawful = c.count.ensures.lawful;
       seals = c.in_ok-sealer.ensures.exact;
-      world = c.the_texts_are_a_trade.ensures.trade c.in_ok-sealer.sealer kept c.a_directory_is_lawful.ensures
+      world = c.the_texts_are_a_trade.ensures.trade c.in_ok-sealer.sealer kept c.count.ensures.lawful
           c.in_ok-sealer.ensures.fits;
     } in
     let mid = g.P.Depot.home c.choose_form.new.depot in
@@ -104,5 +106,6 @@ returns-clause-served g c = λ bytes unread short opens input.
     served_begun asked status unread before after disks (disks_at tells g.P.D.Disk.sight new) here there last upto bytes short
     setting opens is_setting input form served.0 chosen
     (journals_since asked status before after disks (disks_at tells g.P.D.Disk.sight mid) (disks_at tells g.P.D.Disk.sight new)
-    (reads_on g.P.Depot.tells g.P.D.Disk.tells g.P.D.Disk.sight home mid c.choose_form.ensures.rest) here there last
+    (reads_on g.P.Depot.tells g.P.D.Disk.tells g.P.D.Disk.sight home mid c.choose_form.ensures.rest)
+    (leaves_back g.P.Depot.tells g.P.D.Disk.tells g.P.D.Disk.sight home mid c.choose_form.ensures.rest) here there last
     (g.P.Depot.last c.choose_form.new.depot) upto c.choose_form.ensures.last setting served.0 form served.1)

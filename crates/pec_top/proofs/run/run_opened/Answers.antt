@@ -47,9 +47,10 @@ returns-in_err-end-in-Ok-clause-ran g c = λ words bytes unread is short opens i
     let setting : Setting = record { kept = kept; seals = seals } in
     let is_setting : IsSetting (providers_of kept) setting = record {
       kept = refl;
-      lawful = c.a_directory_is_lawful.ensures;
+      zones = c.count.ensures.zones;
+      lawful = c.count.ensures.lawful;
       seals = c.in_ok-sealer.ensures.exact;
-      world = c.the_texts_are_a_trade.ensures.trade c.in_ok-sealer.sealer kept c.a_directory_is_lawful.ensures
+      world = c.the_texts_are_a_trade.ensures.trade c.in_ok-sealer.sealer kept c.count.ensures.lawful
           c.in_ok-sealer.ensures.fits;
     } in
     let of = c.a_trade_says_what_its_parts_say.ensures.directory kept seals in
@@ -123,9 +124,10 @@ returns-in_ok-end-in-Ok-clause-ran g c = λ words bytes unread is short opens in
     let setting : Setting = record { kept = kept; seals = seals } in
     let is_setting : IsSetting (providers_of kept) setting = record {
       kept = refl;
-      lawful = c.a_directory_is_lawful.ensures;
+      zones = c.count.ensures.zones;
+      lawful = c.count.ensures.lawful;
       seals = c.in_ok-sealer.ensures.exact;
-      world = c.the_texts_are_a_trade.ensures.trade c.in_ok-sealer.sealer kept c.a_directory_is_lawful.ensures
+      world = c.the_texts_are_a_trade.ensures.trade c.in_ok-sealer.sealer kept c.count.ensures.lawful
           c.in_ok-sealer.ensures.fits;
     } in
     let of = c.a_trade_says_what_its_parts_say.ensures.directory kept seals in
@@ -198,9 +200,10 @@ returns-in_err-end-in-Err-clause-ran g c = λ words bytes unread is short opens 
     let setting : Setting = record { kept = kept; seals = seals } in
     let is_setting : IsSetting (providers_of kept) setting = record {
       kept = refl;
-      lawful = c.a_directory_is_lawful.ensures;
+      zones = c.count.ensures.zones;
+      lawful = c.count.ensures.lawful;
       seals = c.in_ok-sealer.ensures.exact;
-      world = c.the_texts_are_a_trade.ensures.trade c.in_ok-sealer.sealer kept c.a_directory_is_lawful.ensures
+      world = c.the_texts_are_a_trade.ensures.trade c.in_ok-sealer.sealer kept c.count.ensures.lawful
           c.in_ok-sealer.ensures.fits;
     } in
     let of = c.a_trade_says_what_its_parts_say.ensures.directory kept seals in
@@ -236,9 +239,10 @@ returns-in_ok-end-in-Err-clause-ran g c = λ words bytes unread is short opens i
     let setting : Setting = record { kept = kept; seals = seals } in
     let is_setting : IsSetting (providers_of kept) setting = record {
       kept = refl;
-      lawful = c.a_directory_is_lawful.ensures;
+      zones = c.count.ensures.zones;
+      lawful = c.count.ensures.lawful;
       seals = c.in_ok-sealer.ensures.exact;
-      world = c.the_texts_are_a_trade.ensures.trade c.in_ok-sealer.sealer kept c.a_directory_is_lawful.ensures
+      world = c.the_texts_are_a_trade.ensures.trade c.in_ok-sealer.sealer kept c.count.ensures.lawful
           c.in_ok-sealer.ensures.fits;
     } in
     let of = c.a_trade_says_what_its_parts_say.ensures.directory kept seals in
