@@ -6,8 +6,8 @@ mod words;
 
 use pec_doors::{SystemTicks, TcpDoor};
 use pec_files::{FileDepot, Input, Output};
-use pec_top::Status;
-use screening::run_screened;
+use pec_top::{Status, run_pec};
+use screening::screens;
 use std::io;
 use std::process::ExitCode;
 use std::time::Duration;
@@ -27,12 +27,15 @@ fn main(rt: HostRuntime) -> ExitCode {
     let Ok(folder) = String::from_str(rt.alloc(), ".") else {
         return ExitCode::from(Status::NoMemory.code());
     };
+    let Ok(screens) = screens(rt.alloc()) else {
+        return ExitCode::from(Status::NoMemory.code());
+    };
     let mut depot = FileDepot::new(&rt, folder);
     let mut ticks = SystemTicks::new(&rt);
     let mut door = TcpDoor::new(&rt, PORT, Duration::from_secs(PATIENCE));
     let mut input = Input::new(rt.reader());
     let mut output = Output::new(io::writer(&rt));
-    match run_screened(
+    let status = run_pec(
         rt.alloc(),
         &words,
         &mut input,
@@ -40,8 +43,7 @@ fn main(rt: HostRuntime) -> ExitCode {
         &mut depot,
         &mut ticks,
         &mut door,
-    ) {
-        Ok(status) => ExitCode::from(status.code()),
-        Err(_) => ExitCode::from(Status::NoMemory.code()),
-    }
+        screens,
+    );
+    ExitCode::from(status.code())
 }

@@ -1,10 +1,9 @@
 //! The screens that the program hands in: each of its providers refuses what has the pattern of a virus.
 
-ghost use Rattle.std.specs.Prelude.{◌<◌, ◌^◌};
+ghost use Rattle.std.specs.Prelude.{◌≡◌, IfOk, map};
+ghost use Rattle.pec.specs.Screening.{handed_in, one_screen};
 
-use pec_outside::{Depot, Door, Sink, Source, Ticks};
-use pec_screen::{PatternScreen, Screen, Screens};
-use pec_top::{Status, run_pec};
+use pec_screen::{Judge, PatternScreen};
 use pec_types::Text8;
 use std::alloc::{AllocError, Global};
 
@@ -14,22 +13,21 @@ const LISTS: usize = 16;
 /// Stands for a virus in tries of the program.
 const PATTERN: &[u8] = b"PEC-VIRUS-DI-PROVA";
 
-/// Runs the program, where each of the first providers has one screen, of one pattern.
-pub(crate) fn run_screened<S: Source, W: Sink, P: Depot, T: Ticks, R: Door>(
-    alloc: Global,
-    words: &[String],
-    input: &mut S,
-    out: &mut W,
-    depot: &mut P,
-    ticks: &mut T,
-    door: &mut R,
-) -> Result<Status, AllocError> {
+/// The screens of the program's providers: each of the first sixteen has one, of one pattern, that hasn't looked yet.
+pub(crate) fn screens(alloc: Global) -> Result<Vec<PatternScreen>, AllocError>
+    ensures { IfOk result (λ screens. map ⟦<PatternScreen as Judge>⟧.patterns screens.items ≡ handed_in) }
+{
     let mut screens = Vec::new(alloc);
     for _ in 0..LISTS {
-        let pattern = Text8::of(Vec::from_slice(alloc, PATTERN)?);
-        let screen = PatternScreen::new(vec![in alloc; pattern]?);
-        let screen: Box<dyn Screen> = Box::new(alloc, screen)?;
-        screens.push(Screens::new(vec![in alloc; screen]?))?;
+        screens.push(screen(alloc)?)?;
     }
-    Ok(run_pec(alloc, words, input, out, depot, ticks, door, screens))
+    Ok(screens)
+}
+
+/// The screen of one provider.
+fn screen(alloc: Global) -> Result<PatternScreen, AllocError>
+    ensures { IfOk result (λ screen. ⟦<PatternScreen as Judge>⟧.patterns screen ≡ one_screen) }
+{
+    let pattern = Text8::of(Vec::from_slice(alloc, PATTERN)?);
+    Ok(PatternScreen::new(vec![in alloc; pattern]?))
 }

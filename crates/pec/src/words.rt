@@ -40,9 +40,9 @@ fn word<R: Env>(rt: &R, alloc: Global, place: usize) -> Result<Option<String>, A
 #[cfg(test)]
 mod tests {
     use super::*;
-    use crate::screening::run_screened;
+    use crate::screening::screens;
     use pec_outside::{MemDepot, MemDoor, MemSink, MemSource, MemTicks};
-    use pec_top::Status;
+    use pec_top::{Status, run_pec};
     use pec_types::Moment;
     use std::test::Fail;
 
@@ -114,7 +114,7 @@ mod tests {
                 Vec::new(rt.alloc()),
                 Vec::new(rt.alloc()),
             );
-            let ran = run_screened(
+            let ran = run_pec(
                 rt.alloc(),
                 &words,
                 &mut input,
@@ -122,7 +122,8 @@ mod tests {
                 &mut depot,
                 &mut ticks,
                 &mut door,
-            )?;
+                screens(rt.alloc())?,
+            );
             assert_eq!(rt; ran, status, "at {word:?}");
         }
         Ok(())
