@@ -420,7 +420,7 @@ tables_told laws (Some tables) fault = elim (count_case (eqb (count_of tables) 0
   )
 ]
 
-table_told : AddressLaws → (whole : Data) (fault : DirectoryFault) → (directory_in whole ≡ Err fault) ↔ IsTableFault whole fault
+pub table_told : AddressLaws → (whole : Data) (fault : DirectoryFault) → (directory_in whole ≡ Err fault) ↔ IsTableFault whole fault
 unfolding directory_in
 table_told laws whole fault = tables_told laws (providers_in whole) fault
 

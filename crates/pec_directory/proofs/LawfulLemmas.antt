@@ -17,7 +17,7 @@ use Rattle.pec_types.specs.declared.addresses.AddressFault.{AddressFault}
 use Rattle.pec_directory.specs.Directory.{Account, Provider, accounts_of}
 use Rattle.pec_directory.specs.Fields.{accounts_at, address_at, address_in, domain_in, domain_of_item, domains_at, domains_of, greatest_limit, has_length, is_hex, is_hex_byte, is_name, is_some_list, is_visible, key_at, key_of, limit_at, limit_of, name_at, number_in, number_of, quota_at, receipts_at, rule_at, seal_key_at, service_at, text_at, where_true}
 use Rattle.pec_directory.specs.Lawful.{AreNext, AreNextAccounts, IsLawful, IsNext, IsNextAccount, IsOwnDomain}
-use Rattle.pec_directory.specs.Tables.{IsDirectory, SayAccounts, SayProviders, SaysAccount, SaysProvider}
+use Rattle.pec_directory.specs.Tables.{IsDirectory, IsOfTable, SayAccounts, SayProviders, SaysAccount, SaysProvider}
 use Rattle.pec_directory.specs.Walk as walk
 use Rattle.pec_directory.specs.Walk.{Fields, account_in, accounts_from, count_of, directory_in, directory_of, document_of, fault_if, fields_of, is_named, is_outside, is_taken, key_in, most_accounts, most_providers, or_fault, provider_in, providers_from, providers_in, receipts_in, rule_in, settled, stands_twice, with_accounts}
 use Rattle.pec_directory.specs.declared.faults.DirectoryFault.{DirectoryFault}
@@ -376,6 +376,11 @@ said_in laws whole providers e =
     let few = unless_ok (ltb most_providers (count_of values.0)) TooMany _ providers some.1 in
     let apart = eqb-false (count_of values.0) 0 some.0 in
     (values.0, values.1, said_from laws values.0 providers (omega arith) (ltb-false most_providers (count_of values.0) few.0) few.1)
+
+pub table_so : AddressLaws → (whole : Data) (providers : List Provider) → directory_in whole ≡ Ok providers → IsOfTable whole providers
+table_so laws whole providers e =
+    let said = said_in laws whole providers e in
+    record { tables = said.0; are_tables = said.1; say = said.2.1; lawful = said.2.0 }
 
 pub directory_so : AddressLaws → (text : Bytes) (providers : List Provider) → directory_of text ≡ Ok providers → IsDirectory text providers
 unfolding directory_of

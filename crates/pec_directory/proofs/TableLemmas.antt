@@ -11,7 +11,7 @@ use Rattle.pec_types.specs.Results.{◌>>=◌}
 use Rattle.pec_directory.specs.Directory.{Account, Provider, accounts_of}
 use Rattle.pec_directory.specs.Fields.{address_at, address_in, key_of, receipts_at, rule_at, seal_key_at, text_at}
 use Rattle.pec_directory.specs.Lawful.{AreNext, AreNextAccounts, IsNext, IsNextAccount}
-use Rattle.pec_directory.specs.Tables.{IsDirectory, SayAccounts, SayProviders, SaysAccount, SaysFields, SaysProvider, fields_in}
+use Rattle.pec_directory.specs.Tables.{IsDirectory, IsOfTable, SayAccounts, SayProviders, SaysAccount, SaysFields, SaysProvider, fields_in}
 use Rattle.pec_directory.specs.Walk.{Fields, account_in, accounts_from, count_of, directory_in, directory_of, fields_of, key_in, most_accounts, most_providers, or_fault, provider_in, providers_from, receipts_in, rule_in, settled, with_accounts}
 use Rattle.pec_directory.specs.declared.faults.DirectoryFault.{DirectoryFault}
 use Rattle.pec_directory.specs.declared.faults.DirectoryFault.TheVariants.{BadAddress, BadField, BadKey}
@@ -96,9 +96,14 @@ some_tables n some = grind (arith, nat_tests)
 few_tables : (n : ℕ) → n ≤ most_providers → ltb most_providers n ≡ false
 few_tables n few = grind (arith, nat_tests)
 
-pub directory_again : (text : Bytes) (providers : List Provider) → IsDirectory text providers → directory_of text ≡ Ok providers
-unfolding directory_of directory_in
-directory_again text providers is =
+pub table_again : (whole : Data) (providers : List Provider) → IsOfTable whole providers → directory_in whole ≡ Ok providers
+unfolding directory_in
+table_again whole providers is =
     let all = providers_again [] is.tables providers is.lawful.each is.say in
     let count = all.1 in
-    rw (is.is_toml, is.are_tables, some_tables (count_of is.tables) (omega (arith, count, is.lawful.some)), few_tables (count_of is.tables) (omega (arith, count, is.lawful.few)), all.0) refl
+    rw (is.are_tables, some_tables (count_of is.tables) (omega (arith, count, is.lawful.some)), few_tables (count_of is.tables) (omega (arith, count, is.lawful.few)), all.0) refl
+
+pub directory_again : (text : Bytes) (providers : List Provider) → IsDirectory text providers → directory_of text ≡ Ok providers
+unfolding directory_of
+directory_again text providers is =
+    rw is.is_toml (table_again is.whole providers record { tables = is.tables; are_tables = is.are_tables; say = is.say; lawful = is.lawful })

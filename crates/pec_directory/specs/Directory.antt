@@ -1,7 +1,7 @@
 -- The directory of providers (RFC 6109, section 4.5, within this project's profile): a list of providers, each with its
 -- domains and its accounts, numbered from 0 in the order of the directory. `Provider` and `Account` say what it has;
 -- whatever is looked up is what a search of these lists finds first.
-use Rattle.std.specs.Prelude.{ℕ, List, [], ◌∷◌, Bool, false, ◌==◌, Option, None, Some, find, if◌then◌else◌, is_some, map, slice_get}
+use Rattle.std.specs.Prelude.{ℕ, List, [], ◌∷◌, Bool, false, ◌==◌, Option, None, Some, find, if◌then◌else◌, is_some, map, option_map, slice_get}
 use Rattle.std.specs.List.{flat_map, list_any, position_from}
 use Rattle.std.specs.Str.{bytes_eq}
 use Rattle.jiff_tz.specs.declared.posix.TimeZone.{TimeZone}
@@ -61,6 +61,10 @@ first_of (domain ∷ domains) = domain
 abbrev pub first_domain_in : Option Provider → Bytes
 first_domain_in None = []
 first_domain_in (Some provider) = first_of provider.domains
+
+-- the rule of the zone of the provider of a number
+unfoldable pub rule_of : List Provider → ℕ → Option Bytes
+rule_of providers number = option_map (λ (provider : Provider). provider.rule) (slice_get providers number)
 
 -- the first domain of the provider of a number, by which its messages are named
 unfoldable pub first_domain : List Provider → ℕ → Bytes

@@ -1,5 +1,5 @@
 -- A text that is a directory: TOML whose tables say providers and accounts field by field, and these are lawful. The
--- headline is `IsDirectory`, at the end. This project's profile.
+-- headline is `IsDirectory`, at the end; `IsOfTable` is the same of a table. This project's profile.
 use Rattle.std.specs.Prelude.{◌≡◌, List, [], ◌∷◌, Some}
 use Rattle.toml.specs.Data.{Data, Items, no_items, item}
 use Rattle.pec_types.specs.Bytes.{Bytes}
@@ -48,6 +48,13 @@ SayProviders no_items [] = Unit {0}
 SayProviders no_items (provider ∷ providers) = ⊥
 SayProviders (item entry tables) [] = ⊥
 SayProviders (item entry tables) (provider ∷ providers) = SaysProvider entry provider × SayProviders tables providers
+
+-- A whole table is the directory of these providers: the tables in its `provider` say them, and they are lawful.
+pub record IsOfTable (whole : Data) (providers : List Provider) : Type 0 where
+  pub tables : Items
+  pub are_tables : providers_in whole ≡ Some tables
+  pub say : SayProviders tables providers
+  pub lawful : IsLawful providers
 
 -- The text is the directory of these providers: it is TOML, the tables in its `provider` say them, and they are lawful.
 pub record IsDirectory (text : Bytes) (providers : List Provider) : Type 0 where

@@ -7,14 +7,15 @@ use crate::accounts::Account;
 use crate::digesting::digest;
 use crate::faults::DirectoryFault;
 use crate::ids::id_of;
-use crate::laws::a_directory_is_told_exactly;
+use crate::laws::{a_directory_is_told_exactly, a_table_is_told_exactly};
 use crate::places::Place;
 use crate::providers::Provider;
-use crate::reading::read_text;
+use crate::reading::{read_table, read_text};
 use pec_index::Index;
 use pec_types::{Address, MsgId, NoMemory};
 use std::alloc::Global;
 use std::marker::Model;
+use toml::Table;
 
 /// The directory of providers. Contracts see the list of what is kept of each.
 pub struct Directory {
@@ -53,16 +54,18 @@ impl Drop for Directory {
 
 impl Directory {
     ghost use Rattle.std.specs.Prelude.{◌≡◌, ◌↔◌, ◌<◌, ◌≤◌, Some, length, option_map, slice_get, IfOk, IfSome, IsTrue};
+    ghost use Rattle.toml.specs.Data.{table};
+    ghost use Rattle.toml.specs.View.{table_view};
     ghost use Rattle.pec_types.specs.Answers.{Gives, ReadsExactly, seen_as};
     ghost use Rattle.pec_types.specs.Message.{Id};
     ghost use Rattle.pec_directory.specs.Canonical.{digest_of};
-    ghost use Rattle.pec_directory.specs.Directory.{account_home, account_of, first_domain, home_of, is_account_of, is_certified, named, providers_of};
-    ghost use Rattle.pec_directory.specs.Faults.{IsDirectoryFault};
+    ghost use Rattle.pec_directory.specs.Directory.{account_home, account_of, first_domain, home_of, is_account_of, is_certified, named, providers_of, rule_of};
+    ghost use Rattle.pec_directory.specs.Faults.{IsDirectoryFault, IsTableFault};
     ghost use Rattle.pec_directory.specs.Ids.{Names, id_of};
     ghost use Rattle.pec_directory.specs.Indexes.{IsIndexed};
     ghost use Rattle.pec_directory.specs.Lawful.{IsLawful};
-    ghost use Rattle.pec_directory.specs.Tables.{IsDirectory};
-    ghost use Rattle.pec_directory.specs.Walk.{directory_of, most_providers};
+    ghost use Rattle.pec_directory.specs.Tables.{IsDirectory, IsOfTable};
+    ghost use Rattle.pec_directory.specs.Walk.{directory_in, directory_of, most_providers};
     ghost use Rattle.pec_directory.specs.Zones.{AreByRule};
     ghost use Rattle.pec_directory.specs.declared.faults.DirectoryFault.TheVariants as faults;
 
@@ -96,6 +99,20 @@ impl Directory {
     {
         a_directory_is_told_exactly();
         read_text(alloc, text)
+    }
+
+    /// The directory that a table is, of the form that docs/formats.md has, or the first fault of its tests; of the table
+    /// only what stands at the keys of that form is looked at. This project's profile.
+    pub fn from_table(alloc: Global, whole: &Table) -> Result<Directory, DirectoryFault>
+        // Providers are answered exactly where the table says them and they are lawful; and otherwise the fault of the
+        // first test that is met.
+        ensures reads { ReadsExactly (IsOfTable (table (table_view whole.now))) (IsTableFault (table (table_view whole.now)))
+            faults.NoMemory (seen_as providers_of result) }
+        // The same answer as a function of the table, for definitions that build on it.
+        ensures exact { Gives faults.NoMemory providers_of result (directory_in (table (table_view whole.now))) }
+    {
+        a_table_is_told_exactly();
+        read_table(alloc, whole)
     }
 
     /// SHA-256 (FIPS 180-4) of the canonical text that docs/formats.md has.
@@ -195,6 +212,18 @@ impl Directory {
         ensures { option_map (λ provider. provider.now) result ≡ slice_get self.now number }
     {
         self.providers.get(number as usize)
+    }
+
+    /// The rule of the zone of the provider of a number, from 0, as the directory has it (POSIX.1-2024, TZ). It takes no
+    /// memory.
+    #[tactic(auto, unfolding(crate::specs::Directory::rule_of))]
+    pub fn rule(&self, provider: u32) -> Option<&[u8]>
+        ensures { option_map (λ rule. rule.now) result ≡ rule_of (providers_of self.now) provider }
+    {
+        match self.provider(provider) {
+            Some(provider) => Some(provider.rule().bytes()),
+            None => None,
+        }
     }
 
     /// The number, from 0, of the provider of a name. It takes no memory.

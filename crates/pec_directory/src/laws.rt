@@ -1,4 +1,5 @@
-ghost use Rattle.std.specs.Prelude.{◌≡◌, ◌↔◌, ◌<◌, ◌≤◌, ℕ, List, Ok, Some, length, true};
+ghost use Rattle.std.specs.Prelude.{◌≡◌, ◌↔◌, ◌<◌, ◌≤◌, ℕ, List, Ok, Some, codes, length, true};
+ghost use Rattle.toml.specs.Data.{Data, get};
 ghost use Rattle.pec_types.specs.Address.{IsLowerAddress};
 ghost use Rattle.pec_types.specs.Answers.{TellsExactly};
 ghost use Rattle.pec_types.specs.Bytes.{Bytes};
@@ -7,12 +8,12 @@ ghost use Rattle.pec_types.specs.Words.{id_text};
 ghost use Rattle.pec_types.specs.declared.messages.TheConstants.{MESSAGES};
 ghost use Rattle.pec_directory.specs.Canonical.{canonical};
 ghost use Rattle.pec_directory.specs.Directory.{Provider, first_domain, manages};
-ghost use Rattle.pec_directory.specs.Faults.{IsDirectoryFault};
+ghost use Rattle.pec_directory.specs.Faults.{IsDirectoryFault, IsTableFault};
 ghost use Rattle.pec_directory.specs.Fields.{service_at};
 ghost use Rattle.pec_directory.specs.Ids.{Names, id_of};
 ghost use Rattle.pec_directory.specs.Lawful.{IsLawful};
-ghost use Rattle.pec_directory.specs.Tables.{IsDirectory};
-ghost use Rattle.pec_directory.specs.Walk.{directory_of, domains_of, is_among};
+ghost use Rattle.pec_directory.specs.Tables.{IsDirectory, IsOfTable};
+ghost use Rattle.pec_directory.specs.Walk.{directory_in, directory_of, domains_of, is_among};
 
 use pec_types::{
     an_address_is_told_exactly, printable_is_said_of_each_byte, what_is_read_is_in_lower_case,
@@ -31,6 +32,17 @@ pub fn a_directory_is_lawful()
 /// field by field, and they are lawful, and a fault exactly where its test is the first that is met.
 pub fn a_directory_is_told_exactly()
     ensures { (text : Bytes) → TellsExactly (IsDirectory text) (IsDirectoryFault text) (directory_of text) }
+{
+    an_address_is_told_exactly();
+    what_is_read_is_in_lower_case();
+}
+
+/// The law of tables: the walk over a whole table is one with what its tables say, as `a_directory_is_told_exactly` says
+/// it of a text; and of the whole table only what stands at its key `provider` counts.
+pub fn a_table_is_told_exactly()
+    ensures told { (whole : Data) → TellsExactly (IsOfTable whole) (IsTableFault whole) (directory_in whole) }
+    ensures looks_up { (whole other : Data) → get (codes "provider") whole ≡ get (codes "provider") other
+        → directory_in whole ≡ directory_in other }
 {
     an_address_is_told_exactly();
     what_is_read_is_in_lower_case();

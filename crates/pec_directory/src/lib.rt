@@ -21,6 +21,6 @@ pub use directories::Directory;
 pub use faults::{DirectoryFault, Field};
 pub use laws::{
     a_canonical_text_is_one_directory, a_directory_is_lawful, a_directory_is_told_exactly,
-    a_first_domain_is_one_providers, a_text_names_one_message,
+    a_first_domain_is_one_providers, a_table_is_told_exactly, a_text_names_one_message,
 };
 pub use providers::Provider;

@@ -1,5 +1,6 @@
-ghost use Rattle.std.specs.Prelude.{◌≡◌, ◌<◌, ◌≤◌, ◌==◌, nat_lt, false, [], length, option_map};
-ghost use Rattle.toml.specs.View.{items_view, view};
+ghost use Rattle.std.specs.Prelude.{◌≡◌, ◌<◌, ◌≤◌, ◌==◌, nat_lt, false, [], codes, length, option_map};
+ghost use Rattle.toml.specs.Data.{get_member, table};
+ghost use Rattle.toml.specs.View.{items_view, table_view, view};
 ghost use Rattle.pec_types.specs.Answers.{Gives};
 ghost use Rattle.pec_directory.specs.Directory.{providers_of};
 ghost use Rattle.pec_directory.specs.Walk.{count_of, directory_in, directory_of, most_providers, providers_from, providers_in};
@@ -13,7 +14,7 @@ use crate::settling::read_provider;
 use pec_index::Index;
 use pec_types::{an_address_is_told_exactly, what_is_read_is_in_lower_case};
 use std::alloc::Global;
-use toml::Value;
+use toml::{Table, Value};
 
 /// The greatest number of providers of a directory.
 const MOST_PROVIDERS: usize = 16;
@@ -28,14 +29,14 @@ pub(crate) fn read_text(alloc: Global, text: &str) -> Result<Directory, Director
         Err(fault) if fault.is_memory() => return Err(DirectoryFault::NoMemory),
         Err(_) => return Err(DirectoryFault::NotToml),
     };
-    let directory = read_whole(alloc, &Value::Table(table))?;
+    let directory = read_table(alloc, &table)?;
     Ok(directory)
 }
 
 /// What the table of a directory says.
 #[tactic(auto, unfolding(crate::specs::Walk::directory_in))]
-fn read_whole(alloc: Global, whole: &Value) -> Result<Directory, DirectoryFault>
-    ensures { Gives faults.NoMemory providers_of result (directory_in (view whole.now)) }
+pub(crate) fn read_table(alloc: Global, whole: &Table) -> Result<Directory, DirectoryFault>
+    ensures { Gives faults.NoMemory providers_of result (directory_in (table (table_view whole.now))) }
 {
     let Some(values) = providers_in(whole) else {
         return Err(DirectoryFault::NoProvider);
@@ -52,11 +53,18 @@ fn read_whole(alloc: Global, whole: &Value) -> Result<Directory, DirectoryFault>
 
 /// The tables of the providers.
 #[tactic(auto, unfolding(crate::specs::Walk::providers_in))]
-fn providers_in(whole: &Value) -> Option<&[Value]>
-    ensures { option_map (λ values. items_view values.now) result ≡ providers_in (view whole.now) }
+fn providers_in(whole: &Table) -> Option<&[Value]>
+    ensures { option_map (λ values. items_view values.now) result ≡ providers_in (table (table_view whole.now)) }
 {
-    let value = whole.get("provider")?;
+    let value = provider_at(whole)?;
     tables_of(value)
+}
+
+/// What stands at the key of the providers.
+fn provider_at(whole: &Table) -> Option<&Value>
+    ensures { option_map (λ value. view value.now) result ≡ get_member (codes "provider") (table_view whole.now) }
+{
+    whole.get("provider")
 }
 
 #[tactic(auto, using(crate::proofs::StepLemmas::count_view))]
