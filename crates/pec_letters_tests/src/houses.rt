@@ -3,8 +3,8 @@ ghost use Rattle.pec_directory.specs.Directory.{providers_of};
 ghost use Rattle.pec_letters.specs.Fitting.{Fits};
 
 use pec_directory::Directory;
-use pec_house::sealer_of;
 use pec_seal::{HmacSealer, Sealer, seal};
+use pec_trade::sealer_of;
 use pec_trial::two;
 use std::alloc::{AllocError, Global};
 use std::test::Fail;

@@ -5,9 +5,9 @@ use Rattle.pec_directory.specs.Directory.{providers_of}
 use Rattle.pec_letters.specs.Fitting.{Fits}
 use Rattle.pec_seal.specs.Hmac.{hmac_seals}
 use Rattle.pec_seal.specs.Seals.{Seals}
-use Rattle.pec_house.specs.Keys.{names_of}
-use Rattle.pec_house.proofs.LawfulLemmas.{sealer_fits}
-use Rattle.pec_house.proofs.sealers.sealer_of.Goals as goal
+use Rattle.pec_trade.specs.Keys.{names_of}
+use Rattle.pec_trade.proofs.LawfulLemmas.{sealer_fits}
+use Rattle.pec_trade.proofs.sealers.sealer_of.Goals as goal
 
 pub returns-clause-fits : goal.returns-clause-fits
 returns-clause-fits c =

@@ -13,7 +13,7 @@ use Rattle.pec_directory.specs.Lawful.{AreNext, IsLawful}
 use Rattle.pec_directory.specs.Walk.{is_named}
 use Rattle.pec_letters.specs.Fitting.{Fits}
 use Rattle.pec_seal.specs.Hmac.{IsKey, hmac_seals}
-use Rattle.pec_house.specs.Keys.{keys_of, names_of}
+use Rattle.pec_trade.specs.Keys.{keys_of, names_of}
 
 -- ---- names
 

@@ -2,9 +2,9 @@
 use Rattle.std.proofs.Common.{[], ◌∷◌, ◌++◌, take, ap, sym, ◌∙◌}
 use Rattle.pec_types.specs.Bytes.{Bytes, Path}
 use Rattle.pec_directory.specs.Directory.{Provider, providers_of}
-use Rattle.pec_house.specs.Keys.{names_of}
-use Rattle.pec_house.proofs.LawfulLemmas.{one_more}
-use Rattle.pec_house.proofs.sealers.names.Goals as goal
+use Rattle.pec_trade.specs.Keys.{names_of}
+use Rattle.pec_trade.proofs.LawfulLemmas.{one_more}
+use Rattle.pec_trade.proofs.sealers.names.Goals as goal
 
 pub loop-number-preserved : goal.loop-number-preserved
 loop-number-preserved c =

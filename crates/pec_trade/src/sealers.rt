@@ -3,7 +3,7 @@ ghost use Rattle.pec_directory.specs.Directory.{providers_of};
 ghost use Rattle.pec_directory.specs.Lawful.{IsLawful};
 ghost use Rattle.pec_letters.specs.Fitting.{Fits};
 ghost use Rattle.pec_seal.specs.Hmac.{IsKey, hmac_seals};
-ghost use Rattle.pec_house.specs.Keys.{keys_of, names_of};
+ghost use Rattle.pec_trade.specs.Keys.{keys_of, names_of};
 
 use pec_directory::{Directory, Provider};
 use pec_seal::{HmacSealer, Sealer};
