@@ -9,3 +9,8 @@ mod TableLemmas
 pub mod ValueLemmas
 pub mod VersionLemmas
 mod WritingLemmas
+mod WrittenGood
+mod WrittenLines
+mod WrittenRecords
+mod WrittenTables
+mod WrittenValues

@@ -1,17 +1,16 @@
 -- Tables as maps of the code and as members in the order of their keys, and loops that put tables one behind the other.
-use Rattle.std.proofs.Common.{◌≡◌, ℕ, ◌+◌, ◌-◌, ◌*◌, ◌<◌, ◌≤◌, Bool, true, false, cond, leb, List, [], ◌∷◌, ◌++◌, length, map, Option, None, Some, String, Global, Ordering, Less, Equal, Greater, nat_cmp, string_bytes, option_map, refl, sym, ◌∙◌, ap, arith, append-nil, append_assoc}
+use Rattle.std.proofs.Common.{◌≡◌, true, false, cond, List, [], ◌∷◌, ◌++◌, map, String, Global, Ordering, Less, Equal, Greater, string_bytes, refl, sym, ◌∙◌, ap, append-nil, append_assoc}
 use Rattle.std.proofs.lemmas.List.{map-append}
 use Rattle.std.specs.BTreeMap.{insert_entry}
-use Rattle.std.specs.Cmp.Lexicographic.{slice_cmp}
 use Rattle.std.specs.Ordering.{match_ordering}
 use Rattle.std.specs.String.{string_cmp}
-use Rattle.toml.specs.Data.{Data, Members, member, no_members, string}
+use Rattle.toml.specs.Data.{Data, member, string}
 use Rattle.toml.specs.View.{members_view, view}
 use Rattle.toml.specs.declared.value.Value.{Value}
 use Rattle.pec_types.specs.Bytes.{Bytes}
 use Rattle.pec_ldif.specs.Attributes.{Attribute}
 use Rattle.pec_ldif.specs.Records.{Entry, is_provider}
-use Rattle.pec_ldif.specs.Tables.{account_tables, if_account, if_provider, provider_tables, put_member, value_named, values_named}
+use Rattle.pec_ldif.specs.Tables.{account_tables, if_account, put_member, value_named, values_named}
 
 abbrev pub Member : Type 0
 Member = String Global × Value

@@ -1,11 +1,11 @@
 -- Lines and records that are put one behind the other are those of the text.
-use Rattle.std.proofs.Common.{◌≡◌, ℕ, zero, suc, ◌+◌, List, [], ◌∷◌, ◌++◌, Option, None, Some, ◌<◌, codes, get_or, take, drop, length, map, slice_get, refl, sym, ◌∙◌, ap, arith, append-nil, append_assoc, add-one}
+use Rattle.std.proofs.Common.{◌≡◌, ℕ, zero, suc, ◌+◌, List, [], ◌∷◌, ◌++◌, Some, ◌<◌, codes, get_or, take, drop, length, map, slice_get, sym, ◌∙◌, ap, arith, append-nil, append_assoc}
 use Rattle.std.specs.List.{flat_map}
 use Rattle.std.proofs.lemmas.Grind.{flat_map-append}
 use Rattle.std.proofs.lemmas.List.{drop_more, map-append, take_more}
 use Rattle.std.proofs.lemmas.Option.{none-some, same_Some}
 use Rattle.pec_types.specs.Bytes.{Bytes, line_feed}
-use Rattle.pec_directory.specs.Directory.{Account, Kept, Provider, providers_of}
+use Rattle.pec_directory.specs.Directory.{Account, Kept, providers_of}
 use Rattle.pec_ldif.specs.Attributes.{Attribute}
 use Rattle.pec_ldif.specs.Writing.{account_record, account_records, attribute_line, provider_records, record_text, records_from, said}
 

@@ -1,6 +1,6 @@
 -- A text of LDIF that is a directory, `IsLdifDirectory`, and why a text is none, `IsLdifRefusal`: all faults of the text
 -- come before those of its table. `directory_in_ldif` is the same as a function. This project's profile.
-use Rattle.std.specs.Prelude.{◌≡◌, List, Result, Ok, Err}
+use Rattle.std.specs.Prelude.{List, Result, Ok, Err}
 use Rattle.pec_types.specs.Bytes.{Bytes}
 use Rattle.pec_types.specs.Results.{◌>>=◌}
 use Rattle.pec_directory.specs.Directory.{Provider}

@@ -1,5 +1,5 @@
 -- Nine digits are few enough.
-use Rattle.std.proofs.Common.{arith, sym, ltb-false}
+use Rattle.std.proofs.Common.{arith, sym}
 use Rattle.pec_ldif.proofs.NumberLemmas.{short_below}
 use Rattle.pec_ldif.proofs.tables.short_number.Goals as goal
 
