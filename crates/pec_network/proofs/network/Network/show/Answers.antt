@@ -22,8 +22,10 @@ pub item-requires : goal.item-requires
 item-requires g c =
     let inside = c.in-Some.ensures.within in
     let count = c.self.invariant.count in
-    runs_from c.self.inside.providers.items c.in-Some.me c.index.result.now c.index.result.now (omega arith) c.index.ensures
-    c.self.inside.directory c.self.inside.arrivals.items c.self.invariant
+    record {
+      runs = runs_from c.self.inside.providers.items c.in-Some.me c.index.result.now c.index.result.now (omega arith) c.index.ensures
+          c.self.inside.directory c.self.inside.arrivals.items c.self.invariant;
+    }
 
 pub returns : goal.returns
 returns g c = λ luck.
