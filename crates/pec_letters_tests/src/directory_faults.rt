@@ -1,12 +1,13 @@
 //! Which texts are directories, and which fault each other text has. Expected values are those of the tests that
 //! docs/formats.md lists, worked by hand.
 use crate::directories::{crowd, lines};
+use crate::texts::joined;
 use pec_directory::DirectoryFault::{
     self, AccountOutside, AccountTwice, BadAddress, BadField, BadKey, BadZone, DomainTwice,
     NameTwice, NoProvider, NotToml, TooMany,
 };
 use pec_directory::{Directory, Field};
-use std::alloc::{AllocError, Global};
+use std::alloc::Global;
 
 /// What is changed in the directory of short texts, what stands there then, up to the end of the line, and the fault.
 type Row = (&'static str, &'static str, Option<DirectoryFault>);
@@ -32,15 +33,8 @@ fn is_right(alloc: Global, row: &Row) -> bool {
 fn changed(alloc: Global, from: &str, to: &str) -> Option<String> {
     let (front, rest) = SHORT.split_once(from)?;
     let (_, back) = rest.split_once('~')?;
-    joined(alloc, front, to, back).ok()
-}
-
-fn joined(alloc: Global, front: &str, to: &str, back: &str) -> Result<String, AllocError> {
-    let mut text = String::from_str(alloc, front)?;
-    text.push_str(to)?;
-    text.push_str("~")?;
-    text.push_str(back)?;
-    lines(alloc, text.as_str())
+    let text = joined(alloc, &[front, to, "~", back]);
+    Some(lines(alloc, text.as_str()))
 }
 
 /// Whether the text has this fault, or is a directory where none is wanted.
@@ -540,10 +534,7 @@ fn providers_are_a_list_of_tables(rt: HostRuntime) {
 }
 
 fn is_read_as(alloc: Global, text: &str, fault: Option<DirectoryFault>) -> bool {
-    match lines(alloc, text) {
-        Ok(text) => has_fault(alloc, text.as_str(), fault),
-        Err(_) => false,
-    }
+    has_fault(alloc, lines(alloc, text).as_str(), fault)
 }
 
 // The last two accounts of these directories are at their second provider.
@@ -558,8 +549,5 @@ fn one_account_more_is_too_many(rt: HostRuntime) {
 }
 
 fn is_crowd_read_as(alloc: Global, accounts: u32, fault: Option<DirectoryFault>) -> bool {
-    match crowd(alloc, accounts) {
-        Some(text) => has_fault(alloc, text.as_str(), fault),
-        None => false,
-    }
+    has_fault(alloc, crowd(alloc, accounts).as_str(), fault)
 }

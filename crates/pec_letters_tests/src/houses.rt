@@ -2,12 +2,12 @@
 ghost use Rattle.pec_directory.specs.Directory.{providers_of};
 ghost use Rattle.pec_letters.specs.Fitting.{Fits};
 
+use crate::texts::{joined, replaced, written};
 use pec_directory::Directory;
 use pec_seal::{HmacSealer, Sealer, seal};
 use pec_trade::sealer_of;
 use pec_trial::two;
-use std::alloc::{AllocError, Global};
-use std::test::Fail;
+use std::alloc::Global;
 
 /// A directory, and the sealer of its providers.
 pub(crate) struct House {
@@ -36,41 +36,35 @@ zone = "CET-1CEST,M3.5.0,M10.5.0/3"
 
 impl House {
     /// The house of `alfa`, `beta` and `gamma`, the third with the domain that is given and no accounts.
-    pub(crate) fn of(alloc: Global, gamma: &str) -> Result<House, Fail> {
-        let text = text_of_three(alloc, gamma)?;
-        let directory = Directory::read(alloc, text.as_str())?;
-        let sealer = sealer_of(alloc, &directory)?;
-        Ok(House { directory, sealer })
+    pub(crate) fn of(alloc: Global, gamma: &str) -> Option<House> {
+        let text = text_of_three(alloc, gamma);
+        match Directory::read(alloc, text.as_str()) {
+            Ok(directory) => House::sealing(alloc, directory),
+            Err(_) => None,
+        }
+    }
+
+    fn sealing(alloc: Global, directory: Directory) -> Option<House> {
+        match sealer_of(alloc, &directory) {
+            Ok(sealer) => Some(House { directory, sealer }),
+            Err(_) => None,
+        }
     }
 }
 
-fn text_of_three(alloc: Global, gamma: &str) -> Result<String, AllocError> {
-    let third = GAMMA.replace(alloc, "GAMMA", gamma)?;
-    let mut text = String::from_str(alloc, two())?;
-    text.push_str(third.as_str())?;
-    Ok(text)
+fn text_of_three(alloc: Global, gamma: &str) -> String {
+    let third = replaced(alloc, GAMMA, "GAMMA", gamma);
+    joined(alloc, &[two(), third.as_str()])
 }
 
-/// A text as it is sent: its lines end with CRLF.
-pub(crate) fn written(alloc: Global, text: &str) -> Result<String, AllocError> {
-    text.replace(alloc, "\n", "\r\n")
-}
-
-/// The letter that a provider sealed.
-pub(crate) fn sealed(alloc: Global, house: &House, by: u32, letter: &str) -> Result<Vec<u8>, Fail> {
+/// The letter that a provider sealed; no byte where there is no such provider.
+pub(crate) fn sealed(alloc: Global, house: &House, by: u32, letter: &str) -> Vec<u8> {
     if house.sealer.name(by).is_none() {
-        return Err("no such provider".into());
+        return Vec::new(alloc);
     }
-    let letter = written(alloc, letter)?;
-    let text = seal(alloc, &house.sealer, by, letter.as_bytes())?;
-    Ok(text)
-}
-
-/// The pieces, one behind the other.
-pub(crate) fn joined(alloc: Global, pieces: &[&str]) -> Result<String, AllocError> {
-    let mut text = String::new(alloc);
-    for piece in pieces {
-        text.push_str(piece)?;
+    let letter = written(alloc, letter);
+    match seal(alloc, &house.sealer, by, letter.as_bytes()) {
+        Ok(text) => text,
+        Err(_) => Vec::new(alloc),
     }
-    Ok(text)
 }

@@ -1,14 +1,17 @@
 //! Envelopes and anomalies, byte by byte.
-use crate::houses::{House, sealed, written};
+ghost use Rattle.std.specs.Prelude.{IfSome};
+ghost use Rattle.pec_letters.specs.Fitting.{HasFacts};
+
+use crate::houses::{House, sealed};
 use crate::letter_texts::{
     HEADLESS, HEADLESS_ANOMALY, LONGEST, LONGEST_ENVELOPE, PROVA, PROVA_ANOMALY, SALVE,
     SALVE_ENVELOPE, SALVE_SEAL, UFFICIO, UFFICIO_ENVELOPE,
 };
+use crate::texts::{replaced, written};
 use pec_heads::Head;
 use pec_letters::{compose_anomaly, compose_envelope};
-use pec_types::{Moment, MsgId};
-use std::alloc::{AllocError, Global};
-use std::test::Fail;
+use pec_types::{Facts, Moment, MsgId};
+use std::alloc::Global;
 
 /// A domain of 236 bytes, the most that a domain may have.
 const LONGEST_DOMAIN: &str = concat!(
@@ -87,71 +90,105 @@ fn anomalies() -> &'static [Row] {
 }
 
 #[test]
-fn an_envelope_is_composed_byte_by_byte(rt: HostRuntime) -> Result<(), Fail> {
+fn an_envelope_is_composed_byte_by_byte(rt: HostRuntime) {
     for row in envelopes() {
-        assert!(rt; is_envelope(rt.alloc(), row)?, "{}", row.moment);
+        assert!(rt; is_envelope(rt.alloc(), row), "{}", row.moment);
     }
-    Ok(())
 }
 
-fn is_envelope(alloc: Global, row: &Row) -> Result<bool, Fail> {
-    let house = House::of(alloc, LONGEST_DOMAIN)?;
-    let letter = envelope(alloc, &house, row)?;
-    is_letter_of(alloc, &house, row, &letter)
+fn is_envelope(alloc: Global, row: &Row) -> bool {
+    match House::of(alloc, LONGEST_DOMAIN) {
+        Some(house) => {
+            let letter = envelope(alloc, &house, row);
+            is_letter_of(alloc, &house, row, &letter)
+        }
+        None => false,
+    }
 }
 
 #[test]
-fn an_anomaly_is_composed_byte_by_byte(rt: HostRuntime) -> Result<(), Fail> {
+fn an_anomaly_is_composed_byte_by_byte(rt: HostRuntime) {
     for row in anomalies() {
-        assert!(rt; is_anomaly(rt.alloc(), row)?, "{}", row.moment);
+        assert!(rt; is_anomaly(rt.alloc(), row), "{}", row.moment);
     }
-    Ok(())
 }
 
-fn is_anomaly(alloc: Global, row: &Row) -> Result<bool, Fail> {
-    let house = House::of(alloc, LONGEST_DOMAIN)?;
-    let letter = anomaly(alloc, &house, row)?;
-    is_letter_of(alloc, &house, row, &letter)
+fn is_anomaly(alloc: Global, row: &Row) -> bool {
+    match House::of(alloc, LONGEST_DOMAIN) {
+        Some(house) => {
+            let letter = anomaly(alloc, &house, row);
+            is_letter_of(alloc, &house, row, &letter)
+        }
+        None => false,
+    }
 }
 
 /// The text of a message, with the third provider's domain.
-fn in_full(alloc: Global, text: &str) -> Result<String, AllocError> {
-    let text = text.replace(alloc, "GAMMA", LONGEST_DOMAIN)?;
+fn in_full(alloc: Global, text: &str) -> String {
+    let text = replaced(alloc, text, "GAMMA", LONGEST_DOMAIN);
     written(alloc, text.as_str())
 }
 
-/// The envelope of a row's message, of its sender's provider.
-fn envelope(alloc: Global, house: &House, row: &Row) -> Result<Vec<u8>, Fail> {
-    let original = in_full(alloc, row.message)?;
-    let (head, _) = Head::read(alloc, original.as_bytes())?;
-    let facts = head.facts(alloc)?.ok_or("no facts")?;
-    let provider = house.directory.home_of(&facts.sender).ok_or("no home")?;
-    let moment = Moment::new(row.moment).ok_or("no moment")?;
+/// The envelope of a row's message, of its sender's provider; no byte where there is none.
+fn envelope(alloc: Global, house: &House, row: &Row) -> Vec<u8> {
+    let original = in_full(alloc, row.message);
+    match facts_of(alloc, original.as_bytes()) {
+        Some(facts) => composed(alloc, house, row, &facts, original.as_bytes()),
+        None => Vec::new(alloc),
+    }
+}
+
+/// The facts of a message.
+fn facts_of(alloc: Global, original: &[u8]) -> Option<Facts>
+    ensures { IfSome result (λ facts. HasFacts original.now facts) }
+{
+    match Head::read(alloc, original) {
+        Ok((head, _)) => match head.facts(alloc) {
+            Ok(facts) => facts,
+            Err(_) => None,
+        },
+        Err(_) => None,
+    }
+}
+
+fn composed(alloc: Global, house: &House, row: &Row, facts: &Facts, original: &[u8]) -> Vec<u8>
+    requires { HasFacts original.now facts.now }
+{
+    let Some(moment) = Moment::new(row.moment) else {
+        return Vec::new(alloc);
+    };
+    let Some(provider) = house.directory.home_of(&facts.sender) else {
+        return Vec::new(alloc);
+    };
     let id = MsgId {
         provider,
         number: 0,
     };
-    let letter = compose_envelope(
+    match compose_envelope(
         alloc,
         &house.sealer,
         &house.directory,
         id,
         moment,
-        &facts,
-        original.as_bytes(),
-    )?;
-    Ok(letter)
+        facts,
+        original,
+    ) {
+        Ok(letter) => letter,
+        Err(_) => Vec::new(alloc),
+    }
 }
 
-/// The anomaly in which a provider hands on a row's message.
-fn anomaly(alloc: Global, house: &House, row: &Row) -> Result<Vec<u8>, Fail> {
+/// The anomaly in which a provider hands on a row's message; no byte where there is none.
+fn anomaly(alloc: Global, house: &House, row: &Row) -> Vec<u8> {
     let provider = row.provider;
     if provider >= house.directory.count() {
-        return Err("no such provider".into());
+        return Vec::new(alloc);
     }
-    let message = in_full(alloc, row.message)?;
-    let moment = Moment::new(row.moment).ok_or("no moment")?;
-    let letter = compose_anomaly(
+    let Some(moment) = Moment::new(row.moment) else {
+        return Vec::new(alloc);
+    };
+    let message = in_full(alloc, row.message);
+    match compose_anomaly(
         alloc,
         &house.sealer,
         &house.directory,
@@ -159,13 +196,15 @@ fn anomaly(alloc: Global, house: &House, row: &Row) -> Result<Vec<u8>, Fail> {
         row.number,
         moment,
         message.as_bytes(),
-    )?;
-    Ok(letter)
+    ) {
+        Ok(letter) => letter,
+        Err(_) => Vec::new(alloc),
+    }
 }
 
 /// Whether these are the bytes of the row's letter, under the seal of its provider.
-fn is_letter_of(alloc: Global, house: &House, row: &Row, letter: &[u8]) -> Result<bool, Fail> {
-    let wanted = row.letter.replace(alloc, "GAMMA", LONGEST_DOMAIN)?;
-    let wanted = sealed(alloc, house, row.provider, wanted.as_str())?;
-    Ok(wanted.as_slice() == letter && letter.starts_with(row.seal.as_bytes()))
+fn is_letter_of(alloc: Global, house: &House, row: &Row, letter: &[u8]) -> bool {
+    let wanted = replaced(alloc, row.letter, "GAMMA", LONGEST_DOMAIN);
+    let wanted = sealed(alloc, house, row.provider, wanted.as_str());
+    wanted.as_slice() == letter && letter.starts_with(row.seal.as_bytes())
 }

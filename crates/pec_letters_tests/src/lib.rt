@@ -24,3 +24,5 @@ mod receipt_texts;
 mod receipts_composed;
 #[cfg(test)]
 mod receipts_read;
+#[cfg(test)]
+mod texts;

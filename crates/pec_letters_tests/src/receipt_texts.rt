@@ -1,19 +1,70 @@
 //! A message and the receipts about it, unsealed, as another program composed them. Lines end with a line feed here and
 //! with CRLF in the tests; RECIPIENT, %1, %2 and %3 stand for words of the row.
 
-use std::alloc::{AllocError, Global};
+use crate::texts::replaced;
+use std::alloc::Global;
 
-/// A text with its words: the address of RECIPIENT, and those of %1, %2 and %3.
-pub(crate) fn worded(
-    alloc: Global,
-    text: &str,
-    recipient: &str,
-    words: [&str; 3],
-) -> Result<String, AllocError> {
-    let text = text.replace(alloc, "RECIPIENT", recipient)?;
-    let text = text.replace(alloc, "%1", words[0])?;
-    let text = text.replace(alloc, "%2", words[1])?;
-    text.replace(alloc, "%3", words[2])
+/// A letter whose text stands below. Tables name it, so that its text stands in no row.
+#[derive(Clone, Copy)]
+pub(crate) enum Form {
+    Acceptance,
+    Refusal,
+    Charge,
+    Delivery,
+    Error,
+    Delay,
+    Acknowledgement,
+}
+
+impl Form {
+    /// Its text with its words: the address of RECIPIENT, and those of %1, %2 and %3.
+    pub(crate) fn worded(self, alloc: Global, recipient: &str, words: &[&str; 3]) -> String {
+        let text = replaced(alloc, self.text(), "RECIPIENT", recipient);
+        let text = replaced(alloc, text.as_str(), "%1", words[0]);
+        let text = replaced(alloc, text.as_str(), "%2", words[1]);
+        replaced(alloc, text.as_str(), "%3", words[2])
+    }
+
+    fn text(self) -> &'static str {
+        match self {
+            Form::Acceptance => acceptance(),
+            Form::Refusal => refusal(),
+            Form::Charge => charge(),
+            Form::Delivery => delivery(),
+            Form::Error => error(),
+            Form::Delay => delay(),
+            Form::Acknowledgement => acknowledgement(),
+        }
+    }
+}
+
+/// The texts, by functions without a clause.
+fn acceptance() -> &'static str {
+    ACCEPTANCE
+}
+
+fn refusal() -> &'static str {
+    REFUSAL
+}
+
+fn charge() -> &'static str {
+    CHARGE
+}
+
+fn delivery() -> &'static str {
+    DELIVERY
+}
+
+fn error() -> &'static str {
+    ERROR
+}
+
+fn delay() -> &'static str {
+    DELAY
+}
+
+fn acknowledgement() -> &'static str {
+    ACKNOWLEDGEMENT
 }
 
 /// The message: of two primary recipients, one of them external, and a copy.
@@ -93,7 +144,7 @@ ba7816bf8f01cfea414140de5dae2223b00361a396177a9cb410ff61f20015ad
 "#;
 
 /// By `alfa`.
-pub(crate) const ACCEPTANCE: &str = r#"X-Ricevuta: accettazione
+const ACCEPTANCE: &str = r#"X-Ricevuta: accettazione
 Message-ID: <acc.0.0001234@alfa.example>
 X-Riferimento-Message-ID: <pec.0001234@alfa.example>
 Date: Tue, 02 Jan 2024 10:01:00 +0100
@@ -141,7 +192,7 @@ Content-Disposition: attachment; filename="daticert.xml"
 "#;
 
 /// By `alfa`: the error, the cause, and the field of a virus.
-pub(crate) const REFUSAL: &str = r#"X-Ricevuta: non-accettazione
+const REFUSAL: &str = r#"X-Ricevuta: non-accettazione
 %3Message-ID: <nac.0.0001234@alfa.example>
 X-Riferimento-Message-ID: <pec.0001234@alfa.example>
 Date: Tue, 02 Jan 2024 10:01:00 +0100
@@ -189,7 +240,7 @@ Content-Disposition: attachment; filename="daticert.xml"
 "#;
 
 /// By `beta`.
-pub(crate) const CHARGE: &str = r#"X-Ricevuta: presa-in-carico
+const CHARGE: &str = r#"X-Ricevuta: presa-in-carico
 Message-ID: <pic.0.0001234@beta.example>
 X-Riferimento-Message-ID: <pec.0001234@alfa.example>
 Date: Tue, 02 Jan 2024 10:01:00 +0100
@@ -238,7 +289,7 @@ Content-Disposition: attachment; filename="daticert.xml"
 "#;
 
 /// By `beta`: the wish, the part that has the message, and the recipient's place.
-pub(crate) const DELIVERY: &str = r#"X-Ricevuta: avvenuta-consegna
+const DELIVERY: &str = r#"X-Ricevuta: avvenuta-consegna
 X-TipoRicevuta: %1
 Message-ID: <avc.0.0001234.%3@beta.example>
 X-Riferimento-Message-ID: <pec.0001234@alfa.example>
@@ -288,7 +339,7 @@ Content-Disposition: attachment; filename="daticert.xml"
 "#;
 
 /// By `beta`, of the first recipient: the error, the decision, and the field of a virus.
-pub(crate) const ERROR: &str = r#"X-Ricevuta: errore-consegna
+const ERROR: &str = r#"X-Ricevuta: errore-consegna
 %3Message-ID: <err.0.0001234.0@beta.example>
 X-Riferimento-Message-ID: <pec.0001234@alfa.example>
 Date: Tue, 02 Jan 2024 10:01:00 +0100
@@ -337,7 +388,7 @@ Content-Disposition: attachment; filename="daticert.xml"
 "#;
 
 /// By `alfa`, of the first recipient: the tag, the phrase, and the time.
-pub(crate) const DELAY: &str = r#"X-Ricevuta: preavviso-errore-consegna
+const DELAY: &str = r#"X-Ricevuta: preavviso-errore-consegna
 Message-ID: <%1.0.0001234.0@alfa.example>
 X-Riferimento-Message-ID: <pec.0001234@alfa.example>
 Date: Tue, 02 Jan 2024 10:01:00 +0100
@@ -386,7 +437,7 @@ Content-Disposition: attachment; filename="daticert.xml"
 "#;
 
 /// By `alfa`, of the first recipient.
-pub(crate) const ACKNOWLEDGEMENT: &str = r#"X-Riscontro: pec.0001234@alfa.example RECIPIENT
+const ACKNOWLEDGEMENT: &str = r#"X-Riscontro: pec.0001234@alfa.example RECIPIENT
 Message-ID: <ris.0.0001234.0@alfa.example>
 X-Riferimento-Message-ID: <pec.0001234@alfa.example>
 Date: Tue, 02 Jan 2024 10:01:00 +0100

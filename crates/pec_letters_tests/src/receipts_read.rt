@@ -1,13 +1,10 @@
 //! The tables of faults of receipts and of acknowledgements: a letter for each row and for each pair of rows that both
 //! apply, and letters that no row refuses.
 use crate::edited::{Reader, Row, has_fault_with, is_fault};
-use crate::receipt_texts::{
-    ACCEPTANCE, ACKNOWLEDGEMENT, CHARGE, DELAY, DELIVERY, ERROR, REFUSAL, WHOLE, worded,
-};
+use crate::receipt_texts::{Form, WHOLE};
 use pec_types::Disputed::{Identifier, Moment, Recipient, Sealer as Sealed, Sender, Wish};
 use pec_types::LetterFault::{self, Body, Cert, Disagree, Head, NotThis};
-use std::alloc::{AllocError, Global};
-use std::test::Fail;
+use std::alloc::Global;
 
 /// Of the delivery receipt of the first recipient with the whole message, in the order of the table.
 static DELIVERED: [Row; 27] = [
@@ -143,22 +140,22 @@ static ACKNOWLEDGED: [Row; 11] = [
     (Disagree(Moment), "Date:", "Data:"),
 ];
 
-/// A letter that a provider seals: its text, the words in it, and who seals it.
-type Letter = (&'static str, [&'static str; 3], u32);
+/// A letter that a provider seals: its form, the words in it, and who seals it.
+type Letter = (Form, [&'static str; 3], u32);
 
-const ACCEPTED: Letter = (ACCEPTANCE, ["", "", ""], 0);
+const ACCEPTED: Letter = (Form::Acceptance, ["", "", ""], 0);
 
-const REFUSED: Letter = (REFUSAL, ["altro", "size", ""], 0);
+const REFUSED: Letter = (Form::Refusal, ["altro", "size", ""], 0);
 
-const CHARGED: Letter = (CHARGE, ["", "", ""], 1);
+const CHARGED: Letter = (Form::Charge, ["", "", ""], 1);
 
-const WITH_MESSAGE: Letter = (DELIVERY, ["completa", WHOLE, "0"], 1);
+const WITH_MESSAGE: Letter = (Form::Delivery, ["completa", WHOLE, "0"], 1);
 
-const FULL: Letter = (ERROR, ["altro", "mailbox-full", ""], 1);
+const FULL: Letter = (Form::Error, ["altro", "mailbox-full", ""], 1);
 
-const DELAYED: Letter = (DELAY, ["pre", "Entro 12 ore", "12 ore"], 0);
+const DELAYED: Letter = (Form::Delay, ["pre", "Entro 12 ore", "12 ore"], 0);
 
-const ACK: Letter = (ACKNOWLEDGEMENT, ["", "", ""], 0);
+const ACK: Letter = (Form::Acknowledgement, ["", "", ""], 0);
 
 /// Rows of letters of other kinds.
 static OTHERS: [(Letter, Row); 10] = [
@@ -239,13 +236,13 @@ static PASSED: [(Letter, &str, &str); 9] = [
     (ACK, "X-Riscontro", "X-Ricevuta: altro\nx-riscontro"),
 ];
 
-/// The tables and their letters, by functions without a clause: the proofs of the tests are then spared their texts.
-fn delivered() -> (Letter, &'static [Row]) {
-    (WITH_MESSAGE, &DELIVERED)
+/// The tables, by functions without a clause: the proofs of the tests are then spared their texts.
+fn delivered() -> &'static [Row] {
+    &DELIVERED
 }
 
-fn acknowledged() -> (Letter, &'static [Row]) {
-    (ACK, &ACKNOWLEDGED)
+fn acknowledged() -> &'static [Row] {
+    &ACKNOWLEDGED
 }
 
 fn others() -> &'static [(Letter, Row)] {
@@ -261,52 +258,43 @@ fn passed() -> &'static [(Letter, &'static str, &'static str)] {
 }
 
 #[test]
-fn the_first_row_that_applies_is_the_fault(rt: HostRuntime) -> Result<(), Fail> {
-    let (letter, rows) = delivered();
-    for place in 0..rows.len() {
+fn the_first_row_that_applies_is_the_fault(rt: HostRuntime) {
+    for place in 0..delivered().len() {
         assert!(rt;
-            is_fault_at(rt.alloc(), &letter, rows, place)?,
+            is_fault_at(rt.alloc(), &WITH_MESSAGE, delivered(), place),
             "row {place}"
         );
     }
-    Ok(())
 }
 
 #[test]
-fn the_first_row_that_applies_is_the_fault_of_an_acknowledgement(
-    rt: HostRuntime,
-) -> Result<(), Fail> {
-    let (letter, rows) = acknowledged();
-    for place in 0..rows.len() {
+fn the_first_row_that_applies_is_the_fault_of_an_acknowledgement(rt: HostRuntime) {
+    for place in 0..acknowledged().len() {
         assert!(rt;
-            is_fault_at(rt.alloc(), &letter, rows, place)?,
+            is_fault_at(rt.alloc(), &ACK, acknowledged(), place),
             "row {place}"
         );
     }
-    Ok(())
 }
 
 #[test]
-fn letters_of_other_kinds_have_the_faults_of_their_rows(rt: HostRuntime) -> Result<(), Fail> {
+fn letters_of_other_kinds_have_the_faults_of_their_rows(rt: HostRuntime) {
     for (letter, row) in others() {
-        assert!(rt; is_fault_at(rt.alloc(), letter, &[*row], 0)?, "{}", row.2);
+        assert!(rt; is_fault_at(rt.alloc(), letter, &[*row], 0), "{}", row.2);
     }
-    Ok(())
 }
 
 /// Whether the row of this place is the fault of the letter, also where a later one applies too.
-fn is_fault_at(alloc: Global, letter: &Letter, rows: &[Row], place: usize) -> Result<bool, Fail> {
-    let text = whole(alloc, letter)?;
+fn is_fault_at(alloc: Global, letter: &Letter, rows: &[Row], place: usize) -> bool {
+    let text = whole(alloc, letter);
     match rows.get(place..) {
         Some(rows) => is_fault(alloc, Reader::Receipts, letter.2, text.as_str(), rows),
-        None => Ok(false),
+        None => false,
     }
 }
 
 #[test]
-fn a_letter_that_the_messages_provider_alone_may_seal_is_sealed_by_no_other(
-    rt: HostRuntime,
-) -> Result<(), Fail> {
+fn a_letter_that_the_messages_provider_alone_may_seal_is_sealed_by_no_other(rt: HostRuntime) {
     let fault = Some(Disagree(Sealed));
     for letter in elsewhere() {
         assert!(rt;
@@ -317,28 +305,24 @@ fn a_letter_that_the_messages_provider_alone_may_seal_is_sealed_by_no_other(
                 "emittente>alfa<",
                 "emittente>beta<",
                 fault
-            )?
+            )
         );
     }
-    Ok(())
 }
 
 #[test]
-fn any_provider_acknowledges(rt: HostRuntime) -> Result<(), Fail> {
-    let (letter, _) = acknowledged();
-    assert!(rt; is_edited_to(rt.alloc(), &letter, 2, "ricevuto", "ricevuto", None)?);
-    Ok(())
+fn any_provider_acknowledges(rt: HostRuntime) {
+    assert!(rt; is_edited_to(rt.alloc(), &ACK, 2, "ricevuto", "ricevuto", None));
 }
 
 #[test]
-fn what_no_row_looks_at_is_read(rt: HostRuntime) -> Result<(), Fail> {
+fn what_no_row_looks_at_is_read(rt: HostRuntime) {
     for (letter, from, to) in passed() {
         assert!(rt;
-            is_edited_to(rt.alloc(), letter, letter.2, from, to, None)?,
+            is_edited_to(rt.alloc(), letter, letter.2, from, to, None),
             "{to}"
         );
     }
-    Ok(())
 }
 
 /// Whether the letter with this in the place of that, sealed by this provider, has the fault; with none, whether it is
@@ -350,11 +334,11 @@ fn is_edited_to(
     from: &str,
     to: &str,
     fault: Option<LetterFault>,
-) -> Result<bool, Fail> {
-    let text = whole(alloc, letter)?;
+) -> bool {
+    let text = whole(alloc, letter);
     has_fault_with(alloc, Reader::Receipts, by, text.as_str(), from, to, fault)
 }
 
-fn whole(alloc: Global, letter: &Letter) -> Result<String, AllocError> {
-    worded(alloc, letter.0, "bob@beta.example", letter.1)
+fn whole(alloc: Global, letter: &Letter) -> String {
+    letter.0.worded(alloc, "bob@beta.example", &letter.1)
 }
