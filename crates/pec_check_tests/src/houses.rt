@@ -3,7 +3,7 @@
 use crate::letters::{Saved, letter_of};
 use pec_check::{CheckFault, Report, check};
 use pec_directory::Directory;
-use pec_house::sealer_of;
+use pec_trade::sealer_of;
 use pec_seal::{HmacSealer, Sealer, seal};
 use pec_trial::two;
 use std::alloc::Global;
