@@ -3,8 +3,8 @@
 use crate::letters::{Saved, letter_of};
 use pec_check::{CheckFault, Report, check};
 use pec_directory::Directory;
-use pec_trade::sealer_of;
 use pec_seal::{HmacSealer, Sealer, seal};
+use pec_trade::sealer_of;
 use pec_trial::two;
 use std::alloc::Global;
 use std::test::Fail;
