@@ -1,12 +1,12 @@
 //! Lines of a script: what they say, or why they are refused.
 use crate::said::says;
-use std::alloc::{AllocError, Global};
+use std::alloc::Global;
 
 /// A line, and what it says.
 type Row = (&'static str, &'static str);
 
 // A line of each command. Names are numbers, addresses are in lower case, bytes are decoded.
-const COMMANDS: [Row; 12] = [
+static COMMANDS: [Row; 12] = [
     (
         "submit alfa 1704186000 Alice@Alfa.example bob@beta.example,CARL@beta.example,bob@beta.example U2FsdmU=",
         "submit 0 1704186000 alice@alfa.example bob@beta.example carl@beta.example bob@beta.example Salve",
@@ -24,10 +24,15 @@ const COMMANDS: [Row; 12] = [
     ("show a@b 12", "show 12 a@b"),
 ];
 
+/// The table, by a function without a clause: the proofs of the tests are spared its texts.
+fn commands() -> &'static [Row] {
+    &COMMANDS
+}
+
 // One word too few, one too many, and a last word that is empty: whatever stands in the others.
 #[test]
 fn words_are_counted_first(rt: HostRuntime) {
-    for (line, _) in &COMMANDS {
+    for (line, _) in commands() {
         assert!(rt; has_other_counts(rt.alloc(), line), "{line}");
     }
 }
@@ -43,26 +48,24 @@ fn has_other_counts(alloc: Global, line: &str) -> bool {
 
 /// Whether the line of this front and this end is refused for the number of its words.
 fn is_arity(alloc: Global, front: &str, end: &str) -> bool {
-    match repeated(alloc, front, end, 1, "") {
-        Ok(line) => says(alloc, &line, b"refused line 7 arity\n"),
-        Err(_) => false,
-    }
+    let line = repeated(alloc, front, end, 1, "");
+    says(alloc, &line, b"refused line 7 arity\n")
 }
 
 /// A front, so many times what stands behind it, and an end.
-fn repeated(
-    alloc: Global,
-    front: &str,
-    behind: &str,
-    count: u32,
-    end: &str,
-) -> Result<Vec<u8>, AllocError> {
-    let mut text = Vec::from_slice(alloc, front.as_bytes())?;
+fn repeated(alloc: Global, front: &str, behind: &str, count: u32, end: &str) -> Vec<u8> {
+    let mut text = Vec::new(alloc);
+    put(&mut text, front);
     for _ in 0..count {
-        text.extend_from_slice(behind.as_bytes())?;
+        put(&mut text, behind);
     }
-    text.extend_from_slice(end.as_bytes())?;
-    Ok(text)
+    put(&mut text, end);
+    text
+}
+
+/// Puts words behind others. Where memory is wanting the text lacks them, so that it isn't what has to come.
+fn put(text: &mut Vec<u8>, words: &str) {
+    let _ = text.extend_from_slice(words.as_bytes());
 }
 
 // Lines that are no commands.
@@ -190,7 +193,7 @@ const SPELLINGS: [Row; 43] = [
 
 #[test]
 fn a_command_is_read_by_its_form(rt: HostRuntime) {
-    for (line, wanted) in &COMMANDS {
+    for (line, wanted) in commands() {
         assert!(rt;
             says(rt.alloc(), line.as_bytes(), wanted.as_bytes()),
             "{line}"
@@ -227,16 +230,12 @@ fn a_path_has_1_to_1000_addresses(rt: HostRuntime) {
 
 /// Whether a submission is read that has so many addresses in its path behind the first.
 fn takes_path(alloc: Global, more: u32) -> bool {
-    match repeated(alloc, "submit 0 1 a@b a@b", " a@b", more, " ") {
-        Ok(wanted) => path_says(alloc, more, &wanted),
-        Err(_) => false,
-    }
+    let wanted = repeated(alloc, "submit 0 1 a@b a@b", " a@b", more, " ");
+    path_says(alloc, more, &wanted)
 }
 
 /// Whether a submission with so many addresses in its path behind the first says this.
 fn path_says(alloc: Global, more: u32, wanted: &[u8]) -> bool {
-    match repeated(alloc, "submit alfa 1 a@b a@b", ",a@b", more, " ") {
-        Ok(line) => says(alloc, &line, wanted),
-        Err(_) => false,
-    }
+    let line = repeated(alloc, "submit alfa 1 a@b a@b", ",a@b", more, " ");
+    says(alloc, &line, wanted)
 }

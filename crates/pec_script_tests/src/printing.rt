@@ -50,15 +50,18 @@ pub struct Row {
 
 /// Whether the row is printed as its text, and read again where it can be.
 pub fn is_right(alloc: Global, row: &Row) -> bool {
-    let Some(directory) = directory(alloc) else {
-        return false;
-    };
-    let wanted = row.text.as_bytes();
-    if !is_printed(alloc, &directory, row.printed, wanted) {
-        return false;
+    match directory(alloc) {
+        Some(directory) => {
+            is_printed(alloc, &directory, row.printed, row.text.as_bytes())
+                && can_be_read_again(alloc, &directory, row)
+        }
+        None => false,
     }
+}
+
+fn can_be_read_again(alloc: Global, directory: &Directory, row: &Row) -> bool {
     match row.form {
-        Some(form) => is_read_again(alloc, &directory, form, wanted),
+        Some(form) => is_read_again(alloc, directory, form, row.text.as_bytes()),
         None => true,
     }
 }
@@ -88,22 +91,28 @@ fn text_of(alloc: Global, directory: &Directory, printed: Printed) -> Option<Vec
 }
 
 fn book(alloc: Global, directory: &Directory) -> Option<Vec<u8>> {
-    let mut lines = Vec::new(alloc);
-    lines
-        .push(decided_line(alloc, 0, Class::Primary, Decision::Placed)?)
-        .ok()?;
     let virus = Decision::Refused(Refusal::Virus);
-    lines
-        .push(decided_line(alloc, 1, Class::Copy, virus)?)
-        .ok()?;
-    lines.push(open_line(alloc, 0, Class::Primary)?).ok()?;
+    let mut lines = Vec::new(alloc);
+    add(
+        &mut lines,
+        decided_line(alloc, 0, Class::Primary, Decision::Placed),
+    );
+    add(&mut lines, decided_line(alloc, 1, Class::Copy, virus));
+    add(&mut lines, open_line(alloc, 0, Class::Primary));
     book_text(alloc, directory, &lines).ok()
+}
+
+/// Adds a line. Where memory is wanting it isn't there, and the text isn't what has to come.
+fn add<T: Drop>(lines: &mut Vec<T>, line: Option<T>) {
+    if let Some(line) = line {
+        let _ = lines.push(line);
+    }
 }
 
 fn mailbox(alloc: Global, directory: &Directory, kind: ItemKind) -> Option<Vec<u8>> {
     let mut items = Vec::new(alloc);
-    items.push(nameless_item(kind)).ok()?;
-    items.push(named_item(alloc, kind)?).ok()?;
+    add(&mut items, Some(nameless_item(kind)));
+    add(&mut items, named_item(alloc, kind));
     items_text(alloc, directory, &items).ok()
 }
 
@@ -112,7 +121,7 @@ const DUES: [Due; 4] = [Due::Warning, Due::Nothing, Due::Notice, Due::LateNotice
 fn marks(alloc: Global, directory: &Directory) -> Option<Vec<u8>> {
     let mut marks = Vec::new(alloc);
     for due in &DUES {
-        marks.push(mark(alloc, *due)?).ok()?;
+        add(&mut marks, mark(alloc, *due));
     }
     marks_text(alloc, directory, &marks).ok()
 }
