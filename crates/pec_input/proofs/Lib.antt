@@ -1,4 +1,3 @@
-mod DirectoryLemmas
 mod FindingLemmas
 mod LineLemmas
 mod OpeningLemmas
