@@ -2,7 +2,7 @@
 
 import pair
 
-USES = ["pec_types", "pec_directory", "pec_seal", "pec_house", "base64"]
+USES = ["pec_types", "pec_directory", "pec_seal", "pec_trade", "base64"]
 
 PROGRAM = r'''//! Prices letters: HMAC-SHA-256 of each as it is put and as it arrives, and its base64.
 #![tactic(auto)]
@@ -12,8 +12,8 @@ mod common;
 use base64::engine::general_purpose::STANDARD;
 use common::{DIRECTORY, since, word};
 use pec_directory::Directory;
-use pec_house::sealer_of;
 use pec_seal::{HmacSealer, Sealer};
+use pec_trade::sealer_of;
 use std::alloc::Global;
 use std::io;
 use std::time::{Clock, Instant};

@@ -1,7 +1,7 @@
 """A provider and a network as values of a measuring program's own: calls over disks in memory. A program takes DESK as
 src/desk.rt, and `network(NAME)` among its files, where NAME is its own name."""
 
-DESK_USES = ["pec_types", "pec_outside", "pec_directory", "pec_screen", "pec_seal", "pec_house", "pec_letters", "pec_records", "pec_provider"]
+DESK_USES = ["pec_types", "pec_outside", "pec_directory", "pec_screen", "pec_seal", "pec_trade", "pec_letters", "pec_records", "pec_provider"]
 NET_USES = DESK_USES + ["pec_link", "pec_network"]
 
 DESK = r'''//! One provider over a disk in memory, and where it is at home.
@@ -12,13 +12,13 @@ ghost use Rattle.pec_letters.specs.Fitting.{Fits};
 ghost use Rattle.pec_records.specs.Entry.{longest_message, most_addresses};
 
 use pec_directory::Directory;
-use pec_house::sealer_of;
 use pec_outside::MemDisk;
 use pec_provider::{
     CreateFault, Event, House, Mark, Provider, ProviderFault, ReopenFault, Submitted,
 };
 use pec_screen::NoScreens;
 use pec_seal::{HmacSealer, Sealer};
+use pec_trade::sealer_of;
 use pec_types::{Address, BookLine, Frame, ItemLine, Moment, NoMemory};
 use std::alloc::Global;
 use std::marker::Model;
@@ -283,12 +283,12 @@ ghost use Rattle.pec_records.specs.Entry.{longest_message, most_addresses};
 
 use crate::calls::{crash, restart, submit, tick};
 use pec_directory::Directory;
-use pec_house::sealer_of;
 use pec_link::LinkFault;
 use pec_network::{Form, Network, RestartFault, StartFault};
 use pec_outside::{MemDepot, MemDisk};
 use pec_provider::{Mark, ProviderFault, Submitted};
 use pec_seal::{HmacSealer, Sealer};
+use pec_trade::sealer_of;
 use pec_types::{Address, BookLine, Frame, ItemLine, Moment, NoMemory, Turn};
 use std::alloc::Global;
 

@@ -11,7 +11,7 @@ use Rattle.pec_directory.specs.Directory.{Kept, Provider, account_home, provider
 use Rattle.pec_seal.specs.Seals.{Seals}
 use Rattle.pec_ledger.specs.Network.{Site}
 use Rattle.pec_network.specs.OfProviders.{luck_of}
-use Rattle.pec_network.specs.Network.{sites}
+use Rattle.pec_network.specs.Network.{sites, world_of}
 use Rattle.pec_http.specs.Asking.{Asks, Question, Submit, See}
 use Rattle.pec_http.specs.Desks.{Answers}
 use Rattle.pec_http.specs.Replies.{Reply, shown_reply, submitted_reply}
@@ -20,7 +20,7 @@ use Rattle.pec_http.specs.declared.demands.Look.{Look}
 use Rattle.pec_http.specs.declared.demands.Look.TheVariants as looks
 use Rattle.pec_http.specs.declared.passes.Pass.{Pass}
 use Rattle.pec_http.specs.declared.stops.Stop.{Stop}
-use Rattle.pec_desk.specs.Desks.{DeskState, HandsIn, answers_of, domain_at, world_of}
+use Rattle.pec_desk.specs.Desks.{DeskState, HandsIn, answers_of, domain_at}
 use Rattle.pec_service.specs.Passes.{pass_of}
 use Rattle.pec_service.specs.Own.{IsFaultOf, IsFaultReply, Share, asker, reply_to, reply_with, share_at, shown_to}
 use Rattle.pec_desk.specs.Shares.{asking_share, share_of}

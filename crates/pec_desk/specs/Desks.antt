@@ -15,13 +15,11 @@ use Rattle.pec_screen.specs.Verdicts.{Patterns}
 use Rattle.pec_seal.specs.Seals.{Seals}
 use Rattle.pec_ledger.specs.Ledger.{Journals}
 use Rattle.pec_ledger.specs.Network.{Site}
-use Rattle.pec_ledger.specs.Trade.{Trade}
 use Rattle.pec_plays.specs.Commands.{Answer, Book, Items, Lines, Mailbox, Played, Refuses, Show, Shown, Submit, Submits, answers, played}
-use Rattle.pec_trade.specs.TradeOf.{trade_of}
 use Rattle.pec_network.specs.OfProviders.{ProviderState, luck_of}
 use Rattle.pec_network.specs.Carrying.{AllCarryOn, NoneFalls}
 use Rattle.pec_network.specs.Changing.{ChangesOnly, HasRisenAt}
-use Rattle.pec_network.specs.Network.{NetworkState, sites}
+use Rattle.pec_network.specs.Network.{NetworkState, sites, world_of}
 use Rattle.pec_network.specs.Playing.{IsPlayed}
 use Rattle.pec_http.specs.Desks.{Answers}
 use Rattle.pec_service.specs.Passes.{pass_of}
@@ -42,10 +40,6 @@ domain_at providers None = []
 domain_at providers (Some number) = first_domain providers number
 
 -- ---- what is asked
-
--- the world in which the network plays
-abbrev pub world_of : {D S : Type 0} → (S → Seals) → NetworkState D S → Trade
-world_of seals network = trade_of network.kept (seals network.sealer)
 
 -- the count of faults of a provider's disk
 abbrev pub count_in : {D : Type 0} → (D → ℕ) → Option (ProviderState D) → ℕ

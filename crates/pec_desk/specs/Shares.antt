@@ -6,9 +6,9 @@ use Rattle.pec_directory.specs.Directory.{providers_of}
 use Rattle.pec_seal.specs.Seals.{Seals}
 use Rattle.pec_http.specs.Asking.{Question}
 use Rattle.pec_http.specs.declared.stops.Stop.{Stop}
-use Rattle.pec_network.specs.Network.{sites}
+use Rattle.pec_network.specs.Network.{sites, world_of}
 use Rattle.pec_service.specs.Own.{Share, asker, share_in}
-use Rattle.pec_desk.specs.Desks.{DeskState, world_of}
+use Rattle.pec_desk.specs.Desks.{DeskState}
 
 abbrev pub share_of : {D S : Type 0} → (S → Seals) → DeskState D S → Bytes → Option Share
 share_of seals desk address =

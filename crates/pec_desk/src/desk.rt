@@ -23,8 +23,6 @@ pub struct NetworkDesk<D, J: Judge> {
 
 impl<D, J: Judge> Model for NetworkDesk<D, J> {
     ghost use Rattle.std.specs.Prelude.{map};
-    ghost use Rattle.pec_directory.specs.Directory.{providers_of};
-    ghost use Rattle.pec_letters.specs.Fitting.{Fits};
     ghost use Rattle.pec_seal.specs.declared.hmac.HmacSealer.{HmacSealer};
     ghost use Rattle.pec_desk.specs.Desks.{DeskState};
 
@@ -32,23 +30,18 @@ impl<D, J: Judge> Model for NetworkDesk<D, J> {
 
     ghost view = { λ desk.
         record { network = desk.network; moment = desk.moment; screens = map J.patterns desk.screens.items } };
-
-    ghost invariant = { λ desk.
-        Fits (⟦<HmacSealer as Sealer>⟧.seals desk.network.sealer) (providers_of desk.network.kept) };
 }
 
 impl<D, J: Judge> NetworkDesk<D, J> {
     ghost use Rattle.std.specs.Prelude.{◌≡◌, ◌<◌, ◌≤◌, Some, true, is_some, length, map};
     ghost use Rattle.pec_directory.specs.Directory.{account_home, first_domain, providers_of};
-    ghost use Rattle.pec_letters.specs.Fitting.{Fits};
 
-    /// Opens the desk of a network at a moment, whose sealer seals for the providers of its directory. It takes no memory.
+    /// Opens the desk of a network at a moment. It takes no memory.
     pub fn open(
         network: Network<D, HmacSealer>,
         moment: Moment,
         screens: Vec<J>,
     ) -> NetworkDesk<D, J>
-        requires { Fits (⟦<HmacSealer as Sealer>⟧.seals network.sealer) (providers_of network.kept) }
         ensures network { result.network ≡ network }
         ensures moment { result.moment ≡ moment }
         ensures screens { result.screens ≡ map J.patterns screens.items }
@@ -63,7 +56,6 @@ impl<D, J: Judge> NetworkDesk<D, J> {
     /// The network and the screens, as the desk left them. It takes no memory.
     pub fn close(self) -> (Network<D, HmacSealer>, Vec<J>)
         ensures is { result.0 ≡ self.network }
-        ensures fits { Fits (⟦<HmacSealer as Sealer>⟧.seals result.0.sealer) (providers_of result.0.kept) }
         ensures screens { map J.patterns result.1.items ≡ self.screens }
     {
         let NetworkDesk {

@@ -3,7 +3,6 @@ ghost use Rattle.pec_outside.specs.Flow.{HasRisen};
 ghost use Rattle.pec_types.specs.declared.turns.ProviderFault.TheVariants as faults;
 ghost use Rattle.pec_directory.specs.Directory.{account_home, providers_of};
 ghost use Rattle.pec_http.specs.Desks.{IsSubmitFault};
-ghost use Rattle.pec_letters.specs.Fitting.{Fits};
 ghost use Rattle.pec_records.specs.Entry.{longest_message, most_addresses};
 ghost use Rattle.pec_desk.specs.Desks.{HandsIn, count_at};
 
@@ -28,7 +27,6 @@ pub(crate) fn hand_in<D: Disk, S: Sealer, J: Judge>(
 ) -> Result<Submitted, ProviderFault>
     requires home { account_home (providers_of network.old.kept) account.now ≡ Some number }
     requires within { number < length network.old.kept }
-    requires fits { Fits (S.seals network.old.sealer) (providers_of network.old.kept) }
     requires path { (0 < length path.now) × (length path.now ≤ most_addresses) }
     requires message { length message.now ≤ longest_message }
     ensures handed { HandsIn D.sight D.faults D.tells S.seals

@@ -2,13 +2,11 @@ ghost use Rattle.std.specs.Prelude.{◌≡◌, false, Some, IfErr};
 ghost use Rattle.pec_types.specs.Answers.{seen_as};
 ghost use Rattle.pec_directory.specs.Directory.{account_home, providers_of};
 ghost use Rattle.pec_http.specs.Desks.{IsItemFault, IsLookFault};
-ghost use Rattle.pec_letters.specs.Fitting.{Fits};
 ghost use Rattle.pec_plays.specs.Commands.{Book, Mailbox, Show, played};
-ghost use Rattle.pec_trade.specs.TradeOf.{trade_of};
 ghost use Rattle.pec_network.specs.OfProviders.{luck_of};
-ghost use Rattle.pec_network.specs.Network.{sites};
+ghost use Rattle.pec_network.specs.Network.{sites, world_of};
 ghost use Rattle.pec_script.specs.Texts.{book_text as book_lines, items_text as item_lines};
-ghost use Rattle.pec_desk.specs.Desks.{IsSeen, as_they_are, bytes_shown, items_shown, lines_shown, world_of};
+ghost use Rattle.pec_desk.specs.Desks.{IsSeen, as_they_are, bytes_shown, items_shown, lines_shown};
 
 use pec_network::Network;
 use pec_script::{book_text, items_text};
@@ -72,7 +70,6 @@ pub(crate) fn item<D, S: Sealer>(
     number: u32,
 ) -> Result<Vec<u8>, ProviderFault>
     requires home { account_home (providers_of network.now.kept) account.now ≡ Some number }
-    requires fits { Fits (S.seals network.now.sealer) (providers_of network.now.kept) }
     ensures seen { IsSeen bytes_shown as_they_are
         (played (world_of S.seals network.now) (luck_of false) (sites network.now) (Show account.now place))
         (sites network.now) (seen_as (λ bytes. bytes.items) result) }

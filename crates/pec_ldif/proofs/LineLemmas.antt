@@ -3,7 +3,7 @@ use Rattle.std.proofs.Common.{◌≡◌, ℕ, ◌+◌, ◌<◌, ◌≤◌, Bool,
 use Rattle.std.proofs.Math.Seq.{drop-append-add, drop-length, take-length}
 use Rattle.std.proofs.lemmas.Bool.{false≢true}
 use Rattle.std.proofs.lemmas.List.{length-take-le, take-append-drop}
-use Rattle.std.specs.List.{filter, onto_first}
+use Rattle.std.specs.List.{onto_first}
 use Rattle.pec_types.specs.Bytes.{Bytes, line_feed, space}
 use Rattle.pec_ldif.specs.Lines.{Line, begins_with, content_of, goes_on, in_front, is_empty, is_said, joined, placed, raw_lines, unfolded}
 use Rattle.pec_ldif.specs.LinesReading.{feed_at, first_goes_on, kept, left_from, takes_in}

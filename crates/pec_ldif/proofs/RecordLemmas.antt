@@ -1,13 +1,13 @@
 -- Records, read from their lines: what the lines say is read, and what is read they say.
-use Rattle.std.proofs.Common.{◌≡◌, ◌⊎◌, inl, inr, ℕ, Bool, true, List, [], ◌∷◌, ◌++◌, Option, None, Some, Result, Ok, Err, refl, sym, ◌∙◌, ap, append_assoc, append-nil, Decides}
+use Rattle.std.proofs.Common.{◌≡◌, ◌⊎◌, inl, inr, ℕ, Bool, List, [], ◌∷◌, ◌++◌, Option, None, Some, Result, Ok, Err, refl, sym, ◌∙◌, ap, append_assoc, append-nil, Decides}
 use Rattle.std.specs.List.{find}
 use Rattle.pec_types.specs.Results.{◌>>=◌}
 use Rattle.pec_types.specs.Tables.{IsFirst, NoneApplies, first_again, first_is, none_again, none_is}
-use Rattle.pec_ldif.specs.Attributes.{Attribute, IsAttribute, IsAttributeFault}
+use Rattle.pec_ldif.specs.Attributes.{Attribute, IsAttribute}
 use Rattle.pec_ldif.specs.AttributesReading.{attribute_of}
 use Rattle.pec_ldif.specs.Lines.{Line}
 use Rattle.pec_ldif.specs.Records.{AreAttributes, AreEntries, AttributesStop, EntriesStop, Entry, IsEntry, IsEntryFault, IsMet, Row, SayEntry, rows_of}
-use Rattle.pec_ldif.specs.RecordsReading.{attributes_from, entries_from, entry_of, or_row, tested, with_group}
+use Rattle.pec_ldif.specs.RecordsReading.{attributes_from, entries_from, entry_of, or_row, tested}
 use Rattle.pec_ldif.specs.declared.faults.LdifFault.{LdifFault}
 use Rattle.pec_ldif.proofs.AttributeLemmas.{attribute_told}
 

@@ -1,11 +1,12 @@
 -- What stands behind the colon of a name: spaces, and a value that is plain or in base64.
-use Rattle.std.proofs.Common.{◌≡◌, ◌⊎◌, inl, inr, ℕ, Bool, true, false, ◌&&◌, cond, eqb, [], ◌∷◌, ◌++◌, Option, None, Some, Result, Ok, Err, drop, refl, sym, ◌∙◌, ap, subst, eqb-true}
+use Rattle.std.proofs.Common.{◌≡◌, ◌⊎◌, inl, inr, ℕ, zero, suc, ◌<◌, Global, String, string_bytes, arith, Bool, true, false, ◌&&◌, cond, eqb, [], ◌∷◌, ◌++◌, Option, None, Some, Result, Ok, Err, drop, refl, sym, ◌∙◌, ap, subst, eqb-true}
 use Rattle.std.proofs.lemmas.Bool.{and_parts, false≢true, not-true}
-use Rattle.std.proofs.lemmas.Str.{IsUtf8-from_is_utf8}
+use Rattle.std.proofs.lemmas.Bool.Decides.{nat_tests}
+use Rattle.std.proofs.lemmas.Str.{IsUtf8-from_ascii, IsUtf8-from_is_utf8, IsUtf8-string_bytes, is_utf8-from_IsUtf8}
 use Rattle.std.specs.List.{list_all}
 use Rattle.std.specs.Prelude.{not}
 use Rattle.std.specs.Result.{result_ok}
-use Rattle.std.specs.Str.{IsUtf8, is_utf8}
+use Rattle.std.specs.Str.{IsAscii, IsUtf8, is_utf8}
 use Rattle.base64.specs.Engines.{standard}
 use Rattle.base64.specs.GeneralPurpose.{decode_of}
 use Rattle.pec_types.specs.Bytes.{Bytes, colon, space}
@@ -15,12 +16,32 @@ use Rattle.pec_ldif.specs.Lines.{begins_with}
 use Rattle.pec_ldif.specs.declared.faults.LdifFault.{LdifFault}
 use Rattle.pec_ldif.specs.declared.faults.LdifFault.TheVariants.{Syntax, BadBase64, NoDn, Change, Orphan, NoMemory}
 
-pub no_utf8 : (bytes : Bytes) → (IsUtf8 bytes → ⊥) → false ≡ is_utf8 bytes
-no_utf8 bytes other = by_test (is_utf8 bytes) refl
+-- what was read as a text is UTF-8
+pub text_kept : (bytes : Bytes) (text : String Global) → string_bytes text ≡ bytes → Some (string_bytes text) ≡ only_utf8 (Some bytes)
+text_kept bytes text is =
+    let utf8 = subst IsUtf8 is (IsUtf8-string_bytes text) in
+    ap Some is ∙ sym (ap (λ t. cond t (Some bytes) None) (is_utf8-from_IsUtf8 bytes utf8))
+
+pub none_kept : (bytes : Bytes) → (IsUtf8 bytes → ⊥) → None ≡ only_utf8 (Some bytes)
+none_kept bytes other = by_test (is_utf8 bytes) refl
   where
-    by_test : (x : Bool) → is_utf8 bytes ≡ x → false ≡ x
+    by_test : (x : Bool) → is_utf8 bytes ≡ x → None ≡ cond x (Some bytes) None
     by_test true is = absurd (other (IsUtf8-from_is_utf8 bytes is))
     by_test false is = refl
+
+plain_ascii : (b : ℕ) → is_plain_byte b ≡ true → b < 128
+plain_ascii b e = grind (arith, nat_tests)
+
+all_ascii : (value : Bytes) → list_all is_plain_byte value ≡ true → IsAscii value
+all_ascii [] e i = omega arith
+all_ascii (b ∷ bs) e zero = plain_ascii b (and_parts (is_plain_byte b) (list_all is_plain_byte bs) e).0
+all_ascii (b ∷ bs) e (suc i) = all_ascii bs (and_parts (is_plain_byte b) (list_all is_plain_byte bs) e).1 i
+
+-- a plain value is ASCII
+pub plain_utf8 : (value : Bytes) → is_plain value ≡ true → IsUtf8 value
+plain_utf8 value e =
+    IsUtf8-from_ascii value
+    (all_ascii value (and_parts (not (begins_with colon value) && not (begins_with less_than value)) (list_all is_plain_byte value) e).1)
 
 abbrev pub given : Bytes → Result Bytes LdifFault
 given value = Ok value

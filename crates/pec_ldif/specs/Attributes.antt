@@ -1,7 +1,7 @@
 -- What a line of LDIF says (RFC 2849): `IsAttribute`, and `IsAttributeFault` where it says nothing. A name, a colon, any
 -- spaces and a plain value; or a name, two colons, any spaces and base64 (RFC 4648, section 4, padded and canonical) of
 -- UTF-8. This project's profile.
-use Rattle.std.specs.Prelude.{◌≡◌, ◌⊎◌, ℕ, Bool, true, false, not, ◌&&◌, ◌||◌, ◌==◌, nat_le, List, [], ◌∷◌, ◌++◌, Ok}
+use Rattle.std.specs.Prelude.{◌≡◌, ◌⊎◌, ℕ, Bool, true, false, not, ◌&&◌, ◌||◌, ◌==◌, nat_le, [], ◌∷◌, ◌++◌, Ok}
 use Rattle.std.specs.Char.{is_ascii_alphanumeric}
 use Rattle.std.specs.List.{list_all}
 use Rattle.std.specs.Str.{is_utf8}

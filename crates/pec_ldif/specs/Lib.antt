@@ -1,6 +1,10 @@
 pub mod Attributes
 pub mod AttributesReading
+pub mod Directories
+pub mod FirstLine
 pub mod Lines
 pub mod LinesReading
 pub mod Records
 pub mod RecordsReading
+pub mod Tables
+pub mod Writing

@@ -1,6 +1,5 @@
-ghost use Rattle.std.specs.Prelude.{◌≡◌, ◌<◌, length, option_map, IfOk, IfSome, Some};
+ghost use Rattle.std.specs.Prelude.{◌≡◌, ◌<◌, None, Some, length, option_map, string_bytes, IfOk, IfSome, if◌then◌else◌};
 ghost use Rattle.std.specs.List.{list_all};
-ghost use Rattle.std.specs.Str.{is_utf8};
 ghost use Rattle.pec_types.specs.Answers.{Gives, OrNoMemory, ReadsExactly, TellsExactly};
 ghost use Rattle.pec_ldif.specs.Attributes.{IsAttribute, IsAttributeFault, is_name, is_name_byte, is_plain, is_plain_byte};
 ghost use Rattle.pec_ldif.specs.AttributesReading.{attribute_of, colon_at, decoded, only_utf8, or_fault, plain_of, skip_spaces, value_of};
@@ -19,15 +18,16 @@ use std::marker::Model;
 #[derive(Drop)]
 pub struct Attribute {
     name: Text8,
-    value: Text8,
+    value: String,
 }
 
 impl Model for Attribute {
+    ghost use Rattle.std.specs.Prelude.{string_bytes};
     ghost use Rattle.pec_ldif.specs.Attributes.{Attribute as Shown};
 
     ghost Value = { Shown };
 
-    ghost view = { λ attribute. record { name = attribute.name; value = attribute.value } };
+    ghost view = { λ attribute. record { name = attribute.name; value = string_bytes attribute.value } };
 }
 
 impl Attribute {
@@ -40,11 +40,18 @@ impl Attribute {
         self.name.bytes()
     }
 
-    /// The value. It takes no memory.
+    /// The value, byte by byte. It takes no memory.
     pub fn value(&self) -> &[u8]
         ensures { result.now ≡ self.now.value }
     {
-        self.value.bytes()
+        self.value.as_bytes()
+    }
+
+    /// The value, which is a text. It takes no memory.
+    pub fn text(&self) -> &str
+        ensures { result.now ≡ self.now.value }
+    {
+        self.value.as_str()
     }
 }
 
@@ -80,14 +87,14 @@ fn read_named(alloc: Global, line: &Line) -> Result<Attribute, LdifFault>
     let name = Vec::from_slice(alloc, name)?;
     Ok(Attribute {
         name: Text8::of(name),
-        value: Text8::of(value),
+        value,
     })
 }
 
 /// The value that stands behind the colon of a name.
 #[tactic(auto, unfolding(crate::specs::AttributesReading::value_of))]
-fn read_value(alloc: Global, place: usize, rest: &[u8]) -> Result<Vec<u8>, LdifFault>
-    ensures { Gives faults.NoMemory (λ value. value.items) result (value_of place rest.now) }
+fn read_value(alloc: Global, place: usize, rest: &[u8]) -> Result<String, LdifFault>
+    ensures { Gives faults.NoMemory string_bytes result (value_of place rest.now) }
 {
     if begins_with(rest, b':') {
         let value = read_coded(alloc, place, skip_spaces(behind_first(rest)))?;
@@ -98,18 +105,31 @@ fn read_value(alloc: Global, place: usize, rest: &[u8]) -> Result<Vec<u8>, LdifF
 }
 
 #[tactic(auto, unfolding(crate::specs::AttributesReading::plain_of))]
-fn read_plain(alloc: Global, place: usize, value: &[u8]) -> Result<Vec<u8>, LdifFault>
-    ensures { Gives faults.NoMemory (λ value. value.items) result (plain_of place value.now) }
+fn read_plain(alloc: Global, place: usize, value: &[u8]) -> Result<String, LdifFault>
+    ensures { Gives faults.NoMemory string_bytes result (plain_of place value.now) }
 {
-    if !is_plain(value) {
+    let Some(text) = plain(value) else {
         return Err(LdifFault::Syntax(place));
-    }
-    let value = Vec::from_slice(alloc, value)?;
+    };
+    let value = String::from_str(alloc, text)?;
     Ok(value)
 }
 
-fn read_coded(alloc: Global, place: usize, code: &[u8]) -> Result<Vec<u8>, LdifFault>
-    ensures { Gives faults.NoMemory (λ value. value.items) result (or_fault (faults.BadBase64 place) (decoded code.now)) }
+/// The text that these bytes are, where they are a plain value.
+fn plain(value: &[u8]) -> Option<&str>
+    ensures { option_map (λ text. text.now) result ≡ (if is_plain value.now then Some value.now else None) }
+{
+    if !is_plain(value) {
+        return None;
+    }
+    match std::str::from_utf8(value) {
+        Ok(text) => Some(text),
+        Err(_) => None,
+    }
+}
+
+fn read_coded(alloc: Global, place: usize, code: &[u8]) -> Result<String, LdifFault>
+    ensures { Gives faults.NoMemory string_bytes result (or_fault (faults.BadBase64 place) (decoded code.now)) }
 {
     match decode(alloc, code)? {
         Some(value) => Ok(value),
@@ -119,8 +139,8 @@ fn read_coded(alloc: Global, place: usize, code: &[u8]) -> Result<Vec<u8>, LdifF
 
 /// The UTF-8 that base64 stands for.
 #[tactic(auto, unfolding(crate::specs::AttributesReading::decoded))]
-fn decode(alloc: Global, code: &[u8]) -> Result<Option<Vec<u8>>, NoMemory>
-    ensures { IfOk result (λ found. option_map (λ bytes. bytes.items) found ≡ decoded code.now) }
+fn decode(alloc: Global, code: &[u8]) -> Result<Option<String>, NoMemory>
+    ensures { IfOk result (λ found. option_map string_bytes found ≡ decoded code.now) }
 {
     match STANDARD.decode(alloc, code) {
         Ok(bytes) => Ok(only_utf8(bytes)),
@@ -129,22 +149,12 @@ fn decode(alloc: Global, code: &[u8]) -> Result<Option<Vec<u8>>, NoMemory>
     }
 }
 
-fn only_utf8(bytes: Vec<u8>) -> Option<Vec<u8>>
-    ensures { option_map (λ kept. kept.items) result ≡ only_utf8 (Some bytes.items) }
+fn only_utf8(bytes: Vec<u8>) -> Option<String>
+    ensures { option_map string_bytes result ≡ only_utf8 (Some bytes.items) }
 {
-    if is_utf8(bytes.as_slice()) {
-        Some(bytes)
-    } else {
-        None
-    }
-}
-
-fn is_utf8(bytes: &[u8]) -> bool
-    ensures { result ≡ is_utf8 bytes.now }
-{
-    match std::str::from_utf8(bytes) {
-        Ok(_) => true,
-        Err(_) => false,
+    match String::from_utf8(bytes) {
+        Ok(text) => Some(text),
+        Err(_) => None,
     }
 }
 

@@ -130,7 +130,7 @@ fn first_goes_on(text: &[u8]) -> bool
 }
 
 /// How many bytes the first line has, its end among them.
-fn first_size(text: &[u8]) -> usize
+pub(crate) fn first_size(text: &[u8]) -> usize
     requires { 0 < length text.now }
     ensures cut { raw_lines text.now ≡ take result text.now ∷ raw_lines (drop result text.now) }
     ensures some { 0 < result }
@@ -157,7 +157,7 @@ fn line_feed(text: &[u8]) -> Option<usize>
 
 /// What a line says: the line without its line feed, and without a carriage return before that.
 #[tactic(auto, unfolding(crate::specs::Lines::content_of))]
-fn content(line: &[u8]) -> &[u8]
+pub(crate) fn content(line: &[u8]) -> &[u8]
     ensures { result.now ≡ content_of line.now }
 {
     if !has_at_end(line, b'\n') {

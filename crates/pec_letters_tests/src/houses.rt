@@ -4,8 +4,8 @@ ghost use Rattle.pec_letters.specs.Fitting.{Fits};
 
 use crate::texts::{joined, replaced, written};
 use pec_directory::Directory;
-use pec_house::sealer_of;
 use pec_seal::{HmacSealer, Sealer, seal};
+use pec_trade::sealer_of;
 use pec_trial::two;
 use std::alloc::Global;
 

@@ -11,6 +11,7 @@ use Rattle.pec_ledger.specs.Network.{Site}
 use Rattle.pec_posts.specs.Arrivals.{Waiting, waiting_for}
 use Rattle.pec_provider.specs.Provider.{Desk, ProviderState, Runs, desk_of, fresh, site_of}
 use Rattle.pec_seal.specs.Seals.{Seals}
+use Rattle.pec_trade.specs.Houses.{Fits}
 use Rattle.pec_network.specs.Beginning.{AllBegun, IsAbout, IsBegun, IsRefused, NoneFell, all_rested, journals_had, rested}
 use Rattle.pec_network.specs.Homes.{AllAt}
 use Rattle.pec_network.specs.Network.{IsOfDirectory, sites_of}
@@ -120,14 +121,16 @@ module _ {D : Type 0} where
       ∙ rested_one_by_one providers count desks
       ∙ ap (λ (n : ℕ). map (rested n) (journals_had providers)) (sym all)
 
-  pub of_directory : {seals : Seals} (kept : List Kept) (providers : List (ProviderState D)) (waiting : List Waiting) (count : ℕ) → count ≡ length kept
+  pub of_directory : {seals : Seals} (kept : List Kept) (providers : List (ProviderState D)) (waiting : List Waiting) (count : ℕ)
+      → Fits seals (providers_of kept) → count ≡ length kept
       → length providers ≡ length kept → waiting ≡ replicate count (replicate count []) → AllRun kept seals providers
       → ((number : ℕ) (other : ProviderState D) → number < length providers
       → desk_of (get_or providers number other) ≡ fresh (get_or providers number other).chronicle.entries)
       → IsOfDirectory kept seals providers waiting
-  of_directory kept providers waiting count size all links runs desks =
+  of_directory kept providers waiting count fits size all links runs desks =
       let none : Waiting = replicate count [] in
       let many : length waiting ≡ count = ap (λ (w : List Waiting). length w) links ∙ length-replicate count none in record {
+        fits = fits;
         count = all;
         links = many ∙ size;
         senders = λ to l.

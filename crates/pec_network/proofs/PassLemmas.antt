@@ -391,6 +391,7 @@ pub whole_delivered : {D : Type 0} {seals : Seals} (kept : List Kept) (providers
     → IsOfDirectory kept seals providers (deliveries outs 0 waiting)
 whole_delivered kept providers waiting outs whole can =
     let size = deliveries_count outs 0 waiting in record {
+      fits = whole.fits;
       count = whole.count;
       links = size ∙ whole.links;
       senders = λ to l.

@@ -76,6 +76,7 @@ module _ {D : Type 0} (old : List (ProviderState D)) (number : ℕ) (new : Provi
   pub whole_at : {seals : Seals} (kept : List Kept) (waiting : List Waiting) → IsOfDirectory kept seals old waiting → Runs kept seals number new → new.owed ≡ []
       → IsOfDirectory kept seals (set old number new) waiting
   whole_at {seals} kept waiting whole runs owed = record {
+    fits = whole.fits;
     count = length-set old number new ∙ whole.count;
     links = whole.links;
     senders = whole.senders;
@@ -100,6 +101,7 @@ pub whole_with : {D : Type 0} {seals : Seals} (kept : List Kept) (providers : Li
     → IsOfDirectory kept seals providers waiting → to < length waiting → length links ≡ length (waiting_for waiting to)
     → IsOfDirectory kept seals providers (set waiting to links)
 whole_with kept providers waiting to links whole within same = record {
+  fits = whole.fits;
   count = whole.count;
   links = length-set waiting to links ∙ whole.links;
   senders = λ k l.

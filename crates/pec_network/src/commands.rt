@@ -1,7 +1,6 @@
 ghost use Rattle.std.specs.Prelude.{◌≡◌, ℕ, ◌<◌, ◌≤◌, List, length, map, IsErrOf};
 ghost use Rattle.pec_types.specs.declared.turns.ProviderFault.TheVariants as faults;
 ghost use Rattle.pec_directory.specs.Directory.{providers_of};
-ghost use Rattle.pec_letters.specs.Fitting.{Fits};
 ghost use Rattle.pec_records.specs.Entry.{longest_message, most_addresses};
 ghost use Rattle.pec_ledger.specs.Ledger.{Journals};
 ghost use Rattle.pec_plays.specs.Commands.{Marks, Submit, Submits, Tick, played};
@@ -9,11 +8,10 @@ ghost use Rattle.pec_points.specs.Case.{case_at};
 ghost use Rattle.pec_provider.specs.Looking.{Looks};
 ghost use Rattle.pec_screen.specs.Screened.{finds_in};
 ghost use Rattle.pec_screen.specs.VerdictReading.{finds};
-ghost use Rattle.pec_trade.specs.TradeOf.{trade_of};
 ghost use Rattle.pec_network.specs.Carrying.{AllCarryOn, NoneFalls};
 ghost use Rattle.pec_network.specs.Changing.{ChangesOnly, HasRisenAt};
 ghost use Rattle.pec_network.specs.Looking.{OnlyLooks};
-ghost use Rattle.pec_network.specs.Network.{sites};
+ghost use Rattle.pec_network.specs.Network.{sites, world_of};
 ghost use Rattle.pec_network.specs.Playing.{IsPlayed};
 
 use crate::laws::what_rests_carries_on;
@@ -42,11 +40,10 @@ impl<D: Disk, S: Sealer> Network<D, S> {
         screens: &mut J,
     ) -> Result<Submitted, ProviderFault>
         requires provider { provider < length self.old.kept }
-        requires fits { Fits (S.seals self.old.sealer) (providers_of self.old.kept) }
         requires path { (0 < length path.now) × (length path.now ≤ most_addresses) }
         requires message { length message.now ≤ longest_message }
         ensures plays { IsPlayed Submits
-            (λ luck. played (trade_of self.old.kept (S.seals self.old.sealer)) luck (sites self.old)
+            (λ luck. played (world_of S.seals self.old) luck (sites self.old)
             (Submit provider moment sender.now path.now message.now (finds (J.patterns screens.old) message.now)))
             (sites self.old) (sites self.new) result }
         // Each screen has looked once exactly where the message came to the screens, also where it is refused then.
@@ -55,7 +52,7 @@ impl<D: Disk, S: Sealer> Network<D, S> {
         ensures patterns { J.patterns screens.new ≡ J.patterns screens.old }
         ensures others { ChangesOnly provider self.old self.new }
         ensures carries { D.tells → (journals : Journals) → AllCarryOn D.sight
-            (trade_of self.old.kept (S.seals self.old.sealer)) journals self.old.providers self.new.providers }
+            (world_of S.seals self.old) journals self.old.providers self.new.providers }
         ensures disk_fault { IsErrOf result faults.DiskFault →
             HasRisenAt D.faults provider self.old.providers self.new.providers }
         ensures later { NoneFalls D.faults self.old.providers self.new.providers }
@@ -84,11 +81,10 @@ impl<D: Disk, S: Sealer> Network<D, S> {
         screens: &mut [J],
     ) -> Result<Submitted, ProviderFault>
         requires provider { provider < length self.old.kept }
-        requires fits { Fits (S.seals self.old.sealer) (providers_of self.old.kept) }
         requires path { (0 < length path.now) × (length path.now ≤ most_addresses) }
         requires message { length message.now ≤ longest_message }
         ensures plays { IsPlayed Submits
-            (λ luck. played (trade_of self.old.kept (S.seals self.old.sealer)) luck (sites self.old)
+            (λ luck. played (world_of S.seals self.old) luck (sites self.old)
             (Submit provider moment sender.now path.now message.now
             (finds_in (map J.patterns screens.old) provider message.now)))
             (sites self.old) (sites self.new) result }
@@ -99,7 +95,7 @@ impl<D: Disk, S: Sealer> Network<D, S> {
         ensures patterns { map J.patterns screens.new ≡ map J.patterns screens.old }
         ensures others { ChangesOnly provider self.old self.new }
         ensures carries { D.tells → (journals : Journals) → AllCarryOn D.sight
-            (trade_of self.old.kept (S.seals self.old.sealer)) journals self.old.providers self.new.providers }
+            (world_of S.seals self.old) journals self.old.providers self.new.providers }
         ensures disk_fault { IsErrOf result faults.DiskFault →
             HasRisenAt D.faults provider self.old.providers self.new.providers }
         ensures later { NoneFalls D.faults self.old.providers self.new.providers }
@@ -131,11 +127,11 @@ impl<D: Disk, S: Sealer> Network<D, S> {
     ) -> Result<Vec<Mark>, ProviderFault>
         requires { provider < length self.old.kept }
         ensures plays { IsPlayed (λ marks. Marks marks.items)
-            (λ luck. played (trade_of self.old.kept (S.seals self.old.sealer)) luck (sites self.old)
+            (λ luck. played (world_of S.seals self.old) luck (sites self.old)
             (Tick provider moment)) (sites self.old) (sites self.new) result }
         ensures others { ChangesOnly provider self.old self.new }
         ensures carries { D.tells → (journals : Journals) → AllCarryOn D.sight
-            (trade_of self.old.kept (S.seals self.old.sealer)) journals self.old.providers self.new.providers }
+            (world_of S.seals self.old) journals self.old.providers self.new.providers }
         ensures disk_fault { IsErrOf result faults.DiskFault →
             HasRisenAt D.faults provider self.old.providers self.new.providers }
         ensures later { NoneFalls D.faults self.old.providers self.new.providers }

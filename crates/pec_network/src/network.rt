@@ -50,7 +50,7 @@ impl<D, S: Sealer> Network<D, S> {
     /// The directory of its providers. It takes no memory.
     pub fn directory(&self) -> &Directory
         ensures value { result.now ≡ self.now.kept }
-        // Its providers are those of the directory, each with links from all.
+        // Its providers are those of the directory, for which its sealer seals, each with links from all.
         ensures whole { IsOfDirectory self.now.kept (S.seals self.now.sealer) self.now.providers self.now.waiting }
     {
         &self.directory

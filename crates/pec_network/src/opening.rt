@@ -1,6 +1,8 @@
 ghost use Rattle.std.specs.Prelude.{◌≡◌, ℕ, ◌<◌, ◌≤◌, [], None, Some, length, replicate, vec_capacity};
 ghost use Rattle.std.specs.Prelude.{IfOk, OnOk, IfErr, OnErr};
 ghost use Rattle.pec_outside.specs.Depots.{Alike};
+ghost use Rattle.pec_directory.specs.Directory.{providers_of};
+ghost use Rattle.pec_trade.specs.Houses.{Fits};
 ghost use Rattle.pec_network.specs.Beginning.{AllBegun, BlamesDisk, IsAbout, IsBack, IsRefused, NoneFell};
 ghost use Rattle.pec_network.specs.Beginning.{all_rested, journals_had};
 ghost use Rattle.pec_network.specs.Homes.{AllAt};
@@ -41,6 +43,7 @@ impl<D: Disk, S: Sealer + Drop> Network<D, S> {
         sealer: S,
         depot: &mut P,
     ) -> Result<Network<D, S>, StartFault>
+        requires { Fits (S.seals sealer) (providers_of directory) }
         ensures same { IfOk result (λ network. (network.kept ≡ directory) × (network.sealer ≡ sealer)) }
         ensures rests { IfOk result (λ network. sites network ≡ all_rested (journals_had network.providers)) }
         ensures begun { IfOk result (λ network.
@@ -71,6 +74,7 @@ impl<D: Disk, S: Sealer + Drop> Network<D, S> {
         sealer: S,
         depot: &mut P,
     ) -> Result<Network<D, S>, StartFault>
+        requires { Fits (S.seals sealer) (providers_of directory) }
         ensures same { IfOk result (λ network. (network.kept ≡ directory) × (network.sealer ≡ sealer)) }
         ensures rests { IfOk result (λ network. sites network ≡ all_rested (journals_had network.providers)) }
         ensures begun { IfOk result (λ network.
@@ -101,6 +105,7 @@ impl<D: Disk, S: Sealer + Drop> Network<D, S> {
         sealer: S,
         depot: &mut P,
     ) -> Result<Network<D, S>, (StartFault, Directory)>
+        requires { Fits (S.seals sealer) (providers_of directory) }
         ensures same { IfOk result (λ network. (network.kept ≡ directory) × (network.sealer ≡ sealer)) }
         ensures rests { IfOk result (λ network. sites network ≡ all_rested (journals_had network.providers)) }
         ensures begun { IfOk result (λ network.
@@ -157,6 +162,7 @@ fn begin_all<D: Disk, S: Sealer, P: Depot<D = D>>(
     sealer: &S,
     depot: &mut P,
 ) -> Result<Vec<Provider<D>>, StartFault>
+    requires { Fits (S.seals sealer.now) (providers_of directory.now) }
     ensures all { IfOk result (λ providers. length providers.items ≡ length directory.now) }
     ensures runs { IfOk result (λ providers. AllRun directory.now (S.seals sealer.now) providers.items) }
     ensures begun { IfOk result (λ providers.
@@ -193,6 +199,7 @@ fn begin_each<D: Disk, S: Sealer, P: Depot<D = D>>(
     depot: &mut P,
     providers: &mut Vec<Provider<D>>,
 ) -> Result<(), StartFault>
+    requires fits { Fits (S.seals sealer.now) (providers_of directory.now) }
     requires none { providers.old.items ≡ [] }
     requires room { length directory.now ≤ vec_capacity providers.old }
 

@@ -1,11 +1,9 @@
 ghost use Rattle.std.specs.Prelude.{◌≡◌, ◌<◌, ◌≤◌, ◌^◌, ℕ, [], length, slice_index_or, IfOk};
-ghost use Rattle.pec_directory.specs.Directory.{providers_of};
-ghost use Rattle.pec_letters.specs.Fitting.{Fits};
 ghost use Rattle.pec_plays.specs.Rounds.{link_size, sent_from};
 ghost use Rattle.pec_plays.specs.Turns.{puts_from};
-ghost use Rattle.pec_trade.specs.TradeOf.{trade_of};
-ghost use Rattle.pec_provider.specs.Provider.{Runs};
+ghost use Rattle.pec_trade.specs.Houses.{world_at};
 ghost use Rattle.pec_network.specs.Turning.{room_in};
+ghost use Rattle.pec_provider.specs.Provider.{RunsIn};
 
 use pec_outside::Disk;
 use pec_provider::{House, Provider};
@@ -20,11 +18,9 @@ pub(crate) fn puts<D: Disk, S: Sealer>(
     provider: &Provider<D>,
     rooms: &[usize],
 ) -> Result<Vec<Items<Frame>>, NoMemory>
-    requires runs { Runs house.now.directory.now (S.seals house.now.sealer.now) house.now.me provider.now }
-    requires fits { Fits (S.seals house.now.sealer.now) (providers_of house.now.directory.now) }
+    requires runs { RunsIn house.now provider.now }
     requires rooms { length rooms.now ≡ length house.now.directory.now }
-    ensures out { IfOk result (λ out. out.items ≡ puts_from (trade_of house.now.directory.now (S.seals
-        house.now.sealer.now)) house.now.me
+    ensures out { IfOk result (λ out. out.items ≡ puts_from (world_at house.now) house.now.me
         provider.now.chronicle.entries (room_in rooms.now) provider.now.owed 0 (length house.now.directory.now)) }
     ensures count { IfOk result (λ out. length out.items < 2 ^ 32) }
     ensures fit { IfOk result (λ out. (to : ℕ) → length (slice_index_or out.items to []) ≤ room_in rooms.now to) }

@@ -1,12 +1,10 @@
 ghost use Rattle.std.specs.Prelude.{◌≡◌, length, IfOk, OnErr};
 ghost use Rattle.std.specs.List.{All};
-ghost use Rattle.pec_directory.specs.Directory.{providers_of};
-ghost use Rattle.pec_letters.specs.Fitting.{Fits};
 ghost use Rattle.pec_ledger.specs.Ledger.{Fit, Journals};
 ghost use Rattle.pec_trade.specs.TradeOf.{trade_of};
 ghost use Rattle.pec_posts.specs.Arrivals.{CanBeDelivered, Waiting, deliveries};
 ghost use Rattle.pec_network.specs.Carrying.{AllCarryOn, AllStand, NoneFalls};
-ghost use Rattle.pec_network.specs.Network.{IsOfDirectory, sites, sites_of};
+ghost use Rattle.pec_network.specs.Network.{IsOfDirectory, sites, sites_of, world_of};
 ghost use Rattle.pec_network.specs.Rounds.{AreRooms, BlamesDisks, FramesAreGenuine, IsRound, StopsWithin};
 
 use crate::laws::what_rests_carries_on;
@@ -26,22 +24,20 @@ impl<D: Disk, S: Sealer> Network<D, S> {
     /// disk fails, a provider is down or the clock is behind its journal, that turn tells how it ended, and the others
     /// go on. Where memory runs out nothing is delivered, and each provider has the entries of a front of its turn.
     pub fn round(&mut self, alloc: Global, moment: Moment) -> Result<Vec<Turn>, NoMemory>
-        requires { Fits (S.seals self.old.sealer) (providers_of self.old.kept) }
 
         // It is played as the command, with the luck that its turns tell.
-        ensures plays { IfOk result (λ turns. IsRound (trade_of self.old.kept (S.seals self.old.sealer)) moment
+        ensures plays { IfOk result (λ turns. IsRound (world_of S.seals self.old) moment
             (sites self.old) turns.items (sites self.new)) }
-        ensures stops { OnErr result (StopsWithin (trade_of self.old.kept (S.seals self.old.sealer)) moment
+        ensures stops { OnErr result (StopsWithin (world_of S.seals self.old) moment
             (sites self.old) (sites self.new)) }
         ensures same { (self.new.kept ≡ self.old.kept) × (self.new.sealer ≡ self.old.sealer) }
 
         // At every moment a crash of any disk leaves entries that may follow in the ledger of any journals in which the
         // frames that waited are genuine.
         ensures carries { D.tells → (journals : Journals)
-            → Fit (trade_of self.old.kept (S.seals self.old.sealer)) journals
-            → FramesAreGenuine (trade_of self.old.kept (S.seals self.old.sealer)) journals (sites self.old)
-            → AllCarryOn D.sight (trade_of self.old.kept (S.seals self.old.sealer)) journals self.old.providers
-            self.new.providers }
+            → Fit (world_of S.seals self.old) journals
+            → FramesAreGenuine (world_of S.seals self.old) journals (sites self.old)
+            → AllCarryOn D.sight (world_of S.seals self.old) journals self.old.providers self.new.providers }
 
         // What stands on its disk stands there again, whatever the frames are.
         ensures stands { D.tells → AllStand D.sight self.old.providers → AllStand D.sight self.new.providers }
@@ -82,7 +78,6 @@ fn take_turns<D: Disk, S: Sealer>(
     moment: Moment,
 ) -> Result<Pass, NoMemory>
     requires whole { IsOfDirectory directory.now (S.seals sealer.now) providers.old.items arrivals.old.items }
-    requires fits { Fits (S.seals sealer.now) (providers_of directory.now) }
 
     // It is a round, once what was put is delivered.
     ensures plays { IfOk result (λ pass. IsRound (trade_of directory.now (S.seals sealer.now)) moment

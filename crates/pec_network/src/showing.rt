@@ -1,10 +1,7 @@
 ghost use Rattle.std.specs.Prelude.{◌≡◌, ◌<◌, length};
-ghost use Rattle.pec_directory.specs.Directory.{providers_of};
-ghost use Rattle.pec_letters.specs.Fitting.{Fits};
 ghost use Rattle.pec_ledger.specs.Network.{journal_at};
 ghost use Rattle.pec_plays.specs.Commands.{Book, Items as ItemsShown, Lines, Luck, Mailbox, Show, Shown, played};
-ghost use Rattle.pec_trade.specs.TradeOf.{trade_of};
-ghost use Rattle.pec_network.specs.Network.{sites};
+ghost use Rattle.pec_network.specs.Network.{sites, world_of};
 ghost use Rattle.pec_network.specs.Playing.{IsShown};
 
 use crate::network::Network;
@@ -19,8 +16,7 @@ impl<D, S: Sealer> Network<D, S> {
     /// The book of an account: a line for each of its accepted messages and certified recipients.
     pub fn book(&self, alloc: Global, account: &Address) -> Result<Vec<BookLine>, ProviderFault>
         ensures { (luck : Luck) → IsShown (λ lines. Lines lines.items)
-            (played (trade_of self.now.kept (S.seals self.now.sealer)) luck (sites self.now) (Book account.now))
-            (sites self.now) result }
+            (played (world_of S.seals self.now) luck (sites self.now) (Book account.now)) (sites self.now) result }
     {
         a_trade_says_what_its_parts_say();
         let Some(me) = self.directory.home_of(account) else {
@@ -37,7 +33,7 @@ impl<D, S: Sealer> Network<D, S> {
     /// The lines of an account's mailbox, in order of placing.
     pub fn mailbox(&self, alloc: Global, account: &Address) -> Result<Vec<ItemLine>, ProviderFault>
         ensures { (luck : Luck) → IsShown (λ lines. ItemsShown lines.items)
-            (played (trade_of self.now.kept (S.seals self.now.sealer)) luck (sites self.now) (Mailbox account.now))
+            (played (world_of S.seals self.now) luck (sites self.now) (Mailbox account.now))
             (sites self.now) result }
     {
         a_trade_says_what_its_parts_say();
@@ -60,9 +56,8 @@ impl<D, S: Sealer> Network<D, S> {
         account: &Address,
         place: u32,
     ) -> Result<Vec<u8>, ProviderFault>
-        requires { Fits (S.seals self.now.sealer) (providers_of self.now.kept) }
         ensures { (luck : Luck) → IsShown (λ bytes. Shown bytes.items)
-            (played (trade_of self.now.kept (S.seals self.now.sealer)) luck (sites self.now) (Show account.now place))
+            (played (world_of S.seals self.now) luck (sites self.now) (Show account.now place))
             (sites self.now) result }
     {
         a_trade_says_what_its_parts_say();

@@ -1,11 +1,11 @@
 ghost use Rattle.std.specs.Prelude.{◌≡◌, ◌≢◌, ℕ, ◌<◌, ◌≤◌, None, Some, length, IfOk, OnOk, IfErr, OnErr};
 ghost use Rattle.pec_outside.specs.Depots.{Alike, OnlyAt};
 ghost use Rattle.pec_outside.specs.Flow.{HasRisen};
-ghost use Rattle.pec_provider.specs.Provider.{Runs};
 ghost use Rattle.pec_network.specs.Beginning.{BlamesDisk, IsAbout, IsBack, IsBegun};
 ghost use Rattle.pec_network.specs.Starting.{unmade_as, unopened_as};
 ghost use Rattle.pec_network.specs.declared.faults.StartFault.TheVariants as faults;
 ghost use Rattle.pec_network.specs.declared.opening.Form.TheVariants as forms;
+ghost use Rattle.pec_provider.specs.Provider.{RunsIn};
 
 use crate::faults::{NotFit, StartFault};
 use crate::laws::few_providers;
@@ -23,7 +23,7 @@ pub(crate) fn begin_next<D: Disk, S: Sealer, P: Depot<D = D>>(
     depot: &mut P,
 ) -> Result<Provider<D>, StartFault>
     requires { house.now.me < length house.now.directory.now }
-    ensures runs { IfOk result (Runs house.now.directory.now (S.seals house.now.sealer.now) house.now.me) }
+    ensures runs { IfOk result (RunsIn house.now) }
     ensures begun { IfOk result (IsBegun P.tells D.tells D.sight house.now.directory.now form house.now.me
         (P.home depot.old house.now.me)) }
     ensures out { P.tells → OnOk result (OnlyAt (P.home depot.old) (P.home depot.new) house.now.me None) }
@@ -64,7 +64,7 @@ fn begin_one<D: Disk, S: Sealer>(
     disk: D,
 ) -> Result<Provider<D>, (StartFault, D)>
     requires { house.now.me < length house.now.directory.now }
-    ensures runs { IfOk result (Runs house.now.directory.now (S.seals house.now.sealer.now) house.now.me) }
+    ensures runs { IfOk result (RunsIn house.now) }
     ensures begun { IfOk result
         (IsBegun D.tells D.tells D.sight house.now.directory.now form house.now.me (Some disk)) }
     ensures later { IfOk result (λ provider. D.faults disk ≤ D.faults provider.chronicle.disk) }
@@ -88,7 +88,7 @@ fn make<D: Disk, S: Sealer>(
     disk: D,
 ) -> Result<Provider<D>, (StartFault, D)>
     requires { house.now.me < length house.now.directory.now }
-    ensures runs { IfOk result (Runs house.now.directory.now (S.seals house.now.sealer.now) house.now.me) }
+    ensures runs { IfOk result (RunsIn house.now) }
     ensures begun { IfOk result
         (IsBegun D.tells D.tells D.sight house.now.directory.now forms.Make house.now.me (Some disk)) }
     ensures later { IfOk result (λ provider. D.faults disk ≤ D.faults provider.chronicle.disk) }
@@ -116,7 +116,7 @@ fn open<D: Disk, S: Sealer>(
     disk: D,
 ) -> Result<Provider<D>, (StartFault, D)>
     requires { house.now.me < length house.now.directory.now }
-    ensures runs { IfOk result (Runs house.now.directory.now (S.seals house.now.sealer.now) house.now.me) }
+    ensures runs { IfOk result (RunsIn house.now) }
     ensures begun { IfOk result
         (IsBegun D.tells D.tells D.sight house.now.directory.now forms.Open house.now.me (Some disk)) }
     ensures later { IfOk result (λ provider. D.faults disk ≤ D.faults provider.chronicle.disk) }

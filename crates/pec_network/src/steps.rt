@@ -1,16 +1,14 @@
 ghost use Rattle.std.specs.Prelude.{◌≡◌, ℕ, ◌<◌, ◌≤◌, true, false, List, [], length, IfOk, IfErr, IsErrOf, OnOk};
 ghost use Rattle.pec_types.specs.declared.turns.ProviderFault.TheVariants as faults;
 ghost use Rattle.pec_outside.specs.Flow.{HasRisen};
-ghost use Rattle.pec_directory.specs.Directory.{providers_of};
-ghost use Rattle.pec_letters.specs.Fitting.{Fits};
 ghost use Rattle.pec_ledger.specs.Ledger.{Journals};
 ghost use Rattle.pec_plays.specs.Decisions.{undecided};
 ghost use Rattle.pec_plays.specs.Turns.{frames_in};
-ghost use Rattle.pec_trade.specs.TradeOf.{trade_of};
+ghost use Rattle.pec_trade.specs.Houses.{world_at};
 ghost use Rattle.pec_chronicle.specs.Carrying.{CarriesOn, NothingMay};
 ghost use Rattle.pec_chronicle.specs.Chronicle.{ChronicleState, Stands};
 ghost use Rattle.pec_provider.specs.Following.{MayFollow};
-ghost use Rattle.pec_provider.specs.Provider.{Runs, desk_of};
+ghost use Rattle.pec_provider.specs.Provider.{RunsIn, desk_of};
 ghost use Rattle.pec_provider.specs.Working.{IsAtWork};
 ghost use Rattle.pec_network.specs.Turning.{CarriesFrames, Ends, Leads, Waiting};
 
@@ -34,24 +32,18 @@ pub(crate) fn take_frames<D: Disk, S: Sealer>(
     moment: Moment,
     events: &mut Vec<Event>,
 ) -> Result<(), ProviderFault>
-    requires runs { Runs house.now.directory.now (S.seals house.now.sealer.now) house.now.me provider.old }
-    requires fits { Fits (S.seals house.now.sealer.now) (providers_of house.now.directory.now) }
-    requires works { IsAtWork (trade_of house.now.directory.now (S.seals house.now.sealer.now)) house.now.me moment
-        (desk_of provider.old) }
-    ensures leads { OnOk result (Leads (trade_of house.now.directory.now (S.seals house.now.sealer.now)) house.now.me
-        moment
+    requires runs { RunsIn house.now provider.old }
+    requires works { IsAtWork (world_at house.now) house.now.me moment (desk_of provider.old) }
+    ensures leads { OnOk result (Leads (world_at house.now) house.now.me moment
         (desk_of provider.old) arrivals.old events.old.items (desk_of provider.new) arrivals.new events.new.items) }
     ensures none { OnOk result (frames_in arrivals.new ≡ []) }
-    ensures works { OnOk result (IsAtWork (trade_of house.now.directory.now (S.seals house.now.sealer.now)) house.now.me
-        moment (desk_of provider.new)) }
-    ensures ends { IfErr result (λ fault. Ends (trade_of house.now.directory.now (S.seals house.now.sealer.now))
-        house.now.me moment
+    ensures works { OnOk result (IsAtWork (world_at house.now) house.now.me moment (desk_of provider.new)) }
+    ensures ends { IfErr result (λ fault. Ends (world_at house.now) house.now.me moment
         (desk_of provider.old) arrivals.old events.old.items fault
         (desk_of provider.new) arrivals.new events.new.items) }
-    ensures runs { Runs house.now.directory.now (S.seals house.now.sealer.now) house.now.me provider.new }
+    ensures runs { RunsIn house.now provider.new }
     ensures links { length arrivals.new ≡ length arrivals.old }
-    ensures carries { D.tells → CarriesFrames (trade_of house.now.directory.now (S.seals house.now.sealer.now))
-        house.now.me moment D.sight
+    ensures carries { D.tells → CarriesFrames (world_at house.now) house.now.me moment D.sight
         provider.old.chronicle arrivals.old provider.new.chronicle arrivals.new }
     ensures stands { D.tells → Stands D.sight provider.old.chronicle → Stands D.sight provider.new.chronicle }
     ensures disk_fault { IsErrOf result faults.DiskFault → HasRisen (D.faults provider.old.chronicle.disk) (D.faults
@@ -72,26 +64,20 @@ fn take_frame<D: Disk, S: Sealer>(
     moment: Moment,
     events: &mut Vec<Event>,
 ) -> Result<bool, ProviderFault>
-    requires runs { Runs house.now.directory.now (S.seals house.now.sealer.now) house.now.me provider.old }
-    requires fits { Fits (S.seals house.now.sealer.now) (providers_of house.now.directory.now) }
-    requires works { IsAtWork (trade_of house.now.directory.now (S.seals house.now.sealer.now)) house.now.me moment
-        (desk_of provider.old) }
-    ensures leads { OnOk result (Leads (trade_of house.now.directory.now (S.seals house.now.sealer.now)) house.now.me
-        moment
+    requires runs { RunsIn house.now provider.old }
+    requires works { IsAtWork (world_at house.now) house.now.me moment (desk_of provider.old) }
+    ensures leads { OnOk result (Leads (world_at house.now) house.now.me moment
         (desk_of provider.old) arrivals.old events.old.items (desk_of provider.new) arrivals.new events.new.items) }
     ensures none { IfOk result (λ more. more ≡ false → frames_in arrivals.new ≡ []) }
     ensures fewer { IfOk result (λ more. more ≡ true → length (frames_in arrivals.new) < length (frames_in
         arrivals.old)) }
-    ensures works { OnOk result (IsAtWork (trade_of house.now.directory.now (S.seals house.now.sealer.now)) house.now.me
-        moment (desk_of provider.new)) }
-    ensures ends { IfErr result (λ fault. Ends (trade_of house.now.directory.now (S.seals house.now.sealer.now))
-        house.now.me moment
+    ensures works { OnOk result (IsAtWork (world_at house.now) house.now.me moment (desk_of provider.new)) }
+    ensures ends { IfErr result (λ fault. Ends (world_at house.now) house.now.me moment
         (desk_of provider.old) arrivals.old events.old.items fault
         (desk_of provider.new) arrivals.new events.new.items) }
-    ensures runs { Runs house.now.directory.now (S.seals house.now.sealer.now) house.now.me provider.new }
+    ensures runs { RunsIn house.now provider.new }
     ensures links { length arrivals.new ≡ length arrivals.old }
-    ensures carries { D.tells → CarriesFrames (trade_of house.now.directory.now (S.seals house.now.sealer.now))
-        house.now.me moment D.sight
+    ensures carries { D.tells → CarriesFrames (world_at house.now) house.now.me moment D.sight
         provider.old.chronicle arrivals.old provider.new.chronicle arrivals.new }
     ensures stands { D.tells → Stands D.sight provider.old.chronicle → Stands D.sight provider.new.chronicle }
     ensures disk_fault { IsErrOf result faults.DiskFault → HasRisen (D.faults provider.old.chronicle.disk) (D.faults
@@ -120,22 +106,19 @@ pub(crate) fn decide_pairs<D: Disk, S: Sealer>(
     moment: Moment,
     events: &mut Vec<Event>,
 ) -> Result<(), ProviderFault>
-    requires runs { Runs house.now.directory.now (S.seals house.now.sealer.now) house.now.me provider.old }
-    requires works { IsAtWork (trade_of house.now.directory.now (S.seals house.now.sealer.now)) house.now.me moment
-        (desk_of provider.old) }
+    requires runs { RunsIn house.now provider.old }
+    requires works { IsAtWork (world_at house.now) house.now.me moment (desk_of provider.old) }
     ensures leads { (left : Waiting) → frames_in left ≡ [] → OnOk result
-        (Leads (trade_of house.now.directory.now (S.seals house.now.sealer.now)) house.now.me moment
+        (Leads (world_at house.now) house.now.me moment
         (desk_of provider.old) left events.old.items (desk_of provider.new) left events.new.items) }
-    ensures decided { OnOk result (undecided (trade_of house.now.directory.now (S.seals house.now.sealer.now))
-        house.now.me
+    ensures decided { OnOk result (undecided (world_at house.now) house.now.me
         provider.new.chronicle.entries ≡ []) }
     ensures ends { (left : Waiting) → frames_in left ≡ [] → IfErr result (λ fault.
-        Ends (trade_of house.now.directory.now (S.seals house.now.sealer.now)) house.now.me moment
+        Ends (world_at house.now) house.now.me moment
         (desk_of provider.old) left events.old.items fault (desk_of provider.new) left events.new.items) }
-    ensures runs { Runs house.now.directory.now (S.seals house.now.sealer.now) house.now.me provider.new }
+    ensures runs { RunsIn house.now provider.new }
     ensures carries { D.tells → (journals : Journals) → CarriesOn D.sight
-        (MayFollow (trade_of house.now.directory.now (S.seals house.now.sealer.now)) journals house.now.me)
-        provider.old.chronicle provider.new.chronicle }
+        (MayFollow (world_at house.now) journals house.now.me) provider.old.chronicle provider.new.chronicle }
     ensures disk_fault { IsErrOf result faults.DiskFault → HasRisen (D.faults provider.old.chronicle.disk) (D.faults
         provider.new.chronicle.disk) }
     ensures later { D.faults provider.old.chronicle.disk ≤ D.faults provider.new.chronicle.disk }
@@ -153,29 +136,23 @@ fn decide_pair<D: Disk, S: Sealer>(
     moment: Moment,
     events: &mut Vec<Event>,
 ) -> Result<bool, ProviderFault>
-    requires runs { Runs house.now.directory.now (S.seals house.now.sealer.now) house.now.me provider.old }
-    requires works { IsAtWork (trade_of house.now.directory.now (S.seals house.now.sealer.now)) house.now.me moment
-        (desk_of provider.old) }
+    requires runs { RunsIn house.now provider.old }
+    requires works { IsAtWork (world_at house.now) house.now.me moment (desk_of provider.old) }
     ensures leads { (left : Waiting) → frames_in left ≡ [] → OnOk result
-        (Leads (trade_of house.now.directory.now (S.seals house.now.sealer.now)) house.now.me moment
+        (Leads (world_at house.now) house.now.me moment
         (desk_of provider.old) left events.old.items (desk_of provider.new) left events.new.items) }
-    ensures none { IfOk result (λ more. more ≡ false → undecided (trade_of house.now.directory.now (S.seals
-        house.now.sealer.now))
+    ensures none { IfOk result (λ more. more ≡ false → undecided (world_at house.now)
         house.now.me provider.new.chronicle.entries ≡ []) }
     ensures fewer { IfOk result (λ more. more ≡ true →
-        length (undecided (trade_of house.now.directory.now (S.seals house.now.sealer.now)) house.now.me
-        provider.new.chronicle.entries)
-        < length (undecided (trade_of house.now.directory.now (S.seals house.now.sealer.now)) house.now.me
-        provider.old.chronicle.entries)) }
-    ensures works { OnOk result (IsAtWork (trade_of house.now.directory.now (S.seals house.now.sealer.now)) house.now.me
-        moment (desk_of provider.new)) }
+        length (undecided (world_at house.now) house.now.me provider.new.chronicle.entries)
+        < length (undecided (world_at house.now) house.now.me provider.old.chronicle.entries)) }
+    ensures works { OnOk result (IsAtWork (world_at house.now) house.now.me moment (desk_of provider.new)) }
     ensures ends { (left : Waiting) → frames_in left ≡ [] → IfErr result (λ fault.
-        Ends (trade_of house.now.directory.now (S.seals house.now.sealer.now)) house.now.me moment
+        Ends (world_at house.now) house.now.me moment
         (desk_of provider.old) left events.old.items fault (desk_of provider.new) left events.new.items) }
-    ensures runs { Runs house.now.directory.now (S.seals house.now.sealer.now) house.now.me provider.new }
+    ensures runs { RunsIn house.now provider.new }
     ensures carries { D.tells → (journals : Journals) → CarriesOn D.sight
-        (MayFollow (trade_of house.now.directory.now (S.seals house.now.sealer.now)) journals house.now.me)
-        provider.old.chronicle provider.new.chronicle }
+        (MayFollow (world_at house.now) journals house.now.me) provider.old.chronicle provider.new.chronicle }
     ensures disk_fault { IsErrOf result faults.DiskFault → HasRisen (D.faults provider.old.chronicle.disk) (D.faults
         provider.new.chronicle.disk) }
     ensures later { D.faults provider.old.chronicle.disk ≤ D.faults provider.new.chronicle.disk }

@@ -2,14 +2,12 @@ ghost use Rattle.std.specs.Prelude.{◌≡◌, ◌≢◌, ℕ, ◌≤◌, [], le
 ghost use Rattle.std.specs.Prelude.{IfOk, IfErr, IsErrOf, OnOk, OnErr};
 ghost use Rattle.pec_types.specs.declared.turns.ProviderFault.TheVariants as faults;
 ghost use Rattle.pec_outside.specs.Flow.{HasRisen};
-ghost use Rattle.pec_directory.specs.Directory.{providers_of};
-ghost use Rattle.pec_letters.specs.Fitting.{Fits};
 ghost use Rattle.pec_plays.specs.Decisions.{undecided};
 ghost use Rattle.pec_plays.specs.Rounds.{link_size, sent_from};
 ghost use Rattle.pec_plays.specs.Turns.{frames_in, puts_from};
-ghost use Rattle.pec_trade.specs.TradeOf.{trade_of};
+ghost use Rattle.pec_trade.specs.Houses.{world_at};
 ghost use Rattle.pec_chronicle.specs.Chronicle.{Stands};
-ghost use Rattle.pec_provider.specs.Provider.{Runs, desk_of, site_of};
+ghost use Rattle.pec_provider.specs.Provider.{RunsIn, desk_of, site_of};
 ghost use Rattle.pec_provider.specs.Working.{IsAtWork};
 ghost use Rattle.pec_network.specs.Turning.{CarriesFrames, Ends, Leads, StopsShort, Took, room_in, told_of, turn_of};
 
@@ -41,15 +39,13 @@ pub fn take_turn<D: Disk, S: Sealer>(
     moment: Moment,
     rooms: &[usize],
 ) -> Result<Taken, NoMemory>
-    requires runs { Runs house.now.directory.now (S.seals house.now.sealer.now) house.now.me provider.old }
-    requires fits { Fits (S.seals house.now.sealer.now) (providers_of house.now.directory.now) }
+    requires runs { RunsIn house.now provider.old }
     requires nothing_owed { provider.old.owed ≡ [] }
     requires rooms { length rooms.now ≡ length house.now.directory.now }
     requires short { (to : ℕ) → room_in rooms.now to ≤ link_size }
 
     // It is a turn of the rounds of pec_plays, cut as it tells.
-    ensures took { IfOk result (λ taken. Took (trade_of house.now.directory.now (S.seals house.now.sealer.now))
-        house.now.me moment
+    ensures took { IfOk result (λ taken. Took (world_at house.now) house.now.me moment
         (room_in rooms.now) (site_of (desk_of provider.old) arrivals.old) (turn_of (site_of (desk_of provider.new)
         arrivals.new) taken.turn taken.out)) }
     ensures told { IfOk result (λ taken. taken.turn ≡ told_of house.now.me (turn_of (site_of (desk_of provider.new)
@@ -62,17 +58,15 @@ pub fn take_turn<D: Disk, S: Sealer>(
     ensures fit { IfOk result (λ taken. (to : ℕ) → length (slice_index_or taken.out to []) ≤ room_in rooms.now to) }
 
     // On want of memory what was appended is a front of the turn.
-    ensures short { OnErr result (StopsShort (trade_of house.now.directory.now (S.seals house.now.sealer.now))
-        house.now.me moment
+    ensures short { OnErr result (StopsShort (world_at house.now) house.now.me moment
         (site_of (desk_of provider.old) arrivals.old) (site_of (desk_of provider.new) arrivals.new)) }
     ensures nothing_owed { provider.new.owed ≡ [] }
-    ensures runs { Runs house.now.directory.now (S.seals house.now.sealer.now) house.now.me provider.new }
+    ensures runs { RunsIn house.now provider.new }
     ensures links { length arrivals.new ≡ length arrivals.old }
 
     // At every moment a crash leaves entries that may follow in the ledger of any journals in which the frames are
     // genuine.
-    ensures carries { D.tells → CarriesFrames (trade_of house.now.directory.now (S.seals house.now.sealer.now))
-        house.now.me moment D.sight
+    ensures carries { D.tells → CarriesFrames (world_at house.now) house.now.me moment D.sight
         provider.old.chronicle arrivals.old provider.new.chronicle arrivals.new }
 
     // What stands on its disk stands there again, whatever the frames are.
@@ -95,26 +89,22 @@ fn turn<D: Disk, S: Sealer>(
     moment: Moment,
     rooms: &[usize],
 ) -> Result<Taken, NoMemory>
-    requires runs { Runs house.now.directory.now (S.seals house.now.sealer.now) house.now.me provider.old }
-    requires fits { Fits (S.seals house.now.sealer.now) (providers_of house.now.directory.now) }
+    requires runs { RunsIn house.now provider.old }
     requires nothing_owed { provider.old.owed ≡ [] }
     requires rooms { length rooms.now ≡ length house.now.directory.now }
     requires short { (to : ℕ) → room_in rooms.now to ≤ link_size }
-    ensures took { IfOk result (λ taken. Took (trade_of house.now.directory.now (S.seals house.now.sealer.now))
-        house.now.me moment
+    ensures took { IfOk result (λ taken. Took (world_at house.now) house.now.me moment
         (room_in rooms.now) (site_of (desk_of provider.old) arrivals.old) (turn_of (site_of (desk_of provider.new)
         arrivals.new) taken.turn taken.out)) }
     ensures told { IfOk result (λ taken. taken.turn ≡ told_of house.now.me (turn_of (site_of (desk_of provider.new)
         arrivals.new) taken.turn taken.out)) }
     ensures memory { IfOk result (λ taken. taken.turn.ended ≢ Some faults.NoMemory) }
     ensures fit { IfOk result (λ taken. (to : ℕ) → length (slice_index_or taken.out to []) ≤ room_in rooms.now to) }
-    ensures short { OnErr result (StopsShort (trade_of house.now.directory.now (S.seals house.now.sealer.now))
-        house.now.me moment
+    ensures short { OnErr result (StopsShort (world_at house.now) house.now.me moment
         (site_of (desk_of provider.old) arrivals.old) (site_of (desk_of provider.new) arrivals.new)) }
-    ensures runs { Runs house.now.directory.now (S.seals house.now.sealer.now) house.now.me provider.new }
+    ensures runs { RunsIn house.now provider.new }
     ensures links { length arrivals.new ≡ length arrivals.old }
-    ensures carries { D.tells → CarriesFrames (trade_of house.now.directory.now (S.seals house.now.sealer.now))
-        house.now.me moment D.sight
+    ensures carries { D.tells → CarriesFrames (world_at house.now) house.now.me moment D.sight
         provider.old.chronicle arrivals.old provider.new.chronicle arrivals.new }
     ensures stands { D.tells → Stands D.sight provider.old.chronicle → Stands D.sight provider.new.chronicle }
     ensures disk_fault { IfOk result (λ taken. taken.turn.ended ≡ Some faults.DiskFault →
@@ -142,25 +132,19 @@ fn take_steps<D: Disk, S: Sealer>(
     moment: Moment,
     events: &mut Vec<Event>,
 ) -> Result<(), ProviderFault>
-    requires runs { Runs house.now.directory.now (S.seals house.now.sealer.now) house.now.me provider.old }
-    requires fits { Fits (S.seals house.now.sealer.now) (providers_of house.now.directory.now) }
-    requires works { IsAtWork (trade_of house.now.directory.now (S.seals house.now.sealer.now)) house.now.me moment
-        (desk_of provider.old) }
-    ensures leads { OnOk result (Leads (trade_of house.now.directory.now (S.seals house.now.sealer.now)) house.now.me
-        moment
+    requires runs { RunsIn house.now provider.old }
+    requires works { IsAtWork (world_at house.now) house.now.me moment (desk_of provider.old) }
+    ensures leads { OnOk result (Leads (world_at house.now) house.now.me moment
         (desk_of provider.old) arrivals.old events.old.items (desk_of provider.new) arrivals.new events.new.items) }
     ensures none { OnOk result (frames_in arrivals.new ≡ []) }
-    ensures decided { OnOk result (undecided (trade_of house.now.directory.now (S.seals house.now.sealer.now))
-        house.now.me
+    ensures decided { OnOk result (undecided (world_at house.now) house.now.me
         provider.new.chronicle.entries ≡ []) }
-    ensures ends { IfErr result (λ fault. Ends (trade_of house.now.directory.now (S.seals house.now.sealer.now))
-        house.now.me moment
+    ensures ends { IfErr result (λ fault. Ends (world_at house.now) house.now.me moment
         (desk_of provider.old) arrivals.old events.old.items fault
         (desk_of provider.new) arrivals.new events.new.items) }
-    ensures runs { Runs house.now.directory.now (S.seals house.now.sealer.now) house.now.me provider.new }
+    ensures runs { RunsIn house.now provider.new }
     ensures links { length arrivals.new ≡ length arrivals.old }
-    ensures carries { D.tells → CarriesFrames (trade_of house.now.directory.now (S.seals house.now.sealer.now))
-        house.now.me moment D.sight
+    ensures carries { D.tells → CarriesFrames (world_at house.now) house.now.me moment D.sight
         provider.old.chronicle arrivals.old provider.new.chronicle arrivals.new }
     ensures stands { D.tells → Stands D.sight provider.old.chronicle → Stands D.sight provider.new.chronicle }
     ensures disk_fault { IsErrOf result faults.DiskFault → HasRisen (D.faults provider.old.chronicle.disk) (D.faults
@@ -180,12 +164,10 @@ fn whole<D: Disk, S: Sealer>(
     rooms: &[usize],
     events: Vec<Event>,
 ) -> Result<Taken, NoMemory>
-    requires runs { Runs house.now.directory.now (S.seals house.now.sealer.now) house.now.me provider.now }
-    requires fits { Fits (S.seals house.now.sealer.now) (providers_of house.now.directory.now) }
+    requires runs { RunsIn house.now provider.now }
     requires rooms { length rooms.now ≡ length house.now.directory.now }
     requires short { (to : ℕ) → room_in rooms.now to ≤ link_size }
-    ensures out { IfOk result (λ taken. taken.out ≡ puts_from (trade_of house.now.directory.now (S.seals
-        house.now.sealer.now)) house.now.me
+    ensures out { IfOk result (λ taken. taken.out ≡ puts_from (world_at house.now) house.now.me
         provider.now.chronicle.entries (room_in rooms.now) provider.now.owed 0 (length house.now.directory.now)) }
     ensures fit { IfOk result (λ taken. (to : ℕ) → length (slice_index_or taken.out to []) ≤ room_in rooms.now to) }
     ensures turn { IfOk result (λ taken. taken.turn ≡ record {

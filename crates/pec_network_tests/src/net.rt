@@ -7,11 +7,11 @@ ghost use Rattle.pec_letters.specs.Fitting.{Fits};
 use crate::calls::{crash, restart, round, submit, tick};
 use crate::words::{link_word, restart_word};
 use pec_directory::Directory;
-use pec_house::sealer_of;
 use pec_link::LinkFault;
 use pec_network::{Form, Network, StartFault};
 use pec_outside::{MemDepot, MemDisk};
 use pec_seal::{HmacSealer, Sealer};
+use pec_trade::sealer_of;
 use pec_trial::{
     Answers, account_at, add_number, first_wrong, moment_of, number, small, submission_of, text_of,
     told, told_all, told_item, told_turns, told_word, two, word,
@@ -128,6 +128,7 @@ fn of_form(
     sealer: HmacSealer,
     depot: &mut MemDepot,
 ) -> Result<Network<MemDisk, HmacSealer>, StartFault>
+    requires { Fits (⟦<HmacSealer as Sealer>⟧.seals sealer) (providers_of directory) }
     ensures { IfOk result (λ network. (network.kept ≡ directory) × (network.sealer ≡ sealer)) }
 {
     match form {

@@ -53,7 +53,7 @@ Originals = (trade : Trade) (provider : ℕ) (journal : List Entry) (number : �
 
 -- the original of an accepted message has the facts of its row
 pub facts_of_original : Originals → (kept : List Kept) (seals : Seals) (journal : List Entry) (shelf : Seen)
-    → IsHalfOf kept seals journal shelf
+    → IsHalfOf (trade_of kept seals) journal shelf
     → (number : ℕ) (message : Message) (facts : Facts) (original : Bytes) → slice_get shelf.half.messages number
     ≡ Some message
     → message.facts ≡ Some facts → body_at journal message.entry ≡ Some original → facts_in original ≡ Some facts

@@ -1,25 +1,22 @@
 ghost use Rattle.std.specs.Prelude.{◌≡◌, ◌↔◌, ◌<◌, ◌≤◌, ◌++◌, length, IfOk, IsTrue, OnOk, map};
 ghost use Rattle.std.specs.List.{filter_map};
 ghost use Rattle.std.specs.Option.{option_to_list};
-ghost use Rattle.pec_directory.specs.Directory.{providers_of};
 ghost use Rattle.pec_frames.specs.declared.TheConstants.{MOST_ADDRESSES};
-ghost use Rattle.pec_letters.specs.Fitting.{Fits};
 ghost use Rattle.pec_ledger.specs.Due.{addressee, answers_to};
 ghost use Rattle.pec_ledger.specs.Lookups.{is_home};
 ghost use Rattle.pec_plays.specs.Envelopes.{HaveEnvelopes};
 ghost use Rattle.pec_plays.specs.Frames.{due_frames, frame_of};
+ghost use Rattle.pec_trade.specs.Houses.{world_at};
 ghost use Rattle.pec_trade.specs.Texts.{frame_along};
-ghost use Rattle.pec_trade.specs.TradeOf.{trade_of};
 ghost use Rattle.pec_outgoing.specs.Desk.{IsHalfOf};
 
 use crate::desks::Desk;
 use crate::letters::{Outgoing, composed};
 use pec_chronicle::Encoded;
-use pec_directory::Directory;
 use pec_frames::{FrameMade, MOST_ADDRESSES, frame_of};
 use pec_seal::Sealer;
 use pec_shelf::Shelf;
-use pec_trade::a_trade_says_what_its_parts_say;
+use pec_trade::{House, a_trade_says_what_its_parts_say};
 use pec_types::{Address, Frame, Letter, NoMemory, what_is_read_is_in_lower_case};
 use std::alloc::{AllocError, Global};
 
@@ -31,8 +28,7 @@ use std::alloc::{AllocError, Global};
 /// takes a message holds an envelope that was seen under these seals, so that its seal isn't opened again.
 pub fn due_frames<S: Sealer>(
     alloc: Global,
-    directory: &Directory,
-    sealer: &S,
+    house: &House<'_, S>,
     shelf: &Shelf,
     entries: &[Encoded],
     seen_from: u64,
@@ -40,16 +36,14 @@ pub fn due_frames<S: Sealer>(
     room: usize,
     owed: &[Letter],
 ) -> Result<Vec<Frame>, NoMemory>
-    requires fits { Fits (S.seals sealer.now) (providers_of directory.now) }
-    requires half { IsHalfOf directory.now (S.seals sealer.now) entries.now shelf.now }
-    requires envelopes { HaveEnvelopes (trade_of directory.now (S.seals sealer.now)) seen_from entries.now }
+    requires half { IsHalfOf (world_at house.now) entries.now shelf.now }
+    requires envelopes { HaveEnvelopes (world_at house.now) seen_from entries.now }
     ensures { IfOk result (λ frames. frames.items
-        ≡ due_frames (trade_of directory.now (S.seals sealer.now)) shelf.now.me entries.now to room owed.now) }
+        ≡ due_frames (world_at house.now) shelf.now.me entries.now to room owed.now) }
 {
     let desk = Desk {
         alloc,
-        directory,
-        sealer,
+        house,
         shelf,
         entries,
         seen_from,
@@ -70,7 +64,7 @@ fn answers_to<'a, S: Sealer>(
     owed: &'a [Letter],
 ) -> Result<Vec<&'a Letter>, AllocError>
     ensures { IfOk result (λ answers. map (λ letter. letter.now) answers.items
-        ≡ answers_to (trade_of desk.now.directory.now (S.seals desk.now.sealer.now)) to owed.now) }
+        ≡ answers_to (world_at desk.now.house.now) to owed.now) }
 {
     let mut answers = Vec::new(desk.alloc);
     for letter in owed {
@@ -84,7 +78,7 @@ fn answers_to<'a, S: Sealer>(
 /// Whether a letter is for a provider.
 fn is_for<S: Sealer>(desk: &Desk<'_, S>, to: u32, letter: &Letter) -> bool
     ensures { result
-        ≡ is_home to (addressee (trade_of desk.now.directory.now (S.seals desk.now.sealer.now)) letter.now) }
+        ≡ is_home to (addressee (world_at desk.now.house.now) letter.now) }
 {
     match addressee(desk, letter) {
         Some(provider) => to == provider,
@@ -94,13 +88,13 @@ fn is_for<S: Sealer>(desk: &Desk<'_, S>, to: u32, letter: &Letter) -> bool
 
 /// The provider for which a letter is.
 fn addressee<S: Sealer>(desk: &Desk<'_, S>, letter: &Letter) -> Option<u32>
-    ensures { result ≡ addressee (trade_of desk.now.directory.now (S.seals desk.now.sealer.now)) letter.now }
+    ensures { result ≡ addressee (world_at desk.now.house.now) letter.now }
 {
     match letter {
         Letter::Envelope { to, .. } => Some(*to),
         Letter::Charge { id, .. } => Some(id.provider),
         Letter::Outcome { id, .. } => Some(id.provider),
-        Letter::Ack { recipient, .. } => desk.directory.home_of(recipient),
+        Letter::Ack { recipient, .. } => desk.house.directory.home_of(recipient),
     }
 }
 
@@ -110,14 +104,9 @@ fn put_answers<S: Sealer>(
     frames: &mut Vec<Frame>,
     answers: &[&Letter],
 ) -> Result<(), NoMemory>
-    requires fits { Fits (S.seals desk.now.sealer.now) (providers_of desk.now.directory.now) }
-    requires half { IsHalfOf desk.now.directory.now (S.seals desk.now.sealer.now) desk.now.entries.now
-        desk.now.shelf.now }
-    requires envelopes { HaveEnvelopes (trade_of desk.now.directory.now (S.seals desk.now.sealer.now)) desk.now.seen_from
-        desk.now.entries.now }
+    requires envelopes { HaveEnvelopes (world_at desk.now.house.now) desk.now.seen_from desk.now.entries.now }
     ensures { OnOk result (frames.new.items ≡ frames.old.items
-        ++ filter_map (frame_of (trade_of desk.now.directory.now (S.seals desk.now.sealer.now)) desk.now.shelf.now.me
-        desk.now.entries.now)
+        ++ filter_map (frame_of (world_at desk.now.house.now) desk.now.shelf.now.me desk.now.entries.now)
         (map (λ letter. letter.now) answers.now)) }
 {
     for answer in answers {
@@ -132,14 +121,9 @@ fn put_letters<S: Sealer>(
     frames: &mut Vec<Frame>,
     letters: &[Letter],
 ) -> Result<(), NoMemory>
-    requires fits { Fits (S.seals desk.now.sealer.now) (providers_of desk.now.directory.now) }
-    requires half { IsHalfOf desk.now.directory.now (S.seals desk.now.sealer.now) desk.now.entries.now
-        desk.now.shelf.now }
-    requires envelopes { HaveEnvelopes (trade_of desk.now.directory.now (S.seals desk.now.sealer.now)) desk.now.seen_from
-        desk.now.entries.now }
+    requires envelopes { HaveEnvelopes (world_at desk.now.house.now) desk.now.seen_from desk.now.entries.now }
     ensures { OnOk result (frames.new.items ≡ frames.old.items
-        ++ filter_map (frame_of (trade_of desk.now.directory.now (S.seals desk.now.sealer.now)) desk.now.shelf.now.me
-        desk.now.entries.now)
+        ++ filter_map (frame_of (world_at desk.now.house.now) desk.now.shelf.now.me desk.now.entries.now)
         letters.now) }
 {
     for letter in letters {
@@ -155,14 +139,10 @@ fn put<S: Sealer>(
     frames: &mut Vec<Frame>,
     letter: &Letter,
 ) -> Result<(), NoMemory>
-    requires fits { Fits (S.seals desk.now.sealer.now) (providers_of desk.now.directory.now) }
-    requires half { IsHalfOf desk.now.directory.now (S.seals desk.now.sealer.now) desk.now.entries.now
-        desk.now.shelf.now }
-    requires envelopes { HaveEnvelopes (trade_of desk.now.directory.now (S.seals desk.now.sealer.now)) desk.now.seen_from
-        desk.now.entries.now }
+    requires envelopes { HaveEnvelopes (world_at desk.now.house.now) desk.now.seen_from desk.now.entries.now }
     ensures { OnOk result (frames.new.items ≡ frames.old.items
-        ++ option_to_list (frame_of (trade_of desk.now.directory.now (S.seals desk.now.sealer.now))
-        desk.now.shelf.now.me desk.now.entries.now letter.now)) }
+        ++ option_to_list
+        (frame_of (world_at desk.now.house.now) desk.now.shelf.now.me desk.now.entries.now letter.now)) }
 {
     let Some(made) = composed(desk, letter)? else {
         return Ok(());

@@ -1,14 +1,12 @@
 ghost use Rattle.std.specs.Prelude.{◌≡◌, option_map, slice_get, IfOk};
 ghost use Rattle.std.specs.Option.{option_and_then};
-ghost use Rattle.pec_directory.specs.Directory.{providers_of};
-ghost use Rattle.pec_letters.specs.Fitting.{Fits};
 ghost use Rattle.pec_ledger.specs.Items.{composed, item_text, original_at, receipt_of, refusal_by, taken_body, text_by};
 ghost use Rattle.pec_ledger.specs.Ledger.{body_at};
 ghost use Rattle.pec_ledger.specs.Lookups.{mailbox, taken_of};
 ghost use Rattle.pec_ledger.specs.Steps.{half};
+ghost use Rattle.pec_trade.specs.Houses.{world_at};
 ghost use Rattle.pec_shelf.specs.Rows.{item_shown};
 ghost use Rattle.pec_trade.specs.Texts.{anomaly_bytes};
-ghost use Rattle.pec_trade.specs.TradeOf.{trade_of};
 ghost use Rattle.pec_outgoing.specs.Desk.{IsHalfOf};
 
 use crate::bodies::body;
@@ -17,11 +15,11 @@ use crate::notices::refusal_text;
 use crate::originals::accepted_original;
 use crate::texts::{anomaly_text, receipt_text};
 use pec_chronicle::Encoded;
-use pec_directory::Directory;
 use pec_receipts::Receipt;
 use pec_records::Entry;
 use pec_seal::Sealer;
 use pec_shelf::{Placed, Shelf};
+use pec_trade::House;
 use pec_types::{Address, Kind, Moment, MsgId, NoMemory};
 use std::alloc::Global;
 
@@ -33,23 +31,20 @@ use std::alloc::Global;
 #[tactic(auto, unfolding(pec_ledger::specs::Items::item_text))]
 pub fn item<S: Sealer>(
     alloc: Global,
-    directory: &Directory,
-    sealer: &S,
+    house: &House<'_, S>,
     shelf: &Shelf,
     entries: &[Encoded],
     account: &Address,
     place: u32,
 ) -> Result<Option<Vec<u8>>, NoMemory>
-    requires fits { Fits (S.seals sealer.now) (providers_of directory.now) }
-    requires half { IsHalfOf directory.now (S.seals sealer.now) entries.now shelf.now }
+    requires half { IsHalfOf (world_at house.now) entries.now shelf.now }
     ensures { IfOk result (λ found. option_map (λ text. text.items) found
-        ≡ option_and_then (item_text (trade_of directory.now (S.seals sealer.now)) shelf.now.me entries.now)
+        ≡ option_and_then (item_text (world_at house.now) shelf.now.me entries.now)
         (slice_get (mailbox shelf.now.half account.now) place)) }
 {
     let desk = Desk {
         alloc,
-        directory,
-        sealer,
+        house,
         shelf,
         entries,
         seen_from: u64::MAX,
@@ -67,12 +62,9 @@ fn text_by<S: Sealer>(
     entry: u64,
     item: &Placed,
 ) -> Result<Option<Vec<u8>>, NoMemory>
-    requires fits { Fits (S.seals desk.now.sealer.now) (providers_of desk.now.directory.now) }
-    requires half { IsHalfOf desk.now.directory.now (S.seals desk.now.sealer.now) desk.now.entries.now
-        desk.now.shelf.now }
     ensures { IfOk result (λ found. option_map (λ text. text.items) found
-        ≡ text_by (trade_of desk.now.directory.now (S.seals desk.now.sealer.now)) desk.now.shelf.now.me
-        desk.now.entries.now entry (item_shown item.now)) }
+        ≡ text_by (world_at desk.now.house.now) desk.now.shelf.now.me desk.now.entries.now entry
+        (item_shown item.now)) }
 {
     match item {
         Placed::Envelope(id) => taken_envelope(desk, *id),
@@ -88,12 +80,9 @@ fn text_by<S: Sealer>(
 
 /// The envelope with which a message was taken.
 fn taken_envelope<S: Sealer>(desk: &Desk<'_, S>, id: MsgId) -> Result<Option<Vec<u8>>, NoMemory>
-    requires half { IsHalfOf desk.now.directory.now (S.seals desk.now.sealer.now) desk.now.entries.now
-        desk.now.shelf.now }
     ensures { IfOk result (λ found. option_map (λ text. text.items) found
         ≡ option_and_then (taken_body desk.now.entries.now)
-        (taken_of (half (trade_of desk.now.directory.now (S.seals desk.now.sealer.now)) desk.now.shelf.now.me
-        desk.now.entries.now) id)) }
+        (taken_of (half (world_at desk.now.house.now) desk.now.shelf.now.me desk.now.entries.now) id)) }
 {
     let Some(row) = desk.shelf.taken(id) else {
         return Ok(None);
@@ -122,12 +111,9 @@ fn receipt_of<S: Sealer>(
     recipient: &Option<Address>,
     moment: Moment,
 ) -> Result<Option<Vec<u8>>, NoMemory>
-    requires fits { Fits (S.seals desk.now.sealer.now) (providers_of desk.now.directory.now) }
-    requires half { IsHalfOf desk.now.directory.now (S.seals desk.now.sealer.now) desk.now.entries.now
-        desk.now.shelf.now }
     ensures { IfOk result (λ found. option_map (λ text. text.items) found
-        ≡ receipt_of (trade_of desk.now.directory.now (S.seals desk.now.sealer.now)) desk.now.shelf.now.me
-        desk.now.entries.now entry kind id recipient.now moment) }
+        ≡ receipt_of (world_at desk.now.house.now) desk.now.shelf.now.me desk.now.entries.now entry kind id
+        recipient.now moment) }
 {
     match kind {
         Kind::Delivery => held(desk, entry),
@@ -150,14 +136,9 @@ fn composed<S: Sealer>(
     recipient: &Option<Address>,
     moment: Moment,
 ) -> Result<Option<Vec<u8>>, NoMemory>
-    requires fits { Fits (S.seals desk.now.sealer.now) (providers_of desk.now.directory.now) }
-    requires half { IsHalfOf desk.now.directory.now (S.seals desk.now.sealer.now) desk.now.entries.now
-        desk.now.shelf.now }
     ensures { IfOk result (λ found. option_map (λ text. text.items) found ≡ option_map
-        (composed (trade_of desk.now.directory.now (S.seals desk.now.sealer.now)) kind id desk.now.shelf.now.me moment
-        recipient.now)
-        (original_at (trade_of desk.now.directory.now (S.seals desk.now.sealer.now)) desk.now.shelf.now.me
-        desk.now.entries.now id.number)) }
+        (composed (world_at desk.now.house.now) kind id desk.now.shelf.now.me moment recipient.now)
+        (original_at (world_at desk.now.house.now) desk.now.shelf.now.me desk.now.entries.now id.number)) }
 {
     let Some(row) = desk.shelf.message(id.number) else {
         return Ok(None);
@@ -196,10 +177,8 @@ fn refusal_of<S: Sealer>(
     entry: u64,
     id: MsgId,
 ) -> Result<Option<Vec<u8>>, NoMemory>
-    requires fits { Fits (S.seals desk.now.sealer.now) (providers_of desk.now.directory.now) }
     ensures { IfOk result (λ found. option_map (λ text. text.items) found
-        ≡ option_and_then (refusal_by (trade_of desk.now.directory.now (S.seals desk.now.sealer.now)) id)
-        (slice_get desk.now.entries.now entry)) }
+        ≡ option_and_then (refusal_by (world_at desk.now.house.now) id) (slice_get desk.now.entries.now entry)) }
 {
     let Some(kept) = desk.entries.get(entry as usize) else {
         return Ok(None);
@@ -215,9 +194,8 @@ fn refusal_by<S: Sealer>(
     id: MsgId,
     entry: &Entry,
 ) -> Result<Option<Vec<u8>>, NoMemory>
-    requires fits { Fits (S.seals desk.now.sealer.now) (providers_of desk.now.directory.now) }
     ensures { IfOk result (λ found. option_map (λ text. text.items) found
-        ≡ refusal_by (trade_of desk.now.directory.now (S.seals desk.now.sealer.now)) id entry.now) }
+        ≡ refusal_by (world_at desk.now.house.now) id entry.now) }
 {
     match entry {
         Entry::NotAccepted {
@@ -256,10 +234,9 @@ fn anomaly_of<S: Sealer>(
     entry: u64,
     moment: Moment,
 ) -> Result<Option<Vec<u8>>, NoMemory>
-    requires fits { Fits (S.seals desk.now.sealer.now) (providers_of desk.now.directory.now) }
     ensures { IfOk result (λ found. option_map (λ text. text.items) found
-        ≡ option_map (anomaly_bytes desk.now.directory.now (S.seals desk.now.sealer.now) desk.now.shelf.now.me entry
-        moment)
+        ≡ option_map (anomaly_bytes desk.now.house.now.directory.now
+        (S.seals desk.now.house.now.sealer.now) desk.now.shelf.now.me entry moment)
         (body_at desk.now.entries.now entry)) }
 {
     let Some(message) = body(desk.entries, entry) else {

@@ -1,15 +1,13 @@
 ghost use Rattle.std.specs.Prelude.{◌≡◌, ◌<◌, [], ◌∷◌, Some, length, unwrap_or, IfOk};
 ghost use Rattle.pec_types.specs.declared.letters.Letter.TheVariants as letters;
 ghost use Rattle.pec_directory.specs.Directory.{providers_of};
-ghost use Rattle.pec_letters.specs.Fitting.{Fits};
 ghost use Rattle.pec_receipts.specs.Receipts.{receipts_at};
 ghost use Rattle.pec_ledger.specs.Lookups.{addresses_of, at_home, outcome_kind};
 ghost use Rattle.pec_ledger.specs.OfDirectory.{facts_in};
 ghost use Rattle.pec_plays.specs.Envelopes.{HaveEnvelopes};
 ghost use Rattle.pec_plays.specs.Frames.{composed_by, unless_empty, unless_nobody};
+ghost use Rattle.pec_trade.specs.Houses.{world_at};
 ghost use Rattle.pec_trade.specs.Texts.{envelope_bytes};
-ghost use Rattle.pec_trade.specs.TradeOf.{trade_of};
-ghost use Rattle.pec_outgoing.specs.Desk.{IsHalfOf};
 
 use crate::desks::Desk;
 use crate::originals::{accepted_original, taken_original};
@@ -55,12 +53,8 @@ pub(crate) fn composed<S: Sealer>(
     desk: &Desk<'_, S>,
     letter: &Letter,
 ) -> Result<Option<Outgoing>, NoMemory>
-    requires fits { Fits (S.seals desk.now.sealer.now) (providers_of desk.now.directory.now) }
-    requires half { IsHalfOf desk.now.directory.now (S.seals desk.now.sealer.now) desk.now.entries.now
-        desk.now.shelf.now }
-    requires envelopes { HaveEnvelopes (trade_of desk.now.directory.now (S.seals desk.now.sealer.now)) desk.now.seen_from
-        desk.now.entries.now }
-    ensures { IfOk result (λ found. found ≡ composed_by (trade_of desk.now.directory.now (S.seals desk.now.sealer.now))
+    requires envelopes { HaveEnvelopes (world_at desk.now.house.now) desk.now.seen_from desk.now.entries.now }
+    ensures { IfOk result (λ found. found ≡ composed_by (world_at desk.now.house.now)
         desk.now.shelf.now.me desk.now.entries.now desk.now.shelf.now.half letter.now) }
 {
     match letter {
@@ -73,10 +67,7 @@ pub(crate) fn composed<S: Sealer>(
 
 /// The envelope of an own message, for its recipients at a provider.
 fn envelope<S: Sealer>(desk: &Desk<'_, S>, id: MsgId, to: u32) -> Result<Option<Outgoing>, NoMemory>
-    requires fits { Fits (S.seals desk.now.sealer.now) (providers_of desk.now.directory.now) }
-    requires half { IsHalfOf desk.now.directory.now (S.seals desk.now.sealer.now) desk.now.entries.now
-        desk.now.shelf.now }
-    ensures { IfOk result (λ found. found ≡ composed_by (trade_of desk.now.directory.now (S.seals desk.now.sealer.now))
+    ensures { IfOk result (λ found. found ≡ composed_by (world_at desk.now.house.now)
         desk.now.shelf.now.me desk.now.entries.now desk.now.shelf.now.half (letters.Envelope id to)) }
 {
     if id.provider != desk.shelf.me() {
@@ -104,13 +95,18 @@ fn envelope_with<S: Sealer>(
     facts: &Facts,
     original: &[u8],
 ) -> Result<Option<Outgoing>, NoMemory>
-    requires fits { Fits (S.seals desk.now.sealer.now) (providers_of desk.now.directory.now) }
     requires facts { facts_in original.now ≡ Some facts.now }
     ensures { IfOk result (λ found. found ≡ unless_nobody
-        (at_home (trade_of desk.now.directory.now (S.seals desk.now.sealer.now)) to (addresses_of facts.now))
-        (envelope_bytes desk.now.directory.now (S.seals desk.now.sealer.now) id moment original.now)) }
+        (at_home (world_at desk.now.house.now) to (addresses_of facts.now))
+        (envelope_bytes desk.now.house.now.directory.now
+        (S.seals desk.now.house.now.sealer.now) id moment original.now)) }
 {
-    let path = addresses_at(desk.alloc, desk.directory, to, facts.recipients.as_slice())?;
+    let path = addresses_at(
+        desk.alloc,
+        desk.house.directory,
+        to,
+        facts.recipients.as_slice(),
+    )?;
     if path.is_empty() {
         return Ok(None);
     }
@@ -120,12 +116,8 @@ fn envelope_with<S: Sealer>(
 
 /// The receipt of taking charge of a message that was taken here.
 fn charge<S: Sealer>(desk: &Desk<'_, S>, id: MsgId, by: u32) -> Result<Option<Outgoing>, NoMemory>
-    requires fits { Fits (S.seals desk.now.sealer.now) (providers_of desk.now.directory.now) }
-    requires half { IsHalfOf desk.now.directory.now (S.seals desk.now.sealer.now) desk.now.entries.now
-        desk.now.shelf.now }
-    requires envelopes { HaveEnvelopes (trade_of desk.now.directory.now (S.seals desk.now.sealer.now)) desk.now.seen_from
-        desk.now.entries.now }
-    ensures { IfOk result (λ found. found ≡ composed_by (trade_of desk.now.directory.now (S.seals desk.now.sealer.now))
+    requires envelopes { HaveEnvelopes (world_at desk.now.house.now) desk.now.seen_from desk.now.entries.now }
+    ensures { IfOk result (λ found. found ≡ composed_by (world_at desk.now.house.now)
         desk.now.shelf.now.me desk.now.entries.now desk.now.shelf.now.half (letters.Charge id by)) }
 {
     if by != desk.shelf.me() {
@@ -157,12 +149,8 @@ fn outcome<S: Sealer>(
     id: MsgId,
     recipient: &Address,
 ) -> Result<Option<Outgoing>, NoMemory>
-    requires fits { Fits (S.seals desk.now.sealer.now) (providers_of desk.now.directory.now) }
-    requires half { IsHalfOf desk.now.directory.now (S.seals desk.now.sealer.now) desk.now.entries.now
-        desk.now.shelf.now }
-    requires envelopes { HaveEnvelopes (trade_of desk.now.directory.now (S.seals desk.now.sealer.now)) desk.now.seen_from
-        desk.now.entries.now }
-    ensures { IfOk result (λ found. found ≡ composed_by (trade_of desk.now.directory.now (S.seals desk.now.sealer.now))
+    requires envelopes { HaveEnvelopes (world_at desk.now.house.now) desk.now.seen_from desk.now.entries.now }
+    ensures { IfOk result (λ found. found ≡ composed_by (world_at desk.now.house.now)
         desk.now.shelf.now.me desk.now.entries.now desk.now.shelf.now.half (letters.Outcome id recipient.now)) }
 {
     let Some(fate) = desk.shelf.fate(id, recipient) else {
@@ -194,10 +182,7 @@ fn acknowledgement<S: Sealer>(
     id: MsgId,
     recipient: &Address,
 ) -> Result<Option<Outgoing>, NoMemory>
-    requires fits { Fits (S.seals desk.now.sealer.now) (providers_of desk.now.directory.now) }
-    requires half { IsHalfOf desk.now.directory.now (S.seals desk.now.sealer.now) desk.now.entries.now
-        desk.now.shelf.now }
-    ensures { IfOk result (λ found. found ≡ composed_by (trade_of desk.now.directory.now (S.seals desk.now.sealer.now))
+    ensures { IfOk result (λ found. found ≡ composed_by (world_at desk.now.house.now)
         desk.now.shelf.now.me desk.now.entries.now desk.now.shelf.now.half (letters.Ack id recipient.now)) }
 {
     if id.provider != desk.shelf.me() {
@@ -215,7 +200,7 @@ fn acknowledgement<S: Sealer>(
     let Some(original) = accepted_original(desk, id.number, row, facts) else {
         return Ok(None);
     };
-    let Some(home) = desk.directory.home_of(recipient) else {
+    let Some(home) = desk.house.directory.home_of(recipient) else {
         return Ok(None);
     };
     let receipt = Receipt {
@@ -237,14 +222,15 @@ fn to_provider<S: Sealer>(
     provider: u32,
     text: Vec<u8>,
 ) -> Result<Option<Outgoing>, NoMemory>
-    requires { 0 < length text.items → provider < length desk.now.directory.now }
+    requires { 0 < length text.items → provider < length desk.now.house.now.directory.now }
     ensures { IfOk result (λ found. found
-        ≡ unless_empty (unwrap_or (receipts_at (providers_of desk.now.directory.now) provider) [] ∷ []) text.items) }
+        ≡ unless_empty (unwrap_or (receipts_at (providers_of desk.now.house.now.directory.now) provider) [] ∷ [])
+        text.items) }
 {
     if text.is_empty() {
         return Ok(None);
     }
-    let address = receipts_at(desk.directory, provider);
+    let address = receipts_at(desk.house.directory, provider);
     let path = path_to(desk.alloc, address)?;
     Ok(unless_empty(path, text))
 }

@@ -3,10 +3,8 @@ ghost use Rattle.std.specs.List.{AllByRecursion};
 ghost use Rattle.std.specs.Option.{option_and_then};
 ghost use Rattle.pec_types.specs.Address.{IsLowerAddress};
 ghost use Rattle.pec_types.specs.declared.messages.Class.TheVariants as classes;
-ghost use Rattle.pec_directory.specs.Directory.{providers_of};
 ghost use Rattle.pec_heads.specs.FactsOfHeads.{recipients_of, text_of};
 ghost use Rattle.pec_heads.specs.FactsReading.{with_recipient};
-ghost use Rattle.pec_letters.specs.Fitting.{Fits};
 ghost use Rattle.pec_ledger.specs.OfDirectory.{fields_of};
 ghost use Rattle.pec_trade.specs.Refused.{refused_facts, text_in};
 ghost use Rattle.pec_trade.specs.Texts.{refusal_bytes};
@@ -34,9 +32,8 @@ pub(crate) fn refusal_text<S: Sealer>(
     path: &[Address],
     message: &[u8],
 ) -> Result<Vec<u8>, NoMemory>
-    requires fits { Fits (S.seals desk.now.sealer.now) (providers_of desk.now.directory.now) }
-    ensures { IfOk result (λ text. text.items ≡ refusal_bytes desk.now.directory.now (S.seals desk.now.sealer.now)
-        id moment account.now cause path.now message.now) }
+    ensures { IfOk result (λ text. text.items ≡ refusal_bytes desk.now.house.now.directory.now
+        (S.seals desk.now.house.now.sealer.now) id moment account.now cause path.now message.now) }
 {
     an_address_is_told_exactly();
     let facts = refused_facts(desk.alloc, account, path, message)?;

@@ -9,9 +9,8 @@ ghost use Rattle.pec_ledger.specs.OfDirectory.{facts_in};
 ghost use Rattle.pec_ledger.specs.Pairs.{same_id};
 ghost use Rattle.pec_plays.specs.Envelopes.{HaveEnvelopes};
 ghost use Rattle.pec_plays.specs.Frames.{original_in, original_taken};
+ghost use Rattle.pec_trade.specs.Houses.{world_at};
 ghost use Rattle.pec_trade.specs.Texts.{seen_in};
-ghost use Rattle.pec_trade.specs.TradeOf.{trade_of};
-ghost use Rattle.pec_outgoing.specs.Desk.{IsHalfOf};
 
 use crate::bodies::body;
 use crate::desks::Desk;
@@ -30,8 +29,6 @@ pub(crate) fn accepted_original<'a, S: Sealer>(
     row: &MessageRow,
     facts: &Facts,
 ) -> Option<&'a [u8]>
-    requires half { IsHalfOf desk.now.directory.now (S.seals desk.now.sealer.now) desk.now.entries.now
-        desk.now.shelf.now }
     requires row { slice_get desk.now.shelf.now.half.messages number ≡ Some row.now.message }
     requires facts { row.now.message.facts ≡ Some facts.now }
     ensures body { option_map (λ original. original.now) result ≡ body_at desk.now.entries.now row.now.message.entry }
@@ -49,14 +46,10 @@ pub(crate) fn taken_original<'a, S: Sealer>(
     id: MsgId,
     row: &TakenRow,
 ) -> Result<Option<Enclosure<'a>>, NoMemory>
-    requires half { IsHalfOf desk.now.directory.now (S.seals desk.now.sealer.now) desk.now.entries.now
-        desk.now.shelf.now }
-    requires envelopes { HaveEnvelopes (trade_of desk.now.directory.now (S.seals desk.now.sealer.now)) desk.now.seen_from
-        desk.now.entries.now }
+    requires envelopes { HaveEnvelopes (world_at desk.now.house.now) desk.now.seen_from desk.now.entries.now }
     requires row { taken_of desk.now.shelf.now.half id ≡ Some row.now }
     ensures original { IfOk result (λ found. option_map (λ found. found.original.now) found
-        ≡ original_taken (trade_of desk.now.directory.now (S.seals desk.now.sealer.now)) desk.now.shelf.now.me
-        desk.now.entries.now id row.now) }
+        ≡ original_taken (world_at desk.now.house.now) desk.now.shelf.now.me desk.now.entries.now id row.now) }
     ensures facts { IfOk result (λ found. IfSome found (λ found. facts_in found.original.now ≡ Some found.facts)) }
 {
     taken_messages_have_envelopes();
@@ -77,10 +70,11 @@ fn seen_again<'a, S: Sealer>(
     id: MsgId,
     envelope: &'a [u8],
 ) -> Result<Option<Enclosure<'a>>, NoMemory>
-    requires { IsSome (original_in id (seen_in (S.seals desk.now.sealer.now) (providers_of desk.now.directory.now)
-        envelope.now)) }
+    requires { IsSome (original_in id (seen_in (S.seals desk.now.house.now.sealer.now)
+        (providers_of desk.now.house.now.directory.now) envelope.now)) }
     ensures original { IfOk result (λ found. option_map (λ found. found.original.now) found
-        ≡ original_in id (seen_in (S.seals desk.now.sealer.now) (providers_of desk.now.directory.now) envelope.now)) }
+        ≡ original_in id (seen_in (S.seals desk.now.house.now.sealer.now)
+        (providers_of desk.now.house.now.directory.now) envelope.now)) }
     ensures facts { IfOk result (λ found. IfSome found (λ found. facts_in found.original.now ≡ Some found.facts)) }
 {
     what_is_seen_is_enclosed();
@@ -97,7 +91,8 @@ fn seen_first<'a, S: Sealer>(
     envelope: &'a [u8],
 ) -> Result<Option<Enclosure<'a>>, NoMemory>
     ensures original { IfOk result (λ found. option_map (λ found. found.original.now) found
-        ≡ original_in id (seen_in (S.seals desk.now.sealer.now) (providers_of desk.now.directory.now) envelope.now)) }
+        ≡ original_in id (seen_in (S.seals desk.now.house.now.sealer.now)
+        (providers_of desk.now.house.now.directory.now) envelope.now)) }
     ensures facts { IfOk result (λ found. IfSome found (λ found. facts_in found.original.now ≡ Some found.facts)) }
 {
     let Some(seen) = envelope_seen(desk, envelope)? else {
@@ -112,11 +107,12 @@ fn envelope_seen<'a, S: Sealer>(
     text: &'a [u8],
 ) -> Result<Option<EnvelopeView<'a>>, NoMemory>
     ensures seen { IfOk result (λ found. option_map view_shown found
-        ≡ result_ok (view (S.seals desk.now.sealer.now) (providers_of desk.now.directory.now) text.now)) }
+        ≡ result_ok (view (S.seals desk.now.house.now.sealer.now)
+        (providers_of desk.now.house.now.directory.now) text.now)) }
     ensures facts { IfOk result (λ found. IfSome found (λ seen. facts_in seen.original.now ≡ Some seen.facts)) }
 {
     an_envelope_is_seen_with_its_facts::<S>();
-    match read_envelope(desk.alloc, desk.sealer, desk.directory, text) {
+    match read_envelope(desk.alloc, desk.house.sealer, desk.house.directory, text) {
         Ok(seen) => Ok(Some(seen)),
         Err(LetterFault::NoMemory) => Err(NoMemory),
         Err(_) => Ok(None),

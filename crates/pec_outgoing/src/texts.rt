@@ -2,7 +2,7 @@ ghost use Rattle.std.specs.Prelude.{◌≡◌, ◌<◌, Some, length, IfOk, IsTr
 ghost use Rattle.pec_types.specs.Bytes.{Bytes};
 ghost use Rattle.pec_types.specs.declared.messages.Facts.{Facts as SomeFacts};
 ghost use Rattle.pec_directory.specs.Directory.{providers_of};
-ghost use Rattle.pec_letters.specs.Fitting.{Fits, HasFacts};
+ghost use Rattle.pec_letters.specs.Fitting.{HasFacts};
 ghost use Rattle.pec_receipts.specs.Receipts.{CanBeGiven};
 ghost use Rattle.pec_ledger.specs.OfDirectory.{facts_in};
 ghost use Rattle.pec_trade.specs.Giving.{can_be_given};
@@ -29,19 +29,19 @@ pub(crate) fn envelope_text<S: Sealer>(
     facts: &Facts,
     original: &[u8],
 ) -> Result<Vec<u8>, NoMemory>
-    requires fits { Fits (S.seals desk.now.sealer.now) (providers_of desk.now.directory.now) }
     requires facts { facts_in original.now ≡ Some facts.now }
     ensures { IfOk result (λ text. text.items
-        ≡ envelope_bytes desk.now.directory.now (S.seals desk.now.sealer.now) id moment original.now) }
+        ≡ envelope_bytes desk.now.house.now.directory.now
+        (S.seals desk.now.house.now.sealer.now) id moment original.now) }
 {
-    if !is_at_home(desk.directory, id.provider, &facts.sender) {
+    if !is_at_home(desk.house.directory, id.provider, &facts.sender) {
         return Ok(Vec::new(desk.alloc));
     }
     facts_are_those_of_a_head();
     let text = compose_envelope(
         desk.alloc,
-        desk.sealer,
-        desk.directory,
+        desk.house.sealer,
+        desk.house.directory,
         id,
         moment,
         facts,
@@ -65,12 +65,12 @@ pub(crate) fn receipt_text<S: Sealer>(
     receipt: &Receipt,
     original: &[u8],
 ) -> Result<Vec<u8>, NoMemory>
-    requires fits { Fits (S.seals desk.now.sealer.now) (providers_of desk.now.directory.now) }
     requires facts { facts_in original.now ≡ Some receipt.now.facts }
     ensures text { IfOk result (λ text. text.items
-        ≡ receipt_bytes desk.now.directory.now (S.seals desk.now.sealer.now) (stated receipt.now) original.now) }
+        ≡ receipt_bytes desk.now.house.now.directory.now
+        (S.seals desk.now.house.now.sealer.now) (stated receipt.now) original.now) }
     ensures within { IfOk result (λ text. 0 < length text.items
-        → receipt.now.id.provider < length desk.now.directory.now) }
+        → receipt.now.id.provider < length desk.now.house.now.directory.now) }
 {
     let text = given_text(desk, receipt, original)?;
     Ok(text)
@@ -83,16 +83,22 @@ pub(crate) fn given_text<S: Sealer>(
     receipt: &Receipt,
     original: &[u8],
 ) -> Result<Vec<u8>, NoMemory>
-    requires fits { Fits (S.seals desk.now.sealer.now) (providers_of desk.now.directory.now) }
     ensures text { IfOk result (λ text. text.items
-        ≡ or_none (given_text desk.now.directory.now (S.seals desk.now.sealer.now) receipt.now original.now)) }
+        ≡ or_none (given_text desk.now.house.now.directory.now
+        (S.seals desk.now.house.now.sealer.now) receipt.now original.now)) }
     ensures within { IfOk result (λ text. 0 < length text.items
-        → receipt.now.id.provider < length desk.now.directory.now) }
+        → receipt.now.id.provider < length desk.now.house.now.directory.now) }
 {
-    if !can_be_given(desk.directory, receipt) {
+    if !can_be_given(desk.house.directory, receipt) {
         return Ok(Vec::new(desk.alloc));
     }
-    let text = compose(desk.alloc, desk.sealer, desk.directory, receipt, original)?;
+    let text = compose(
+        desk.alloc,
+        desk.house.sealer,
+        desk.house.directory,
+        receipt,
+        original,
+    )?;
     Ok(text)
 }
 
@@ -113,19 +119,18 @@ pub(crate) fn anomaly_text<S: Sealer>(
     moment: Moment,
     message: &[u8],
 ) -> Result<Vec<u8>, NoMemory>
-    requires fits { Fits (S.seals desk.now.sealer.now) (providers_of desk.now.directory.now) }
-    ensures { IfOk result (λ text. text.items ≡ anomaly_bytes desk.now.directory.now (S.seals desk.now.sealer.now)
-        desk.now.shelf.now.me entry moment message.now) }
+    ensures { IfOk result (λ text. text.items ≡ anomaly_bytes desk.now.house.now.directory.now
+        (S.seals desk.now.house.now.sealer.now) desk.now.shelf.now.me entry moment message.now) }
 {
     a_trade_says_what_its_parts_say();
     let provider = desk.shelf.me();
-    if provider >= desk.directory.count() {
+    if provider >= desk.house.directory.count() {
         return Ok(Vec::new(desk.alloc));
     }
     let text = compose_anomaly(
         desk.alloc,
-        desk.sealer,
-        desk.directory,
+        desk.house.sealer,
+        desk.house.directory,
         provider,
         entry,
         moment,

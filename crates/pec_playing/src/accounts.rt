@@ -1,8 +1,6 @@
-ghost use Rattle.pec_directory.specs.Directory.{providers_of};
-ghost use Rattle.pec_letters.specs.Fitting.{Fits};
 ghost use Rattle.pec_plays.specs.Commands.{Book, Mailbox, Show};
-ghost use Rattle.pec_trade.specs.TradeOf.{trade_of};
 ghost use Rattle.pec_playing.specs.Doing.{Does};
+ghost use Rattle.pec_network.specs.Network.{world_of};
 
 use crate::refusals::refusal_text;
 use pec_network::Network;
@@ -20,7 +18,7 @@ pub(crate) fn book<D: Disk, S: Sealer>(
     network: &Network<D, S>,
     account: &Address,
 ) -> Result<Vec<u8>, NoMemory>
-    ensures { Does D.sight D.faults D.tells (trade_of network.now.kept (S.seals network.now.sealer))
+    ensures { Does D.sight D.faults D.tells (world_of S.seals network.now)
         (Book account.now) network.now network.now result }
 {
     match network.book(alloc, account) {
@@ -41,7 +39,7 @@ pub(crate) fn mailbox<D: Disk, S: Sealer>(
     network: &Network<D, S>,
     account: &Address,
 ) -> Result<Vec<u8>, NoMemory>
-    ensures { Does D.sight D.faults D.tells (trade_of network.now.kept (S.seals network.now.sealer))
+    ensures { Does D.sight D.faults D.tells (world_of S.seals network.now)
         (Mailbox account.now) network.now network.now result }
 {
     match network.mailbox(alloc, account) {
@@ -63,8 +61,7 @@ pub(crate) fn show<D: Disk, S: Sealer>(
     account: &Address,
     place: u32,
 ) -> Result<Vec<u8>, NoMemory>
-    requires { Fits (S.seals network.now.sealer) (providers_of network.now.kept) }
-    ensures { Does D.sight D.faults D.tells (trade_of network.now.kept (S.seals network.now.sealer))
+    ensures { Does D.sight D.faults D.tells (world_of S.seals network.now)
         (Show account.now place) network.now network.now result }
 {
     match network.show(alloc, account, place) {

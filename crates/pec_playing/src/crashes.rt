@@ -1,9 +1,9 @@
 ghost use Rattle.std.specs.Prelude.{◌≡◌, ◌≤◌, ◌<◌, length, IfOk};
 ghost use Rattle.pec_outside.specs.Depots.{Alike};
 ghost use Rattle.pec_plays.specs.Commands.{Crash, Restart};
-ghost use Rattle.pec_trade.specs.TradeOf.{trade_of};
 ghost use Rattle.pec_playing.specs.Doing.{Does};
 ghost use Rattle.pec_playing.specs.Saying.{IsRestartText, unfit_told};
+ghost use Rattle.pec_network.specs.Network.{world_of};
 
 use crate::providers::as_many_providers;
 use pec_directory::Directory;
@@ -24,7 +24,7 @@ pub(crate) fn crash<D: Disk, S: Sealer, P: Depot<D = D>>(
     provider: u32,
 ) -> Result<Vec<u8>, NoMemory>
     requires { provider < length network.old.kept }
-    ensures does { Does D.sight D.faults D.tells (trade_of network.old.kept (S.seals network.old.sealer))
+    ensures does { Does D.sight D.faults D.tells (world_of S.seals network.old)
         (Crash provider) network.old network.new result }
     ensures home { P.tells → Alike (P.home depot.old) (P.home depot.new) }
     ensures last { Alike (P.last depot.old) (P.last depot.new) }
@@ -44,7 +44,7 @@ pub(crate) fn restart<D: Disk, S: Sealer>(
     provider: u32,
 ) -> Result<Vec<u8>, NoMemory>
     requires { provider < length network.old.kept }
-    ensures { Does D.sight D.faults D.tells (trade_of network.old.kept (S.seals network.old.sealer))
+    ensures { Does D.sight D.faults D.tells (world_of S.seals network.old)
         (Restart provider) network.old network.new result }
 {
     as_many_providers(network);

@@ -1,8 +1,8 @@
 ghost use Rattle.std.specs.Prelude.{◌<◌, length, IfOk};
 ghost use Rattle.pec_plays.specs.Commands.{Inject, Lose, Repeat, Swap};
-ghost use Rattle.pec_trade.specs.TradeOf.{trade_of};
 ghost use Rattle.pec_playing.specs.Doing.{Does};
 ghost use Rattle.pec_playing.specs.Saying.{IsLinkText};
+ghost use Rattle.pec_network.specs.Network.{world_of};
 
 use pec_link::LinkFault;
 use pec_network::Network;
@@ -24,7 +24,7 @@ pub(crate) fn lose<D: Disk, S: Sealer>(
 ) -> Result<Vec<u8>, NoMemory>
     requires from { from < length network.old.kept }
     requires to { to < length network.old.kept }
-    ensures { Does D.sight D.faults D.tells (trade_of network.old.kept (S.seals network.old.sealer))
+    ensures { Does D.sight D.faults D.tells (world_of S.seals network.old)
         (Lose from to place) network.old network.new result }
 {
     let outcome = network.lose(from, to, place as usize);
@@ -42,7 +42,7 @@ pub(crate) fn repeat<D: Disk, S: Sealer>(
 ) -> Result<Vec<u8>, NoMemory>
     requires from { from < length network.old.kept }
     requires to { to < length network.old.kept }
-    ensures { Does D.sight D.faults D.tells (trade_of network.old.kept (S.seals network.old.sealer))
+    ensures { Does D.sight D.faults D.tells (world_of S.seals network.old)
         (Repeat from to place) network.old network.new result }
 {
     let outcome = network.repeat(alloc, from, to, place as usize);
@@ -60,7 +60,7 @@ pub(crate) fn swap<D: Disk, S: Sealer>(
 ) -> Result<Vec<u8>, NoMemory>
     requires from { from < length network.old.kept }
     requires to { to < length network.old.kept }
-    ensures { Does D.sight D.faults D.tells (trade_of network.old.kept (S.seals network.old.sealer))
+    ensures { Does D.sight D.faults D.tells (world_of S.seals network.old)
         (Swap from to place) network.old network.new result }
 {
     let outcome = network.swap(from, to, place as usize);
@@ -78,7 +78,7 @@ pub(crate) fn inject<D: Disk, S: Sealer>(
 ) -> Result<Vec<u8>, NoMemory>
     requires from { from < length network.old.kept }
     requires to { to < length network.old.kept }
-    ensures { Does D.sight D.faults D.tells (trade_of network.old.kept (S.seals network.old.sealer))
+    ensures { Does D.sight D.faults D.tells (world_of S.seals network.old)
         (Inject from to frame) network.old network.new result }
 {
     let outcome = network.inject(from, to, Frame::of(frame));

@@ -1,10 +1,8 @@
 ghost use Rattle.std.specs.Prelude.{◌≡◌, ℕ, ◌≤◌, length, map, IfOk, OnErr};
 ghost use Rattle.pec_outside.specs.Depots.{Alike};
 ghost use Rattle.pec_directory.specs.Directory.{providers_of};
-ghost use Rattle.pec_letters.specs.Fitting.{Fits};
-ghost use Rattle.pec_trade.specs.TradeOf.{trade_of};
 ghost use Rattle.pec_network.specs.Carrying.{AllStand, NoneFalls};
-ghost use Rattle.pec_network.specs.Network.{sites};
+ghost use Rattle.pec_network.specs.Network.{sites, world_of};
 ghost use Rattle.pec_runs.specs.ScriptLines.{command_in};
 ghost use Rattle.pec_screen.specs.Screened.{finds_in};
 ghost use Rattle.pec_playing.specs.Doing.{Does};
@@ -34,18 +32,17 @@ pub fn play<D: Disk, S: Sealer, P: Depot<D = D>, J: Judge>(
     screens: &mut [J],
     command: Command,
 ) -> Result<Vec<u8>, NoMemory>
-    requires fits { Fits (S.seals network.old.sealer) (providers_of network.old.kept) }
     requires can { CanPlay (length network.old.kept) command }
 
     // All that is asked: where disks tell what they hold, each provider stands on its own.
     ensures plays { (P.tells × D.tells → AllStand D.sight network.old.providers) → (elsewhere : ℕ → ℕ)
         → IfOk result (λ text. HasPlayed (P.tells × D.tells)
-        (trade_of network.old.kept (S.seals network.old.sealer)) (providers_of network.old.kept) (sites network.old)
+        (world_of S.seals network.old) (providers_of network.old.kept) (sites network.old)
         (counts_in D.faults network.old.providers elsewhere) (counts_in D.faults network.new.providers elsewhere)
         (command_in (finds_in (map J.patterns screens.old)) command) text.items (sites network.new)) }
     ensures stops { (P.tells × D.tells → AllStand D.sight network.old.providers)
         → OnErr result (HasStopped (P.tells × D.tells)
-        (trade_of network.old.kept (S.seals network.old.sealer)) (sites network.old) (command_in (finds_in (map J.patterns screens.old)) command)
+        (world_of S.seals network.old) (sites network.old) (command_in (finds_in (map J.patterns screens.old)) command)
         (sites network.new)) }
     ensures same { (network.new.kept ≡ network.old.kept) × (network.new.sealer ≡ network.old.sealer) }
     ensures stands { D.tells → AllStand D.sight network.old.providers → AllStand D.sight network.new.providers }
@@ -70,9 +67,8 @@ fn play_command<D: Disk, S: Sealer, P: Depot<D = D>, J: Judge>(
     screens: &mut [J],
     command: Command,
 ) -> Result<Vec<u8>, NoMemory>
-    requires fits { Fits (S.seals network.old.sealer) (providers_of network.old.kept) }
     requires can { CanPlay (length network.old.kept) command }
-    ensures does { Does D.sight D.faults D.tells (trade_of network.old.kept (S.seals network.old.sealer))
+    ensures does { Does D.sight D.faults D.tells (world_of S.seals network.old)
         (command_in (finds_in (map J.patterns screens.old)) command) network.old network.new result }
     ensures home { P.tells → Alike (P.home depot.old) (P.home depot.new) }
     ensures last { Alike (P.last depot.old) (P.last depot.new) }

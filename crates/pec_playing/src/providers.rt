@@ -1,12 +1,11 @@
 ghost use Rattle.std.specs.Prelude.{◌≡◌, ◌<◌, ◌≤◌, length, map};
 ghost use Rattle.pec_directory.specs.Directory.{providers_of};
-ghost use Rattle.pec_letters.specs.Fitting.{Fits};
 ghost use Rattle.pec_records.specs.Entry.{longest_message, most_addresses};
 ghost use Rattle.pec_plays.specs.Commands.{Submit, Tick};
 ghost use Rattle.pec_screen.specs.Screened.{finds_in};
-ghost use Rattle.pec_trade.specs.TradeOf.{trade_of};
 ghost use Rattle.pec_playing.specs.Doing.{Does};
 ghost use Rattle.pec_playing.specs.Looking.{LooksBy};
+ghost use Rattle.pec_network.specs.Network.{world_of};
 
 use crate::refusals::refusal_text;
 use pec_network::Network;
@@ -38,11 +37,10 @@ pub(crate) fn submit<D: Disk, S: Sealer, J: Judge>(
     message: &[u8],
 ) -> Result<Vec<u8>, NoMemory>
     requires provider { provider < length network.old.kept }
-    requires fits { Fits (S.seals network.old.sealer) (providers_of network.old.kept) }
     requires some { 0 < length path.now }
     requires few { length path.now ≤ most_addresses }
     requires short { length message.now ≤ longest_message }
-    ensures does { Does D.sight D.faults D.tells (trade_of network.old.kept (S.seals network.old.sealer))
+    ensures does { Does D.sight D.faults D.tells (world_of S.seals network.old)
         (Submit provider moment sender.now path.now message.now
         (finds_in (map J.patterns screens.old) provider message.now)) network.old network.new result }
     ensures looked { LooksBy (providers_of network.old.kept)
@@ -72,7 +70,7 @@ pub fn tick<D: Disk, S: Sealer>(
     moment: Moment,
 ) -> Result<Vec<u8>, NoMemory>
     requires { provider < length network.old.kept }
-    ensures { Does D.sight D.faults D.tells (trade_of network.old.kept (S.seals network.old.sealer))
+    ensures { Does D.sight D.faults D.tells (world_of S.seals network.old)
         (Tick provider moment) network.old network.new result }
 {
     as_many_providers(network);

@@ -1,8 +1,6 @@
-ghost use Rattle.pec_directory.specs.Directory.{providers_of};
-ghost use Rattle.pec_letters.specs.Fitting.{Fits};
 ghost use Rattle.pec_plays.specs.Commands.{Round};
-ghost use Rattle.pec_trade.specs.TradeOf.{trade_of};
 ghost use Rattle.pec_playing.specs.Doing.{Does};
+ghost use Rattle.pec_network.specs.Network.{world_of};
 
 use crate::providers::as_many_providers;
 use pec_network::Network;
@@ -18,8 +16,7 @@ pub fn round<D: Disk, S: Sealer>(
     network: &mut Network<D, S>,
     moment: Moment,
 ) -> Result<Vec<u8>, NoMemory>
-    requires { Fits (S.seals network.old.sealer) (providers_of network.old.kept) }
-    ensures { Does D.sight D.faults D.tells (trade_of network.old.kept (S.seals network.old.sealer))
+    ensures { Does D.sight D.faults D.tells (world_of S.seals network.old)
         (Round moment) network.old network.new result }
 {
     as_many_providers(network);

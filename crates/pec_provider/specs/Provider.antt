@@ -10,8 +10,10 @@ use Rattle.pec_plays.specs.Envelopes.{HaveEnvelopes}
 use Rattle.pec_seal.specs.Seals.{Seals}
 use Rattle.pec_shelf.specs.Seen.{Seen}
 use Rattle.pec_chronicle.specs.Chronicle.{ChronicleState}
+use Rattle.pec_seal.specs.declared.sealers.Sealer.{Ghosts}
 use Rattle.pec_stock.specs.Stock.{Agree}
 use Rattle.pec_trade.specs.TradeOf.{trade_of}
+use Rattle.pec_trade.specs.declared.houses.House.{House}
 
 -- Its entries over its disk, its half of the ledger, and the answers that it owes in this turn, in the order in which
 -- they arose.
@@ -30,6 +32,10 @@ pub record Runs {D : Type 0} (kept : List Kept) (seals : Seals) (me : ℕ) (prov
   pub is : provider.shelf.me ≡ me
   pub agree : Agree kept provider.chronicle provider.shelf
   pub envelopes : HaveEnvelopes (trade_of kept seals) provider.seen_from provider.chronicle.entries
+
+-- It is the provider of this house.
+abbrev pub RunsIn : {D S : Type 0} {who : Ghosts S} → House S who → ProviderState D → Type 0
+RunsIn {D} {S} {who} house provider = Runs house.directory.now (who.seals house.sealer.now) house.me provider
 
 -- What a turn sees of a provider.
 pub record Desk : Type 0 where

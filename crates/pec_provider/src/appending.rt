@@ -9,20 +9,20 @@ ghost use Rattle.pec_ledger.specs.Steps.{half, marks_by};
 ghost use Rattle.pec_ledger.specs.Trade.{Trade};
 ghost use Rattle.pec_plays.specs.Commands.{told_mark};
 ghost use Rattle.pec_plays.specs.Envelopes.{HasEnvelope};
-ghost use Rattle.pec_trade.specs.TradeOf.{trade_of};
 ghost use Rattle.pec_seal.specs.Seals.{Seals};
+ghost use Rattle.pec_trade.specs.Houses.{world_at};
 ghost use Rattle.pec_chronicle.specs.Carrying.{CarriesOn};
 ghost use Rattle.pec_stock.specs.Entering.{OnlyMay};
 ghost use Rattle.pec_provider.specs.Appending.{Appends, MayEnter, WorksAt};
-ghost use Rattle.pec_provider.specs.Provider.{Runs, desk_of};
+ghost use Rattle.pec_provider.specs.Provider.{Runs, RunsIn, desk_of};
 
-use crate::house::House;
 use crate::provider::Provider;
 use pec_outside::Disk;
 use pec_plays::taken_messages_have_envelopes;
 use pec_records::Entry;
 use pec_seal::Sealer;
 use pec_stock::enter;
+use pec_trade::House;
 use pec_types::{Mark, Moment, ProviderFault};
 use std::alloc::Global;
 
@@ -57,17 +57,17 @@ impl<D: Disk> Provider<D> {
         entry: Entry,
     ) -> Result<Vec<Mark>, ProviderFault>
         requires up { self.old.chronicle.down ≡ false }
-        requires runs { Runs house.now.directory.now (S.seals house.now.sealer.now) house.now.me self.old }
+        requires runs { RunsIn house.now self.old }
         requires limits { IsWithinLimits entry }
         requires step { MayEnter house.now.directory.now house.now.me self.old.chronicle.entries entry }
-        requires envelope { HasEnvelope (trade_of house.now.directory.now (S.seals house.now.sealer.now)) entry }
+        requires envelope { HasEnvelope (world_at house.now) entry }
         ensures appends { (trade : Trade) → IsOf house.now.directory.now trade
             → Appends trade house.now.me entry (desk_of self.old) (desk_of self.new) result }
         ensures marks { (trade : Trade) → IsOf house.now.directory.now trade → IfOk result (λ marks. marks.items
             ≡ map told_mark
             (marks_by trade house.now.me (half trade house.now.me self.old.chronicle.entries) entry)) }
         ensures owed { (self.new.owed ≡ self.old.owed) × (self.new.places ≡ self.old.places) }
-        ensures runs { Runs house.now.directory.now (S.seals house.now.sealer.now) house.now.me self.new }
+        ensures runs { RunsIn house.now self.new }
         ensures carries { D.tells → CarriesOn D.sight (OnlyMay self.old.chronicle.entries (Some entry))
             self.old.chronicle self.new.chronicle }
         ensures disk_fault { IsErrOf result faults.DiskFault → HasRisen (D.faults self.old.chronicle.disk)

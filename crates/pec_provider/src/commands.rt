@@ -2,7 +2,6 @@ ghost use Rattle.std.specs.Prelude.{◌≡◌, ℕ, ◌<◌, ◌≤◌, List, le
 ghost use Rattle.pec_types.specs.declared.turns.ProviderFault.TheVariants as faults;
 ghost use Rattle.pec_outside.specs.Flow.{HasRisen};
 ghost use Rattle.pec_directory.specs.Directory.{providers_of};
-ghost use Rattle.pec_letters.specs.Fitting.{Fits};
 ghost use Rattle.pec_records.specs.Entry.{IsWithinLimits, longest_message, most_addresses};
 ghost use Rattle.pec_ledger.specs.Ledger.{Journals, Meets};
 ghost use Rattle.pec_ledger.specs.Steps.{half};
@@ -11,15 +10,15 @@ ghost use Rattle.pec_plays.specs.Envelopes.{HasEnvelope};
 ghost use Rattle.pec_points.specs.Admission.{Looked};
 ghost use Rattle.pec_points.specs.Case.{case_at};
 ghost use Rattle.pec_screen.specs.VerdictReading.{finds};
-ghost use Rattle.pec_trade.specs.TradeOf.{cause_at, cause_in, trade_of};
+ghost use Rattle.pec_trade.specs.Houses.{world_at};
+ghost use Rattle.pec_trade.specs.TradeOf.{cause_at, cause_in};
 ghost use Rattle.pec_chronicle.specs.Carrying.{CarriesOn};
 ghost use Rattle.pec_provider.specs.Appending.{Admits};
 ghost use Rattle.pec_provider.specs.Following.{MayFollow};
 ghost use Rattle.pec_provider.specs.Looking.{Looks};
 ghost use Rattle.pec_provider.specs.Playing.{Plays};
-ghost use Rattle.pec_provider.specs.Provider.{Runs, desk_of};
+ghost use Rattle.pec_provider.specs.Provider.{RunsIn, desk_of};
 
-use crate::house::{House, a_house_is_a_trade};
 use crate::provider::Provider;
 use pec_outside::Disk;
 use pec_plays::{what_a_provider_does_may_follow, what_a_provider_takes_is_an_envelope};
@@ -28,6 +27,7 @@ use pec_records::Entry;
 use pec_screen::Judge;
 use pec_seal::Sealer;
 use pec_stock::stands_still;
+use pec_trade::{House, a_house_is_a_trade};
 use pec_types::{
     Address, Cause, Items, Mark, Moment, MsgId, NoMemory, ProviderFault, Submitted, Text8,
 };
@@ -49,14 +49,13 @@ impl<D: Disk> Provider<D> {
         message: &[u8],
         screens: &mut J,
     ) -> Result<Submitted, ProviderFault>
-        requires runs { Runs house.now.directory.now (S.seals house.now.sealer.now) house.now.me self.old }
-        requires fits { Fits (S.seals house.now.sealer.now) (providers_of house.now.directory.now) }
+        requires runs { RunsIn house.now self.old }
         requires path { (0 < length path.now) × (length path.now ≤ most_addresses) }
         requires message { length message.now ≤ longest_message }
 
         // It is played as the command.
         ensures plays { Plays Submits (λ luck sites.
-            played (trade_of house.now.directory.now (S.seals house.now.sealer.now)) luck sites
+            played (world_at house.now) luck sites
             (Submit house.now.me moment sender.now path.now message.now (finds (J.patterns screens.old) message.now)))
             house.now.me (desk_of self.old) (desk_of self.new) result }
         // Each screen has looked once exactly where the message came to the screens, also where it is refused then.
@@ -64,13 +63,12 @@ impl<D: Disk> Provider<D> {
             message.now (finds (J.patterns screens.old) message.now)) (J.seen screens.old) (J.seen screens.new) result }
         ensures patterns { J.patterns screens.new ≡ J.patterns screens.old }
         ensures owed { self.new.owed ≡ self.old.owed }
-        ensures runs { Runs house.now.directory.now (S.seals house.now.sealer.now) house.now.me self.new }
+        ensures runs { RunsIn house.now self.new }
 
         // At every moment a crash leaves the journal of the entries, with or without the one that the call appends,
         // which may follow in the ledger of any journals.
         ensures carries { D.tells → (journals : Journals) → CarriesOn D.sight
-            (MayFollow (trade_of house.now.directory.now (S.seals house.now.sealer.now)) journals house.now.me)
-            self.old.chronicle self.new.chronicle }
+            (MayFollow (world_at house.now) journals house.now.me) self.old.chronicle self.new.chronicle }
         ensures disk_fault { IsErrOf result faults.DiskFault → HasRisen (D.faults self.old.chronicle.disk)
             (D.faults self.new.chronicle.disk) }
         ensures later { D.faults self.old.chronicle.disk ≤ D.faults self.new.chronicle.disk }
@@ -91,15 +89,14 @@ impl<D: Disk> Provider<D> {
         house: &House<'_, S>,
         moment: Moment,
     ) -> Result<Vec<Mark>, ProviderFault>
-        requires { Runs house.now.directory.now (S.seals house.now.sealer.now) house.now.me self.old }
+        requires { RunsIn house.now self.old }
         ensures plays { Plays (λ marks. Marks marks.items) (λ luck sites.
-            played (trade_of house.now.directory.now (S.seals house.now.sealer.now)) luck sites
+            played (world_at house.now) luck sites
             (Tick house.now.me moment)) house.now.me (desk_of self.old) (desk_of self.new) result }
         ensures owed { self.new.owed ≡ self.old.owed }
-        ensures runs { Runs house.now.directory.now (S.seals house.now.sealer.now) house.now.me self.new }
+        ensures runs { RunsIn house.now self.new }
         ensures carries { D.tells → (journals : Journals) → CarriesOn D.sight
-            (MayFollow (trade_of house.now.directory.now (S.seals house.now.sealer.now)) journals house.now.me)
-            self.old.chronicle self.new.chronicle }
+            (MayFollow (world_at house.now) journals house.now.me) self.old.chronicle self.new.chronicle }
         ensures disk_fault { IsErrOf result faults.DiskFault → HasRisen (D.faults self.old.chronicle.disk)
             (D.faults self.new.chronicle.disk) }
         ensures later { D.faults self.old.chronicle.disk ≤ D.faults self.new.chronicle.disk }
@@ -125,11 +122,10 @@ impl<D> Provider<D> {
         message: &[u8],
         screens: &mut J,
     ) -> Result<(Entry, Submitted), ProviderFault>
-        requires runs { Runs house.now.directory.now (S.seals house.now.sealer.now) house.now.me self.now }
-        requires fits { Fits (S.seals house.now.sealer.now) (providers_of house.now.directory.now) }
+        requires runs { RunsIn house.now self.now }
         requires path { (0 < length path.now) × (length path.now ≤ most_addresses) }
         requires message { length message.now ≤ longest_message }
-        ensures admits { Admits (trade_of house.now.directory.now (S.seals house.now.sealer.now)) house.now.me moment
+        ensures admits { Admits (world_at house.now) house.now.me moment
             sender.now path.now message.now (finds (J.patterns screens.old) message.now) (desk_of self.now) result }
         ensures looked { Looks (case_at (providers_of house.now.directory.now) house.now.me sender.now path.now
             message.now (finds (J.patterns screens.old) message.now)) (J.seen screens.old) (J.seen screens.new) result }
@@ -137,11 +133,10 @@ impl<D> Provider<D> {
         ensures up { OnOk result (self.now.chronicle.down ≡ false) }
         ensures limits { IfOk result (λ made. IsWithinLimits made.0) }
         ensures follows { (journals : Journals) → IfOk result (λ made.
-            Meets (trade_of house.now.directory.now (S.seals house.now.sealer.now)) journals house.now.me
-            (half (trade_of house.now.directory.now (S.seals house.now.sealer.now)) house.now.me
+            Meets (world_at house.now) journals house.now.me (half (world_at house.now) house.now.me
             self.now.chronicle.entries) made.0) }
         ensures envelope { IfOk result (λ made.
-            HasEnvelope (trade_of house.now.directory.now (S.seals house.now.sealer.now)) made.0) }
+            HasEnvelope (world_at house.now) made.0) }
     {
         a_house_is_a_trade(house);
         what_a_provider_does_may_follow();
@@ -160,7 +155,7 @@ impl<D> Provider<D> {
 }
 
 /// Why the message isn't accepted, if so.
-fn cause_at<S, J: Judge>(
+fn cause_at<S: Sealer, J: Judge>(
     alloc: Global,
     house: &House<'_, S>,
     sender: &Address,

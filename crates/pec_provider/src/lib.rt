@@ -5,16 +5,15 @@
 
 mod appending;
 mod commands;
-mod house;
 mod laws;
 mod opening;
 mod provider;
 mod showing;
 mod turns;
 
-pub use house::{House, a_house_is_a_trade};
 pub use laws::what_follows_goes_on;
 pub use pec_chronicle::CreateFault;
 pub use pec_stock::ReopenFault;
+pub use pec_trade::{House, a_house_is_a_trade};
 pub use pec_types::{Event, Mark, ProviderFault, Submitted};
 pub use provider::Provider;

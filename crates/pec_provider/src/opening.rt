@@ -16,9 +16,8 @@ ghost use Rattle.pec_stock.specs.Opening.{IsOutside, IsUnfit};
 ghost use Rattle.pec_seal.specs.Seals.{Seals};
 ghost use Rattle.pec_stock.specs.Stock.{Agree, IsOwn};
 ghost use Rattle.pec_stock.specs.declared.faults.ReopenFault.TheVariants as reopen;
-ghost use Rattle.pec_provider.specs.Provider.{Runs, desk_of, fresh, stopped};
+ghost use Rattle.pec_provider.specs.Provider.{Runs, RunsIn, desk_of, fresh, stopped};
 
-use crate::house::House;
 use crate::provider::Provider;
 use pec_chronicle::{Chronicle, CreateFault};
 use pec_outside::{Depot, Disk};
@@ -26,6 +25,7 @@ use pec_plays::taken_messages_have_envelopes;
 use pec_seal::Sealer;
 use pec_shelf::Shelf;
 use pec_stock::{ReopenFault, begin, open, restart};
+use pec_trade::House;
 use std::alloc::Global;
 
 impl<D: Disk> Provider<D> {
@@ -37,7 +37,7 @@ impl<D: Disk> Provider<D> {
         disk: D,
     ) -> Result<Provider<D>, (CreateFault, D)>
         requires { house.now.me < length house.now.directory.now }
-        ensures runs { IfOk result (Runs house.now.directory.now (S.seals house.now.sealer.now) house.now.me) }
+        ensures runs { IfOk result (RunsIn house.now) }
         ensures created { IfOk result (λ provider. desk_of provider
             ≡ fresh (entries.Start house.now.me (digest_of (providers_of house.now.directory.now)) ∷ [])) }
         ensures stands { D.tells → IfOk result (λ provider. Stands D.sight provider.chronicle) }
@@ -68,7 +68,7 @@ impl<D: Disk> Provider<D> {
         disk: D,
     ) -> Result<Provider<D>, (ReopenFault, D)>
         requires { house.now.me < length house.now.directory.now }
-        ensures runs { IfOk result (Runs house.now.directory.now (S.seals house.now.sealer.now) house.now.me) }
+        ensures runs { IfOk result (RunsIn house.now) }
         ensures up { IfOk result (λ provider. desk_of provider ≡ fresh provider.chronicle.entries) }
         ensures opened { D.tells → IfOk result (λ provider.
             IsJournalOf provider.chronicle.entries (D.sight disk).seen × Stands D.sight provider.chronicle) }
@@ -124,8 +124,8 @@ impl<D: Disk> Provider<D> {
         alloc: Global,
         house: &House<'_, S>,
     ) -> Result<Provider<D>, (ReopenFault, Provider<D>)>
-        requires { Runs house.now.directory.now (S.seals house.now.sealer.now) house.now.me self }
-        ensures runs { IfOk result (Runs house.now.directory.now (S.seals house.now.sealer.now) house.now.me) }
+        requires { RunsIn house.now self }
+        ensures runs { IfOk result (RunsIn house.now) }
         ensures up { IfOk result (λ provider. desk_of provider ≡ fresh provider.chronicle.entries) }
         ensures found { D.tells → Stands D.sight self.chronicle → IfOk result (λ provider.
             (found : Bool) × (provider.chronicle.entries
@@ -133,7 +133,7 @@ impl<D: Disk> Provider<D> {
         ensures carries { D.tells
             → IfOk result (λ provider. CarriesOn D.sight NothingMay self.chronicle provider.chronicle) }
 
-        ensures runs_err { IfErr result (λ refused. Runs house.now.directory.now (S.seals house.now.sealer.now) house.now.me refused.1) }
+        ensures runs_err { IfErr result (λ refused. RunsIn house.now refused.1) }
         ensures stopped { IfErr result (λ refused. desk_of refused.1 ≡ stopped (desk_of self)) }
         ensures carries_err { D.tells
             → IfErr result (λ refused. CarriesOn D.sight NothingMay self.chronicle refused.1.chronicle) }
@@ -172,7 +172,7 @@ fn opened<D, S: Sealer>(
     requires number { house.now.me < length house.now.directory.now }
     requires is { shelf.me ≡ house.now.me }
     requires agree { Agree house.now.directory.now chronicle shelf }
-    ensures runs { Runs house.now.directory.now (S.seals house.now.sealer.now) house.now.me result }
+    ensures runs { RunsIn house.now result }
     ensures made { (result.chronicle ≡ chronicle) × (result.owed ≡ []) }
 {
     taken_messages_have_envelopes();

@@ -1,18 +1,16 @@
 ghost use Rattle.std.specs.Prelude.{◌≡◌, not, true, false, Some, IfOk, OnOk, IfErr, option_map};
-ghost use Rattle.pec_directory.specs.Directory.{providers_of};
-ghost use Rattle.pec_letters.specs.Fitting.{Fits};
 ghost use Rattle.pec_ledger.specs.Books.{book, mailbox_lines};
 ghost use Rattle.pec_ledger.specs.OfDirectory.{IsOf};
 ghost use Rattle.pec_ledger.specs.Steps.{half};
 ghost use Rattle.pec_ledger.specs.Trade.{Trade};
-ghost use Rattle.pec_trade.specs.TradeOf.{trade_of};
+ghost use Rattle.pec_trade.specs.Houses.{world_at};
 ghost use Rattle.pec_provider.specs.Playing.{IsUnasked, IsUnshown, item_at};
-ghost use Rattle.pec_provider.specs.Provider.{Runs};
+ghost use Rattle.pec_provider.specs.Provider.{RunsIn};
 
-use crate::house::{House, a_house_is_a_trade};
 use crate::provider::Provider;
 use pec_outgoing::item;
 use pec_seal::Sealer;
+use pec_trade::{House, a_house_is_a_trade};
 use pec_types::{Address, BookLine, ItemLine, NoMemory, ProviderFault};
 use std::alloc::Global;
 
@@ -26,7 +24,7 @@ impl<D> Provider<D> {
         house: &House<'_, S>,
         account: &Address,
     ) -> Result<Vec<BookLine>, ProviderFault>
-        requires { Runs house.now.directory.now (S.seals house.now.sealer.now) house.now.me self.now }
+        requires { RunsIn house.now self.now }
         ensures lines { (trade : Trade) → IsOf house.now.directory.now trade → IfOk result (λ lines. lines.items
             ≡ book trade house.now.me (half trade house.now.me self.now.chronicle.entries) account.now) }
         ensures asked { (trade : Trade) → IsOf house.now.directory.now trade
@@ -46,7 +44,7 @@ impl<D> Provider<D> {
         house: &House<'_, S>,
         account: &Address,
     ) -> Result<Vec<ItemLine>, ProviderFault>
-        requires { Runs house.now.directory.now (S.seals house.now.sealer.now) house.now.me self.now }
+        requires { RunsIn house.now self.now }
         ensures lines { (trade : Trade) → IsOf house.now.directory.now trade → IfOk result (λ lines. lines.items
             ≡ mailbox_lines (half trade house.now.me self.now.chronicle.entries) account.now) }
         ensures asked { (trade : Trade) → IsOf house.now.directory.now trade
@@ -68,19 +66,15 @@ impl<D> Provider<D> {
         account: &Address,
         place: u32,
     ) -> Result<Vec<u8>, ProviderFault>
-        requires runs { Runs house.now.directory.now (S.seals house.now.sealer.now) house.now.me self.now }
-        requires fits { Fits (S.seals house.now.sealer.now) (providers_of house.now.directory.now) }
+        requires runs { RunsIn house.now self.now }
         ensures shown { IfOk result (λ bytes.
-            item_at (trade_of house.now.directory.now (S.seals house.now.sealer.now)) house.now.me
+            item_at (world_at house.now) house.now.me
             self.now.chronicle.entries account.now place ≡ Some bytes.items) }
         ensures asked { (trade : Trade) → IsOf house.now.directory.now trade
             → OnOk result ((trade.is_account house.now.me account.now ≡ true) × (self.now.chronicle.down ≡ false)) }
         ensures refused { IfErr result (IsUnshown
-            ((trade_of house.now.directory.now (S.seals house.now.sealer.now)).is_account house.now.me account.now)
-            (not self.now.chronicle.down)
-            (item_at (trade_of house.now.directory.now (S.seals house.now.sealer.now)) house.now.me
-            self.now.chronicle.entries
-            account.now place)) }
+            ((world_at house.now).is_account house.now.me account.now) (not self.now.chronicle.down)
+            (item_at (world_at house.now) house.now.me self.now.chronicle.entries account.now place)) }
     {
         a_house_is_a_trade(house);
         self.asked(house, account)?;
@@ -98,17 +92,14 @@ impl<D> Provider<D> {
         account: &Address,
         place: u32,
     ) -> Result<Option<Vec<u8>>, NoMemory>
-        requires runs { Runs house.now.directory.now (S.seals house.now.sealer.now) house.now.me self.now }
-        requires fits { Fits (S.seals house.now.sealer.now) (providers_of house.now.directory.now) }
+        requires runs { RunsIn house.now self.now }
         ensures { IfOk result (λ found. option_map (λ bytes. bytes.items) found
-            ≡ item_at (trade_of house.now.directory.now (S.seals house.now.sealer.now)) house.now.me
-            self.now.chronicle.entries account.now place) }
+            ≡ item_at (world_at house.now) house.now.me self.now.chronicle.entries account.now place) }
     {
         a_house_is_a_trade(house);
         let found = item(
             alloc,
-            house.directory,
-            house.sealer,
+            house,
             &self.shelf,
             self.chronicle.all(),
             account,

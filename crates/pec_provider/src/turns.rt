@@ -2,8 +2,6 @@ ghost use Rattle.std.specs.Prelude.{◌≡◌, ℕ, ◌<◌, ◌≤◌, ◌++◌
 ghost use Rattle.std.specs.Option.{option_to_list};
 ghost use Rattle.pec_types.specs.declared.turns.ProviderFault.TheVariants as faults;
 ghost use Rattle.pec_outside.specs.Flow.{HasRisen};
-ghost use Rattle.pec_directory.specs.Directory.{providers_of};
-ghost use Rattle.pec_letters.specs.Fitting.{Fits};
 ghost use Rattle.pec_records.specs.Entry.{IsWithinLimits};
 ghost use Rattle.pec_ledger.specs.Ledger.{Fit, Journals};
 ghost use Rattle.pec_ledger.specs.Network.{IsGenuine};
@@ -12,17 +10,16 @@ ghost use Rattle.pec_ledger.specs.Trade.{Trade};
 ghost use Rattle.pec_plays.specs.Envelopes.{HasEnvelope};
 ghost use Rattle.pec_plays.specs.Frames.{due_frames};
 ghost use Rattle.pec_plays.specs.Steps.{Step};
-ghost use Rattle.pec_trade.specs.TradeOf.{trade_of};
+ghost use Rattle.pec_trade.specs.Houses.{world_at};
 ghost use Rattle.pec_chronicle.specs.Carrying.{CarriesOn};
 ghost use Rattle.pec_chronicle.specs.Chronicle.{Stands};
 ghost use Rattle.pec_stock.specs.Entering.{OnlyMay};
 ghost use Rattle.pec_provider.specs.Appending.{MayEnter};
 ghost use Rattle.pec_provider.specs.Doing.{AppendsAny, Undertakes};
 ghost use Rattle.pec_provider.specs.Following.{MayFollow};
-ghost use Rattle.pec_provider.specs.Provider.{Runs, desk_of};
+ghost use Rattle.pec_provider.specs.Provider.{RunsIn, desk_of};
 ghost use Rattle.pec_provider.specs.Working.{Arrives, Decides, Does};
 
-use crate::house::{House, a_house_is_a_trade};
 use crate::provider::Provider;
 use pec_outgoing::due_frames;
 use pec_outside::Disk;
@@ -34,6 +31,7 @@ use pec_reception::{Received, decide, receive};
 use pec_records::Entry;
 use pec_seal::Sealer;
 use pec_stock::stands_still;
+use pec_trade::{House, a_house_is_a_trade};
 use pec_types::{Event, Frame, Letter, Moment, NoMemory, ProviderFault};
 use std::alloc::Global;
 
@@ -47,19 +45,16 @@ impl<D: Disk> Provider<D> {
         moment: Moment,
         frame: &[u8],
     ) -> Result<Event, ProviderFault>
-        requires runs { Runs house.now.directory.now (S.seals house.now.sealer.now) house.now.me self.old }
-        requires fits { Fits (S.seals house.now.sealer.now) (providers_of house.now.directory.now) }
-        ensures arrives { Arrives (trade_of house.now.directory.now (S.seals house.now.sealer.now)) house.now.me moment
-            frame.now
+        requires runs { RunsIn house.now self.old }
+        ensures arrives { Arrives (world_at house.now) house.now.me moment frame.now
             (desk_of self.old) (desk_of self.new) result }
-        ensures runs { Runs house.now.directory.now (S.seals house.now.sealer.now) house.now.me self.new }
+        ensures runs { RunsIn house.now self.new }
 
         // Where the frame is genuine in some journals, what is appended may follow in their ledger.
         ensures carries { D.tells → (journals : Journals)
-            → Fit (trade_of house.now.directory.now (S.seals house.now.sealer.now)) journals
-            → IsGenuine (trade_of house.now.directory.now (S.seals house.now.sealer.now)) journals frame.now
-            → CarriesOn D.sight (MayFollow (trade_of house.now.directory.now (S.seals house.now.sealer.now)) journals
-            house.now.me)
+            → Fit (world_at house.now) journals
+            → IsGenuine (world_at house.now) journals frame.now
+            → CarriesOn D.sight (MayFollow (world_at house.now) journals house.now.me)
             self.old.chronicle self.new.chronicle }
 
         // What stands on its disk stands there again, whatever the frame is.
@@ -74,14 +69,7 @@ impl<D: Disk> Provider<D> {
         what_a_provider_does_may_follow();
         stands_still(&self.chronicle);
         self.at_work(moment)?;
-        let received = receive(
-            alloc,
-            house.directory,
-            house.sealer,
-            &self.shelf,
-            moment,
-            frame,
-        )?;
+        let received = receive(alloc, house, &self.shelf, moment, frame)?;
         let event = self.undertake(alloc, house, received)?;
         Ok(event)
     }
@@ -94,13 +82,12 @@ impl<D: Disk> Provider<D> {
         house: &House<'_, S>,
         moment: Moment,
     ) -> Result<Option<Event>, ProviderFault>
-        requires runs { Runs house.now.directory.now (S.seals house.now.sealer.now) house.now.me self.old }
-        ensures decides { Decides (trade_of house.now.directory.now (S.seals house.now.sealer.now)) house.now.me moment
+        requires runs { RunsIn house.now self.old }
+        ensures decides { Decides (world_at house.now) house.now.me moment
             (desk_of self.old) (desk_of self.new) result }
-        ensures runs { Runs house.now.directory.now (S.seals house.now.sealer.now) house.now.me self.new }
+        ensures runs { RunsIn house.now self.new }
         ensures carries { D.tells → (journals : Journals) → CarriesOn D.sight
-            (MayFollow (trade_of house.now.directory.now (S.seals house.now.sealer.now)) journals house.now.me)
-            self.old.chronicle self.new.chronicle }
+            (MayFollow (world_at house.now) journals house.now.me) self.old.chronicle self.new.chronicle }
         ensures disk_fault { IsErrOf result faults.DiskFault → HasRisen (D.faults self.old.chronicle.disk)
             (D.faults self.new.chronicle.disk) }
         ensures later { D.faults self.old.chronicle.disk ≤ D.faults self.new.chronicle.disk }
@@ -125,16 +112,15 @@ impl<D: Disk> Provider<D> {
         received: Received,
     ) -> Result<Event, ProviderFault>
         requires up { self.old.chronicle.down ≡ false }
-        requires runs { Runs house.now.directory.now (S.seals house.now.sealer.now) house.now.me self.old }
+        requires runs { RunsIn house.now self.old }
         requires limits { IfSome received.entry IsWithinLimits }
         requires step { IfSome received.entry (MayEnter house.now.directory.now house.now.me
             self.old.chronicle.entries) }
-        requires envelope { IfSome received.entry (HasEnvelope
-            (trade_of house.now.directory.now (S.seals house.now.sealer.now))) }
+        requires envelope { IfSome received.entry (HasEnvelope (world_at house.now)) }
         ensures does { (trade : Trade) (step : Step) → IsOf house.now.directory.now trade
             → Undertakes trade house.now.me self.old.chronicle.entries received step
             → Does step (desk_of self.old) (desk_of self.new) result }
-        ensures runs { Runs house.now.directory.now (S.seals house.now.sealer.now) house.now.me self.new }
+        ensures runs { RunsIn house.now self.new }
         ensures carries { D.tells → CarriesOn D.sight (OnlyMay self.old.chronicle.entries received.entry)
             self.old.chronicle self.new.chronicle }
         ensures disk_fault { IsErrOf result faults.DiskFault → HasRisen (D.faults self.old.chronicle.disk)
@@ -157,15 +143,14 @@ impl<D: Disk> Provider<D> {
         entry: Option<Entry>,
     ) -> Result<(), ProviderFault>
         requires up { self.old.chronicle.down ≡ false }
-        requires runs { Runs house.now.directory.now (S.seals house.now.sealer.now) house.now.me self.old }
+        requires runs { RunsIn house.now self.old }
         requires limits { IfSome entry IsWithinLimits }
         requires step { IfSome entry (MayEnter house.now.directory.now house.now.me self.old.chronicle.entries) }
-        requires envelope { IfSome entry (HasEnvelope
-            (trade_of house.now.directory.now (S.seals house.now.sealer.now))) }
+        requires envelope { IfSome entry (HasEnvelope (world_at house.now)) }
         ensures appends { (trade : Trade) → IsOf house.now.directory.now trade
             → AppendsAny trade house.now.me entry (desk_of self.old) (desk_of self.new) result }
         ensures owed { (self.new.owed ≡ self.old.owed) × (self.new.places ≡ self.old.places) }
-        ensures runs { Runs house.now.directory.now (S.seals house.now.sealer.now) house.now.me self.new }
+        ensures runs { RunsIn house.now self.new }
         ensures carries { D.tells → CarriesOn D.sight (OnlyMay self.old.chronicle.entries entry) self.old.chronicle
             self.new.chronicle }
         ensures disk_fault { IsErrOf result faults.DiskFault → HasRisen (D.faults self.old.chronicle.disk)
@@ -195,17 +180,14 @@ impl<D> Provider<D> {
         to: u32,
         room: usize,
     ) -> Result<Vec<Frame>, NoMemory>
-        requires runs { Runs house.now.directory.now (S.seals house.now.sealer.now) house.now.me self.now }
-        requires fits { Fits (S.seals house.now.sealer.now) (providers_of house.now.directory.now) }
+        requires runs { RunsIn house.now self.now }
         ensures { IfOk result (λ frames. frames.items
-            ≡ due_frames (trade_of house.now.directory.now (S.seals house.now.sealer.now)) house.now.me
-            self.now.chronicle.entries to room self.now.owed) }
+            ≡ due_frames (world_at house.now) house.now.me self.now.chronicle.entries to room self.now.owed) }
     {
         a_house_is_a_trade(house);
         let frames = due_frames(
             alloc,
-            house.directory,
-            house.sealer,
+            house,
             &self.shelf,
             self.chronicle.all(),
             self.seen_from,

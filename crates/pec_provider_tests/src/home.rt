@@ -5,8 +5,8 @@ ghost use Rattle.pec_directory.specs.Directory.{providers_of};
 ghost use Rattle.pec_letters.specs.Fitting.{Fits};
 
 use pec_directory::Directory;
-use pec_house::sealer_of;
 use pec_seal::{HmacSealer, Sealer};
+use pec_trade::sealer_of;
 use std::alloc::Global;
 use std::test::Fail;
 

@@ -18,6 +18,7 @@ use pec_letter_parts::Headed;
 use pec_letters::{envelope_in, has_envelope_head};
 use pec_receipts::{ReceiptView, read, receipt_in};
 use pec_seal::Sealer;
+use pec_trade::House;
 use pec_types::{LetterFault, MsgId, NoMemory};
 use std::alloc::Global;
 
@@ -33,24 +34,24 @@ pub(crate) enum Sight {
 #[tactic(auto, unfolding(pec_trade::specs::Texts::seen_in))]
 pub(crate) fn see<S: Sealer>(
     alloc: Global,
-    directory: &Directory,
-    sealer: &S,
+    house: &House<'_, S>,
     message: &[u8],
 ) -> Result<Option<Sight>, NoMemory>
     ensures { IfOk result (λ sight. sight
-        ≡ option_map sight_of (seen_in (S.seals sealer.now) (providers_of directory.now) message.now)) }
+        ≡ option_map sight_of
+        (seen_in (S.seals house.now.sealer.now) (providers_of house.now.directory.now) message.now)) }
 {
-    let Some(headed) = opened(alloc, sealer, message)? else {
+    let Some(headed) = opened(alloc, house.sealer, message)? else {
         return Ok(None);
     };
     if !has_envelope_head(&headed) {
-        let view = stated_behind(alloc, directory, headed)?;
+        let view = stated_behind(alloc, house.directory, headed)?;
         return Ok(receipt(view));
     }
-    if let Some(id) = enveloped(alloc, directory, headed)? {
+    if let Some(id) = enveloped(alloc, house.directory, headed)? {
         return Ok(Some(Sight::Envelope(id)));
     }
-    let view = stated(alloc, directory, sealer, message)?;
+    let view = stated(alloc, house, message)?;
     Ok(receipt(view))
 }
 
@@ -115,14 +116,13 @@ fn stated_behind(
 /// What the receipt says that this is.
 fn stated<S: Sealer>(
     alloc: Global,
-    directory: &Directory,
-    sealer: &S,
+    house: &House<'_, S>,
     message: &[u8],
 ) -> Result<Option<ReceiptView>, NoMemory>
     ensures { IfOk result (λ found. found
-        ≡ result_ok (receipt_view (S.seals sealer.now) (providers_of directory.now) message.now)) }
+        ≡ result_ok (receipt_view (S.seals house.now.sealer.now) (providers_of house.now.directory.now) message.now)) }
 {
-    match read(alloc, sealer, directory, message) {
+    match read(alloc, house.sealer, house.directory, message) {
         Ok(view) => Ok(Some(view)),
         Err(LetterFault::NoMemory) => Err(NoMemory),
         Err(_) => Ok(None),

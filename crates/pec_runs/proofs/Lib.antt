@@ -2,6 +2,7 @@ pub mod BeginningLemmas
 pub mod ClimbLemmas
 pub mod CutLemmas
 pub mod DeliveredLemmas
+pub mod GoingLemmas
 pub mod HeadlineLemmas
 pub mod InputLemmas
 pub mod LeavingLemmas
@@ -9,7 +10,9 @@ pub mod LineLemmas
 pub mod LoopLemmas
 pub mod NextLemmas
 pub mod PlaceLemmas
+pub mod PlayedLemmas
 pub mod QuietLemmas
+pub mod ReadingLemmas
 pub mod ResumeLemmas
 pub mod RunLemmas
 pub mod SettingLemmas

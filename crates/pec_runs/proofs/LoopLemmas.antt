@@ -38,18 +38,18 @@ text_behind providers answers outcome =
     ∙ append_assoc (answers_text providers answers) (answers_text providers outcome.answers)
     (finish_text providers outcome.finish)
 
-followed_nothing : (held : Option Bytes) → held ≡ followed_by held []
+pub followed_nothing : (held : Option Bytes) → held ≡ followed_by held []
 followed_nothing None = refl
 followed_nothing (Some bytes) = ap (λ (b : Bytes). Some b) (sym (append-nil bytes))
 
-followed_twice : (held : Option Bytes) (a b : Bytes) → followed_by (followed_by held a) b ≡ followed_by held (a ++ b)
+pub followed_twice : (held : Option Bytes) (a b : Bytes) → followed_by (followed_by held a) b ≡ followed_by held (a ++ b)
 followed_twice None a b = refl
 followed_twice (Some bytes) a b = ap (λ (t : Bytes). Some t) (append_assoc bytes a b)
 
 -- ---- lines
 
 -- the lines that were left are the one that was read and those that are left
-lines_on : (before : Option Bytes) (line : Bytes) (behind : Option Bytes) (lines : List Bytes)
+pub lines_on : (before : Option Bytes) (line : Bytes) (behind : Option Bytes) (lines : List Bytes)
     → IsLineRead before line behind
     → TellsOn before behind → AreLinesLeft behind lines → AreLinesLeft before (line ∷ lines)
 lines_on None line behind lines read tells left = tt

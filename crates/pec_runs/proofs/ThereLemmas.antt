@@ -23,7 +23,7 @@ use Rattle.pec_runs.specs.Statuses.{status_of}
 use Rattle.pec_runs.proofs.TranscriptLemmas.{QuietThere, at_end_all, quiet_plays}
 
 -- an end that was written whole
-tells_end : (end : End) (before : Option Bytes) (text : Bytes)
+pub tells_end : (end : End) (before : Option Bytes) (text : Bytes)
     → TellsAs (status_of end) before (followed_by before text) text (Ends end)
 tells_end ends.Done before text = (refl, refl)
 tells_end ends.Usage before text = (refl, refl)

@@ -8,7 +8,7 @@ use Rattle.pec_directory.specs.Zones.{AreByRule}
 use Rattle.pec_directory.specs.declared.faults.DirectoryFault.{DirectoryFault}
 use Rattle.pec_seal.specs.Hmac.{hmac_seals}
 use Rattle.pec_seal.specs.Seals.{Seals}
-use Rattle.pec_house.specs.Keys.{keys_of, names_of}
+use Rattle.pec_trade.specs.Keys.{keys_of, names_of}
 use Rattle.pec_ledger.specs.Trade.{Trade}
 use Rattle.pec_ledger.specs.TradeLaws.{IsTrade}
 use Rattle.pec_plays.specs.Commands.{Luck}

@@ -8,8 +8,10 @@ pub mod Openings
 pub mod Plays
 pub mod Ran
 pub mod Reaching
+pub mod Reading
 pub mod Resuming
 pub mod ScriptLines
 pub mod Statuses
+pub mod Steps
 pub mod Transcripts
 pub mod Writing

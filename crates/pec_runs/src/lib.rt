@@ -8,9 +8,11 @@ mod headline;
 mod inputs;
 mod leaving;
 mod quiet;
+mod reading;
 mod resuming;
 mod runs;
 mod settings;
+mod steps;
 mod writing;
 
 pub use climbing::{a_run_is_climbed, a_script_is_played_line_by_line};
@@ -22,7 +24,9 @@ pub use quiet::{
     a_run_without_faults_has_one_transcript, a_run_without_faults_is_there,
     a_script_without_faults_is_one,
 };
+pub use reading::lines_are_climbed;
 pub use resuming::{a_resumed_run_begins_where_the_last_left, a_script_may_be_cut};
 pub use runs::{a_run_begins_sound, a_runs_books_belong_to_the_ledger};
 pub use settings::{one_input_has_one_transcript, providers_have_one_world};
+pub use steps::{acts_are_a_script, acts_are_joined, an_act_is_done};
 pub use writing::{a_status_says_what_was_written, answers_are_whole_lines};

@@ -1,4 +1,5 @@
 pub mod CallLemmas
+pub mod ClockLemmas
 pub mod ConnectionLemmas
 pub mod RunLemmas
 pub mod StoredLemmas

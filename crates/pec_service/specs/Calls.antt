@@ -1,13 +1,16 @@
--- Commands that a service plays, one after another, each with what devices did in it: `AreCalls`. This project's profile.
-use Rattle.std.specs.Prelude.{◌≡◌, ℕ, zero, suc, ◌+◌, List, [], ◌∷◌, ◌++◌, map}
+-- Commands that a service plays, one after another, each with what devices did in it: `AreCalls`; and what a run comes to
+-- that goes by clock calls: `ClockWent`. This project's profile.
+use Rattle.std.specs.Prelude.{◌≡◌, ℕ, zero, suc, ◌+◌, ◌≤◌, List, [], ◌∷◌, ◌++◌, map, slice_get, Option, None, Some}
 use Rattle.pec_types.specs.Bytes.{Bytes}
+use Rattle.pec_outside.specs.Flow.{WrotePart, followed_by}
 use Rattle.pec_directory.specs.Directory.{Provider}
 use Rattle.pec_ledger.specs.Network.{Site}
 use Rattle.pec_ledger.specs.Trade.{Trade}
 use Rattle.pec_plays.specs.Commands.{Answer, Command, Luck, Round, Tick, played}
-use Rattle.pec_plays.specs.Possible.{MayMeet}
 use Rattle.pec_runs.specs.AnswerLines.{answer_text}
-use Rattle.pec_runs.specs.Plays.{HasMemory, RoseBy, faults_by}
+use Rattle.pec_runs.specs.Ran.{LeavesOff}
+use Rattle.pec_runs.specs.Steps.{Act, Hands, Plays, Point, Step, Stop, Writes}
+use Rattle.pec_runs.specs.Steps as steps
 
 -- A network between two commands: its state, and the counts of faults of its disks.
 pub record State : Type 0 where
@@ -35,14 +38,10 @@ module _ (trade : Trade) where
   abbrev pub answer_of : List Site → Call → Answer
   answer_of sites call = (played trade call.luck sites call.command).answer
 
-  -- The command was played from here, with a luck that it may meet. No turn that is told ended for want of memory, and
-  -- each fault that is told of a disk raised that disk's count.
-  pub record IsCall (here : State) (call : Call) : Type 0 where
-    pub meet : MayMeet trade call.luck here.sites call.command
-    pub memory : HasMemory (answer_of here.sites call)
-    pub counts : (provider : ℕ)
-        → RoseBy (faults_by provider call.command (answer_of here.sites call)) (here.counts provider) (call.behind.counts provider)
-    pub state : call.behind.sites ≡ (played trade call.luck here.sites call.command).after
+  -- The command was played from here, with a luck that it may meet (`IsCall` of pec_runs).
+  abbrev pub IsCall : State → Call → Type 0
+  IsCall here call =
+      steps.IsCall trade here.sites here.counts call.behind.counts call.command call.luck call.behind.sites
 
   -- Each was played from the network behind those before it.
   abbrev pub AreCalls : State → List Call → Type 0
@@ -59,3 +58,46 @@ module _ (trade : Trade) where
 abbrev pub clock_from : ℕ → ℕ → ℕ → List Command
 clock_from zero provider moment = Round moment ∷ []
 clock_from (suc more) provider moment = Tick provider moment ∷ clock_from more (provider + 1) moment
+
+-- ---- steps of a run
+
+-- a network as a service sees it, without its disks
+abbrev pub seen : {D : Type 0} → steps.State D → State
+seen state = record { sites = state.sites; counts = state.counts }
+
+-- the call of an act before others
+abbrev pub call_before : Act → Luck → State → List Call → List Call
+call_before (Plays command) luck behind calls = record { command = command; luck = luck; behind = behind } ∷ calls
+call_before (Hands command) luck behind calls = record { command = command; luck = luck; behind = behind } ∷ calls
+call_before (Writes text) luck behind calls = calls
+
+-- the calls of steps
+abbrev pub calls_by : {D : Type 0} → List (Step D) → List Call
+calls_by [] = []
+calls_by (step ∷ more) = call_before step.act step.luck (seen step.behind) (calls_by more)
+
+module _ (trade : Trade) (providers : List Provider) {D : Type 0} where
+  -- How calls ended: all that was due was played and written; or the output failed, and a front of their lines was written;
+  -- or memory ran out in what came next, of which nothing was written.
+  abbrev pub CallsEnd : (here : State) → List Call → List Command → Option Bytes → Point D → Option Stop → Type 0
+  CallsEnd here calls unplayed before there None =
+      (unplayed ≡ []) × (state_behind here calls ≡ seen there.state)
+      × (there.held ≡ followed_by before (calls_text trade providers here calls))
+  CallsEnd here calls unplayed before there (Some steps.WriteFault) =
+      (state_behind here calls ≡ seen there.state)
+      × WrotePart before there.held (calls_text trade providers here calls)
+  CallsEnd here calls unplayed before there (Some steps.ReadFault) =
+      (state_behind here calls ≡ seen there.state)
+      × (there.held ≡ followed_by before (calls_text trade providers here calls))
+  CallsEnd here calls unplayed before there (Some steps.NoMemory) =
+      LeavesOff trade (state_behind here calls).sites (slice_get unplayed 0) there.state.sites
+      × (there.held ≡ followed_by before (calls_text trade providers here calls))
+      × ((provider : ℕ) → (state_behind here calls).counts provider ≤ there.state.counts provider)
+
+  -- Of the commands that are due some were played from here, one after another.
+  pub record ClockWent (due : List Command) (here there : Point D) (stop : Option Stop) : Type 0 where
+    pub calls : List Call
+    pub unplayed : List Command
+    pub plays : commands_of calls ++ unplayed ≡ due
+    pub are : AreCalls trade (seen here.state) calls
+    pub ends : CallsEnd (seen here.state) calls unplayed here.held there stop

@@ -1,11 +1,15 @@
-ghost use Rattle.std.specs.Prelude.{◌≡◌, ◌≤◌, ℕ, List, [], ◌∷◌, ◌++◌};
+ghost use Rattle.std.specs.Prelude.{◌≡◌, ◌≤◌, ℕ, List, [], ◌∷◌, ◌++◌, map, Option};
 ghost use Rattle.pec_directory.specs.Directory.{Kept, Provider};
 ghost use Rattle.pec_screen.specs.Screened.{Finds};
 ghost use Rattle.pec_ledger.specs.Trade.{Trade};
 ghost use Rattle.pec_runs.specs.AnswerLines.{answer_text};
-ghost use Rattle.pec_service.specs.Calls.{AreCalls, Call, IsCall, State, answer_of, calls_text, commands_of, state_behind};
+ghost use Rattle.pec_runs.specs.Steps.{Goes, Plays, Point, Stop};
+ghost use Rattle.pec_service.specs.Calls.{AreCalls, Call, ClockWent, IsCall, State, answer_of, calls_text};
+ghost use Rattle.pec_service.specs.Calls.{clock_from, commands_of, state_behind};
 ghost use Rattle.pec_service.specs.Connections.{Connection, IsConnection, Place, connection_text};
 ghost use Rattle.pec_service.specs.Services.{AreConnections, connections_text, place_behind};
+
+use pec_outside::Depot;
 
 /// How a loop over calls climbs: one more stands behind those so far, and so do its lines.
 pub fn calls_are_joined()
@@ -34,6 +38,15 @@ pub fn calls_are_joined()
         → calls_text trade providers here (calls ++ call ∷ [])
         ≡ calls_text trade providers here calls
         ++ answer_text providers (answer_of trade (state_behind here calls).sites call) }
+{}
+
+/// What a run comes to that goes by the clock calls of so many providers, from one on, and a round: they are calls, one
+/// after another, and it can't stray, for none of them is a restart.
+pub fn acts_are_calls<P: Depot>()
+    ensures { (trade : Trade) (providers : List Provider) (more from moment : ℕ) (here there : Point P.D)
+        (stop : Option Stop)
+        → Goes trade providers (P.tells × P.D.tells) (map Plays (clock_from more from moment)) here there stop
+        → ClockWent trade providers (clock_from more from moment) here there stop }
 {}
 
 /// How a loop over connections climbs.

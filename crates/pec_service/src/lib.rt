@@ -9,7 +9,7 @@ mod replies;
 mod runs;
 
 pub use headline::a_services_books_belong_to_the_ledger;
-pub use joining::{calls_are_joined, connections_are_joined};
+pub use joining::{acts_are_calls, calls_are_joined, connections_are_joined};
 pub use replies::{a_connection_has_one_reply, what_was_stored_is_not_answered_500};
 pub use runs::{
     a_journal_is_refused_at_its_head, a_run_without_faults_serves_all,

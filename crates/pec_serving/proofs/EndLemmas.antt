@@ -10,7 +10,7 @@ use Rattle.pec_screen.specs.Screened.{finds_in}
 use Rattle.pec_screen.specs.Verdicts.{Patterns}
 use Rattle.pec_seal.specs.Seals.{Seals}
 use Rattle.pec_ledger.specs.Trade.{Trade}
-use Rattle.pec_playing.specs.OfNetworks.{NetworkState, trade_of}
+use Rattle.pec_playing.specs.OfNetworks.{NetworkState, world_of}
 use Rattle.pec_http.specs.declared.serving.Served.{Served}
 use Rattle.pec_playing.specs.Doing.{Keeps}
 use Rattle.pec_service.specs.Calls.{clock_from}
@@ -26,17 +26,17 @@ use Rattle.pec_serving.proofs.KeepLemmas.{as_begun}
 use Rattle.pec_serving.proofs.ServiceLemmas.{CallLaws, ConnectionLaws, Going, clock_lacks, clock_stops, goes_on, line_broke, none_met, none_told}
 
 module _ {D S : Type 0} (sight : D → Sight) (count : D → ℕ) (disks : Type 0) (seals : S → Seals)
-    (start : NetworkState D S) (screens : List (List Patterns)) (laws : CallLaws (trade_of start.kept (seals start.sealer)))
-    (joins : ConnectionLaws (trade_of start.kept (seals start.sealer)) start.kept (finds_in screens)) (elsewhere : ℕ → ℕ) (here : Place)
+    (start : NetworkState D S) (screens : List (List Patterns)) (laws : CallLaws (world_of seals start))
+    (joins : ConnectionLaws (world_of seals start) start.kept (finds_in screens)) (elsewhere : ℕ → ℕ) (here : Place)
     (now again : NetworkState D S) (screens_now : List (List Patterns)) (look_so : screens_now ≡ screens)
     (keeps : Keeps sight count disks start now) (moments : Option (List ℕ))
     (requests : Option (List Bytes)) (replies : Option (List Reply)) (served : ℕ) (before mid : Option Bytes)
-    (going : Going (trade_of start.kept (seals start.sealer)) start.kept (finds_in screens) here
+    (going : Going (world_of seals start) start.kept (finds_in screens) here
     (place_of count elsewhere now moments requests replies) served before mid)
     (moments_then : Option (List ℕ)) (requests_then : Option (List Bytes)) (replies_then : Option (List Reply))
     (wanted : ℕ) (few : served < wanted) where
   abbrev trade : Trade
-  trade = trade_of start.kept (seals start.sealer)
+  trade = world_of seals start
 
   abbrev at : Place
   at = place_of count elsewhere now moments requests replies
@@ -45,28 +45,28 @@ module _ {D S : Type 0} (sight : D → Sight) (count : D → ℕ) (disks : Type 
   left = place_of count elsewhere again moments_then requests_then replies_then
 
   -- what came next, in the world of the beginning
-  comes_so : (came : Came) → ComesNext (trade_of now.kept (seals now.sealer)) now.kept (finds_in screens_now) at left came
+  comes_so : (came : Came) → ComesNext (world_of seals now) now.kept (finds_in screens_now) at left came
       → ComesNext trade start.kept (finds_in screens) at left came
   comes_so came comes =
       as_begun sight count disks seals start now keeps
       (λ (t : Trade) (k : List Kept). ComesNext t k (finds_in screens) at left came)
-      (subst (λ (s : List (List Patterns)). ComesNext (trade_of now.kept (seals now.sealer)) now.kept (finds_in s) at left came)
+      (subst (λ (s : List (List Patterns)). ComesNext (world_of seals now) now.kept (finds_in s) at left came)
       look_so comes)
 
-  pub ends_unmet : ComesNext (trade_of now.kept (seals now.sealer)) now.kept (finds_in screens_now) at left came.NoConnection
+  pub ends_unmet : ComesNext (world_of seals now) now.kept (finds_in screens_now) at left came.NoConnection
       → ServesSo trade start.kept (finds_in screens) wanted here left before mid endings.NoConnection
   ends_unmet comes =
       let is = comes_so came.NoConnection comes
       in none_met trade start.kept (finds_in screens) laws joins here at served before mid going wanted few left is.network is.replies
 
-  pub ends_untold : ComesNext (trade_of now.kept (seals now.sealer)) now.kept (finds_in screens_now) at left came.NoMoment
+  pub ends_untold : ComesNext (world_of seals now) now.kept (finds_in screens_now) at left came.NoMoment
       → ServesSo trade start.kept (finds_in screens) wanted here left before mid endings.NoMoment
   ends_untold comes =
       let is = comes_so came.NoMoment comes
       in none_told trade start.kept (finds_in screens) laws joins here at served before mid going wanted few left is.network is.replies
 
   module _ (moment : ℕ) (told : Served)
-      (comes : ComesNext (trade_of now.kept (seals now.sealer)) now.kept (finds_in screens_now) at left (came.Served moment told)) where
+      (comes : ComesNext (world_of seals now) now.kept (finds_in screens_now) at left (came.Served moment told)) where
     pub ends_broken : (after : Option Bytes) → WrotePart mid after (served_line told)
         → ServesSo trade start.kept (finds_in screens) wanted here left before after endings.WriteFault
     ends_broken after part =
@@ -76,7 +76,7 @@ module _ {D S : Type 0} (sight : D → Sight) (count : D → ℕ) (disks : Type 
     module _ (keeps_again : Keeps sight count disks start again) (last : NetworkState D S) (line_held after : Option Bytes)
         (line : line_held ≡ followed_by mid (served_line told)) where
       played_so : (result : Result (Unit {0}) Stop)
-          → PlaysAll (trade_of again.kept (seals again.sealer)) (providers_of again.kept) (state_of count elsewhere again)
+          → PlaysAll (world_of seals again) (providers_of again.kept) (state_of count elsewhere again)
           (state_of count elsewhere last) (clock_from (length again.kept) 0 moment) line_held after result
           → PlaysAll trade (providers_of start.kept) (state_of count elsewhere again) (state_of count elsewhere last)
           (clock_from (length start.kept) 0 moment) line_held after result
@@ -85,7 +85,7 @@ module _ {D S : Type 0} (sight : D → Sight) (count : D → ℕ) (disks : Type 
           (λ (t : Trade) (k : List Kept). PlaysAll t (providers_of k) (state_of count elsewhere again)
           (state_of count elsewhere last) (clock_from (length k) 0 moment) line_held after result) plays
 
-      pub ends_written : PlaysAll (trade_of again.kept (seals again.sealer)) (providers_of again.kept)
+      pub ends_written : PlaysAll (world_of seals again) (providers_of again.kept)
           (state_of count elsewhere again) (state_of count elsewhere last) (clock_from (length again.kept) 0 moment)
           line_held after (Ok tt)
           → Going trade start.kept (finds_in screens) here (place_of count elsewhere last moments_then requests_then replies_then) (served + 1)
@@ -95,7 +95,7 @@ module _ {D S : Type 0} (sight : D → Sight) (count : D → ℕ) (disks : Type 
           (comes_so (came.Served moment told) comes) line_held line (state_of count elsewhere last) after
           (played_so (Ok tt) plays)
 
-      pub ends_stopped : PlaysAll (trade_of again.kept (seals again.sealer)) (providers_of again.kept)
+      pub ends_stopped : PlaysAll (world_of seals again) (providers_of again.kept)
           (state_of count elsewhere again) (state_of count elsewhere last) (clock_from (length again.kept) 0 moment)
           line_held after (Err stops.WriteFault)
           → ServesSo trade start.kept (finds_in screens) wanted here (place_of count elsewhere last moments_then requests_then replies_then)
@@ -105,7 +105,7 @@ module _ {D S : Type 0} (sight : D → Sight) (count : D → ℕ) (disks : Type 
           (comes_so (came.Served moment told) comes) line_held line wanted (omega (arith, few))
           (state_of count elsewhere last) after (played_so (Err stops.WriteFault) plays)
 
-      pub ends_lacking : PlaysAll (trade_of again.kept (seals again.sealer)) (providers_of again.kept)
+      pub ends_lacking : PlaysAll (world_of seals again) (providers_of again.kept)
           (state_of count elsewhere again) (state_of count elsewhere last) (clock_from (length again.kept) 0 moment)
           line_held after (Err stops.NoMemory)
           → ServesSo trade start.kept (finds_in screens) wanted here (place_of count elsewhere last moments_then requests_then replies_then)

@@ -15,7 +15,7 @@ use Rattle.pec_seal.specs.Seals.{Seals}
 use Rattle.pec_ledger.specs.Network.{Site}
 use Rattle.pec_ledger.specs.Trade.{Trade}
 use Rattle.pec_plays.specs.Commands.{Answer, Command, Luck, Played, Refuses, Submit, Submits, answers, played}
-use Rattle.pec_playing.specs.OfNetworks.{HasRisenAt, IsPlayed, NetworkState, NoneFalls, ProviderState, luck_of}
+use Rattle.pec_playing.specs.OfNetworks.{HasRisenAt, IsPlayed, NetworkState, NoneFalls, ProviderState, luck_of, world_of}
 use Rattle.pec_http.specs.Asking.{Asks, Question, See}
 use Rattle.pec_http.specs.Asking as asking
 use Rattle.pec_http.specs.Desks.{Answers}
@@ -29,7 +29,7 @@ use Rattle.pec_http.specs.declared.serving.Served.{Served}
 use Rattle.pec_http.specs.declared.serving.Served.TheVariants as served
 use Rattle.pec_http.specs.declared.stops.Stop.{Stop}
 use Rattle.pec_runs.specs.Plays.{HasMemory, RoseBy, faults_at}
-use Rattle.pec_desk.specs.Desks.{DeskState, HandsIn, answers_of, domain_at, world_of}
+use Rattle.pec_desk.specs.Desks.{DeskState, HandsIn, answers_of, domain_at}
 use Rattle.pec_service.specs.Passes.{pass_of}
 use Rattle.pec_service.specs.Own.{IsFaultOf, reply_to, share_at, shown_with}
 use Rattle.pec_desk.specs.Shares.{asking_share}

@@ -8,7 +8,7 @@ use Rattle.pec_outside.specs.DiskModel.{Sight}
 use Rattle.pec_directory.specs.Directory.{Kept}
 use Rattle.pec_seal.specs.Seals.{Seals}
 use Rattle.pec_ledger.specs.Trade.{Trade}
-use Rattle.pec_playing.specs.OfNetworks.{NetworkState, trade_of}
+use Rattle.pec_playing.specs.OfNetworks.{NetworkState, trade_of, world_of}
 use Rattle.pec_http.specs.Asking.{Question, See}
 use Rattle.pec_http.specs.Asking as asking
 use Rattle.pec_http.specs.Desks.{Answers}
@@ -109,7 +109,7 @@ module _ {D S : Type 0} (sight : D → Sight) (count : D → ℕ) (disks : Type 
 -- the world is the same as long as directory and seals are kept
 pub as_begun : {D S : Type 0} (sight : D → Sight) (count : D → ℕ) (disks : Type 0) (seals : S → Seals)
     (old now : NetworkState D S) → Keeps sight count disks old now → (P : Trade → List Kept → Type 0)
-    → P (trade_of now.kept (seals now.sealer)) now.kept → P (trade_of old.kept (seals old.sealer)) old.kept
+    → P (world_of seals now) now.kept → P (world_of seals old) old.kept
 as_begun {D} {S} sight count disks seals old now keeps P holds =
     subst (λ (s : S). P (trade_of old.kept (seals s)) old.kept) keeps.seals
     (subst (λ (k : List Kept). P (trade_of k (seals now.sealer)) k) keeps.directory holds)

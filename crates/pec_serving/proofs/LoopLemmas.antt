@@ -6,7 +6,7 @@ use Rattle.pec_directory.specs.Directory.{Kept, providers_of}
 use Rattle.pec_seal.specs.Seals.{Seals}
 use Rattle.pec_ledger.specs.Trade.{Trade}
 use Rattle.pec_plays.specs.Commands.{Command, Round, Tick}
-use Rattle.pec_playing.specs.OfNetworks.{NetworkState, trade_of}
+use Rattle.pec_playing.specs.OfNetworks.{NetworkState, world_of}
 use Rattle.pec_playing.specs.Doing.{Keeps}
 use Rattle.pec_service.specs.Calls.{State, clock_from}
 use Rattle.pec_serving.specs.Playing.{HasPlayed, PlaysAll, PlaysOne, state_of}
@@ -15,10 +15,10 @@ use Rattle.pec_serving.proofs.ClockLemmas.{Joins, has_all, has_none, has_one, ha
 use Rattle.pec_serving.proofs.KeepLemmas.{as_begun}
 
 module _ {D S : Type 0} (sight : D → Sight) (count : D → ℕ) (disks : Type 0) (seals : S → Seals)
-    (start : NetworkState D S) (joins : Joins (trade_of start.kept (seals start.sealer)) (providers_of start.kept))
+    (start : NetworkState D S) (joins : Joins (world_of seals start) (providers_of start.kept))
     (elsewhere : ℕ → ℕ) (moment : ℕ) where
   abbrev trade : Trade
-  trade = trade_of start.kept (seals start.sealer)
+  trade = world_of seals start
 
   abbrev size : ℕ
   size = length start.kept
@@ -43,7 +43,7 @@ module _ {D S : Type 0} (sight : D → Sight) (count : D → ℕ) (disks : Type 
   -- what is said of a later network is said in the world of the beginning
   begun : (now next : NetworkState D S) → Keeps sight count disks start now → (command : Command) (mid after : Option Bytes)
       (result : Result (Unit {0}) Stop)
-      → PlaysOne (trade_of now.kept (seals now.sealer)) (providers_of now.kept) (at now) (at next) command mid after result
+      → PlaysOne (world_of seals now) (providers_of now.kept) (at now) (at next) command mid after result
       → PlaysOne trade (providers_of start.kept) (at now) (at next) command mid after result
   begun now next keeps command mid after result one =
       as_begun sight count disks seals start now keeps
@@ -57,14 +57,14 @@ module _ {D S : Type 0} (sight : D → Sight) (count : D → ℕ) (disks : Type 
         subst (λ (l : List Command). HasPlayed trade (providers_of start.kept) (at start) (at now) due l before mid)
         (next_due size number moment below) so
 
-    pub tick_on : PlaysOne (trade_of now.kept (seals now.sealer)) (providers_of now.kept) (at now) (at next)
+    pub tick_on : PlaysOne (world_of seals now) (providers_of now.kept) (at now) (at next)
         (Tick number moment) mid after (Ok tt) → So next (number + 1) before after
     tick_on one =
         has_one trade (providers_of start.kept) joins (at start) (at now) due (Tick number moment)
         (clock_from (size - (number + 1)) (number + 1) moment) before mid after here_due (at next)
         (begun now next keeps (Tick number moment) mid after (Ok tt) one)
 
-    pub tick_stops : (stop : Stop) → PlaysOne (trade_of now.kept (seals now.sealer)) (providers_of now.kept) (at now)
+    pub tick_stops : (stop : Stop) → PlaysOne (world_of seals now) (providers_of now.kept) (at now)
         (at next) (Tick number moment) mid after (Err stop)
         → PlaysAll trade (providers_of start.kept) (at start) (at next) due before after (Err stop)
     tick_stops stop one =
@@ -80,7 +80,7 @@ module _ {D S : Type 0} (sight : D → Sight) (count : D → ℕ) (disks : Type 
         (last_due size moment) (subst (λ (n : ℕ). So now n before mid) last so)
 
     pub round_ends : (result : Result (Unit {0}) Stop)
-        → PlaysOne (trade_of now.kept (seals now.sealer)) (providers_of now.kept) (at now) (at next) (Round moment) mid after
+        → PlaysOne (world_of seals now) (providers_of now.kept) (at now) (at next) (Round moment) mid after
         result
         → PlaysAll trade (providers_of start.kept) (at start) (at next) due before after result
     round_ends (Ok done) one =

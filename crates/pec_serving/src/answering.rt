@@ -1,11 +1,9 @@
 ghost use Rattle.std.specs.Prelude.{◌≡◌, ℕ, ◌≤◌, length, map};
 ghost use Rattle.pec_outside.specs.Flow.{HasRisen};
-ghost use Rattle.pec_directory.specs.Directory.{providers_of};
 ghost use Rattle.pec_http.specs.declared.serving.Served.TheVariants as served;
-ghost use Rattle.pec_playing.specs.OfNetworks.{Fits};
 ghost use Rattle.pec_screen.specs.Screened.{finds_in};
-ghost use Rattle.pec_playing.specs.OfNetworks.{trade_of};
 ghost use Rattle.pec_playing.specs.Doing.{Keeps};
+ghost use Rattle.pec_playing.specs.OfNetworks.{world_of};
 ghost use Rattle.pec_serving.specs.Hearing.{Hears};
 ghost use Rattle.pec_serving.specs.Playing.{state_of};
 
@@ -27,14 +25,12 @@ pub(crate) fn answer<D: Disk, J: Judge, C: Source + Sink>(
     moment: Moment,
     connection: &mut C,
 ) -> (Network<D, HmacSealer>, Vec<J>, Served)
-    requires { Fits (⟦<HmacSealer as Sealer>⟧.seals network.sealer) (providers_of network.kept) }
     ensures hears { (elsewhere : ℕ → ℕ)
-        → Hears (trade_of network.kept (⟦<HmacSealer as Sealer>⟧.seals network.sealer)) network.kept
+        → Hears (world_of (⟦<HmacSealer as Sealer>⟧.seals) network) network.kept
         (finds_in (map J.patterns screens.items)) moment
         (state_of D.faults elsewhere network) (state_of D.faults elsewhere result.0)
         (C.left connection.old) (C.held connection.old) (C.held connection.new) result.2 }
     ensures keeps { Keeps D.sight D.faults D.tells network result.0 }
-    ensures fits { Fits (⟦<HmacSealer as Sealer>⟧.seals result.0.sealer) (providers_of result.0.kept) }
     // Screens keep what they look for.
     ensures patterns { map J.patterns result.1.items ≡ map J.patterns screens.items }
     ensures read_fault { result.2 ≡ served.ReadFault → HasRisen (C.faults connection.old) (C.faults connection.new) }

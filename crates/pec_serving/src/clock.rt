@@ -1,10 +1,9 @@
 ghost use Rattle.std.specs.Prelude.{◌≡◌, ℕ, ◌≤◌, ◌<◌, length, IsErrOf};
 ghost use Rattle.pec_outside.specs.Flow.{HasRisen};
 ghost use Rattle.pec_directory.specs.Directory.{providers_of};
-ghost use Rattle.pec_playing.specs.OfNetworks.{Fits};
 ghost use Rattle.pec_plays.specs.Commands.{Round, Tick};
-ghost use Rattle.pec_playing.specs.OfNetworks.{trade_of};
 ghost use Rattle.pec_playing.specs.Doing.{Keeps};
+ghost use Rattle.pec_playing.specs.OfNetworks.{world_of};
 ghost use Rattle.pec_service.specs.Calls.{clock_from};
 ghost use Rattle.pec_serving.specs.Playing.{PlaysAll, PlaysOne, state_of};
 
@@ -25,8 +24,7 @@ pub(crate) fn play_clock<D: Disk, S: Sealer, W: Sink>(
     moment: Moment,
     out: &mut W,
 ) -> Result<(), Stop>
-    requires { Fits (S.seals network.old.sealer) (providers_of network.old.kept) }
-    ensures plays { (elsewhere : ℕ → ℕ) → PlaysAll (trade_of network.old.kept (S.seals network.old.sealer))
+    ensures plays { (elsewhere : ℕ → ℕ) → PlaysAll (world_of S.seals network.old)
         (providers_of network.old.kept) (state_of D.faults elsewhere network.old) (state_of D.faults elsewhere network.new)
         (clock_from (length network.old.kept) 0 moment) (W.held out.old) (W.held out.new) result }
     ensures keeps { Keeps D.sight D.faults D.tells network.old network.new }
@@ -53,7 +51,7 @@ fn play_tick<D: Disk, S: Sealer, W: Sink>(
     out: &mut W,
 ) -> Result<(), Stop>
     requires { provider < length network.old.kept }
-    ensures plays { (elsewhere : ℕ → ℕ) → PlaysOne (trade_of network.old.kept (S.seals network.old.sealer))
+    ensures plays { (elsewhere : ℕ → ℕ) → PlaysOne (world_of S.seals network.old)
         (providers_of network.old.kept) (state_of D.faults elsewhere network.old) (state_of D.faults elsewhere network.new)
         (Tick provider moment) (W.held out.old) (W.held out.new) result }
     ensures keeps { Keeps D.sight D.faults D.tells network.old network.new }
@@ -76,8 +74,7 @@ fn play_round<D: Disk, S: Sealer, W: Sink>(
     moment: Moment,
     out: &mut W,
 ) -> Result<(), Stop>
-    requires { Fits (S.seals network.old.sealer) (providers_of network.old.kept) }
-    ensures plays { (elsewhere : ℕ → ℕ) → PlaysOne (trade_of network.old.kept (S.seals network.old.sealer))
+    ensures plays { (elsewhere : ℕ → ℕ) → PlaysOne (world_of S.seals network.old)
         (providers_of network.old.kept) (state_of D.faults elsewhere network.old) (state_of D.faults elsewhere network.new)
         (Round moment) (W.held out.old) (W.held out.new) result }
     ensures keeps { Keeps D.sight D.faults D.tells network.old network.new }

@@ -1,10 +1,8 @@
 ghost use Rattle.std.specs.Prelude.{◌≡◌, ℕ, ◌≤◌, map};
 ghost use Rattle.pec_outside.specs.Flow.{HasRisen};
-ghost use Rattle.pec_directory.specs.Directory.{providers_of};
-ghost use Rattle.pec_playing.specs.OfNetworks.{Fits};
 ghost use Rattle.pec_screen.specs.Screened.{finds_in};
-ghost use Rattle.pec_playing.specs.OfNetworks.{trade_of};
 ghost use Rattle.pec_playing.specs.Doing.{Keeps};
+ghost use Rattle.pec_playing.specs.OfNetworks.{world_of};
 ghost use Rattle.pec_serving.specs.Serving.{ComesNext, place_of};
 
 use crate::answering::answer;
@@ -36,14 +34,12 @@ pub(crate) fn next<D: Disk, J: Judge, T: Ticks, R: Door>(
     ticks: &mut T,
     door: &mut R,
 ) -> (Network<D, HmacSealer>, Vec<J>, Came)
-    requires { Fits (⟦<HmacSealer as Sealer>⟧.seals network.sealer) (providers_of network.kept) }
     ensures comes { (elsewhere : ℕ → ℕ)
-        → ComesNext (trade_of network.kept (⟦<HmacSealer as Sealer>⟧.seals network.sealer)) network.kept
+        → ComesNext (world_of (⟦<HmacSealer as Sealer>⟧.seals) network) network.kept
         (finds_in (map J.patterns screens.items))
         (place_of D.faults elsewhere network (T.coming ticks.old) (R.requests door.old) (R.replies door.old))
         (place_of D.faults elsewhere result.0 (T.coming ticks.new) (R.requests door.new) (R.replies door.new)) result.2 }
     ensures keeps { Keeps D.sight D.faults D.tells network result.0 }
-    ensures fits { Fits (⟦<HmacSealer as Sealer>⟧.seals result.0.sealer) (providers_of result.0.kept) }
     ensures patterns { map J.patterns result.1.items ≡ map J.patterns screens.items }
     ensures no_moment { result.2 ≡ Came.NoMoment → HasRisen (T.faults ticks.old) (T.faults ticks.new) }
     ensures no_connection { result.2 ≡ Came.NoConnection → HasRisen (R.faults door.old) (R.faults door.new) }

@@ -1,10 +1,8 @@
 ghost use Rattle.std.specs.Prelude.{◌≡◌, ℕ, ◌≤◌, map};
 ghost use Rattle.pec_outside.specs.Flow.{HasRisen};
-ghost use Rattle.pec_directory.specs.Directory.{providers_of};
-ghost use Rattle.pec_playing.specs.OfNetworks.{Fits};
 ghost use Rattle.pec_screen.specs.Screened.{finds_in};
-ghost use Rattle.pec_playing.specs.OfNetworks.{trade_of};
 ghost use Rattle.pec_playing.specs.Doing.{Keeps};
+ghost use Rattle.pec_playing.specs.OfNetworks.{world_of};
 ghost use Rattle.pec_serving.specs.Serving.{ServesSo, place_of};
 
 use crate::answering::as_many_providers;
@@ -47,9 +45,8 @@ pub fn serve<D: Disk, J: Judge, T: Ticks, R: Door, W: Sink>(
     out: &mut W,
     wanted: u32,
 ) -> (Network<D, HmacSealer>, Ending)
-    requires { Fits (⟦<HmacSealer as Sealer>⟧.seals network.sealer) (providers_of network.kept) }
     ensures serves { (elsewhere : ℕ → ℕ)
-        → ServesSo (trade_of network.kept (⟦<HmacSealer as Sealer>⟧.seals network.sealer)) network.kept
+        → ServesSo (world_of (⟦<HmacSealer as Sealer>⟧.seals) network) network.kept
         (finds_in (map J.patterns screens.items)) wanted
         (place_of D.faults elsewhere network (T.coming ticks.old) (R.requests door.old) (R.replies door.old))
         (place_of D.faults elsewhere result.0 (T.coming ticks.new) (R.requests door.new) (R.replies door.new))

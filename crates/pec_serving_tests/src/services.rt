@@ -6,11 +6,11 @@ ghost use Rattle.pec_letters.specs.Fitting.{Fits};
 
 use crate::directories::{ALFA, bytes_of};
 use pec_directory::Directory;
-use pec_house::sealer_of;
 use pec_outside::{MemDepot, MemDisk, MemDoor, MemSink, MemTicks};
 use pec_screen::{PatternScreen, Screen, Screens};
 use pec_seal::{HmacSealer, Sealer};
 use pec_serving::{Ending, Network, serve};
+use pec_trade::sealer_of;
 use pec_types::{Moment, Text8};
 use std::alloc::{AllocError, Global};
 

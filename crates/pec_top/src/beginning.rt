@@ -2,7 +2,8 @@ ghost use Rattle.std.specs.Prelude.{◌≡◌, ℕ, ◌≤◌, None, IfOk, OnOk,
 ghost use Rattle.pec_outside.specs.Depots.{Alike};
 ghost use Rattle.pec_outside.specs.Flow.{HasRisen};
 ghost use Rattle.pec_directory.specs.Directory.{providers_of};
-ghost use Rattle.pec_serving.specs.OfNetworks.{AllAt, AllBegun, BlamesDisk, IsRefused, NoneFell, all_rested, journals_had, sites};
+ghost use Rattle.pec_serving.specs.OfNetworks.{AllAt, AllBegun, BlamesDisk, Fits, IsRefused, NoneFell};
+ghost use Rattle.pec_serving.specs.OfNetworks.{all_rested, journals_had, sites};
 ghost use Rattle.pec_serving.specs.OfNetworks.faults as faults;
 ghost use Rattle.pec_top.specs.Shown.{result_shown, way_of};
 ghost use Rattle.pec_top.specs.Starting.{EndsSo};
@@ -25,6 +26,7 @@ pub(crate) fn begin<D: Disk, H: Sealer + Drop, P: Depot<D = D>>(
     sealer: H,
     depot: &mut P,
 ) -> Result<Network<D, H>, (StartFault, Directory)>
+    requires { Fits (H.seals sealer) (providers_of directory) }
     ensures same { IfOk result (λ network. (network.kept ≡ directory) × (network.sealer ≡ sealer)) }
     ensures rests { IfOk result (λ network. sites network ≡ all_rested (journals_had network.providers)) }
     ensures begun { IfOk result (λ network.

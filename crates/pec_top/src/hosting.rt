@@ -3,11 +3,10 @@ ghost use Rattle.pec_types.specs.Bytes.{Bytes};
 ghost use Rattle.pec_outside.specs.Depots.{depot_places};
 ghost use Rattle.pec_outside.specs.Flow.{HasRisen};
 ghost use Rattle.pec_directory.specs.Directory.{providers_of};
-ghost use Rattle.pec_serving.specs.OfNetworks.{Fits, trade_of};
 ghost use Rattle.pec_input.specs.Directory.{directory_in};
 ghost use Rattle.pec_input.specs.Finding.{IsAtEnd};
 ghost use Rattle.pec_input.specs.declared.opening.TheConstants.{LONGEST_DIRECTORY};
-ghost use Rattle.pec_serving.specs.OfNetworks.{AllStand, NoneFell};
+ghost use Rattle.pec_serving.specs.OfNetworks.{AllStand, Fits, NoneFell, world_of};
 ghost use Rattle.pec_serving.specs.OfNetworks.reasons as reasons;
 ghost use Rattle.pec_serving.specs.OfNetworks.faults as faults;
 ghost use Rattle.pec_runs.specs.Openings.{disks_at};
@@ -30,13 +29,12 @@ use crate::run::write_last;
 use crate::status::{Status, end_status, stop_status};
 use crate::survey::{choose_form, holds_something};
 use pec_directory::Directory;
-use pec_house::sealer_of;
 use pec_input::{Opened, Whole, open_directory, read_whole, refused_directory_text};
 use pec_outside::{Depot, Disk, Door, Sink, Source, Ticks};
 use pec_screen::Judge;
 use pec_seal::{HmacSealer, Sealer};
 use pec_serving::{
-    Ending, Network, NotFit, StartFault, a_trade_says_what_its_parts_say, serve,
+    Ending, Network, NotFit, StartFault, a_trade_says_what_its_parts_say, sealer_of, serve,
     the_texts_are_a_trade,
 };
 use std::alloc::Global;
@@ -196,7 +194,7 @@ fn serve_formed<W: Sink, P: Depot, T: Ticks, R: Door, J: Judge>(
     door: &mut R,
     screens: Vec<J>,
 ) -> Result<Status, Stop>
-    requires fits { Fits (⟦<HmacSealer as Sealer>⟧.seals sealer) (providers_of directory) }
+    requires { Fits (⟦<HmacSealer as Sealer>⟧.seals sealer) (providers_of directory) }
     ensures served { (course : Course) × HasJournals
         (record { wanted = wanted; finds = finds_in (map J.patterns screens.items) })
         (told_shown result) (W.held out.old) (W.held out.new)
@@ -234,9 +232,8 @@ fn serve_all<D: Disk, W: Sink, P: Depot<D = D>, T: Ticks, R: Door, J: Judge>(
     door: &mut R,
     screens: Vec<J>,
 ) -> Result<Status, Stop>
-    requires fits { Fits (⟦<HmacSealer as Sealer>⟧.seals network.sealer) (providers_of network.kept) }
     ensures hosts { (P.tells × D.tells → AllStand D.sight network.providers)
-        → HostsSo (trade_of network.kept (⟦<HmacSealer as Sealer>⟧.seals network.sealer)) network.kept
+        → HostsSo (world_of (⟦<HmacSealer as Sealer>⟧.seals) network) network.kept
         (finds_in (map J.patterns screens.items)) wanted (P.tells × D.tells) D.sight
         (place_of D.faults (P.last depot.old) network (T.coming ticks.old) (R.requests door.old) (R.replies door.old))
         (record { moments = T.coming ticks.new; requests = R.requests door.new; replies = R.replies door.new })

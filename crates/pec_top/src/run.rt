@@ -4,12 +4,11 @@ ghost use Rattle.pec_types.specs.Bytes.{Bytes};
 ghost use Rattle.pec_outside.specs.Flow.{behind, followed_by, HasRisen, WrotePart};
 ghost use Rattle.pec_directory.specs.Directory.{providers_of};
 ghost use Rattle.pec_ledger.specs.Network.{Site};
-ghost use Rattle.pec_serving.specs.OfNetworks.{Fits, trade_of};
 ghost use Rattle.pec_input.specs.Directory.{directory_in};
 ghost use Rattle.pec_input.specs.Finding.{IsAtEnd};
 ghost use Rattle.pec_input.specs.Opening.{parts_left};
 ghost use Rattle.pec_input.specs.declared.opening.TheConstants.{LONGEST_DIRECTORY};
-ghost use Rattle.pec_serving.specs.OfNetworks.{AllStand, NoneFell};
+ghost use Rattle.pec_serving.specs.OfNetworks.{AllStand, NoneFell, world_of};
 ghost use Rattle.pec_runs.specs.Openings.{disks_at, form_in};
 ghost use Rattle.pec_screen.specs.Screened.{finds_in};
 ghost use Rattle.pec_top.specs.Blaming.{BlamesDevices, BlamesDisks};
@@ -23,12 +22,11 @@ use crate::forms::Form;
 use crate::laws::{a_disk_reads_as_an_image, a_loop_climbs, a_network_is_whole};
 use crate::script::play_script;
 use pec_directory::Directory;
-use pec_house::sealer_of;
 use pec_input::{Buffer, Opened, Opening, open_directory, read_directory, refused_directory_text};
 use pec_outside::{Depot, Disk, Sink, Source, write_all};
 use pec_screen::Judge;
 use pec_seal::{HmacSealer, Sealer};
-use pec_serving::{Network, a_trade_says_what_its_parts_say, the_texts_are_a_trade};
+use pec_serving::{Network, a_trade_says_what_its_parts_say, sealer_of, the_texts_are_a_trade};
 use std::alloc::Global;
 
 /// Runs the program on its words, its input and the disks of a depot.
@@ -206,9 +204,8 @@ fn play_all<D: Disk, H: Sealer + Drop, P: Depot<D = D>, J: Judge, S: Source, W: 
     buffer: &mut Buffer,
     out: &mut W,
 ) -> Result<End, Stop>
-    requires fits { Fits (H.seals network.sealer) (providers_of network.kept) }
     ensures ran { (P.tells × D.tells → AllStand D.sight network.providers) → (state : List Site)
-        × (ScriptRan (P.tells × D.tells) (trade_of network.kept (H.seals network.sealer))
+        × (ScriptRan (P.tells × D.tells) (world_of H.seals network)
         (finds_in (map J.patterns screens.old)) (providers_of network.kept)
         (place_at D.faults network (P.last depot.old) 1 (behind buffer.old (S.left source.old)))
         (P.last depot.new) (result_shown result) (W.held out.old) (W.held out.new) state

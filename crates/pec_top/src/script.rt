@@ -2,9 +2,8 @@ ghost use Rattle.std.specs.Prelude.{◌≡◌, ℕ, ◌≤◌, map, IfOk, IsErrO
 ghost use Rattle.pec_outside.specs.Depots.{Alike};
 ghost use Rattle.pec_outside.specs.Flow.{behind};
 ghost use Rattle.pec_directory.specs.Directory.{providers_of};
-ghost use Rattle.pec_serving.specs.OfNetworks.{Fits, trade_of};
 ghost use Rattle.pec_input.specs.Finding.{IsAtEnd};
-ghost use Rattle.pec_serving.specs.OfNetworks.{AllStand, counts_in, sites};
+ghost use Rattle.pec_serving.specs.OfNetworks.{AllStand, counts_in, sites, world_of};
 ghost use Rattle.pec_screen.specs.Screened.{finds_in};
 ghost use Rattle.pec_top.specs.Blaming.{BlamesDevices};
 ghost use Rattle.pec_top.specs.Scripts.{ScriptRan, place_at};
@@ -30,9 +29,8 @@ pub(crate) fn play_script<D: Disk, H: Sealer, P: Depot<D = D>, J: Judge, S: Sour
     buffer: &mut Buffer,
     out: &mut W,
 ) -> Result<End, Stop>
-    requires fits { Fits (H.seals network.old.sealer) (providers_of network.old.kept) }
     ensures ran { (P.tells × D.tells → AllStand D.sight network.old.providers) → (elsewhere : ℕ → ℕ)
-        → ScriptRan (P.tells × D.tells) (trade_of network.old.kept (H.seals network.old.sealer))
+        → ScriptRan (P.tells × D.tells) (world_of H.seals network.old)
         (finds_in (map J.patterns screens.old)) (providers_of network.old.kept)
         (place_at D.faults network.old elsewhere 1 (behind buffer.old (S.left source.old)))
         (counts_in D.faults network.new.providers elsewhere) (result_shown result)

@@ -1,12 +1,10 @@
 ghost use Rattle.std.specs.Prelude.{◌≡◌, ◌≢◌, ℕ, ◌≤◌, ◌<◌, false, List, length, map, None, Some, IfOk, OnErr};
 ghost use Rattle.pec_outside.specs.Depots.{Alike};
 ghost use Rattle.pec_directory.specs.Directory.{providers_of};
-ghost use Rattle.pec_serving.specs.OfNetworks.{Fits};
 ghost use Rattle.pec_ledger.specs.Network.{Site};
-ghost use Rattle.pec_serving.specs.OfNetworks.{trade_of};
 ghost use Rattle.pec_input.specs.Lines.{content_of};
 ghost use Rattle.pec_types.specs.Bytes.{Bytes};
-ghost use Rattle.pec_serving.specs.OfNetworks.{AllStand, counts_in, sites};
+ghost use Rattle.pec_serving.specs.OfNetworks.{AllStand, counts_in, sites, world_of};
 ghost use Rattle.pec_script.specs.Texts.{refused_text};
 ghost use Rattle.pec_runs.specs.ScriptLines.{is_passed_over, longest_line, most_lines};
 ghost use Rattle.pec_screen.specs.Screened.{Finds, finds_in};
@@ -47,16 +45,15 @@ pub(crate) fn take_found<D: Disk, H: Sealer, P: Depot<D = D>, J: Judge>(
     found: Found,
     line: &[u8],
 ) -> Result<Taken, NoMemory>
-    requires fits { Fits (H.seals network.old.sealer) (providers_of network.old.kept) }
     requires short { found ≡ Found.Line → length (content_of line.now) ≤ longest_line }
     ensures takes { (P.tells × D.tells → AllStand D.sight network.old.providers) → (elsewhere : ℕ → ℕ)
         → IfOk result (λ taken. IsFoundTaken (P.tells × D.tells)
-        (trade_of network.old.kept (H.seals network.old.sealer)) (finds_in (map J.patterns screens.old))
+        (world_of H.seals network.old) (finds_in (map J.patterns screens.old))
         (providers_of network.old.kept) (sites network.old)
         number (counts_in D.faults network.old.providers elsewhere) (counts_in D.faults network.new.providers elsewhere)
         found line.now taken (sites network.new)) }
     ensures stops { (P.tells × D.tells → AllStand D.sight network.old.providers) → OnErr result
-        (StopsAtFound (P.tells × D.tells) (trade_of network.old.kept (H.seals network.old.sealer))
+        (StopsAtFound (P.tells × D.tells) (world_of H.seals network.old)
         (finds_in (map J.patterns screens.old)) (providers_of network.old.kept) (sites network.old) number found line.now
         (sites network.new)) }
     ensures bound { IfOk result (λ taken. taken.end ≡ None → number ≤ most_lines) }
@@ -124,18 +121,17 @@ fn take_line<D: Disk, H: Sealer, P: Depot<D = D>, J: Judge>(
     number: u64,
     said: &[u8],
 ) -> Result<Taken, NoMemory>
-    requires fits { Fits (H.seals network.old.sealer) (providers_of network.old.kept) }
     requires short { length said.now ≤ longest_line }
     ensures takes { (P.tells × D.tells → AllStand D.sight network.old.providers) → (elsewhere : ℕ → ℕ) (line : Bytes)
         → content_of line ≡ said.now
         → IfOk result (λ taken. IsTaken (P.tells × D.tells)
-        (trade_of network.old.kept (H.seals network.old.sealer)) (finds_in (map J.patterns screens.old))
+        (world_of H.seals network.old) (finds_in (map J.patterns screens.old))
         (providers_of network.old.kept) (sites network.old)
         number (counts_in D.faults network.old.providers elsewhere) (counts_in D.faults network.new.providers elsewhere)
         line taken (sites network.new)) }
     ensures stops { (P.tells × D.tells → AllStand D.sight network.old.providers) → (line : Bytes)
         → content_of line ≡ said.now → OnErr result
-        (StopsAt (P.tells × D.tells) (trade_of network.old.kept (H.seals network.old.sealer))
+        (StopsAt (P.tells × D.tells) (world_of H.seals network.old)
         (finds_in (map J.patterns screens.old)) (providers_of network.old.kept) (sites network.old) number line
         (sites network.new)) }
     ensures bound { IfOk result (λ taken. taken.end ≡ None → number ≤ most_lines) }
@@ -172,20 +168,19 @@ fn take_command<D: Disk, H: Sealer, P: Depot<D = D>, J: Judge>(
     number: u64,
     said: &[u8],
 ) -> Result<Taken, NoMemory>
-    requires fits { Fits (H.seals network.old.sealer) (providers_of network.old.kept) }
     requires short { length said.now ≤ longest_line }
     requires some { is_passed_over said.now ≡ false }
     requires few { number ≤ most_lines }
     ensures takes { (P.tells × D.tells → AllStand D.sight network.old.providers) → (elsewhere : ℕ → ℕ) (line : Bytes)
         → content_of line ≡ said.now
         → IfOk result (λ taken. IsTaken (P.tells × D.tells)
-        (trade_of network.old.kept (H.seals network.old.sealer)) (finds_in (map J.patterns screens.old))
+        (world_of H.seals network.old) (finds_in (map J.patterns screens.old))
         (providers_of network.old.kept) (sites network.old)
         number (counts_in D.faults network.old.providers elsewhere) (counts_in D.faults network.new.providers elsewhere)
         line taken (sites network.new)) }
     ensures stops { (P.tells × D.tells → AllStand D.sight network.old.providers) → (line : Bytes)
         → content_of line ≡ said.now → OnErr result
-        (StopsAt (P.tells × D.tells) (trade_of network.old.kept (H.seals network.old.sealer))
+        (StopsAt (P.tells × D.tells) (world_of H.seals network.old)
         (finds_in (map J.patterns screens.old)) (providers_of network.old.kept) (sites network.old) number line
         (sites network.new)) }
     ensures not_done { IfOk result (λ taken. taken.end ≡ Some End.Done → ⊥) }

@@ -14,3 +14,4 @@ mod ReceiptLemmas
 mod NoticeLemmas
 mod TradeLemmas
 mod WorldLemmas
+mod LawfulLemmas

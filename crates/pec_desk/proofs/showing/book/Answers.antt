@@ -3,10 +3,10 @@ use Rattle.pec_types.specs.declared.messages.BookLine.{BookLine}
 use Rattle.pec_directory.specs.Directory.{providers_of}
 use Rattle.pec_plays.specs.Commands.{Book, played}
 use Rattle.pec_network.specs.OfProviders.{luck_of}
-use Rattle.pec_network.specs.Network.{sites}
+use Rattle.pec_network.specs.Network.{sites, world_of}
 use Rattle.pec_script.specs.Texts.{book_text}
 use Rattle.std.proofs.Common.{false}
-use Rattle.pec_desk.specs.Desks.{lines_shown, world_of}
+use Rattle.pec_desk.specs.Desks.{lines_shown}
 use Rattle.pec_desk.proofs.DeskLemmas.{seen_refused}
 use Rattle.pec_desk.proofs.ShareLemmas.{book_refuses}
 use Rattle.pec_desk.proofs.showing.book.Goals as goal

@@ -1,8 +1,8 @@
 use Rattle.std.proofs.Common.{ℕ, [], Err, Global, Vec, false}
 use Rattle.pec_plays.specs.Commands.{Show, played}
 use Rattle.pec_network.specs.OfProviders.{luck_of}
-use Rattle.pec_network.specs.Network.{sites}
-use Rattle.pec_desk.specs.Desks.{as_they_are, bytes_shown, world_of}
+use Rattle.pec_network.specs.Network.{sites, world_of}
+use Rattle.pec_desk.specs.Desks.{as_they_are, bytes_shown}
 use Rattle.pec_desk.proofs.DeskLemmas.{seen_refused}
 use Rattle.pec_desk.proofs.ShareLemmas.{item_refuses}
 use Rattle.pec_desk.proofs.showing.item.Goals as goal

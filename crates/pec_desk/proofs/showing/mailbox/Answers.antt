@@ -3,9 +3,9 @@ use Rattle.pec_types.specs.declared.mailboxes.ItemLine.{ItemLine}
 use Rattle.pec_directory.specs.Directory.{providers_of}
 use Rattle.pec_plays.specs.Commands.{Mailbox, played}
 use Rattle.pec_network.specs.OfProviders.{luck_of}
-use Rattle.pec_network.specs.Network.{sites}
+use Rattle.pec_network.specs.Network.{sites, world_of}
 use Rattle.pec_script.specs.Texts.{items_text}
-use Rattle.pec_desk.specs.Desks.{items_shown, world_of}
+use Rattle.pec_desk.specs.Desks.{items_shown}
 use Rattle.pec_desk.proofs.DeskLemmas.{seen_refused}
 use Rattle.pec_desk.proofs.ShareLemmas.{items_refuse}
 use Rattle.pec_desk.proofs.showing.mailbox.Goals as goal

@@ -1,5 +1,5 @@
 -- The next line was taken in, or goes on no more.
-use Rattle.std.proofs.Common.{◌≡◌, ◌+◌, ◌-◌, ◌<◌, ◌≤◌, ℕ, List, drop, length, take, subst, arith}
+use Rattle.std.proofs.Common.{◌≡◌, ◌-◌, ◌≤◌, ℕ, List, drop, length, take, subst, arith}
 use Rattle.std.proofs.lemmas.List.{length-drop, take_rest}
 use Rattle.pec_ldif.specs.LinesReading.{left_from}
 use Rattle.pec_ldif.proofs.LineLemmas.{ended, taken}

@@ -1,5 +1,5 @@
 use Rattle.std.proofs.Common.{arith}
-use Rattle.pec_trade.specs.TradeOf.{trade_of}
+use Rattle.pec_trade.specs.Houses.{world_at}
 use Rattle.pec_chronicle.specs.CarryingLaws.{carries_and_then}
 use Rattle.pec_provider.specs.Following.{MayFollow}
 use Rattle.pec_network.proofs.steps.decide_pairs.Goals as goal
@@ -7,7 +7,7 @@ use Rattle.pec_network.proofs.steps.decide_pairs.Goals as goal
 pub returns-in_err-decide_pair-clause-carries : goal.returns-in_err-decide_pair-clause-carries
 returns-in_err-decide_pair-clause-carries g c = λ tells journals.
     carries_and_then g.D.Disk.sight (MayFollow
-    (trade_of c.args.house.now.directory.now (g.S.Sealer.seals c.args.house.now.sealer.now)) journals
+    (world_at c.args.house.now) journals
     c.args.house.now.me)
     c.args.provider.now.chronicle c.loop.provider.chronicle c.decide_pair.new.provider.chronicle
     (c.loop.invariant.carries tells journals) (c.in_err-decide_pair.ensures.carries tells journals)
@@ -20,7 +20,7 @@ loop-preserved g c = record {
   runs = c.in_ok-decide_pair.ensures.runs;
   carries = λ tells journals.
       carries_and_then g.D.Disk.sight (MayFollow
-      (trade_of c.args.house.now.directory.now (g.S.Sealer.seals c.args.house.now.sealer.now)) journals
+      (world_at c.args.house.now) journals
       c.args.house.now.me)
       c.args.provider.now.chronicle c.loop.provider.chronicle c.decide_pair.new.provider.chronicle
       (c.loop.invariant.carries tells journals) (c.in_ok-decide_pair.ensures.carries tells journals);
@@ -30,7 +30,7 @@ loop-preserved g c = record {
 pub returns-clause-carries : goal.returns-clause-carries
 returns-clause-carries g c = λ tells journals.
     carries_and_then g.D.Disk.sight (MayFollow
-    (trade_of c.args.house.now.directory.now (g.S.Sealer.seals c.args.house.now.sealer.now)) journals
+    (world_at c.args.house.now) journals
     c.args.house.now.me)
     c.args.provider.now.chronicle c.loop.provider.chronicle c.decide_pair.new.provider.chronicle
     (c.loop.invariant.carries tells journals) (c.in_ok-decide_pair.ensures.carries tells journals)

@@ -3,7 +3,7 @@ use Rattle.std.proofs.lemmas.Result.{err_from_is_err_and}
 use Rattle.pec_types.specs.Bytes.{Bytes}
 use Rattle.pec_types.specs.declared.turns.ProviderFault.TheVariants as faults
 use Rattle.pec_plays.specs.Turns.{frames_in}
-use Rattle.pec_trade.specs.TradeOf.{trade_of}
+use Rattle.pec_trade.specs.Houses.{world_at}
 use Rattle.pec_provider.specs.Provider.{desk_of}
 use Rattle.pec_network.specs.Turning.{Far, Waiting}
 use Rattle.pec_network.proofs.FrameLemmas.{none_left}
@@ -12,7 +12,7 @@ use Rattle.pec_network.proofs.steps.take_frame.Goals as goal
 
 pub returns-in_default-clause-leads : goal.returns-in_default-clause-leads
 returns-in_default-clause-leads g c = λ begun waiting far.
-    let trade = trade_of c.args.house.now.directory.now (g.S.Sealer.seals c.args.house.now.sealer.now) in
+    let trade = world_at c.args.house.now in
     let same = c.in_default.ensures.left ∙ none_left c.args.arrivals.now 1 (c.in_default.ensures.none.0 refl) in
     subst (λ (left : Waiting). Far trade c.args.house.now.me c.args.moment begun waiting
     (desk_of c.args.provider.now) left c.args.events.now.items) (sym same) far
@@ -21,7 +21,7 @@ pub returns-in_err-reserve-clause-ends : goal.returns-in_err-reserve-clause-ends
 returns-in_err-reserve-clause-ends g c =
     let p = err_from_is_err_and c.from_residual.result c.from_residual.ensures.1 in
     rw (p.1, p.2)
-    (frame_ends (trade_of c.args.house.now.directory.now (g.S.Sealer.seals c.args.house.now.sealer.now))
+    (frame_ends (world_at c.args.house.now)
     c.args.house.now.me c.args.moment c.frames_are_taken_in_order.ensures.more (desk_of c.args.provider.now)
     (desk_of c.args.provider.now)
     c.args.arrivals.now c.take.new.self c.args.events.now.items c.in-Some.frame faults.NoMemory c.requires.works
@@ -30,7 +30,7 @@ returns-in_err-reserve-clause-ends g c =
 
 pub returns-in_err-reserve-clause-carries : goal.returns-in_err-reserve-clause-carries
 returns-in_err-reserve-clause-carries g c = λ tells.
-    let trade = trade_of c.args.house.now.directory.now (g.S.Sealer.seals c.args.house.now.sealer.now) in
+    let trade = world_at c.args.house.now in
     frames_rest g.D.Disk.sight trade c.args.house.now.me c.args.moment c.args.provider.now.chronicle c.args.arrivals.now
     c.take.new.self c.in-Some.frame
     c.in-Some.ensures.taken (c.what_rests_carries_on.ensures tells c.args.provider.now.chronicle)
@@ -41,7 +41,7 @@ returns-in_err-event-clause-ends g c =
     let next : frames_in c.args.arrivals.now ≡ c.bytes.result.now ∷ frames_in c.take.new.self =
     c.in-Some.ensures.taken ∙ ap (λ (f : Bytes). f ∷ frames_in c.take.new.self) (sym c.bytes.ensures) in
     rw (p.1, p.2, c.in_ok-reserve.ensures.items)
-    (frame_ends (trade_of c.args.house.now.directory.now (g.S.Sealer.seals c.args.house.now.sealer.now))
+    (frame_ends (world_at c.args.house.now)
     c.args.house.now.me c.args.moment c.frames_are_taken_in_order.ensures.more (desk_of c.args.provider.now)
     (desk_of c.arrive.new.self)
     c.args.arrivals.now c.take.new.self c.args.events.now.items c.bytes.result.now c.in_err-event.field-0.0
@@ -50,7 +50,7 @@ returns-in_err-event-clause-ends g c =
 
 pub returns-in_err-event-clause-carries : goal.returns-in_err-event-clause-carries
 returns-in_err-event-clause-carries g c = λ tells journals fit genuine.
-    let trade = trade_of c.args.house.now.directory.now (g.S.Sealer.seals c.args.house.now.sealer.now) in
+    let trade = world_at c.args.house.now in
     let next : frames_in c.args.arrivals.now ≡ c.bytes.result.now ∷ frames_in c.take.new.self =
     c.in-Some.ensures.taken ∙ ap (λ (f : Bytes). f ∷ frames_in c.take.new.self) (sym c.bytes.ensures) in
     let parts = genuine_parts trade journals c.args.arrivals.now c.take.new.self c.bytes.result.now next genuine in
@@ -61,7 +61,7 @@ returns-clause-leads g c =
     let next : frames_in c.args.arrivals.now ≡ c.bytes.result.now ∷ frames_in c.take.new.self =
     c.in-Some.ensures.taken ∙ ap (λ (f : Bytes). f ∷ frames_in c.take.new.self) (sym c.bytes.ensures) in
     rw (c.push_reserved.ensures.items, c.in_ok-reserve.ensures.items)
-    (frame_leads (trade_of c.args.house.now.directory.now (g.S.Sealer.seals c.args.house.now.sealer.now))
+    (frame_leads (world_at c.args.house.now)
     c.args.house.now.me c.args.moment c.frames_are_taken_in_order.ensures.more (desk_of c.args.provider.now)
     (desk_of c.arrive.new.self)
     c.args.arrivals.now c.take.new.self c.args.events.now.items c.bytes.result.now c.in_ok-event.event next
@@ -70,15 +70,15 @@ returns-clause-leads g c =
 
 pub returns-clause-works : goal.returns-clause-works
 returns-clause-works g c =
-    let trade = trade_of c.args.house.now.directory.now (g.S.Sealer.seals c.args.house.now.sealer.now) in
-    frame_works trade c.args.house.now.me c.args.moment (c.a_house_is_a_trade.ensures.trade c.requires.fits)
+    let trade = world_at c.args.house.now in
+    frame_works trade c.args.house.now.me c.args.moment c.a_house_is_a_trade.ensures.trade
     c.what_a_provider_does_is_its_own.ensures.arrivals (desk_of c.args.provider.now)
     (desk_of c.arrive.new.self) c.bytes.result.now
     c.in_ok-event.event c.in_ok-event.ensures.arrives
 
 pub returns-clause-carries : goal.returns-clause-carries
 returns-clause-carries g c = λ tells journals fit genuine.
-    let trade = trade_of c.args.house.now.directory.now (g.S.Sealer.seals c.args.house.now.sealer.now) in
+    let trade = world_at c.args.house.now in
     let next : frames_in c.args.arrivals.now ≡ c.bytes.result.now ∷ frames_in c.take.new.self =
     c.in-Some.ensures.taken ∙ ap (λ (f : Bytes). f ∷ frames_in c.take.new.self) (sym c.bytes.ensures) in
     let parts = genuine_parts trade journals c.args.arrivals.now c.take.new.self c.bytes.result.now next genuine in

@@ -1,6 +1,6 @@
 use Rattle.std.proofs.Common.{◌∙◌, arith}
 use Rattle.std.proofs.lemmas.Result.{err_from_is_err_and}
-use Rattle.pec_trade.specs.TradeOf.{trade_of}
+use Rattle.pec_trade.specs.Houses.{world_at}
 use Rattle.pec_network.proofs.StepLemmas.{frames_and_then}
 use Rattle.pec_network.proofs.steps.take_frames.Goals as goal
 
@@ -12,8 +12,7 @@ returns-in_err-take_frame-clause-ends g c =
 
 pub returns-in_err-take_frame-clause-carries : goal.returns-in_err-take_frame-clause-carries
 returns-in_err-take_frame-clause-carries g c = λ tells.
-    frames_and_then g.D.Disk.sight (trade_of c.args.house.now.directory.now
-    (g.S.Sealer.seals c.args.house.now.sealer.now))
+    frames_and_then g.D.Disk.sight (world_at c.args.house.now)
     c.args.house.now.me c.args.moment c.args.provider.now.chronicle c.loop.provider.chronicle
     c.take_frame.new.provider.chronicle
     c.args.arrivals.now c.loop.arrivals c.take_frame.new.arrivals (c.loop.invariant.carries tells)
@@ -27,8 +26,7 @@ loop-preserved g c = record {
   runs = c.in_ok-take_frame.ensures.runs;
   links = c.in_ok-take_frame.ensures.links ∙ c.loop.invariant.links;
   carries = λ tells.
-      frames_and_then g.D.Disk.sight (trade_of c.args.house.now.directory.now
-      (g.S.Sealer.seals c.args.house.now.sealer.now))
+      frames_and_then g.D.Disk.sight (world_at c.args.house.now)
       c.args.house.now.me c.args.moment c.args.provider.now.chronicle c.loop.provider.chronicle
       c.take_frame.new.provider.chronicle
       c.args.arrivals.now c.loop.arrivals c.take_frame.new.arrivals (c.loop.invariant.carries tells)
@@ -39,8 +37,7 @@ loop-preserved g c = record {
 
 pub returns-clause-carries : goal.returns-clause-carries
 returns-clause-carries g c = λ tells.
-    frames_and_then g.D.Disk.sight (trade_of c.args.house.now.directory.now
-    (g.S.Sealer.seals c.args.house.now.sealer.now))
+    frames_and_then g.D.Disk.sight (world_at c.args.house.now)
     c.args.house.now.me c.args.moment c.args.provider.now.chronicle c.loop.provider.chronicle
     c.take_frame.new.provider.chronicle
     c.args.arrivals.now c.loop.arrivals c.take_frame.new.arrivals (c.loop.invariant.carries tells)

@@ -1,20 +1,20 @@
 use Rattle.std.proofs.Common.{◌≡◌, ◌≤◌, length}
 use Rattle.pec_plays.specs.Turns.{frames_in}
-use Rattle.pec_trade.specs.TradeOf.{trade_of}
+use Rattle.pec_trade.specs.Houses.{world_at}
 use Rattle.pec_chronicle.specs.Chronicle.{Stands}
-use Rattle.pec_provider.specs.Provider.{Runs, desk_of}
+use Rattle.pec_provider.specs.Provider.{RunsIn, desk_of}
 use Rattle.pec_provider.specs.Working.{IsAtWork}
 use Rattle.pec_network.specs.Turning.{CarriesFrames, Leads}
 use Rattle.pec_network.proofs.steps.take_frames.Given as goal
 
 abbrev pub invariant-loop : goal.invariant-loop
 invariant-loop g l =
-    let trade = trade_of l.house.directory.now (g.S.Sealer.seals l.house.sealer.now) in
+    let trade = world_at l.house in
     record {
       leads : Leads trade l.house.me l.moment (desk_of l.fn.provider) l.fn.arrivals l.fn.events.items
           (desk_of l.provider) l.arrivals l.events.items;
       works : IsAtWork trade l.house.me l.moment (desk_of l.provider);
-      runs : Runs l.house.directory.now (g.S.Sealer.seals l.house.sealer.now) l.house.me l.provider;
+      runs : RunsIn l.house l.provider;
       links : length l.arrivals ≡ length l.fn.arrivals;
       carries : g.D.Disk.tells → CarriesFrames trade l.house.me l.moment g.D.Disk.sight l.fn.provider.chronicle
           l.fn.arrivals l.provider.chronicle l.arrivals;

@@ -1,12 +1,11 @@
 use Rattle.std.proofs.Common.{[]}
-use Rattle.pec_trade.specs.TradeOf.{trade_of}
+use Rattle.pec_trade.specs.Houses.{world_at}
 use Rattle.pec_network.proofs.StepLemmas.{frames_then_pairs}
 use Rattle.pec_network.proofs.turns.take_steps.Goals as goal
 
 pub returns-in_err-decide_pairs-clause-carries : goal.returns-in_err-decide_pairs-clause-carries
 returns-in_err-decide_pairs-clause-carries g c = λ tells.
-    frames_then_pairs g.D.Disk.sight (trade_of c.args.house.now.directory.now
-    (g.S.Sealer.seals c.args.house.now.sealer.now))
+    frames_then_pairs g.D.Disk.sight (world_at c.args.house.now)
     c.args.house.now.me c.args.moment c.args.provider.now.chronicle c.take_frames.new.provider.chronicle
     c.decide_pairs.new.provider.chronicle
     c.args.arrivals.now c.take_frames.new.arrivals (c.in_ok-take_frames.ensures.carries tells)
@@ -14,8 +13,7 @@ returns-in_err-decide_pairs-clause-carries g c = λ tells.
 
 pub returns-clause-carries : goal.returns-clause-carries
 returns-clause-carries g c = λ tells.
-    frames_then_pairs g.D.Disk.sight (trade_of c.args.house.now.directory.now
-    (g.S.Sealer.seals c.args.house.now.sealer.now))
+    frames_then_pairs g.D.Disk.sight (world_at c.args.house.now)
     c.args.house.now.me c.args.moment c.args.provider.now.chronicle c.take_frames.new.provider.chronicle
     c.decide_pairs.new.provider.chronicle
     c.args.arrivals.now c.take_frames.new.arrivals (c.in_ok-take_frames.ensures.carries tells)

@@ -4,7 +4,7 @@ use Rattle.pec_types.specs.declared.turns.Event.{Event}
 use Rattle.pec_types.specs.declared.turns.ProviderFault.{ProviderFault}
 use Rattle.pec_types.specs.declared.turns.Turn.{Turn}
 use Rattle.pec_directory.specs.Directory.{Kept}
-use Rattle.pec_trade.specs.TradeOf.{trade_of}
+use Rattle.pec_trade.specs.Houses.{world_at}
 use Rattle.pec_provider.specs.Provider.{desk_of}
 use Rattle.pec_network.specs.Turning.{Far, room_in}
 use Rattle.pec_network.proofs.StepLemmas.{begin_far}
@@ -15,7 +15,7 @@ use Rattle.pec_network.proofs.turns.turn.Goals as goal
 pub returns-in-Err-clause-took : goal.returns-in-Err-clause-took
 returns-in-Err-clause-took g c =
     rw (c.ended.ensures.turn, c.ended.ensures.out, c.new.ensures.items)
-    (took_refused (trade_of c.args.house.now.directory.now (g.S.Sealer.seals c.args.house.now.sealer.now))
+    (took_refused (world_at c.args.house.now)
     c.args.house.now.me c.args.moment (room_in c.args.rooms.now)
     (desk_of c.args.provider.now) c.args.arrivals.now c.in-Err.fault
     (c.in-Err.ensures.works c.args.house.now.directory.now (g.S.Sealer.seals c.args.house.now.sealer.now) c.args.house.now.me _ c.requires.runs
@@ -23,7 +23,7 @@ returns-in-Err-clause-took g c =
 
 pub returns-in-Ok-clause-took : goal.returns-in-Ok-clause-took
 returns-in-Ok-clause-took g c =
-    let trade = trade_of c.args.house.now.directory.now (g.S.Sealer.seals c.args.house.now.sealer.now) in
+    let trade = world_at c.args.house.now in
     let begun = subst (λ (events : List Event). Far trade c.args.house.now.me c.args.moment
     (desk_of c.args.provider.now) c.args.arrivals.now (desk_of c.args.provider.now) c.args.arrivals.now events)
     (sym c.new-events.ensures.items)
@@ -40,7 +40,7 @@ returns-in-Ok-clause-took g c =
 
 pub returns-in-Ok-clause-short : goal.returns-in-Ok-clause-short
 returns-in-Ok-clause-short g c =
-    let trade = trade_of c.args.house.now.directory.now (g.S.Sealer.seals c.args.house.now.sealer.now) in
+    let trade = world_at c.args.house.now in
     let begun = subst (λ (events : List Event). Far trade c.args.house.now.me c.args.moment
     (desk_of c.args.provider.now) c.args.arrivals.now (desk_of c.args.provider.now) c.args.arrivals.now events)
     (sym c.new-events.ensures.items)
@@ -54,7 +54,7 @@ returns-in-Ok-clause-short g c =
 
 pub returns-in-Err-take_steps-clause-took : goal.returns-in-Err-take_steps-clause-took
 returns-in-Err-take_steps-clause-took g c =
-    let trade = trade_of c.args.house.now.directory.now (g.S.Sealer.seals c.args.house.now.sealer.now) in
+    let trade = world_at c.args.house.now in
     let begun = subst (λ (events : List Event). Far trade c.args.house.now.me c.args.moment
     (desk_of c.args.provider.now) c.args.arrivals.now (desk_of c.args.provider.now) c.args.arrivals.now events)
     (sym c.new-events.ensures.items)
@@ -70,7 +70,7 @@ returns-in-Err-take_steps-clause-took g c =
 
 pub returns-in-Err-take_steps-clause-short : goal.returns-in-Err-take_steps-clause-short
 returns-in-Err-take_steps-clause-short g c =
-    let trade = trade_of c.args.house.now.directory.now (g.S.Sealer.seals c.args.house.now.sealer.now) in
+    let trade = world_at c.args.house.now in
     let begun = subst (λ (events : List Event). Far trade c.args.house.now.me c.args.moment
     (desk_of c.args.provider.now) c.args.arrivals.now (desk_of c.args.provider.now) c.args.arrivals.now events)
     (sym c.new-events.ensures.items)
@@ -91,7 +91,7 @@ returns-in-Err-take_steps-clause-disk_fault g c =
 
 pub returns-in-Err-clause-memory : goal.returns-in-Err-clause-memory
 returns-in-Err-clause-memory g c =
-    memory_refused (trade_of c.args.house.now.directory.now (g.S.Sealer.seals c.args.house.now.sealer.now))
+    memory_refused (world_at c.args.house.now)
     c.args.house.now.me c.args.moment (desk_of c.args.provider.now) c.in-Err.fault c.ended.result.turn.ended
     (c.in-Err.ensures.works c.args.house.now.directory.now (g.S.Sealer.seals c.args.house.now.sealer.now) c.args.house.now.me _ c.requires.runs
     c.a_house_is_a_trade.ensures.of)
@@ -110,5 +110,5 @@ returns-in-Err-take_steps-clause-memory g c =
 pub take_steps-requires-clause-works : goal.take_steps-requires-clause-works
 take_steps-requires-clause-works g c =
     c.in_default.ensures.works c.args.house.now.directory.now (g.S.Sealer.seals c.args.house.now.sealer.now) c.args.house.now.me
-    (trade_of c.args.house.now.directory.now (g.S.Sealer.seals c.args.house.now.sealer.now)) c.requires.runs
+    (world_at c.args.house.now) c.requires.runs
     c.a_house_is_a_trade.ensures.of

@@ -1,9 +1,9 @@
 use Rattle.std.proofs.Common.{◌≡◌, map, take}
 use Rattle.pec_ledger.specs.Due.{answers_to}
-use Rattle.pec_trade.specs.TradeOf.{trade_of}
+use Rattle.pec_trade.specs.Houses.{world_at}
 use Rattle.pec_outgoing.proofs.dues.answers_to.Given as goal
 
 abbrev pub invariant-loop-letter : goal.invariant-loop-letter
 invariant-loop-letter g l =
     map (λ letter. letter.now) l.answers.items
-    ≡ answers_to (trade_of l.desk.directory.now (g.S.Sealer.seals l.desk.sealer.now)) l.to (take l.letter-index l.owed)
+    ≡ answers_to (world_at l.desk.house.now) l.to (take l.letter-index l.owed)

@@ -4,13 +4,13 @@ use Rattle.std.proofs.lemmas.List.{length-map}
 use Rattle.pec_types.specs.declared.letters.Letter.{Letter}
 use Rattle.pec_ledger.specs.Due.{answers_to, due_letters}
 use Rattle.pec_plays.specs.Frames.{frame_of}
-use Rattle.pec_trade.specs.TradeOf.{trade_of}
+use Rattle.pec_trade.specs.Houses.{world_at}
 use Rattle.pec_outgoing.proofs.DueLemmas.{all_due, cut_answers, put_together}
 use Rattle.pec_outgoing.proofs.dues.due_frames.Goals as goal
 
 pub returns : goal.returns
 returns g c =
-    let trade = trade_of c.args.directory.now (g.S.Sealer.seals c.args.sealer.now)
+    let trade = world_at c.args.house.now
     in let me = c.args.shelf.now.me
     in let h = c.args.shelf.now.half
     in let seen : Bor Letter → Letter = λ letter. letter.now

@@ -8,8 +8,8 @@ use Rattle.pec_outgoing.proofs.dues.framed.Goals as goal
 
 pub returns-then-not-is_path : goal.returns-then-not-is_path
 returns-then-not-is_path g c =
-    not_framed c.a_trade_says_what_its_parts_say.ensures.frames c.args.desk.now.directory.now (g.S.Sealer.seals
-    c.args.desk.now.sealer.now)
+    not_framed c.a_trade_says_what_its_parts_say.ensures.frames c.args.desk.now.house.now.directory.now (g.S.Sealer.seals
+    c.args.desk.now.house.now.sealer.now)
     c.args.letter.now.path c.args.letter.now.message
     (λ has. false≢true (sym c.if-not-is_path.true
     ∙ c.is_path.ensures.1 (subst (λ (p : Path). (0 < length p) × (length p ≤ MOST_ADDRESSES)) (sym c.path.ensures)

@@ -8,6 +8,6 @@ use Rattle.pec_outgoing.proofs.originals.seen_first.Goals as goal
 pub returns-clause-original : goal.returns-clause-original
 returns-clause-original g c =
     c.unless_another.ensures.original
-    ∙ original_of (g.S.Sealer.seals c.args.desk.now.sealer.now) (providers_of c.args.desk.now.directory.now)
+    ∙ original_of (g.S.Sealer.seals c.args.desk.now.house.now.sealer.now) (providers_of c.args.desk.now.house.now.directory.now)
     c.args.envelope.now c.args.id (view_shown c.in-Some.seen)
     (ap (option_map view_shown) (sym c.in-Some.is) ∙ c.in_ok-seen.ensures.seen)

@@ -1,16 +1,16 @@
 use Rattle.std.proofs.Common.{◌∙◌, ℕ, false, Global, Vec, ap}
 use Rattle.pec_types.specs.Bytes.{Bytes}
 use Rattle.pec_plays.specs.Commands.{Show, Shown}
+use Rattle.pec_network.specs.Network.{world_of}
 use Rattle.pec_network.specs.OfProviders.{luck_of}
 use Rattle.pec_script.specs.Texts.{item_text}
-use Rattle.pec_trade.specs.TradeOf.{trade_of}
 use Rattle.pec_playing.proofs.AskLemmas.{ask_refuses, ask_says, ask_stops, show_asked, shown_told}
 use Rattle.pec_playing.proofs.accounts.show.Goals as goal
 
 pub returns-in-Ok : goal.returns-in-Ok
 returns-in-Ok g c =
     let network = c.args.network.now in
-    let trade = trade_of network.kept (g.S.Sealer.seals network.sealer) in
+    let trade = world_of g.S.Sealer.seals network in
     ask_says g.D.Disk.sight g.D.Counted.faults g.D.Disk.tells trade (Show c.args.account.now c.args.place) network
     (show_asked trade c.args.account.now c.args.place)
     (λ (told : Vec ℕ Global). Shown told.items) c.in-Ok.bytes (λ providers. item_text c.in-Ok.bytes.items)
@@ -21,7 +21,7 @@ returns-in-Ok g c =
 pub returns-in-Err : goal.returns-in-Err
 returns-in-Err g c =
     let network = c.args.network.now in
-    let trade = trade_of network.kept (g.S.Sealer.seals network.sealer) in
+    let trade = world_of g.S.Sealer.seals network in
     ask_refuses g.D.Disk.sight g.D.Counted.faults g.D.Disk.tells trade (Show c.args.account.now c.args.place) network
     (show_asked trade c.args.account.now c.args.place)
     (λ (told : Vec ℕ Global). Shown told.items) c.in-Err.fault (c.in-Err.ensures (luck_of false))
@@ -30,7 +30,7 @@ returns-in-Err g c =
 pub returns-in_err-text-in-Ok : goal.returns-in_err-text-in-Ok
 returns-in_err-text-in-Ok g c =
     let network = c.args.network.now in
-    let trade = trade_of network.kept (g.S.Sealer.seals network.sealer) in
+    let trade = world_of g.S.Sealer.seals network in
     ask_stops g.D.Disk.sight g.D.Counted.faults g.D.Disk.tells trade (Show c.args.account.now c.args.place) network
     (show_asked trade c.args.account.now c.args.place)
     (λ (told : Vec ℕ Global). Shown told.items) c.from_residual.result c.from_residual.ensures.0
@@ -38,7 +38,7 @@ returns-in_err-text-in-Ok g c =
 pub returns-in_err-text-in-Err : goal.returns-in_err-text-in-Err
 returns-in_err-text-in-Err g c =
     let network = c.args.network.now in
-    let trade = trade_of network.kept (g.S.Sealer.seals network.sealer) in
+    let trade = world_of g.S.Sealer.seals network in
     ask_stops g.D.Disk.sight g.D.Counted.faults g.D.Disk.tells trade (Show c.args.account.now c.args.place) network
     (show_asked trade c.args.account.now c.args.place)
     (λ (told : Vec ℕ Global). Shown told.items) c.from_residual-in_err-text-in-Err.result

@@ -1,13 +1,13 @@
 use Rattle.std.proofs.Common.{◌<◌, length, arith}
-use Rattle.pec_trade.specs.TradeOf.{trade_of}
 use Rattle.pec_playing.proofs.KeptLemmas.{as_many, keeps_others, same_falls}
 use Rattle.pec_playing.proofs.RestartLemmas.{crash_says, crash_stops}
 use Rattle.pec_playing.proofs.crashes.crash.Goals as goal
+use Rattle.pec_network.specs.Network.{world_of}
 
 pub returns-clause-does : goal.returns-clause-does
 returns-clause-does g c =
     let network = c.args.network.now in
-    let trade = trade_of network.kept (g.S.Sealer.seals network.sealer) in
+    let trade = world_of g.S.Sealer.seals network in
     let new = c.crash.new.self in
     let within : c.args.provider < length network.providers = omega (arith, c.as_many_providers.ensures, c.requires) in
     let many = as_many network new c.args.provider c.crash.ensures.others within in
@@ -21,7 +21,7 @@ returns-clause-does g c =
 pub returns-in_err-text-clause-does : goal.returns-in_err-text-clause-does
 returns-in_err-text-clause-does g c =
     let network = c.args.network.now in
-    let trade = trade_of network.kept (g.S.Sealer.seals network.sealer) in
+    let trade = world_of g.S.Sealer.seals network in
     let new = c.crash.new.self in
     let within : c.args.provider < length network.providers = omega (arith, c.as_many_providers.ensures, c.requires) in
     let many = as_many network new c.args.provider c.crash.ensures.others within in

@@ -1,13 +1,13 @@
 use Rattle.std.proofs.Common.{◌<◌, length, arith}
-use Rattle.pec_trade.specs.TradeOf.{trade_of}
 use Rattle.pec_playing.proofs.KeptLemmas.{as_many, keeps_others}
 use Rattle.pec_playing.proofs.RestartLemmas.{restart_says, restart_stops}
 use Rattle.pec_playing.proofs.crashes.restart.Goals as goal
+use Rattle.pec_network.specs.Network.{world_of}
 
 pub returns : goal.returns
 returns g c =
     let network = c.args.network.now in
-    let trade = trade_of network.kept (g.S.Sealer.seals network.sealer) in
+    let trade = world_of g.S.Sealer.seals network in
     let new = c.restart-outcome.new.self in
     let within : c.args.provider < length network.providers = omega (arith, c.as_many_providers.ensures, c.requires) in
     let many = as_many network new c.args.provider c.restart-outcome.ensures.others within in
@@ -22,7 +22,7 @@ returns g c =
 pub returns-in_err-text : goal.returns-in_err-text
 returns-in_err-text g c =
     let network = c.args.network.now in
-    let trade = trade_of network.kept (g.S.Sealer.seals network.sealer) in
+    let trade = world_of g.S.Sealer.seals network in
     let new = c.restart-outcome.new.self in
     let within : c.args.provider < length network.providers = omega (arith, c.as_many_providers.ensures, c.requires) in
     let many = as_many network new c.args.provider c.restart-outcome.ensures.others within in

@@ -1,13 +1,13 @@
 use Rattle.pec_plays.specs.Commands.{Lose, Lost}
 use Rattle.pec_script.specs.declared.answers.Answer.TheVariants as lines
-use Rattle.pec_trade.specs.TradeOf.{trade_of}
 use Rattle.pec_playing.proofs.LinkLemmas.{link_says, link_stops, lose_free, lost_line}
 use Rattle.pec_playing.proofs.links.lose.Goals as goal
+use Rattle.pec_network.specs.Network.{world_of}
 
 pub returns : goal.returns
 returns g c =
     let network = c.args.network.now in
-    let trade = trade_of network.kept (g.S.Sealer.seals network.sealer) in
+    let trade = world_of g.S.Sealer.seals network in
     link_says g.D.Disk.sight g.D.Counted.faults g.D.Disk.tells trade (Lose c.args.from c.args.to c.args.place) network
     c.lose-outcome.new.self c.lose-outcome.ensures.others (lose_free trade c.args.from c.args.to c.args.place) Lost
     lines.Lost lost_line
@@ -16,7 +16,7 @@ returns g c =
 pub returns-in_err-text : goal.returns-in_err-text
 returns-in_err-text g c =
     let network = c.args.network.now in
-    let trade = trade_of network.kept (g.S.Sealer.seals network.sealer) in
+    let trade = world_of g.S.Sealer.seals network in
     link_stops g.D.Disk.sight g.D.Counted.faults g.D.Disk.tells trade (Lose c.args.from c.args.to c.args.place) network
     c.lose-outcome.new.self c.lose-outcome.ensures.others (lose_free trade c.args.from c.args.to c.args.place) Lost
     lines.Lost lost_line

@@ -1,15 +1,15 @@
 use Rattle.std.proofs.Common.{map}
-use Rattle.pec_trade.specs.TradeOf.{trade_of}
 use Rattle.pec_runs.specs.ScriptLines.{command_in}
 use Rattle.pec_screen.specs.Screened.{finds_in}
 use Rattle.pec_playing.proofs.PlayLemmas.{play_says, play_stops}
 use Rattle.pec_playing.proofs.playing.play.Goals as goal
+use Rattle.pec_network.specs.Network.{world_of}
 
 pub returns-clause-plays : goal.returns-clause-plays
 returns-clause-plays g c = λ stands.
     let network = c.args.network.now in
     play_says g.D.Disk.sight g.D.Counted.faults g.P.Depot.tells g.D.Disk.tells
-    (trade_of network.kept (g.S.Sealer.seals network.sealer)) (command_in (finds_in (map g.J.Judge.patterns c.args.screens.now)) c.args.command) network
+    (world_of g.S.Sealer.seals network) (command_in (finds_in (map g.J.Judge.patterns c.args.screens.now)) c.args.command) network
     c.play_command.new.network
     stands c.play_command.result c.play_command.ensures.does
 
@@ -17,6 +17,6 @@ pub returns-clause-stops : goal.returns-clause-stops
 returns-clause-stops g c = λ stands.
     let network = c.args.network.now in
     play_stops g.D.Disk.sight g.D.Counted.faults g.P.Depot.tells g.D.Disk.tells
-    (trade_of network.kept (g.S.Sealer.seals network.sealer)) (command_in (finds_in (map g.J.Judge.patterns c.args.screens.now)) c.args.command) network
+    (world_of g.S.Sealer.seals network) (command_in (finds_in (map g.J.Judge.patterns c.args.screens.now)) c.args.command) network
     c.play_command.new.network
     stands c.play_command.result c.play_command.ensures.does

@@ -3,16 +3,16 @@ use Rattle.pec_directory.specs.Directory.{Kept, providers_of}
 use Rattle.pec_plays.specs.Commands.{Submit, Submits}
 use Rattle.pec_script.specs.Texts.{submitted_text}
 use Rattle.pec_screen.specs.Screened.{finds_in}
-use Rattle.pec_trade.specs.TradeOf.{trade_of}
 use Rattle.pec_playing.proofs.AskLemmas.{call_refuses, call_says, call_stops, submitted_told, submit_of}
 use Rattle.pec_playing.proofs.KeptLemmas.{as_many, keeps_others}
 use Rattle.pec_playing.proofs.LookLemmas.{may_look}
 use Rattle.pec_playing.proofs.providers.submit.Goals as goal
+use Rattle.pec_network.specs.Network.{world_of}
 
 pub returns-in-Ok-clause-does : goal.returns-in-Ok-clause-does
 returns-in-Ok-clause-does g c =
     let network = c.args.network.now in
-    let trade = trade_of network.kept (g.S.Sealer.seals network.sealer) in
+    let trade = world_of g.S.Sealer.seals network in
     let new = c.submit_screened.new.self in
     let within : c.args.provider < length network.providers =
     omega (arith, c.as_many_providers.ensures, c.requires.provider) in
@@ -34,7 +34,7 @@ returns-in-Ok-clause-does g c =
 pub returns-in-Err-clause-does : goal.returns-in-Err-clause-does
 returns-in-Err-clause-does g c =
     let network = c.args.network.now in
-    let trade = trade_of network.kept (g.S.Sealer.seals network.sealer) in
+    let trade = world_of g.S.Sealer.seals network in
     let new = c.submit_screened.new.self in
     let within : c.args.provider < length network.providers =
     omega (arith, c.as_many_providers.ensures, c.requires.provider) in
@@ -53,7 +53,7 @@ returns-in-Err-clause-does g c =
 pub returns-in_err-text-in-Ok-clause-does : goal.returns-in_err-text-in-Ok-clause-does
 returns-in_err-text-in-Ok-clause-does g c =
     let network = c.args.network.now in
-    let trade = trade_of network.kept (g.S.Sealer.seals network.sealer) in
+    let trade = world_of g.S.Sealer.seals network in
     let new = c.submit_screened.new.self in
     let within : c.args.provider < length network.providers =
     omega (arith, c.as_many_providers.ensures, c.requires.provider) in
@@ -71,7 +71,7 @@ returns-in_err-text-in-Ok-clause-does g c =
 pub returns-in_err-text-in-Err-clause-does : goal.returns-in_err-text-in-Err-clause-does
 returns-in_err-text-in-Err-clause-does g c =
     let network = c.args.network.now in
-    let trade = trade_of network.kept (g.S.Sealer.seals network.sealer) in
+    let trade = world_of g.S.Sealer.seals network in
     let new = c.submit_screened.new.self in
     let within : c.args.provider < length network.providers =
     omega (arith, c.as_many_providers.ensures, c.requires.provider) in

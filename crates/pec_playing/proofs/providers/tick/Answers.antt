@@ -3,15 +3,15 @@ use Rattle.pec_types.specs.declared.mailboxes.Mark.{Mark}
 use Rattle.pec_directory.specs.Directory.{Kept, providers_of}
 use Rattle.pec_plays.specs.Commands.{Tick, Marks}
 use Rattle.pec_script.specs.Texts.{marks_text}
-use Rattle.pec_trade.specs.TradeOf.{trade_of}
 use Rattle.pec_playing.proofs.AskLemmas.{call_refuses, call_says, call_stops, marks_told, tick_of}
 use Rattle.pec_playing.proofs.KeptLemmas.{as_many, keeps_others}
 use Rattle.pec_playing.proofs.providers.tick.Goals as goal
+use Rattle.pec_network.specs.Network.{world_of}
 
 pub returns-in-Ok : goal.returns-in-Ok
 returns-in-Ok g c =
     let network = c.args.network.now in
-    let trade = trade_of network.kept (g.S.Sealer.seals network.sealer) in
+    let trade = world_of g.S.Sealer.seals network in
     let new = c.tick.new.self in
     let within : c.args.provider < length network.providers = omega (arith, c.as_many_providers.ensures, c.requires) in
     let keeps = keeps_others network new c.args.provider c.tick.ensures.others within g.D.Disk.sight g.D.Counted.faults
@@ -30,7 +30,7 @@ returns-in-Ok g c =
 pub returns-in-Err : goal.returns-in-Err
 returns-in-Err g c =
     let network = c.args.network.now in
-    let trade = trade_of network.kept (g.S.Sealer.seals network.sealer) in
+    let trade = world_of g.S.Sealer.seals network in
     let new = c.tick.new.self in
     let within : c.args.provider < length network.providers = omega (arith, c.as_many_providers.ensures, c.requires) in
     let keeps = keeps_others network new c.args.provider c.tick.ensures.others within g.D.Disk.sight g.D.Counted.faults
@@ -45,7 +45,7 @@ returns-in-Err g c =
 pub returns-in_err-text-in-Ok : goal.returns-in_err-text-in-Ok
 returns-in_err-text-in-Ok g c =
     let network = c.args.network.now in
-    let trade = trade_of network.kept (g.S.Sealer.seals network.sealer) in
+    let trade = world_of g.S.Sealer.seals network in
     let new = c.tick.new.self in
     let within : c.args.provider < length network.providers = omega (arith, c.as_many_providers.ensures, c.requires) in
     let keeps = keeps_others network new c.args.provider c.tick.ensures.others within g.D.Disk.sight g.D.Counted.faults
@@ -59,7 +59,7 @@ returns-in_err-text-in-Ok g c =
 pub returns-in_err-text-in-Err : goal.returns-in_err-text-in-Err
 returns-in_err-text-in-Err g c =
     let network = c.args.network.now in
-    let trade = trade_of network.kept (g.S.Sealer.seals network.sealer) in
+    let trade = world_of g.S.Sealer.seals network in
     let new = c.tick.new.self in
     let within : c.args.provider < length network.providers = omega (arith, c.as_many_providers.ensures, c.requires) in
     let keeps = keeps_others network new c.args.provider c.tick.ensures.others within g.D.Disk.sight g.D.Counted.faults

@@ -2,15 +2,15 @@ use Rattle.std.proofs.Common.{◌≡◌, ◌∙◌, List, length, ap, sym, refl}
 use Rattle.pec_types.specs.declared.turns.Turn.{Turn}
 use Rattle.pec_directory.specs.Directory.{Kept, providers_of}
 use Rattle.pec_script.specs.Texts.{turns_text}
-use Rattle.pec_trade.specs.TradeOf.{trade_of}
 use Rattle.pec_playing.specs.Doing.{Keeps}
 use Rattle.pec_playing.proofs.RoundLemmas.{round_is_left, round_says, round_stops}
 use Rattle.pec_playing.proofs.rounds.round.Goals as goal
+use Rattle.pec_network.specs.Network.{world_of}
 
 pub returns-in-Ok : goal.returns-in-Ok
 returns-in-Ok g c =
     let network = c.args.network.now in
-    let trade = trade_of network.kept (g.S.Sealer.seals network.sealer) in
+    let trade = world_of g.S.Sealer.seals network in
     let new = c.round-outcome.new.self in
     let told = c.round-outcome.ensures in
     let many : length new.providers ≡ length network.providers =
@@ -28,7 +28,7 @@ returns-in-Ok g c =
 pub returns-in-Err : goal.returns-in-Err
 returns-in-Err g c =
     let network = c.args.network.now in
-    let trade = trade_of network.kept (g.S.Sealer.seals network.sealer) in
+    let trade = world_of g.S.Sealer.seals network in
     let new = c.round-outcome.new.self in
     let told = c.round-outcome.ensures in
     let many : length new.providers ≡ length network.providers =
@@ -42,7 +42,7 @@ returns-in-Err g c =
 pub returns-in_err-text-in-Ok : goal.returns-in_err-text-in-Ok
 returns-in_err-text-in-Ok g c =
     let network = c.args.network.now in
-    let trade = trade_of network.kept (g.S.Sealer.seals network.sealer) in
+    let trade = world_of g.S.Sealer.seals network in
     let new = c.round-outcome.new.self in
     let told = c.round-outcome.ensures in
     let many : length new.providers ≡ length network.providers =

@@ -1,4 +1,4 @@
-use Rattle.pec_service.specs.Runs.{beginning, world}
+use Rattle.pec_service.specs.Runs.{world}
 use Rattle.pec_service.specs.Services.{connections_of}
 use Rattle.pec_service.proofs.RunLemmas.{has_journals, is_world, serves_on}
 use Rattle.pec_service.proofs.runs.a_serving_runs_books_belong_to_the_ledger.Goals as goal

@@ -5,9 +5,8 @@ use Rattle.pec_screen.specs.Verdicts.{Patterns}
 use Rattle.pec_seal.specs.Hmac.{hmac_seals}
 use Rattle.pec_seal.specs.declared.hmac.HmacSealer.{HmacSealer}
 use Rattle.pec_seal.specs.Seals.{Seals}
-use Rattle.pec_playing.specs.OfNetworks.{NetworkState}
+use Rattle.pec_playing.specs.OfNetworks.{NetworkState, world_of}
 use Rattle.pec_http.specs.Serving.{Serves}
-use Rattle.pec_playing.specs.OfNetworks.{trade_of}
 use Rattle.pec_desk.specs.Desks.{DeskState, answers_of}
 use Rattle.pec_playing.specs.Doing.{Keeps}
 use Rattle.pec_serving.specs.Hearing.{Hears}
@@ -66,7 +65,7 @@ returns-clause-hears g c = λ elsewhere.
     subst (λ (n : NetworkState g.row.D.Denot HmacSealer). length n.providers ≡ length c.args.network.providers) closed
     (c.as_many_providers-2.ensures ∙ ap (λ (k : List Kept). length k) keeps.directory ∙ sym c.as_many_providers.ensures) in
     subst (λ (n : NetworkState g.row.D.Denot HmacSealer).
-    Hears (trade_of c.args.network.kept (seals_of c.args.network.sealer)) c.args.network.kept (finds_in screens) c.args.moment
+    Hears (world_of seals_of c.args.network) c.args.network.kept (finds_in screens) c.args.moment
     (state_of g.D.Counted.faults elsewhere c.args.network) (state_of g.D.Counted.faults elsewhere n) left held held_then
     c.serve_one-told.result) (sym closed)
     (serves_hear g.D.Disk.sight g.D.Counted.faults g.D.Disk.tells seals_of

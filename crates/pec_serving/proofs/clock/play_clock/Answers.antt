@@ -1,20 +1,20 @@
 use Rattle.std.proofs.Common.{◌≡◌, ◌∙◌, ◌<◌, List, length, ap, sym, refl, arith}
 use Rattle.pec_directory.specs.Directory.{Kept, providers_of}
-use Rattle.pec_playing.specs.OfNetworks.{trade_of}
 use Rattle.pec_serving.proofs.ClockLemmas.{Joins}
 use Rattle.pec_serving.proofs.KeepLemmas.{keeps_all, keeps_on}
 use Rattle.pec_serving.proofs.LoopLemmas.{none_so, round_ends, tick_on, tick_stops}
 use Rattle.pec_serving.proofs.clock.play_clock.Goals as goal
+use Rattle.pec_playing.specs.OfNetworks.{world_of}
 
 pub loop-provider-init : goal.loop-provider-init
 loop-provider-init g c =
     let start = c.args.network.now in
     let seals = g.S.Sealer.seals in
-    let joins : Joins (trade_of start.kept (seals start.sealer)) (providers_of start.kept) = record {
-      one = c.calls_are_joined.ensures.one (trade_of start.kept (seals start.sealer));
+    let joins : Joins (world_of seals start) (providers_of start.kept) = record {
+      one = c.calls_are_joined.ensures.one (world_of seals start);
       behind = c.calls_are_joined.ensures.behind;
       commands = c.calls_are_joined.ensures.commands;
-      text = c.calls_are_joined.ensures.text (trade_of start.kept (seals start.sealer)) (providers_of start.kept);
+      text = c.calls_are_joined.ensures.text (world_of seals start) (providers_of start.kept);
     } in
     record {
       plays = λ elsewhere. none_so g.D.Disk.sight g.D.Counted.faults g.D.Disk.tells seals start joins elsewhere c.args.moment
@@ -29,11 +29,11 @@ pub returns-in-Err-clause-plays : goal.returns-in-Err-clause-plays
 returns-in-Err-clause-plays g c = λ elsewhere.
     let start = c.args.network.now in
     let seals = g.S.Sealer.seals in
-    let joins : Joins (trade_of start.kept (seals start.sealer)) (providers_of start.kept) = record {
-      one = c.calls_are_joined.ensures.one (trade_of start.kept (seals start.sealer));
+    let joins : Joins (world_of seals start) (providers_of start.kept) = record {
+      one = c.calls_are_joined.ensures.one (world_of seals start);
       behind = c.calls_are_joined.ensures.behind;
       commands = c.calls_are_joined.ensures.commands;
-      text = c.calls_are_joined.ensures.text (trade_of start.kept (seals start.sealer)) (providers_of start.kept);
+      text = c.calls_are_joined.ensures.text (world_of seals start) (providers_of start.kept);
     } in
     let below : c.loop-provider.provider < length start.kept =
     omega (
@@ -56,11 +56,11 @@ pub loop-provider-preserved : goal.loop-provider-preserved
 loop-provider-preserved g c =
     let start = c.args.network.now in
     let seals = g.S.Sealer.seals in
-    let joins : Joins (trade_of start.kept (seals start.sealer)) (providers_of start.kept) = record {
-      one = c.calls_are_joined.ensures.one (trade_of start.kept (seals start.sealer));
+    let joins : Joins (world_of seals start) (providers_of start.kept) = record {
+      one = c.calls_are_joined.ensures.one (world_of seals start);
       behind = c.calls_are_joined.ensures.behind;
       commands = c.calls_are_joined.ensures.commands;
-      text = c.calls_are_joined.ensures.text (trade_of start.kept (seals start.sealer)) (providers_of start.kept);
+      text = c.calls_are_joined.ensures.text (world_of seals start) (providers_of start.kept);
     } in
     let below : c.loop-provider.provider < length start.kept =
     omega (
@@ -88,11 +88,11 @@ pub returns-clause-plays : goal.returns-clause-plays
 returns-clause-plays g c = λ elsewhere.
     let start = c.args.network.now in
     let seals = g.S.Sealer.seals in
-    let joins : Joins (trade_of start.kept (seals start.sealer)) (providers_of start.kept) = record {
-      one = c.calls_are_joined.ensures.one (trade_of start.kept (seals start.sealer));
+    let joins : Joins (world_of seals start) (providers_of start.kept) = record {
+      one = c.calls_are_joined.ensures.one (world_of seals start);
       behind = c.calls_are_joined.ensures.behind;
       commands = c.calls_are_joined.ensures.commands;
-      text = c.calls_are_joined.ensures.text (trade_of start.kept (seals start.sealer)) (providers_of start.kept);
+      text = c.calls_are_joined.ensures.text (world_of seals start) (providers_of start.kept);
     } in
     let last : c.loop-provider.provider ≡ length start.kept =
     omega (

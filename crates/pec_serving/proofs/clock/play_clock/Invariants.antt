@@ -1,7 +1,7 @@
 use Rattle.std.proofs.Common.{◌≡◌, ◌-◌, ◌≤◌, ℕ, length}
 use Rattle.pec_directory.specs.Directory.{providers_of}
-use Rattle.pec_playing.specs.OfNetworks.{trade_of}
 use Rattle.pec_playing.specs.Doing.{Keeps}
+use Rattle.pec_playing.specs.OfNetworks.{world_of}
 use Rattle.pec_service.specs.Calls.{clock_from}
 use Rattle.pec_serving.specs.Playing.{HasPlayed, state_of}
 use Rattle.pec_serving.proofs.clock.play_clock.Given as goal
@@ -10,7 +10,7 @@ use Rattle.pec_serving.proofs.clock.play_clock.Given as goal
 abbrev pub invariant-loop-provider : goal.invariant-loop-provider
 invariant-loop-provider g l = record {
   plays : (elsewhere : ℕ → ℕ)
-      → HasPlayed (trade_of l.fn.network.kept (g.S.Sealer.seals l.fn.network.sealer)) (providers_of l.fn.network.kept)
+      → HasPlayed (world_of g.S.Sealer.seals l.fn.network) (providers_of l.fn.network.kept)
       (state_of g.D.Counted.faults elsewhere l.fn.network) (state_of g.D.Counted.faults elsewhere l.network)
       (clock_from (length l.fn.network.kept) 0 l.moment)
       (clock_from (length l.fn.network.kept - l.provider) l.provider l.moment)

@@ -1,12 +1,10 @@
 use Rattle.std.proofs.Common.{◌≡◌, ◌∙◌, List, length, map, ap, sym, subst, refl, arith, Err}
 use Rattle.pec_directory.specs.Directory.{Kept, providers_of}
-use Rattle.pec_playing.specs.OfNetworks.{Fits}
 use Rattle.pec_screen.specs.Screened.{finds_in}
 use Rattle.pec_screen.specs.Verdicts.{Patterns}
 use Rattle.pec_seal.specs.Hmac.{hmac_seals}
 use Rattle.pec_seal.specs.Seals.{Seals}
 use Rattle.pec_seal.specs.declared.hmac.HmacSealer.{HmacSealer}
-use Rattle.pec_playing.specs.OfNetworks.{trade_of}
 use Rattle.pec_service.specs.Calls.{clock_from}
 use Rattle.pec_serving.specs.Playing.{PlaysAll, state_of}
 use Rattle.pec_serving.specs.Serving.{ComesNext, place_of}
@@ -16,6 +14,7 @@ use Rattle.pec_serving.proofs.EndLemmas.{risen_since, ends_broken, ends_lacking,
 use Rattle.pec_serving.proofs.KeepLemmas.{keeps_all, keeps_on}
 use Rattle.pec_serving.proofs.ServiceLemmas.{CallLaws, ConnectionLaws, all_served, goes_none}
 use Rattle.pec_serving.proofs.serving.serve.Goals as goal
+use Rattle.pec_playing.specs.OfNetworks.{world_of}
 
 abbrev seals_of : HmacSealer → Seals
 seals_of sealer = hmac_seals sealer.names.items sealer.keys.items
@@ -23,13 +22,12 @@ seals_of sealer = hmac_seals sealer.names.items sealer.keys.items
 pub loop-served-init : goal.loop-served-init
 loop-served-init g c = record {
   going = λ elsewhere.
-      goes_none (trade_of c.args.network.kept (seals_of c.args.network.sealer)) c.args.network.kept
+      goes_none (world_of seals_of c.args.network) c.args.network.kept
       (finds_in (map g.J.Judge.patterns c.args.screens.items))
       (place_of g.D.Counted.faults elsewhere c.args.network (g.T.Ticks.coming c.args.ticks.now)
       (g.R.Door.requests c.args.door.now) (g.R.Door.replies c.args.door.now)) (g.W.Stream.held c.args.out.now);
   patterns = refl;
   keeps = keeps_all g.D.Disk.sight g.D.Counted.faults g.D.Disk.tells c.args.network;
-  fits = c.requires;
   many = refl;
   out = refl;
   clock_later = omega arith;
@@ -41,7 +39,7 @@ pub returns-in-NoConnection-clause-serves : goal.returns-in-NoConnection-clause-
 returns-in-NoConnection-clause-serves g c = λ elsewhere.
     let start = c.args.network in
     let seals = seals_of in
-    let trade = trade_of start.kept (seals_of start.sealer) in
+    let trade = world_of seals_of start in
     let laws : CallLaws trade = record {
       all = c.calls_are_joined.ensures.all trade;
       since = c.calls_are_joined.ensures.since trade;
@@ -66,7 +64,7 @@ returns-in-NoConnection-clause-serves g c = λ elsewhere.
     (g.R.Door.replies c.loop-served.door) c.loop-served.served (g.W.Stream.held c.args.out.now)
     (g.W.Stream.held c.loop-served.out) (c.loop-served.invariant.going elsewhere) (g.T.Ticks.coming c.next-again.new.ticks)
     (g.R.Door.requests c.next-again.new.door) (g.R.Door.replies c.next-again.new.door) c.args.wanted c.loop-served-test.true
-    (subst (λ (came : Came). ComesNext (trade_of now.kept (seals_of now.sealer)) now.kept (finds_in screens_now)
+    (subst (λ (came : Came). ComesNext (world_of seals_of now) now.kept (finds_in screens_now)
     (place_of g.D.Counted.faults elsewhere now (g.T.Ticks.coming c.loop-served.ticks) (g.R.Door.requests c.loop-served.door)
     (g.R.Door.replies c.loop-served.door))
     (place_of g.D.Counted.faults elsewhere again (g.T.Ticks.coming c.next-again.new.ticks)
@@ -88,7 +86,7 @@ pub returns-in-NoMoment-clause-serves : goal.returns-in-NoMoment-clause-serves
 returns-in-NoMoment-clause-serves g c = λ elsewhere.
     let start = c.args.network in
     let seals = seals_of in
-    let trade = trade_of start.kept (seals_of start.sealer) in
+    let trade = world_of seals_of start in
     let laws : CallLaws trade = record {
       all = c.calls_are_joined.ensures.all trade;
       since = c.calls_are_joined.ensures.since trade;
@@ -113,7 +111,7 @@ returns-in-NoMoment-clause-serves g c = λ elsewhere.
     (g.R.Door.replies c.loop-served.door) c.loop-served.served (g.W.Stream.held c.args.out.now)
     (g.W.Stream.held c.loop-served.out) (c.loop-served.invariant.going elsewhere) (g.T.Ticks.coming c.next-again.new.ticks)
     (g.R.Door.requests c.next-again.new.door) (g.R.Door.replies c.next-again.new.door) c.args.wanted c.loop-served-test.true
-    (subst (λ (came : Came). ComesNext (trade_of now.kept (seals_of now.sealer)) now.kept (finds_in screens_now)
+    (subst (λ (came : Came). ComesNext (world_of seals_of now) now.kept (finds_in screens_now)
     (place_of g.D.Counted.faults elsewhere now (g.T.Ticks.coming c.loop-served.ticks) (g.R.Door.requests c.loop-served.door)
     (g.R.Door.replies c.loop-served.door))
     (place_of g.D.Counted.faults elsewhere again (g.T.Ticks.coming c.next-again.new.ticks)
@@ -135,7 +133,7 @@ pub returns-in-Err-clause-serves : goal.returns-in-Err-clause-serves
 returns-in-Err-clause-serves g c = λ elsewhere.
     let start = c.args.network in
     let seals = seals_of in
-    let trade = trade_of start.kept (seals_of start.sealer) in
+    let trade = world_of seals_of start in
     let laws : CallLaws trade = record {
       all = c.calls_are_joined.ensures.all trade;
       since = c.calls_are_joined.ensures.since trade;
@@ -161,7 +159,7 @@ returns-in-Err-clause-serves g c = λ elsewhere.
     (g.W.Stream.held c.loop-served.out) (c.loop-served.invariant.going elsewhere) (g.T.Ticks.coming c.next-again.new.ticks)
     (g.R.Door.requests c.next-again.new.door) (g.R.Door.replies c.next-again.new.door) c.args.wanted c.loop-served-test.true
     c.in-Served.moment c.in-Served.told
-    (subst (λ (came : Came). ComesNext (trade_of now.kept (seals_of now.sealer)) now.kept (finds_in screens_now)
+    (subst (λ (came : Came). ComesNext (world_of seals_of now) now.kept (finds_in screens_now)
     (place_of g.D.Counted.faults elsewhere now (g.T.Ticks.coming c.loop-served.ticks) (g.R.Door.requests c.loop-served.door)
     (g.R.Door.replies c.loop-served.door))
     (place_of g.D.Counted.faults elsewhere again (g.T.Ticks.coming c.next-again.new.ticks)
@@ -178,7 +176,7 @@ pub returns-in-Err-WriteFault-clause-serves : goal.returns-in-Err-WriteFault-cla
 returns-in-Err-WriteFault-clause-serves g c = λ elsewhere.
     let start = c.args.network in
     let seals = seals_of in
-    let trade = trade_of start.kept (seals_of start.sealer) in
+    let trade = world_of seals_of start in
     let laws : CallLaws trade = record {
       all = c.calls_are_joined.ensures.all trade;
       since = c.calls_are_joined.ensures.since trade;
@@ -204,7 +202,7 @@ returns-in-Err-WriteFault-clause-serves g c = λ elsewhere.
     (g.W.Stream.held c.loop-served.out) (c.loop-served.invariant.going elsewhere) (g.T.Ticks.coming c.next-again.new.ticks)
     (g.R.Door.requests c.next-again.new.door) (g.R.Door.replies c.next-again.new.door) c.args.wanted c.loop-served-test.true
     c.in-Served.moment c.in-Served.told
-    (subst (λ (came : Came). ComesNext (trade_of now.kept (seals_of now.sealer)) now.kept (finds_in screens_now)
+    (subst (λ (came : Came). ComesNext (world_of seals_of now) now.kept (finds_in screens_now)
     (place_of g.D.Counted.faults elsewhere now (g.T.Ticks.coming c.loop-served.ticks) (g.R.Door.requests c.loop-served.door)
     (g.R.Door.replies c.loop-served.door))
     (place_of g.D.Counted.faults elsewhere again (g.T.Ticks.coming c.next-again.new.ticks)
@@ -213,7 +211,7 @@ returns-in-Err-WriteFault-clause-serves g c = λ elsewhere.
     (keeps_on g.D.Disk.sight g.D.Counted.faults g.D.Disk.tells c.args.network c.loop-served.network c.next-again.result.0
     c.loop-served.invariant.many c.loop-served.invariant.keeps c.next-again.ensures.keeps) c.play_clock.new.network (g.W.Stream.held c.write_outcome.new.out)
     (g.W.Stream.held c.play_clock.new.out) c.in_default.ensures.ok
-    (subst (λ (stop : Stop). PlaysAll (trade_of again.kept (seals_of again.sealer)) (providers_of again.kept)
+    (subst (λ (stop : Stop). PlaysAll (world_of seals_of again) (providers_of again.kept)
     (state_of g.D.Counted.faults elsewhere again) (state_of g.D.Counted.faults elsewhere c.play_clock.new.network)
     (clock_from (length again.kept) 0 c.in-Served.moment) (g.W.Stream.held c.write_outcome.new.out)
     (g.W.Stream.held c.play_clock.new.out) (Err stop)) c.in-Err-WriteFault.field-0-is (c.in-Err-WriteFault.ensures.plays elsewhere))
@@ -230,7 +228,7 @@ pub returns-in-Err-NoMemory-clause-serves : goal.returns-in-Err-NoMemory-clause-
 returns-in-Err-NoMemory-clause-serves g c = λ elsewhere.
     let start = c.args.network in
     let seals = seals_of in
-    let trade = trade_of start.kept (seals_of start.sealer) in
+    let trade = world_of seals_of start in
     let laws : CallLaws trade = record {
       all = c.calls_are_joined.ensures.all trade;
       since = c.calls_are_joined.ensures.since trade;
@@ -256,7 +254,7 @@ returns-in-Err-NoMemory-clause-serves g c = λ elsewhere.
     (g.W.Stream.held c.loop-served.out) (c.loop-served.invariant.going elsewhere) (g.T.Ticks.coming c.next-again.new.ticks)
     (g.R.Door.requests c.next-again.new.door) (g.R.Door.replies c.next-again.new.door) c.args.wanted c.loop-served-test.true
     c.in-Served.moment c.in-Served.told
-    (subst (λ (came : Came). ComesNext (trade_of now.kept (seals_of now.sealer)) now.kept (finds_in screens_now)
+    (subst (λ (came : Came). ComesNext (world_of seals_of now) now.kept (finds_in screens_now)
     (place_of g.D.Counted.faults elsewhere now (g.T.Ticks.coming c.loop-served.ticks) (g.R.Door.requests c.loop-served.door)
     (g.R.Door.replies c.loop-served.door))
     (place_of g.D.Counted.faults elsewhere again (g.T.Ticks.coming c.next-again.new.ticks)
@@ -265,7 +263,7 @@ returns-in-Err-NoMemory-clause-serves g c = λ elsewhere.
     (keeps_on g.D.Disk.sight g.D.Counted.faults g.D.Disk.tells c.args.network c.loop-served.network c.next-again.result.0
     c.loop-served.invariant.many c.loop-served.invariant.keeps c.next-again.ensures.keeps) c.play_clock.new.network (g.W.Stream.held c.write_outcome.new.out)
     (g.W.Stream.held c.play_clock.new.out) c.in_default.ensures.ok
-    (subst (λ (stop : Stop). PlaysAll (trade_of again.kept (seals_of again.sealer)) (providers_of again.kept)
+    (subst (λ (stop : Stop). PlaysAll (world_of seals_of again) (providers_of again.kept)
     (state_of g.D.Counted.faults elsewhere again) (state_of g.D.Counted.faults elsewhere c.play_clock.new.network)
     (clock_from (length again.kept) 0 c.in-Served.moment) (g.W.Stream.held c.write_outcome.new.out)
     (g.W.Stream.held c.play_clock.new.out) (Err stop)) c.in-Err-NoMemory.field-0-is (c.in-Err-NoMemory.ensures.plays elsewhere))
@@ -288,7 +286,7 @@ loop-served-preserved g c =
       going = λ elsewhere.
           let start = c.args.network in
           let seals = seals_of in
-          let trade = trade_of start.kept (seals_of start.sealer) in
+          let trade = world_of seals_of start in
           let laws : CallLaws trade = record {
             all = c.calls_are_joined.ensures.all trade;
             since = c.calls_are_joined.ensures.since trade;
@@ -314,7 +312,7 @@ loop-served-preserved g c =
           (g.W.Stream.held c.loop-served.out) (c.loop-served.invariant.going elsewhere) (g.T.Ticks.coming c.next-again.new.ticks)
           (g.R.Door.requests c.next-again.new.door) (g.R.Door.replies c.next-again.new.door) c.args.wanted c.loop-served-test.true
           c.in-Served.moment c.in-Served.told
-          (subst (λ (came : Came). ComesNext (trade_of now.kept (seals_of now.sealer)) now.kept (finds_in screens_now)
+          (subst (λ (came : Came). ComesNext (world_of seals_of now) now.kept (finds_in screens_now)
           (place_of g.D.Counted.faults elsewhere now (g.T.Ticks.coming c.loop-served.ticks) (g.R.Door.requests c.loop-served.door)
           (g.R.Door.replies c.loop-served.door))
           (place_of g.D.Counted.faults elsewhere again (g.T.Ticks.coming c.next-again.new.ticks)
@@ -325,10 +323,6 @@ loop-served-preserved g c =
           (g.W.Stream.held c.play_clock.new.out) c.in_default.ensures.ok (c.in-Ok.ensures.plays elsewhere);
       patterns = c.next-again.ensures.patterns ∙ c.loop-served.invariant.patterns;
       keeps = keeps_again;
-      fits = subst (λ (k : List Kept). Fits (seals_of c.play_clock.new.network.sealer) (providers_of k))
-          (sym c.play_clock.ensures.keeps.directory)
-          (subst (λ (s : HmacSealer). Fits (seals_of s) (providers_of c.next-again.result.0.kept))
-          (sym c.play_clock.ensures.keeps.seals) c.next-again.ensures.fits);
       many = c.as_many_providers-in-Ok.ensures ∙ ap (λ (k : List Kept). length k) keeps_again.directory
           ∙ sym c.as_many_providers.ensures;
       out = c.next-again.ensures.out ∙ c.loop-served.invariant.out;
@@ -341,7 +335,7 @@ pub returns-clause-serves : goal.returns-clause-serves
 returns-clause-serves g c = λ elsewhere.
     let start = c.args.network in
     let seals = seals_of in
-    let trade = trade_of start.kept (seals_of start.sealer) in
+    let trade = world_of seals_of start in
     let laws : CallLaws trade = record {
       all = c.calls_are_joined.ensures.all trade;
       since = c.calls_are_joined.ensures.since trade;

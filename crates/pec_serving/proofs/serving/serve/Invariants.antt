@@ -1,6 +1,4 @@
 use Rattle.std.proofs.Common.{◌≡◌, ◌≤◌, ℕ, length, map}
-use Rattle.pec_directory.specs.Directory.{providers_of}
-use Rattle.pec_playing.specs.OfNetworks.{Fits}
 use Rattle.pec_screen.specs.Screened.{finds_in}
 use Rattle.pec_seal.specs.Hmac.{hmac_seals}
 use Rattle.pec_playing.specs.OfNetworks.{trade_of}
@@ -22,7 +20,6 @@ invariant-loop-served g l = record {
       l.served (g.W.Stream.held l.fn.out) (g.W.Stream.held l.out);
   patterns : map g.J.Judge.patterns l.screens.items ≡ map g.J.Judge.patterns l.fn.screens.items;
   keeps : Keeps g.D.Disk.sight g.D.Counted.faults g.D.Disk.tells l.fn.network l.network;
-  fits : Fits (hmac_seals l.network.sealer.names.items l.network.sealer.keys.items) (providers_of l.network.kept);
   many : length l.network.providers ≡ length l.fn.network.providers;
   out : g.R.Door.out l.door ≡ g.R.Door.out l.fn.door;
   clock_later : g.T.Counted.faults l.fn.ticks ≤ g.T.Counted.faults l.ticks;

@@ -2,7 +2,7 @@
 use Rattle.std.proofs.Common.{◌∙◌, ap, arith, List, length, map}
 use Rattle.pec_outside.specs.Flow.{behind}
 use Rattle.pec_directory.specs.Directory.{Kept, providers_of}
-use Rattle.pec_serving.specs.OfNetworks.{counts_in, sites, trade_of}
+use Rattle.pec_serving.specs.OfNetworks.{counts_in, sites, world_of}
 use Rattle.pec_screen.specs.Screened.{finds_in}
 use Rattle.pec_top.specs.Scripts.{place_at}
 use Rattle.pec_top.specs.Shown.{result_shown}
@@ -24,7 +24,7 @@ returns-clause-ran g c = λ stand.
     let same = ap (λ (kept : List Kept). length kept) c.play_script-result.ensures.same.0 in (
       sites network,
       (
-        ran_later tells (trade_of old.kept (g.H.Sealer.seals old.sealer))
+        ran_later tells (world_of g.H.Sealer.seals old)
             (finds_in (map g.J.Judge.patterns c.args.screens.now)) (providers_of old.kept)
             (place_at faults old last 1 (behind c.args.buffer.now (g.S.Stream.left c.args.source.now))) counts
             (g.P.Depot.last c.close.new.depot)

@@ -3,10 +3,9 @@ use Rattle.std.proofs.Common.{◌≡◌, ◌∙◌, ap, arith, map, refl, Some, 
 use Rattle.std.proofs.lemmas.Result.{err_from_is_err_and}
 use Rattle.pec_outside.specs.Flow.{behind, followed_by}
 use Rattle.pec_directory.specs.Directory.{providers_of}
-use Rattle.pec_serving.specs.OfNetworks.{trade_of}
 use Rattle.pec_input.specs.declared.buffers.InputFault.{InputFault}
 use Rattle.pec_input.specs.declared.buffers.InputFault.TheVariants as faults
-use Rattle.pec_serving.specs.OfNetworks.{AllStand, counts_in, sites}
+use Rattle.pec_serving.specs.OfNetworks.{AllStand, counts_in, sites, world_of}
 use Rattle.pec_screen.specs.Screened.{finds_in}
 use Rattle.pec_top.specs.Scripts.{place_at}
 use Rattle.pec_top.specs.Shown.{stop_of, stop_shown}
@@ -36,14 +35,10 @@ lines-init g c = record {
   sink_later = omega arith;
 }
 
-pub take_found-requires-clause-fits : goal.take_found-requires-clause-fits
-take_found-requires-clause-fits g c κs within = rw (c.lines.invariant.same.0, c.lines.invariant.same.1)
-    c.requires.fits
-
 pub returns-in_err-found-clause-ran : goal.returns-in_err-found-clause-ran
 returns-in_err-found-clause-ran g c = λ stand elsewhere.
     let tells = g.P.Depot.tells × g.D.Disk.tells in
-    let trade = trade_of c.args.network.now.kept (g.H.Sealer.seals c.args.network.now.sealer) in
+    let trade = world_of g.H.Sealer.seals c.args.network.now in
     let providers = providers_of c.args.network.now.kept in
     let finds = finds_in (map g.J.Judge.patterns c.args.screens.now) in
     let laws = c.a_loop_climbs.ensures trade finds providers in
@@ -62,7 +57,7 @@ returns-in_err-found-clause-ran g c = λ stand elsewhere.
 pub returns-in_err-taken-clause-ran : goal.returns-in_err-taken-clause-ran
 returns-in_err-taken-clause-ran g c = λ stand elsewhere.
     let tells = g.P.Depot.tells × g.D.Disk.tells in
-    let trade = trade_of c.args.network.now.kept (g.H.Sealer.seals c.args.network.now.sealer) in
+    let trade = world_of g.H.Sealer.seals c.args.network.now in
     let providers = providers_of c.args.network.now.kept in
     let finds = finds_in (map g.J.Judge.patterns c.args.screens.now) in
     let laws = c.a_loop_climbs.ensures trade finds providers in
@@ -87,7 +82,7 @@ returns-in_err-taken-clause-ran g c = λ stand elsewhere.
 pub returns-in_err-write_all-clause-ran : goal.returns-in_err-write_all-clause-ran
 returns-in_err-write_all-clause-ran g c = λ stand elsewhere.
     let tells = g.P.Depot.tells × g.D.Disk.tells in
-    let trade = trade_of c.args.network.now.kept (g.H.Sealer.seals c.args.network.now.sealer) in
+    let trade = world_of g.H.Sealer.seals c.args.network.now in
     let providers = providers_of c.args.network.now.kept in
     let finds = finds_in (map g.J.Judge.patterns c.args.screens.now) in
     let laws = c.a_loop_climbs.ensures trade finds providers in
@@ -113,7 +108,7 @@ returns-in_err-write_all-clause-ran g c = λ stand elsewhere.
 pub returns-in-Some-clause-ran : goal.returns-in-Some-clause-ran
 returns-in-Some-clause-ran g c = λ stand elsewhere.
     let tells = g.P.Depot.tells × g.D.Disk.tells in
-    let trade = trade_of c.args.network.now.kept (g.H.Sealer.seals c.args.network.now.sealer) in
+    let trade = world_of g.H.Sealer.seals c.args.network.now in
     let providers = providers_of c.args.network.now.kept in
     let finds = finds_in (map g.J.Judge.patterns c.args.screens.now) in
     let laws = c.a_loop_climbs.ensures trade finds providers in
@@ -142,7 +137,7 @@ lines-preserved g c =
     record {
       came = λ stand elsewhere.
           let tells = g.P.Depot.tells × g.D.Disk.tells in
-          let trade = trade_of c.args.network.now.kept (g.H.Sealer.seals c.args.network.now.sealer) in
+          let trade = world_of g.H.Sealer.seals c.args.network.now in
           let providers = providers_of c.args.network.now.kept in
           let finds = finds_in (map g.J.Judge.patterns c.args.screens.now) in
           let laws = c.a_loop_climbs.ensures trade finds providers in

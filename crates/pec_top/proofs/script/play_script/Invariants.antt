@@ -3,7 +3,7 @@ use Rattle.std.proofs.Common.{◌≡◌, ℕ, ◌+◌, ◌-◌, ◌≤◌, map}
 use Rattle.pec_outside.specs.Depots.{Alike}
 use Rattle.pec_outside.specs.Flow.{behind}
 use Rattle.pec_directory.specs.Directory.{providers_of}
-use Rattle.pec_serving.specs.OfNetworks.{AllStand, counts_in, trade_of}
+use Rattle.pec_serving.specs.OfNetworks.{AllStand, counts_in, world_of}
 use Rattle.pec_runs.specs.ScriptLines.{most_lines}
 use Rattle.pec_screen.specs.Screened.{finds_in}
 use Rattle.pec_top.specs.Scripts.{place_at}
@@ -19,7 +19,7 @@ invariant-lines g l =
     let faults = g.D.Counted.faults in
     record {
       came : (depot.tells × disk.tells → AllStand disk.sight l.fn.network.providers) → (elsewhere : ℕ → ℕ)
-          → IsHere (depot.tells × disk.tells) (trade_of l.fn.network.kept (g.H.Sealer.seals l.fn.network.sealer))
+          → IsHere (depot.tells × disk.tells) (world_of g.H.Sealer.seals l.fn.network)
           (finds_in (map g.J.Judge.patterns l.fn.screens)) (providers_of l.fn.network.kept)
           (place_at faults l.fn.network elsewhere 1 (behind l.fn.buffer (port.left l.fn.source))) (place_at faults
           l.network elsewhere l.number (behind l.buffer (port.left l.source)))

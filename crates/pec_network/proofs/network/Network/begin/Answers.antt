@@ -9,8 +9,8 @@ returns-in_default-clause-refused g c =
 
 pub invariant_of-result : goal.invariant_of-result
 invariant_of-result g c =
-    of_directory c.args.directory c.in-Ok-begin_all.providers.items c.in-Ok.arrivals.items c.count.result c.count.ensures.count
-    c.in-Ok-begin_all.ensures.all c.in-Ok.ensures c.in-Ok-begin_all.ensures.runs
+    of_directory c.args.directory c.in-Ok-begin_all.providers.items c.in-Ok.arrivals.items c.count.result c.requires
+    c.count.ensures.count c.in-Ok-begin_all.ensures.all c.in-Ok.ensures c.in-Ok-begin_all.ensures.runs
     (λ number other l. (c.in-Ok-begin_all.ensures.begun number other l).desk)
 
 pub returns-in-Ok-begin_all-clause-rests : goal.returns-in-Ok-begin_all-clause-rests

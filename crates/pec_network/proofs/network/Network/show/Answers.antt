@@ -1,8 +1,6 @@
-use Rattle.std.proofs.Common.{◌∙◌, arith, subst, sym}
+use Rattle.std.proofs.Common.{◌∙◌, arith, sym}
 use Rattle.pec_trade.specs.TradeOf.{trade_of}
-use Rattle.pec_directory.specs.Directory.{providers_of}
-use Rattle.pec_letters.specs.Fitting.{Fits}
-use Rattle.pec_network.specs.Network.{NetworkState, sites_of}
+use Rattle.pec_network.specs.Network.{sites_of}
 use Rattle.pec_network.proofs.ChangeLemmas.{runs_from}
 use Rattle.pec_network.proofs.ShowLemmas.{show_nowhere, show_so}
 use Rattle.pec_network.proofs.network.Network.show.Goals as goal
@@ -20,16 +18,14 @@ index-requires g c =
     let size = c.self.inside.providers.ok.0 in
     omega arith
 
-pub item-requires-clause-runs : goal.item-requires-clause-runs
-item-requires-clause-runs g c =
+pub item-requires : goal.item-requires
+item-requires g c =
     let inside = c.in-Some.ensures.within in
     let count = c.self.invariant.count in
-    runs_from c.self.inside.providers.items c.in-Some.me c.index.result.now c.index.result.now (omega arith) c.index.ensures
-    c.self.inside.directory c.self.inside.arrivals.items c.self.invariant
-
-pub item-requires-clause-fits : goal.item-requires-clause-fits
-item-requires-clause-fits g c =
-    subst (λ (n : NetworkState g.row.D.Denot g.row.S.Denot). Fits (g.S.Sealer.seals n.sealer) (providers_of n.kept)) (sym c.self.view_is) c.requires
+    record {
+      runs = runs_from c.self.inside.providers.items c.in-Some.me c.index.result.now c.index.result.now (omega arith) c.index.ensures
+          c.self.inside.directory c.self.inside.arrivals.items c.self.invariant;
+    }
 
 pub returns : goal.returns
 returns g c = λ luck.

@@ -1,10 +1,8 @@
-use Rattle.std.proofs.Common.{◌∙◌, arith, subst, sym}
+use Rattle.std.proofs.Common.{◌∙◌, arith, sym}
 use Rattle.pec_types.specs.declared.turns.Submitted.{Submitted}
 use Rattle.pec_plays.specs.Commands.{Submit, Submits, played}
 use Rattle.pec_screen.specs.VerdictReading.{finds}
 use Rattle.pec_trade.specs.TradeOf.{trade_of}
-use Rattle.pec_directory.specs.Directory.{providers_of}
-use Rattle.pec_letters.specs.Fitting.{Fits}
 use Rattle.pec_network.specs.Network.{NetworkState}
 use Rattle.pec_network.proofs.ChangeLemmas.{carries_from, falls_from, number_within, plays_from, risen_from, runs_from, whole_from}
 use Rattle.pec_network.proofs.CrashLemmas.{changes_only}
@@ -21,10 +19,6 @@ submit-requires-clause-runs g c =
     let within = number_within _ c.args.self.now c.self.view_is c.self.invariant c.args.provider c.requires.provider in
     runs_from c.self.inside.providers.items c.args.provider c.index_mut.result.now c.index_mut.result.now within c.index_mut.ensures.value
     c.self.inside.directory c.self.inside.arrivals.items c.self.invariant
-
-pub submit-requires-clause-fits : goal.submit-requires-clause-fits
-submit-requires-clause-fits g c =
-    subst (λ (n : NetworkState g.row.D.Denot g.row.S.Denot). Fits (g.S.Sealer.seals n.sealer) (providers_of n.kept)) (sym c.self.view_is) c.requires.fits
 
 pub submit-requires-clause-path : goal.submit-requires-clause-path
 submit-requires-clause-path g c = c.requires.path

@@ -4,8 +4,7 @@ use Rattle.std.proofs.Math.Seq.{map-set_same}
 use Rattle.pec_directory.specs.Directory.{providers_of}
 use Rattle.pec_plays.specs.Commands.{Submit, Submits, played}
 use Rattle.pec_points.specs.Case.{case_at}
-use Rattle.pec_trade.specs.TradeOf.{trade_of}
-use Rattle.pec_network.specs.Network.{sites}
+use Rattle.pec_network.specs.Network.{sites, world_of}
 use Rattle.pec_network.specs.Playing.{IsPlayed}
 use Rattle.pec_network.proofs.FindLemmas.{no_list, no_list_looks, own_list, own_list_looks}
 use Rattle.pec_network.proofs.network.Network.submit_screened.Goals as goal
@@ -14,7 +13,7 @@ pub returns-then-at-screens-clause-plays : goal.returns-then-at-screens-clause-p
 returns-then-at-screens-clause-plays g c =
     let network = c.args.self.now in
     subst (λ (found : Bool). IsPlayed Submits
-    (λ luck. played (trade_of network.kept (g.S.Sealer.seals network.sealer)) luck (sites network)
+    (λ luck. played (world_of g.S.Sealer.seals network) luck (sites network)
     (Submit c.args.provider c.args.moment c.args.sender.now c.args.path.now c.args.message.now found)) (sites network)
     (sites c.submit.new.self) c.submit.result)
     (no_list g.J.Judge.patterns c.args.screens.now c.args.provider c.args.message.now c.if-at-screens.true)
@@ -24,7 +23,7 @@ pub returns-clause-plays : goal.returns-clause-plays
 returns-clause-plays g c =
     let network = c.args.self.now in
     subst (λ (found : Bool). IsPlayed Submits
-    (λ luck. played (trade_of network.kept (g.S.Sealer.seals network.sealer)) luck (sites network)
+    (λ luck. played (world_of g.S.Sealer.seals network) luck (sites network)
     (Submit c.args.provider c.args.moment c.args.sender.now c.args.path.now c.args.message.now found)) (sites network)
     (sites c.submit-2.new.self) c.submit-2.result)
     (own_list g.J.Judge.patterns c.args.screens.now c.args.provider c.index-screens-at.result c.args.message.now (omega arith))

@@ -6,6 +6,7 @@ use Rattle.pec_directory.specs.Directory.{providers_of}
 use Rattle.pec_records.specs.Entry.{IsWithinLimits}
 use Rattle.pec_points.specs.Case.{case_at}
 use Rattle.pec_plays.specs.Envelopes.{HasEnvelope}
+use Rattle.pec_trade.specs.Houses.{world_at}
 use Rattle.pec_provider.specs.Looking.{Looks}
 use Rattle.pec_provider.proofs.LookLemmas.{handed, still, within_limits}
 use Rattle.pec_records.specs.declared.entries.Entry.{Entry}
@@ -23,8 +24,7 @@ use Rattle.pec_provider.proofs.provider.Provider.admitted.Goals as goal
 
 pub returns-then-not-is_account_of-clause-admits : goal.returns-then-not-is_account_of-clause-admits
 returns-then-not-is_account_of-clause-admits g c =
-    no_account (Entry × Submitted) (trade_of c.args.house.now.directory.now
-    (g.S.Sealer.seals c.args.house.now.sealer.now)) c.args.house.now.me
+    no_account (Entry × Submitted) (world_at c.args.house.now) c.args.house.now.me
     c.args.moment (desk_of c.args.self.now) c.args.sender.now c.args.path.now c.args.message.now
     (finds (g.J.Judge.patterns c.args.screens.now) c.args.message.now)
     (sym c.is_account_of.ensures.value ∙ c.if-not-is_account_of.true)
@@ -108,7 +108,7 @@ returns-clause-follows g c = λ journals.
     ∙ ap (λ cause. entry_by cause c.args.moment c.args.sender.now c.args.path.now c.args.message.now)
     c.in_ok-cause.ensures.cause in
     subst (λ (e : Entry). Meets trade journals me (half trade me c.args.self.now.chronicle.entries) e) (sym entry)
-    (c.what_a_provider_does_may_follow.ensures.submissions trade (c.a_house_is_a_trade.ensures.trade c.requires.fits)
+    (c.what_a_provider_does_may_follow.ensures.submissions trade c.a_house_is_a_trade.ensures.trade
     journals me c.args.moment
     c.args.self.now.chronicle.entries (c.in_ok-at_work.ensures.works kept (g.S.Sealer.seals c.args.house.now.sealer.now) me trade c.requires.runs of).in_time
     c.at_work.ensures.in_range
@@ -137,7 +137,7 @@ returns-clause-limits g c =
 
 pub returns-clause-envelope : goal.returns-clause-envelope
 returns-clause-envelope g c =
-    let trade = trade_of c.args.house.now.directory.now (g.S.Sealer.seals c.args.house.now.sealer.now) in
+    let trade = world_at c.args.house.now in
     subst (HasEnvelope trade) (sym c.in_ok-entry.ensures)
     (c.what_a_provider_takes_is_an_envelope.ensures.submissions trade c.in_ok-cause.cause c.args.moment c.args.sender.now
     c.args.path.now c.args.message.now)

@@ -2,6 +2,7 @@ use Rattle.std.proofs.Common.{ℕ, Ok, refl, subst, sym, ◌∙◌}
 use Rattle.pec_types.specs.declared.turns.Event.{Event}
 use Rattle.pec_types.specs.declared.turns.ProviderFault.TheVariants as faults
 use Rattle.pec_plays.specs.Reception.{arrive}
+use Rattle.pec_trade.specs.Houses.{world_at}
 use Rattle.pec_trade.specs.TradeOf.{trade_of}
 use Rattle.pec_reception.specs.Shows.{Shows}
 use Rattle.pec_provider.specs.Provider.{desk_of}
@@ -28,8 +29,7 @@ returns-in_err-at_work-clause-arrives g c =
 
 pub returns-in_err-at_work-clause-carries : goal.returns-in_err-at_work-clause-carries
 returns-in_err-at_work-clause-carries g c = λ tells journals fit genuine.
-    carries_still g.D.Disk.sight (trade_of c.args.house.now.directory.now
-    (g.S.Sealer.seals c.args.house.now.sealer.now)) journals
+    carries_still g.D.Disk.sight (world_at c.args.house.now) journals
     c.args.house.now.me _ c.args.self.now c.self.view_is (c.stands_still.ensures tells)
 
 pub undertake-requires-clause-step : goal.undertake-requires-clause-step
@@ -49,7 +49,7 @@ undertake-requires-clause-step g c =
     c.in_ok-received.received.entry of shows.0
     works.in_time
     (λ e is. c.what_a_provider_does_is_its_own.ensures.arrivals trade
-    (c.a_house_is_a_trade.ensures.trade c.requires.fits) me c.args.moment journal
+    c.a_house_is_a_trade.ensures.trade me c.args.moment journal
     c.args.frame.now e is)
 
 pub undertake-requires-clause-envelope : goal.undertake-requires-clause-envelope
@@ -106,7 +106,7 @@ returns-in_err-event-clause-carries g c = λ tells journals fit genuine.
     carries_any g.D.Disk.sight trade journals me c.args.self.now.chronicle c.undertake.new.self.chronicle
     c.in_ok-received.received.entry
     (λ e is. c.what_a_provider_does_may_follow.ensures.arrivals trade
-    (c.a_house_is_a_trade.ensures.trade c.requires.fits) journals fit me
+    c.a_house_is_a_trade.ensures.trade journals fit me
     c.args.moment journal works.in_time c.at_work.ensures.in_range c.args.frame.now genuine e (sym shows.0 ∙ is))
     (c.undertake.ensures.carries tells)
 
@@ -145,7 +145,7 @@ returns-clause-carries g c = λ tells journals fit genuine.
     carries_any g.D.Disk.sight trade journals me c.args.self.now.chronicle c.undertake.new.self.chronicle
     c.in_ok-received.received.entry
     (λ e is. c.what_a_provider_does_may_follow.ensures.arrivals trade
-    (c.a_house_is_a_trade.ensures.trade c.requires.fits) journals fit me
+    c.a_house_is_a_trade.ensures.trade journals fit me
     c.args.moment journal works.in_time c.at_work.ensures.in_range c.args.frame.now genuine e (sym shows.0 ∙ is))
     (c.undertake.ensures.carries tells)
 

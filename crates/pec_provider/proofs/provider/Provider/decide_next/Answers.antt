@@ -2,6 +2,7 @@ use Rattle.std.proofs.Common.{ℕ, List, None, Ok, Option, Some, refl, subst, sy
 use Rattle.pec_types.specs.declared.turns.Event.{Event}
 use Rattle.pec_ledger.specs.Pairs.{Pair}
 use Rattle.pec_plays.specs.Decisions.{decide, undecided}
+use Rattle.pec_trade.specs.Houses.{world_at}
 use Rattle.pec_trade.specs.TradeOf.{trade_of}
 use Rattle.pec_reception.specs.Shows.{ShowsNext}
 use Rattle.pec_provider.specs.Provider.{desk_of}
@@ -29,8 +30,7 @@ returns-in_err-at_work-clause-decides g c =
 
 pub returns-in_err-at_work-clause-carries : goal.returns-in_err-at_work-clause-carries
 returns-in_err-at_work-clause-carries g c = λ tells journals.
-    carries_still g.D.Disk.sight (trade_of c.args.house.now.directory.now
-    (g.S.Sealer.seals c.args.house.now.sealer.now)) journals
+    carries_still g.D.Disk.sight (world_at c.args.house.now) journals
     c.args.house.now.me _ c.args.self.now c.self.view_is (c.stands_still.ensures tells)
 
 pub returns-in_default-clause-decides : goal.returns-in_default-clause-decides

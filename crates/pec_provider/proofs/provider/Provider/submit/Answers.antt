@@ -4,6 +4,7 @@ use Rattle.pec_types.specs.declared.turns.ProviderFault.{ProviderFault}
 use Rattle.pec_types.specs.declared.turns.Submitted.{Submitted}
 use Rattle.pec_directory.specs.Directory.{providers_of}
 use Rattle.pec_points.specs.Case.{case_at}
+use Rattle.pec_trade.specs.Houses.{world_at}
 use Rattle.pec_provider.specs.Looking.{Looks}
 use Rattle.pec_provider.proofs.LookLemmas.{behind, handed}
 use Rattle.pec_plays.specs.Commands.{Submit, Submits, played}
@@ -18,7 +19,7 @@ use Rattle.pec_provider.proofs.provider.Provider.submit.Goals as goal
 pub returns-in_err-entry-clause-plays : goal.returns-in_err-entry-clause-plays
 returns-in_err-entry-clause-plays g c =
     let me = c.args.house.now.me in
-    let trade = trade_of c.args.house.now.directory.now (g.S.Sealer.seals c.args.house.now.sealer.now) in
+    let trade = world_at c.args.house.now in
     let desk = desk_of c.args.self.now in
     plays_handed (λ (told : Submitted). Submits told)
     (λ luck sites. played trade luck sites (Submit me c.args.moment c.args.sender.now c.args.path.now
@@ -27,21 +28,20 @@ returns-in_err-entry-clause-plays g c =
 
 pub returns-in_err-entry-clause-carries : goal.returns-in_err-entry-clause-carries
 returns-in_err-entry-clause-carries g c = λ tells journals.
-    carries_still g.D.Disk.sight (trade_of c.args.house.now.directory.now
-    (g.S.Sealer.seals c.args.house.now.sealer.now)) journals
+    carries_still g.D.Disk.sight (world_at c.args.house.now) journals
     c.args.house.now.me _ c.args.self.now c.self.view_is (c.stands_still.ensures tells)
 
 pub append-requires-clause-step : goal.append-requires-clause-step
 append-requires-clause-step g c =
     enters_by c.args.house.now.directory.now c.args.house.now.me c.args.self.now.chronicle.entries c.in_ok-entry.entry
-    (trade_of c.args.house.now.directory.now (g.S.Sealer.seals c.args.house.now.sealer.now))
+    (world_at c.args.house.now)
     (λ p. []) c.a_house_is_a_trade.ensures.of
     (c.in_ok-entry.ensures.follows (λ p. []))
 
 pub returns-in_err-append-clause-plays : goal.returns-in_err-append-clause-plays
 returns-in_err-append-clause-plays g c =
     let me = c.args.house.now.me in
-    let trade = trade_of c.args.house.now.directory.now (g.S.Sealer.seals c.args.house.now.sealer.now) in
+    let trade = world_at c.args.house.now in
     plays_torn (λ (told : Submitted). Submits told)
     (λ luck sites. played trade luck sites (Submit me c.args.moment c.args.sender.now c.args.path.now
     c.args.message.now (finds (g.J.Judge.patterns c.args.screens.now) c.args.message.now))) trade me
@@ -53,8 +53,7 @@ returns-in_err-append-clause-plays g c =
 
 pub returns-in_err-append-clause-carries : goal.returns-in_err-append-clause-carries
 returns-in_err-append-clause-carries g c = λ tells journals.
-    carries_entry g.D.Disk.sight (trade_of c.args.house.now.directory.now
-    (g.S.Sealer.seals c.args.house.now.sealer.now)) journals
+    carries_entry g.D.Disk.sight (world_at c.args.house.now) journals
     c.args.house.now.me c.args.self.now.chronicle c.append.new.self.chronicle c.in_ok-entry.entry
     (c.in_ok-entry.ensures.follows journals)
     (c.append.ensures.carries tells)
@@ -62,7 +61,7 @@ returns-in_err-append-clause-carries g c = λ tells journals.
 pub returns-clause-plays : goal.returns-clause-plays
 returns-clause-plays g c =
     let me = c.args.house.now.me in
-    let trade = trade_of c.args.house.now.directory.now (g.S.Sealer.seals c.args.house.now.sealer.now) in
+    let trade = world_at c.args.house.now in
     plays_done (λ (told : Submitted). Submits told)
     (λ luck sites. played trade luck sites (Submit me c.args.moment c.args.sender.now c.args.path.now
     c.args.message.now (finds (g.J.Judge.patterns c.args.screens.now) c.args.message.now))) trade me
@@ -72,8 +71,7 @@ returns-clause-plays g c =
 
 pub returns-clause-carries : goal.returns-clause-carries
 returns-clause-carries g c = λ tells journals.
-    carries_entry g.D.Disk.sight (trade_of c.args.house.now.directory.now
-    (g.S.Sealer.seals c.args.house.now.sealer.now)) journals
+    carries_entry g.D.Disk.sight (world_at c.args.house.now) journals
     c.args.house.now.me c.args.self.now.chronicle c.append.new.self.chronicle c.in_ok-entry.entry
     (c.in_ok-entry.ensures.follows journals)
     (c.append.ensures.carries tells)

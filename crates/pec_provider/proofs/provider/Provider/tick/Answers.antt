@@ -2,6 +2,7 @@ use Rattle.std.proofs.Common.{[], Global, Vec, ap, refl}
 use Rattle.pec_types.specs.declared.mailboxes.Mark.{Mark}
 use Rattle.pec_records.specs.declared.entries.Entry.TheVariants as entries
 use Rattle.pec_plays.specs.Commands.{Marks, Tick, played}
+use Rattle.pec_trade.specs.Houses.{world_at}
 use Rattle.pec_trade.specs.TradeOf.{trade_of}
 use Rattle.pec_provider.specs.Provider.{desk_of}
 use Rattle.pec_provider.proofs.FollowLemmas.{carries_entry, carries_still}
@@ -23,8 +24,7 @@ returns-in_err-at_work-clause-plays g c =
 
 pub returns-in_err-at_work-clause-carries : goal.returns-in_err-at_work-clause-carries
 returns-in_err-at_work-clause-carries g c = λ tells journals.
-    carries_still g.D.Disk.sight (trade_of c.args.house.now.directory.now
-    (g.S.Sealer.seals c.args.house.now.sealer.now)) journals
+    carries_still g.D.Disk.sight (world_at c.args.house.now) journals
     c.args.house.now.me _ c.args.self.now c.self.view_is (c.stands_still.ensures tells)
 
 pub append-requires-clause-step : goal.append-requires-clause-step

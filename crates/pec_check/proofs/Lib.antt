@@ -1,0 +1,4 @@
+pub mod FindingLemmas
+pub mod GenuineLemmas
+pub mod HomeLemmas
+pub mod PairLemmas

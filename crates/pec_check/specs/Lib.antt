@@ -1,0 +1,5 @@
+pub mod Findings
+pub mod FindingsReading
+pub mod Genuine
+pub mod GenuineReading
+pub mod Views

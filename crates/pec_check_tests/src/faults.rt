@@ -1,0 +1,198 @@
+//! What letters are refused for: for each row of the table of faults a letter, and one for each pair of rows that both
+//! apply. That another provider had to seal a letter comes after all of them.
+
+use crate::houses::House;
+use crate::letters::{Saved, letter_of};
+use pec_check::CheckFault;
+use pec_types::Disputed::{Identifier, Moment, Recipient, Sealer, Sender, Wish};
+use pec_types::LetterFault::{self, Body, Cert, Disagree, Head, NotThis, Seal};
+use std::alloc::Global;
+use std::test::Fail;
+
+/// A fault with what is changed in a letter: everywhere that stands in the place of this.
+type Row = (LetterFault, &'static str, &'static str);
+
+/// A delivery that beta had to seal and alfa sealed.
+const DELIVERY: Saved = ("delivery", 0, "bob@beta.example");
+
+const ENVELOPE: Saved = ("envelope", 0, "");
+
+/// Of the delivery, in the order of the table.
+static DELIVERED: [Row; 10] = [
+    (Head, "MIME-Version: 1.0", "MIME-Version 1.0"),
+    (Body, "--=_pec_0--", "--=_pec_0"),
+    (Cert, "name=\"daticert.xml\"", "name=\"dati.xml\""),
+    (NotThis, "errore=\"nessuno\"", "errore=\"altro\""),
+    (
+        Disagree(Identifier),
+        "<identificativo>pec.0001234",
+        "<identificativo>pec.0001235",
+    ),
+    (Disagree(Sealer), "emittente>alfa<", "emittente>beta<"),
+    (
+        Disagree(Sender),
+        "<mittente>alice@alfa",
+        "<mittente>bob@beta",
+    ),
+    (
+        Disagree(Recipient),
+        "<consegna>bob@beta.example<",
+        "<consegna>anna@alfa.example<",
+    ),
+    (
+        Disagree(Wish),
+        "<ricevuta tipo=\"completa\"/>",
+        "<ricevuta tipo=\"breve\"/>",
+    ),
+    (Disagree(Moment), "<ora>10:01:00", "<ora>10:01:01"),
+];
+
+/// Of the envelope, in the order of the table.
+static ENVELOPED: [Row; 10] = [
+    (Head, "MIME-Version: 1.0", "MIME-Version 1.0"),
+    (Body, "--=_pec_0--", "--=_pec_0"),
+    (Cert, "name=\"daticert.xml\"", "name=\"dati.xml\""),
+    (NotThis, "errore=\"nessuno\"", "errore=\"altro\""),
+    (
+        Disagree(Identifier),
+        "<identificativo>pec.0001234",
+        "<identificativo>pec.0001235",
+    ),
+    (Disagree(Sealer), "emittente>alfa<", "emittente>beta<"),
+    (
+        Disagree(Sender),
+        "<mittente>alice@alfa",
+        "<mittente>bob@beta",
+    ),
+    (
+        Disagree(Recipient),
+        "\"certificato\">bob",
+        "\"esterno\">bob",
+    ),
+    (
+        Disagree(Wish),
+        "<ricevuta tipo=\"completa\"/>",
+        "<ricevuta tipo=\"breve\"/>",
+    ),
+    (Disagree(Moment), "<ora>10:01:00", "<ora>10:01:01"),
+];
+
+/// Letters that say of themselves that they are envelopes too, and so are judged as such.
+static BOTH: [(Saved, Row); 2] = [
+    (
+        ("delivery", 1, "bob@beta.example"),
+        (
+            NotThis,
+            "X-Ricevuta",
+            "X-Trasporto: posta-certificata\r\nX-Ricevuta",
+        ),
+    ),
+    (
+        ("acknowledgement", 1, "bob@beta.example"),
+        (
+            Body,
+            "X-Riscontro",
+            "X-Trasporto: posta-certificata\r\nX-Riscontro",
+        ),
+    ),
+];
+
+/// The tables, by functions without a clause.
+fn delivered() -> &'static [Row] {
+    &DELIVERED
+}
+
+fn enveloped() -> &'static [Row] {
+    &ENVELOPED
+}
+
+fn both() -> &'static [(Saved, Row)] {
+    &BOTH
+}
+
+#[test]
+fn the_first_row_that_applies_to_a_delivery_is_its_fault(rt: HostRuntime) -> Result<(), Fail> {
+    for place in 0..delivered().len() {
+        assert!(rt;
+            is_fault_at(rt.alloc(), &DELIVERY, delivered(), place)?,
+            "row {place}"
+        );
+    }
+    Ok(())
+}
+
+#[test]
+fn the_first_row_that_applies_to_an_envelope_is_its_fault(rt: HostRuntime) -> Result<(), Fail> {
+    for place in 0..enveloped().len() {
+        assert!(rt;
+            is_fault_at(rt.alloc(), &ENVELOPE, enveloped(), place)?,
+            "row {place}"
+        );
+    }
+    Ok(())
+}
+
+#[test]
+fn a_letter_that_says_both_is_judged_as_an_envelope(rt: HostRuntime) -> Result<(), Fail> {
+    for (saved, row) in both() {
+        assert!(rt; is_fault_at(rt.alloc(), saved, &[*row], 0)?, "{}", saved.0);
+    }
+    Ok(())
+}
+
+#[test]
+fn a_changed_byte_and_a_text_that_nobody_sealed_open_not(rt: HostRuntime) -> Result<(), Fail> {
+    assert!(rt; opens_not(rt.alloc(), &ENVELOPE)?);
+    assert!(rt; opens_not(rt.alloc(), &DELIVERY)?);
+    Ok(())
+}
+
+/// Whether the row of this place is the fault of the letter to which it applies, also where a later one applies too.
+fn is_fault_at(alloc: Global, saved: &Saved, rows: &[Row], place: usize) -> Result<bool, Fail> {
+    let Some((row, later)) = parted(rows, place) else {
+        return Ok(false);
+    };
+    let letter = letter_of(alloc, saved)?;
+    let text = letter.replace(alloc, row.1, row.2)?;
+    if !has_fault(alloc, saved.1, text.as_str(), row.0)? {
+        return Ok(false);
+    }
+    for (_, from, to) in later {
+        let text = text.replace(alloc, *from, *to)?;
+        if !has_fault(alloc, saved.1, text.as_str(), row.0)? {
+            return Ok(false);
+        }
+    }
+    Ok(true)
+}
+
+/// The row at a place, and those behind it.
+fn parted(rows: &[Row], place: usize) -> Option<(&Row, &[Row])> {
+    match rows.get(place..) {
+        Some([row, later @ ..]) => Some((row, later)),
+        _ => None,
+    }
+}
+
+fn has_fault(alloc: Global, by: u32, text: &str, fault: LetterFault) -> Result<bool, Fail> {
+    let house = House::new(alloc)?;
+    let sealed = house.sealed(alloc, by, text)?;
+    Ok(is_refused(alloc, &house, &sealed, fault))
+}
+
+fn is_refused(alloc: Global, house: &House, text: &[u8], fault: LetterFault) -> bool {
+    house.check(alloc, text).err() == Some(CheckFault::Letter(fault))
+}
+
+/// Whether a letter isn't opened where its last byte is another, and without its seal.
+fn opens_not(alloc: Global, saved: &Saved) -> Result<bool, Fail> {
+    let house = House::new(alloc)?;
+    let letter = letter_of(alloc, saved)?;
+    let mut text = house.sealed(alloc, saved.1, letter.as_str())?;
+    text.pop();
+    text.push(b'\r')?;
+    Ok(
+        is_refused(alloc, &house, &text, Seal)
+            && is_refused(alloc, &house, letter.as_str().as_bytes(), Seal),
+    )
+}

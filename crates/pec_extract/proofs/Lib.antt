@@ -1,0 +1,2 @@
+pub mod ReadBackLemmas
+pub mod WritingLemmas

@@ -1,0 +1,11 @@
+-- The tables that were made and those of the records that are left are together all of them.
+use Rattle.std.proofs.Common.{◌≡◌, ◌++◌, length, map}
+use Rattle.toml.specs.View.{view}
+use Rattle.pec_ldif.specs.Tables.{account_tables}
+use Rattle.pec_ldif.proofs.tables.account_values.Given as goal
+
+abbrev pub invariant-loop-rest : goal.invariant-loop-rest
+invariant-loop-rest l = map view l.values.items ++ account_tables l.rest ≡ account_tables l.entries
+
+abbrev pub decreases-loop-rest : goal.decreases-loop-rest
+decreases-loop-rest l = length l.rest

@@ -1,0 +1,143 @@
+-- A run that goes by clock calls: its steps are calls, and it can't stray.
+use Rattle.std.proofs.Common.{◌≡◌, ◌≢◌, ℕ, zero, suc, ◌+◌, ◌≤◌, inl, inr, List, [], ◌∷◌, ◌++◌, map, refl, ap, sym, subst, ◌∙◌, Option, Some, None}
+use Rattle.std.specs.Prelude.{slice_get}
+use Rattle.pec_types.specs.Bytes.{Bytes}
+use Rattle.pec_outside.specs.Flow.{WrotePart, followed_by}
+use Rattle.pec_directory.specs.Directory.{Provider}
+use Rattle.pec_ledger.specs.Trade.{Trade}
+use Rattle.pec_plays.specs.Commands.{Command, Luck, Restart, played}
+use Rattle.pec_runs.specs.AnswerLines.{answer_text}
+use Rattle.pec_runs.specs.Ran.{LeavesOff}
+use Rattle.pec_runs.specs.Steps.{Act, AreSteps, EndsSo, Goes, GoesAstray, Hands, IsStep, Plays, Point, Step, Stop, Writes}
+use Rattle.pec_runs.specs.Steps.{acts_of, next_of, text_of}
+use Rattle.pec_runs.specs.Steps as steps
+use Rattle.pec_service.specs.Calls.{AreCalls, CallsEnd, ClockWent, State, calls_by, calls_text}
+use Rattle.pec_service.specs.Calls.{clock_from, commands_of, seen, state_behind}
+
+-- ---- steps are calls
+
+module _ (trade : Trade) (providers : List Provider) {D : Type 0} where
+  -- What is said of a front of the commands that are due: which calls it was, and which commands are left.
+  record Front (here : steps.State D) (some : List (Step D)) (left : List Act) (due : List Command) : Type 0 where
+    unplayed : List Command
+    left_is : left ≡ map Plays unplayed
+    plays : commands_of (calls_by some) ++ unplayed ≡ due
+    are : AreCalls trade (seen here) (calls_by some)
+    behind : state_behind (seen here) (calls_by some) ≡ seen (steps.state_behind here some)
+    text : calls_text trade providers (seen here) (calls_by some) ≡ text_of trade providers here some
+
+  nothing_done : (here : steps.State D) (left : List Act) (due : List Command) → left ≡ map Plays due → Front here [] left due
+  nothing_done here left due is =
+      record { unplayed = due; left_is = is; plays = refl; are = tt; behind = refl; text = refl }
+
+  one_more : (here behind : steps.State D) (command : Command) (luck : Luck) (some : List (Step D)) (left : List Act)
+      (due : List Command) → IsStep trade here (Plays command) luck behind → Front behind some left due
+      → Front here (record { act = Plays command; luck = luck; behind = behind } ∷ some) left (command ∷ due)
+  one_more here behind command luck some left due is front = record {
+    unplayed = front.unplayed;
+    left_is = front.left_is;
+    plays = ap (λ (l : List Command). command ∷ l) front.plays;
+    are = (is, front.are);
+    behind = front.behind;
+    text = ap (λ (t : Bytes). answer_text providers (played trade luck here.sites command).answer ++ t) front.text;
+  }
+
+  front_of : (here : steps.State D) (some : List (Step D)) (left : List Act) (due : List Command)
+      → acts_of some ++ left ≡ map Plays due → AreSteps trade here some → Front here some left due
+  front_of here [] left due is are = nothing_done here left due is
+  front_of here (step ∷ some) left [] is are = cc
+  front_of here (step ∷ some) left (command ∷ due) is are =
+      let act : step.act ≡ Plays command = cc
+      in let rest : acts_of some ++ left ≡ map Plays due = cc
+      in subst (λ (a : Act). Front here (record { act = a; luck = step.luck; behind = step.behind } ∷ some) left
+      (command ∷ due)) (sym act)
+      (one_more here step.behind command step.luck some left due
+      (subst (λ (a : Act). IsStep trade here a step.luck step.behind) act are.0)
+      (front_of step.behind some left due rest are.1))
+
+-- ---- what comes next
+
+next_is : (unplayed : List Command) → next_of (map Plays unplayed) ≡ slice_get unplayed 0
+next_is [] = refl
+next_is (command ∷ unplayed) = refl
+
+-- no command that is due behind others is a restart
+pub NoRestart : List Command → Type 0
+NoRestart [] = Unit {0}
+NoRestart (command ∷ due) = ((provider : ℕ) → command ≢ Restart provider) × NoRestart due
+
+clock_is : (more from moment : ℕ) → NoRestart (clock_from more from moment)
+unfolding NoRestart
+clock_is zero from moment = (λ p e. cc, tt)
+clock_is (suc more) from moment = (λ p e. cc, clock_is more (from + 1) moment)
+
+behind_is : (some unplayed : List Command) → NoRestart (some ++ unplayed) → NoRestart unplayed
+unfolding NoRestart
+behind_is [] unplayed none = none
+behind_is (command ∷ some) unplayed none = behind_is some unplayed none.1
+
+not_next : (unplayed : List Command) (provider : ℕ) → NoRestart unplayed
+    → next_of (map Plays unplayed) ≡ Some (Restart provider) → ⊥
+unfolding NoRestart
+not_next [] provider none is = cc
+not_next (command ∷ unplayed) provider none is = none.0 provider cc
+
+-- ---- the law
+
+module _ (trade : Trade) (providers : List Provider) (tells : Type 0) {D : Type 0} (due : List Command) (none : NoRestart due)
+    (here there : Point D) where
+  module _ (some : List (Step D)) (left : List Act) (front : Front trade providers here.state some left due)
+      (since : (p : ℕ) → (steps.state_behind here.state some).counts p ≤ there.state.counts p) where
+    held_is : there.held ≡ followed_by here.held (text_of trade providers here.state some)
+        → there.held ≡ followed_by here.held (calls_text trade providers (seen here.state) (calls_by some))
+    held_is is = is ∙ ap (followed_by here.held) (sym front.text)
+
+    ends_so : (stop : Option Stop) → EndsSo trade providers tells (steps.state_behind here.state some)
+        (text_of trade providers here.state some) left here.held there stop
+        → CallsEnd trade providers (seen here.state) (calls_by some) front.unplayed here.held there stop
+    ends_so None ends = (no_more front.unplayed (sym front.left_is ∙ ends.0), front.behind ∙ ap seen (sym ends.1), held_is ends.2)
+      where
+        no_more : (unplayed : List Command) → map Plays unplayed ≡ [] → unplayed ≡ []
+        no_more [] e = refl
+        no_more (command ∷ unplayed) e = cc
+    ends_so (Some steps.WriteFault) ends = (
+      front.behind ∙ ap seen (sym ends.0),
+      subst (λ (t : Bytes). WrotePart here.held there.held t) (sym front.text) ends.1,
+    )
+    ends_so (Some steps.ReadFault) ends = (front.behind ∙ ap seen (sym ends.1), held_is ends.2)
+    ends_so (Some steps.NoMemory) ends = (
+      subst (λ (s : State). LeavesOff trade s.sites (slice_get front.unplayed 0) there.state.sites) (sym front.behind)
+          (subst (λ (n : Option Command). LeavesOff trade (steps.state_behind here.state some).sites n there.state.sites)
+          (ap next_of front.left_is ∙ next_is front.unplayed) ends.1),
+      held_is ends.2,
+      subst (λ (s : State). (p : ℕ) → s.counts p ≤ there.state.counts p) (sym front.behind) since,
+    )
+
+    not_astray : GoesAstray trade providers tells (steps.state_behind here.state some)
+        (text_of trade providers here.state some) left here.held there → ⊥
+    not_astray astray =
+        not_next front.unplayed astray.strays.provider
+        (behind_is (commands_of (calls_by some)) front.unplayed (subst NoRestart (sym front.plays) none))
+        (sym (ap next_of front.left_is) ∙ astray.strays.restarts)
+
+  pub went : (stop : Option Stop) → Goes trade providers tells (map Plays due) here there stop
+      → ClockWent trade providers due here there stop
+  went stop goes =
+      let front = front_of trade providers here.state goes.steps goes.left due goes.acts_are goes.each
+      in record {
+        calls = calls_by goes.steps;
+        unplayed = front.unplayed;
+        plays = front.plays;
+        are = front.are;
+        ends = elim goes.ends [
+          | inl ends ↦ ends_so goes.steps goes.left front goes.since stop ends
+          | inr astray ↦ absurd (not_astray goes.steps goes.left front goes.since astray)
+        ];
+      }
+
+pub clock_went : (trade : Trade) (providers : List Provider) (tells : Type 0) {D : Type 0} (more from moment : ℕ)
+    (here there : Point D) (stop : Option Stop)
+    → Goes trade providers tells (map Plays (clock_from more from moment)) here there stop
+    → ClockWent trade providers (clock_from more from moment) here there stop
+clock_went trade providers tells more from moment here there stop goes =
+    went trade providers tells (clock_from more from moment) (clock_is more from moment) here there stop goes
