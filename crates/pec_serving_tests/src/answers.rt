@@ -2,8 +2,7 @@
 
 use crate::services::{Came, Service, served};
 use pec_serving::Ending;
-use std::alloc::{AllocError, Global};
-use std::test::Fail;
+use std::alloc::Global;
 
 /// What is written to a connection: the status with its phrase, and the body, a text; where there is no status, nothing.
 /// Whether the connection has faults: then a front of it is written.
@@ -16,29 +15,42 @@ pub(crate) fn comes(
     lines: &str,
     answers: &[Answer],
     ending: Ending,
-) -> Result<bool, Fail> {
-    let came = served(alloc, service)?;
-    let wanted = named(alloc, lines)?;
-    if came.ending != ending || came.output.bytes() != wanted.as_bytes() {
-        return Ok(false);
+) -> bool {
+    match served(alloc, service) {
+        Some(came) => {
+            came.ending == ending
+                && wrote(alloc, &came, lines)
+                && are_replied(alloc, &came, answers)
+        }
+        None => false,
     }
-    Ok(are_replied(alloc, &came, answers)?)
+}
+
+/// Whether these lines were written.
+fn wrote(alloc: Global, came: &Came, lines: &str) -> bool {
+    let wanted = named(alloc, lines);
+    came.devices.output.bytes() == wanted.as_bytes()
 }
 
 /// Whether these are the replies, in order, and no others.
-fn are_replied(alloc: Global, came: &Came, answers: &[Answer]) -> Result<bool, AllocError> {
-    let replies = came.door.replies();
-    let raised = came.door.raised();
+fn are_replied(alloc: Global, came: &Came, answers: &[Answer]) -> bool {
+    let replies = came.devices.door.replies();
+    let raised = came.devices.door.raised();
     if replies.len() != answers.len() || raised.len() != answers.len() {
-        return Ok(false);
+        return false;
     }
     for (place, answer) in answers.iter().enumerate() {
-        let text = text_of(alloc, *answer)?;
-        if raised[place] != answer.2 || !is_written(&text, replies[place].bytes(), answer.2) {
-            return Ok(false);
+        if !is_replied(alloc, replies[place].bytes(), raised[place], answer) {
+            return false;
         }
     }
-    Ok(true)
+    true
+}
+
+/// Whether this was written to a connection for an answer, and it has faults where the answer says so.
+fn is_replied(alloc: Global, written: &[u8], raised: bool, answer: &Answer) -> bool {
+    let text = text_of(alloc, answer);
+    raised == answer.2 && is_written(text.as_bytes(), written, answer.2)
 }
 
 /// Whether the text was written, or over a faulty connection a front of it.
@@ -49,30 +61,43 @@ fn is_written(text: &[u8], written: &[u8], faulty: bool) -> bool {
     text == written
 }
 
-/// The text of an answer (RFC 9112).
-fn text_of(alloc: Global, answer: Answer) -> Result<Vec<u8>, AllocError> {
-    let (status, body, _) = answer;
-    if status.is_empty() {
-        return Ok(Vec::new(alloc));
+/// The text of an answer (RFC 9112). Where memory is wanting it lacks a piece, and isn't what comes.
+fn text_of(alloc: Global, answer: &Answer) -> String {
+    let mut text = String::new(alloc);
+    if !answer.0.is_empty() {
+        let body = named(alloc, answer.1);
+        put(&mut text, "HTTP/1.1 ");
+        put(&mut text, answer.0);
+        put(
+            &mut text,
+            "\r\ncontent-type: text/plain\r\ncontent-length: ",
+        );
+        put_number(alloc, &mut text, body.len());
+        put(&mut text, "\r\nconnection: close\r\n\r\n");
+        put(&mut text, body.as_str());
     }
-    let body = named(alloc, body)?;
-    let length = body.len().to_string(alloc)?;
-    let mut text = first_lines(alloc, status)?;
-    text.extend_from_slice(length.as_bytes())?;
-    text.extend_from_slice(b"\r\nconnection: close\r\n\r\n")?;
-    text.extend_from_slice(body.as_bytes())?;
-    Ok(text)
+    text
 }
 
-fn first_lines(alloc: Global, status: &str) -> Result<Vec<u8>, AllocError> {
-    let mut text = Vec::from_slice(alloc, b"HTTP/1.1 ")?;
-    text.extend_from_slice(status.as_bytes())?;
-    text.extend_from_slice(b"\r\ncontent-type: text/plain\r\ncontent-length: ")?;
-    Ok(text)
+fn put(text: &mut String, words: &str) {
+    let _ = text.push_str(words);
+}
+
+fn put_number(alloc: Global, text: &mut String, number: usize) {
+    if let Ok(digits) = number.to_string(alloc) {
+        put(text, digits.as_str());
+    }
 }
 
 /// A text in which `I0` and `I1` are the first messages of alfa.
-fn named(alloc: Global, text: &str) -> Result<String, AllocError> {
-    let text = text.replace(alloc, "I0", "pec.0000000@alfa.example")?;
-    text.replace(alloc, "I1", "pec.0000001@alfa.example")
+fn named(alloc: Global, text: &str) -> String {
+    let text = replaced(alloc, text, "I0", "pec.0000000@alfa.example");
+    replaced(alloc, text.as_str(), "I1", "pec.0000001@alfa.example")
+}
+
+fn replaced(alloc: Global, text: &str, words: &str, instead: &str) -> String {
+    match text.replace(alloc, words, instead) {
+        Ok(text) => text,
+        Err(_) => String::new(alloc),
+    }
 }

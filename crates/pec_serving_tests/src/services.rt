@@ -13,7 +13,6 @@ use pec_serving::{Ending, Network, serve};
 use pec_trade::sealer_of;
 use pec_types::{Moment, Text8};
 use std::alloc::{AllocError, Global};
-use std::test::Fail;
 
 /// A request, whose lines end at `|`, and the numbers of the reads and writes of its connection that fail.
 pub(crate) type Meeting = (&'static str, &'static [u64]);
@@ -30,37 +29,86 @@ pub(crate) struct Service<'a> {
     pub(crate) screened: bool,
 }
 
-/// What came of a service. Door and output keep what was written.
-#[derive(Drop)]
-pub(crate) struct Came {
-    pub(crate) ending: Ending,
+/// The clock, the door and the output of a service. Door and output keep what was written.
+pub(crate) struct Devices {
+    ticks: MemTicks,
     pub(crate) door: MemDoor,
     pub(crate) output: MemSink,
 }
 
-/// Serves over a new network. The clock goes on by a second from one connection to the next.
-pub(crate) fn served(alloc: Global, service: &Service<'_>) -> Result<Came, Fail> {
-    let mut door = door_of(alloc, service)?;
-    let mut ticks = clock_of(alloc, service.clock)?;
-    let mut output = MemSink::new(alloc, Vec::from_slice(alloc, service.output)?);
-    let screens = screens_of(alloc, service.screened)?;
-    let Some(network) = new_network(alloc) else {
-        return Err("no network".into());
-    };
-    let (_, ending) = serve(
-        alloc,
-        network,
-        screens,
-        &mut ticks,
-        &mut door,
-        &mut output,
-        service.wanted,
-    );
-    Ok(Came {
-        ending,
-        door,
-        output,
-    })
+impl Drop for Devices {
+    fn drop(self) {
+        let Devices {
+            ticks: _,
+            door: _,
+            output: _,
+        } = self;
+    }
+}
+
+/// What came of a service.
+pub(crate) struct Came {
+    pub(crate) ending: Ending,
+    pub(crate) devices: Devices,
+}
+
+impl Drop for Came {
+    fn drop(self) {
+        let Came {
+            ending: _,
+            devices: _,
+        } = self;
+    }
+}
+
+/// Serves over a new network; none where memory is wanting. The clock goes on by a second from one connection to the
+/// next.
+pub(crate) fn served(alloc: Global, service: &Service<'_>) -> Option<Came> {
+    let devices = Devices::of(alloc, service)?;
+    match new_network(alloc) {
+        Some(network) => devices.serving(alloc, service, network),
+        None => None,
+    }
+}
+
+impl Devices {
+    fn of(alloc: Global, service: &Service<'_>) -> Option<Devices> {
+        let ticks = clock_of(alloc, service.clock)?;
+        Some(Devices {
+            ticks,
+            door: door_of(alloc, service),
+            output: MemSink::new(alloc, calls(alloc, service.output)),
+        })
+    }
+
+    /// Serves over a network.
+    fn serving(
+        mut self,
+        alloc: Global,
+        service: &Service<'_>,
+        network: Network<MemDisk, HmacSealer>,
+    ) -> Option<Came>
+        requires { Fits (⟦<HmacSealer as Sealer>⟧.seals network.sealer) (providers_of network.kept) }
+    {
+        match screens_of(alloc, service.screened) {
+            Ok(screens) => {
+                let (_, ending) = serve(
+                    alloc,
+                    network,
+                    screens,
+                    &mut self.ticks,
+                    &mut self.door,
+                    &mut self.output,
+                    service.wanted,
+                );
+                Some(Came {
+                    ending,
+                    devices: self,
+                })
+            }
+            Err(_) => None,
+        }
+    }
 }
 
 /// A network over empty disks.
@@ -72,46 +120,56 @@ fn new_network(alloc: Global) -> Option<Network<MemDisk, HmacSealer>>
     let sealer = sealer_of(alloc, &directory).ok()?;
     let mut depot = MemDepot::new(alloc, Vec::new(alloc), Vec::new(alloc));
     match Network::create(alloc, directory, sealer, &mut depot) {
-        Ok(network) => return Some(network),
-        Err(_) => return None,
+        Ok(network) => Some(network),
+        Err(_) => None,
     }
 }
 
-fn door_of(alloc: Global, service: &Service<'_>) -> Result<MemDoor, AllocError> {
+fn door_of(alloc: Global, service: &Service<'_>) -> MemDoor {
     let mut requests = Vec::new(alloc);
     let mut broken = Vec::new(alloc);
     for (request, failing) in service.meetings {
-        requests.push(bytes_of(alloc, request)?)?;
-        broken.push(Vec::from_slice(alloc, failing)?)?;
+        let _ = requests.push(bytes_of(alloc, request));
+        let _ = broken.push(calls(alloc, failing));
     }
-    let failing = Vec::from_slice(alloc, service.door)?;
-    Ok(MemDoor::new(alloc, requests, failing, broken))
+    MemDoor::new(alloc, requests, calls(alloc, service.door), broken)
+}
+
+/// Numbers of calls. Where memory is wanting they aren't there, and what comes isn't what has to.
+fn calls(alloc: Global, failing: &[u64]) -> Vec<u64> {
+    let mut calls = Vec::new(alloc);
+    let _ = calls.extend_from_slice(failing);
+    calls
 }
 
 /// A clock that begins at 1704186000.
-fn clock_of(alloc: Global, failing: &[u64]) -> Result<MemTicks, Fail> {
+fn clock_of(alloc: Global, failing: &[u64]) -> Option<MemTicks> {
     let mut moments = Vec::new(alloc);
     for second in 0..10 {
-        let moment = Moment::new(1_704_186_000 + second).ok_or("no moment")?;
-        moments.push(moment)?;
+        add_moment(&mut moments, 1_704_186_000 + second);
     }
     if moments.is_empty() {
-        return Err("no moments".into());
+        return None;
     }
-    Ok(MemTicks::new(alloc, moments, Vec::from_slice(alloc, failing)?))
+    Some(MemTicks::new(alloc, moments, calls(alloc, failing)))
+}
+
+fn add_moment(moments: &mut Vec<Moment>, seconds: u64) {
+    if let Some(moment) = Moment::new(seconds) {
+        let _ = moments.push(moment);
+    }
 }
 
 /// The screens of alfa: one of the pattern of a virus, or none.
 fn screens_of(alloc: Global, screened: bool) -> Result<Vec<Screens>, AllocError> {
     let mut boxes: Vec<Box<dyn Screen>> = Vec::new(alloc);
     if screened {
-        let pattern = Text8::of(Vec::from_slice(alloc, b"PEC-VIRUS-DI-PROVA")?);
-        let screen: Box<dyn Screen> = Box::new(
-            alloc,
-            PatternScreen::new(vec![in alloc; pattern]?),
-        )?;
-        boxes = vec![in alloc; screen]?;
+        boxes.push(Box::new(alloc, pattern_screen(alloc)?)?)?;
     }
-    let screens = vec![in alloc; Screens::new(boxes)]?;
-    Ok(screens)
+    Ok(vec![in alloc; Screens::new(boxes)]?)
+}
+
+fn pattern_screen(alloc: Global) -> Result<PatternScreen, AllocError> {
+    let pattern = Text8::of(Vec::from_slice(alloc, b"PEC-VIRUS-DI-PROVA")?);
+    Ok(PatternScreen::new(vec![in alloc; pattern]?))
 }
