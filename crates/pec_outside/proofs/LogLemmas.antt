@@ -3,7 +3,7 @@ use Rattle.std.proofs.Common.{◌≡◌, ◌<◌, List, [], ◌∷◌, ◌++◌,
 use Rattle.std.proofs.lemmas.List.{map-append}
 use Rattle.pec_outside.specs.declared.disk_log.DiskLog.{DiskLog}
 use Rattle.pec_outside.specs.declared.disk_log.Step as program
-use Rattle.pec_outside.specs.DiskLog.{step_of, steps_of, Goes}
+use Rattle.pec_outside.specs.DiskLog.{step_of, steps_of, Goes, Keeps}
 use Rattle.pec_outside.specs.MemoryDisk.{Step, Held, settled, after, after_all, held_of}
 
 after_all-push : (held : Held) (log : List Step) (step : Step) → after_all held (log ++ step ∷ []) ≡ after (after_all held log) step
@@ -27,3 +27,10 @@ goes old new kept step is pushed bytes pending room =
       log = record { bytes = bytes ∙ ap (λ (h : Held). h.bytes) (sym held); pending = pending ∙ ap (λ (h : Held). h.pending) (sym held); room = room };
       steps = steps;
     }
+
+-- a step behind the making of room
+pub kept_goes : (old mid new : DiskLog) (step : Step) → Keeps old mid → Goes mid step new → Goes old step new
+kept_goes old mid new step kept gone = record {
+  log = gone.log;
+  steps = gone.steps ∙ ap (λ items. map step_of items ++ step ∷ []) kept.steps;
+}

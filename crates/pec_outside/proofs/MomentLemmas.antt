@@ -1,5 +1,5 @@
 -- Lemmas on moments: what a crash leaves since an earlier moment, after a write and after calls that write nothing.
-use Rattle.std.proofs.Common.{◌⊎◌, inl, inr, ⊎_elim, ℕ, List, refl, sym, subst, arith}
+use Rattle.std.proofs.Common.{inl, inr, ⊎_elim, ℕ, List, refl, sym, subst, arith}
 use Rattle.pec_outside.specs.DiskModel.{Sight, Only, Torn, Tears, Rests, LeavesOnly}
 
 -- a write over bytes that no crash changes

@@ -1,6 +1,6 @@
 -- Disks in memory: the log of their calls, and what it says of the bytes and of a crash. The headlines are `Step`,
 -- `after`, which says what each step does, and `sight_of`, at the end. This project's profile.
-use Rattle.std.specs.Prelude.{◌≡◌, ◌⊎◌, ℕ, ◌+◌, ◌-◌, ◌≤◌, min, nat_lt, nat_le, ◌==◌, ◌&&◌, Bool, true, false, if◌then◌else◌, List, [], ◌∷◌, ◌++◌, length, take}
+use Rattle.std.specs.Prelude.{◌≡◌, ◌⊎◌, ℕ, zero, suc, ◌+◌, ◌-◌, ◌≤◌, min, nat_lt, nat_le, ◌==◌, ◌&&◌, Bool, true, false, if◌then◌else◌, List, [], ◌∷◌, ◌++◌, length, take}
 use Rattle.std.specs.List.{list_any}
 use Rattle.pec_outside.specs.declared.disk_log.Span.{Span}
 use Rattle.pec_outside.specs.DiskModel.{Sight, Torn, written}
@@ -86,6 +86,12 @@ held_of log = after_all (settled []) log
 -- a crash of a disk with this log, which says nothing where nothing is pending
 abbrev pub after_crash : List Step → ℕ → List Step
 after_crash log kept = if length (held_of log).pending == 0 then log else log ++ crashed kept ∷ []
+
+-- the log up to the call of that number; crashes between are no calls
+abbrev pub front_of : ℕ → List Step → List Step
+front_of calls [] = []
+front_of zero (step ∷ log) = []
+front_of (suc calls) (step ∷ log) = step ∷ front_of (if is_call step then calls else suc calls) log
 
 -- Some front of the log, of at least so many steps, is one after which a crash may leave this image.
 pub record LeftSince (log : List Step) (since : ℕ) (image : List ℕ) : Type 0 where

@@ -5,7 +5,6 @@ use crate::streams::Failed;
 use std::marker::Model;
 
 /// The calls of a memory form: how many were made, which of them fail, and how many did.
-#[derive(Drop)]
 pub struct Calls {
     made: u64,
     failing: Vec<u64>,
@@ -16,6 +15,16 @@ impl Model for Calls {
     ghost Value = { CallState };
 
     ghost view = { λ calls. record { made = calls.made; failing = calls.failing.items; faults = calls.faults } };
+}
+
+impl Drop for Calls {
+    fn drop(self) {
+        let Calls {
+            made: _,
+            failing: _,
+            faults: _,
+        } = self;
+    }
 }
 
 impl Calls {

@@ -1,7 +1,7 @@
-ghost use Rattle.std.specs.Prelude.{◌≡◌, ℕ, ◌+◌, ◌-◌, ◌<◌, ◌≤◌, nat_le, nat_lt, ◌&&◌, List, [], ◌∷◌, ◌++◌, length, drop, OnOk, vec_len, vec_capacity, if◌then◌else◌};
+ghost use Rattle.std.specs.Prelude.{◌≡◌, ℕ, ◌+◌, ◌-◌, ◌<◌, ◌≤◌, nat_le, nat_lt, ◌&&◌, List, [], ◌∷◌, ◌++◌, length, drop, IfOk, OnOk, vec_len, vec_capacity, if◌then◌else◌};
 ghost use Rattle.std.specs.List.{count_by};
 ghost use Rattle.pec_outside.specs.DiskModel.{written};
-ghost use Rattle.pec_outside.specs.MemoryDisk.{is_pending, crash_image, lost_byte, after_crash, is_call, looked, wrote, synced, crashed};
+ghost use Rattle.pec_outside.specs.MemoryDisk.{is_pending, crash_image, lost_byte, after_crash, front_of, is_call, looked, wrote, synced, crashed};
 ghost use Rattle.pec_outside.specs.DiskLog.{step_of, steps_of, IsLog, HasRoom, Keeps, Goes};
 
 use std::alloc::{AllocError, Global};
@@ -51,16 +51,36 @@ impl Step {
             Step::Crash { .. } => false,
         }
     }
+
+    // Of so many calls, how many are left behind this step.
+    fn left_behind(&self, calls: usize) -> usize
+        ensures { result ≡ (if is_call (step_of self.now) then calls - 1 else calls) }
+    {
+        if self.is_call() {
+            calls.saturating_sub(1)
+        } else {
+            calls
+        }
+    }
 }
 
 /// The bytes of a disk in memory, and how they came to be. This project's profile.
-#[derive(Drop)]
 pub(crate) struct DiskLog {
     pub(crate) bytes: Vec<u8>,
     // What was written since the last sync that was answered, or since a crash.
     pub(crate) pending: Vec<Span>,
     // Each call and crash. While a span is pending there is room for one more, since a crash takes no memory.
     pub(crate) steps: Vec<Step>,
+}
+
+impl Drop for DiskLog {
+    fn drop(self) {
+        let DiskLog {
+            bytes: _,
+            pending: _,
+            steps: _,
+        } = self;
+    }
 }
 
 impl DiskLog {
@@ -141,6 +161,66 @@ impl DiskLog {
         if self.pending.is_empty() {
             return;
         }
+        self.crash_now(kept);
+    }
+
+    /// The log up to the call of that number: each step is done again.
+    pub(crate) fn front(&self, alloc: Global, calls: usize) -> Result<DiskLog, AllocError>
+        ensures log { IfOk result IsLog }
+        ensures steps { IfOk result (λ log. steps_of log ≡ front_of calls (steps_of self.now)) }
+    {
+        let mut log = DiskLog::new(alloc);
+        let mut left = calls;
+        for step in self.steps.as_slice() {
+            if left == 0 {
+                return Ok(log);
+            }
+            log.repeat(alloc, step)?;
+            left = step.left_behind(left);
+        }
+        Ok(log)
+    }
+
+    // A step of another log, done again here.
+    fn repeat(&mut self, alloc: Global, step: &Step) -> Result<(), AllocError>
+        requires { IsLog self.old }
+        ensures { OnOk result (Goes self.old (step_of step.now) self.new) }
+    {
+        match step {
+            Step::Look => {
+                self.reserve(0)?;
+                self.look();
+                Ok(())
+            }
+            Step::Write {
+                at,
+                piece,
+                answered,
+            } => {
+                let copy = Vec::from_slice(alloc, piece.as_slice())?;
+                self.reserve(copy.len())?;
+                self.write(*at, copy, *answered);
+                Ok(())
+            }
+            Step::Sync { answered } => {
+                self.reserve(0)?;
+                self.sync(*answered);
+                Ok(())
+            }
+            Step::Crash { kept } => {
+                self.reserve(0)?;
+                self.crash_now(*kept);
+                Ok(())
+            }
+        }
+    }
+
+    // A crash that is kept among the steps, with something pending or not.
+    fn crash_now(&mut self, kept: u64)
+        requires log { IsLog self.old }
+        requires room { vec_len self.old.steps < vec_capacity self.old.steps }
+        ensures { Goes self.old (crashed kept) self.new }
+    {
         lose(&mut self.bytes, self.pending.as_slice(), kept);
         self.pending.clear();
         self.steps.push_reserved(Step::Crash { kept });

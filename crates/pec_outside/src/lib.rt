@@ -1,5 +1,6 @@
 //! The outside as the program sees it: where bytes come from and where they go.
 //! What reads or writes is generic over these traits. The memory forms tell what they hold, and fail where they are told.
+//! Their drops are written out, so that to drop one is a call wherever it is done, and not the drops of all that it holds.
 #![tactic(auto)]
 
 mod calls;
@@ -9,6 +10,7 @@ mod disk;
 mod disk_log;
 mod door;
 mod durable;
+mod laws;
 mod mem_connection;
 mod mem_depot;
 mod mem_disk;
@@ -27,6 +29,7 @@ pub use depot::Depot;
 pub use disk::Disk;
 pub use door::Door;
 pub use durable::write_through;
+pub use laws::an_image_is_one_that_a_crash_leaves;
 pub use mem_connection::MemConnection;
 pub use mem_depot::MemDepot;
 pub use mem_disk::MemDisk;

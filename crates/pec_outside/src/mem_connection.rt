@@ -11,7 +11,6 @@ use std::alloc::Global;
 use std::marker::Model;
 
 /// A connection in memory, of a `MemDoor`. This project's profile.
-#[derive(Drop)]
 pub struct MemConnection {
     request: Unread,
     written: Vec<u8>,
@@ -26,6 +25,16 @@ impl Model for MemConnection {
       bytes = connection.written.items;
       calls = connection.calls;
     } };
+}
+
+impl Drop for MemConnection {
+    fn drop(self) {
+        let MemConnection {
+            request: _,
+            written: _,
+            calls: _,
+        } = self;
+    }
 }
 
 impl MemConnection {
@@ -51,7 +60,12 @@ impl MemConnection {
     pub(crate) fn into_written(self) -> Vec<u8>
         ensures { result.items ≡ self.bytes }
     {
-        self.written
+        let MemConnection {
+            request: _,
+            written,
+            calls: _,
+        } = self;
+        written
     }
 }
 

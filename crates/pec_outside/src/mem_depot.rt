@@ -26,7 +26,6 @@ pub(crate) enum Standing {
 }
 
 /// Disks in memory, and crashes that keep as many pending bytes as they are told. This project's profile.
-#[derive(Drop)]
 pub struct MemDepot {
     alloc: Global,
     slots: [Standing; 16],
@@ -46,6 +45,19 @@ impl Model for MemDepot {
       crashes = depot.crashes;
       faults = depot.faults;
     } };
+}
+
+impl Drop for MemDepot {
+    fn drop(self) {
+        let MemDepot {
+            alloc: _,
+            slots: _,
+            failing: _,
+            kept: _,
+            crashes: _,
+            faults: _,
+        } = self;
+    }
 }
 
 impl MemDepot {

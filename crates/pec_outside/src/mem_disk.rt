@@ -4,7 +4,7 @@ ghost use Rattle.pec_outside.specs.DiskLog.{IsLog, steps_of};
 ghost use Rattle.pec_outside.specs.DiskModel.{Only, Rests, Tears, written};
 ghost use Rattle.pec_outside.specs.Flow.{HasRisen, as_u64, u64_of};
 ghost use Rattle.pec_outside.specs.Memory.{NextFails, no_calls};
-ghost use Rattle.pec_outside.specs.MemoryDisk.{DiskState, FailedBy, looked, wrote, synced, sight_of, held_of, after_crash, is_call, answered_by};
+ghost use Rattle.pec_outside.specs.MemoryDisk.{DiskState, FailedBy, looked, wrote, synced, sight_of, held_of, after_crash, front_of, is_call, answered_by};
 ghost use Rattle.pec_outside.specs.MemoryDiskLaws as laws;
 
 use crate::calls::Calls;
@@ -12,12 +12,12 @@ use crate::counts::Counted;
 use crate::disk::Disk;
 use crate::disk_log::{DiskLog, Step};
 use crate::streams::Failed;
+use pec_types::NoMemory;
 use std::alloc::Global;
 use std::marker::Model;
 
 /// A disk in memory, which tells what it holds and what a crash may leave, and fails where it is told. This project's
 /// profile.
-#[derive(Drop)]
 pub struct MemDisk {
     alloc: Global,
     log: DiskLog,
@@ -30,6 +30,16 @@ impl Model for MemDisk {
     ghost view = { λ disk. record { log = steps_of disk.log; calls = disk.calls } };
 
     ghost invariant = { λ disk. IsLog disk.log };
+}
+
+impl Drop for MemDisk {
+    fn drop(self) {
+        let MemDisk {
+            alloc: _,
+            log: _,
+            calls: _,
+        } = self;
+    }
 }
 
 impl MemDisk {
@@ -50,6 +60,22 @@ impl MemDisk {
         ensures { result ≡ count_by is_call self.now.log }
     {
         self.log.calls()
+    }
+
+    /// A disk without failures that holds what a crash after so many of the logged calls may have left, and nothing
+    /// pending: the first pending bytes in order of place, `kept` of them, are kept, and the others read 0xff.
+    pub fn image(&self, calls: usize, kept: u64) -> Result<MemDisk, NoMemory>
+        requires { calls ≤ count_by is_call self.now.log }
+        ensures { IfOk result (λ image.
+            image ≡ record { log = after_crash (front_of calls self.now.log) kept; calls = no_calls [] }) }
+    {
+        let mut log = self.log.front(self.alloc, calls)?;
+        log.crash(kept);
+        Ok(MemDisk {
+            alloc: self.alloc,
+            log,
+            calls: Calls::new(Vec::new(self.alloc)),
+        })
     }
 }
 

@@ -16,7 +16,6 @@ use std::collections::VecDeque;
 use std::marker::Model;
 
 /// A door at which connections come in over requests in memory. This project's profile.
-#[derive(Drop)]
 pub struct MemDoor {
     alloc: Global,
     requests: VecDeque<Vec<u8>>,
@@ -36,6 +35,19 @@ impl Model for MemDoor {
       faulty = door.faulty;
       calls = door.calls;
     } };
+}
+
+impl Drop for MemDoor {
+    fn drop(self) {
+        let MemDoor {
+            alloc: _,
+            requests: _,
+            broken: _,
+            replies: _,
+            faulty: _,
+            calls: _,
+        } = self;
+    }
 }
 
 impl MemDoor {

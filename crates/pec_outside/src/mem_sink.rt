@@ -9,7 +9,6 @@ use std::alloc::Global;
 use std::marker::Model;
 
 /// A sink that keeps all that is written to it, and fails where it is told. This project's profile.
-#[derive(Drop)]
 pub struct MemSink {
     bytes: Vec<u8>,
     calls: Calls,
@@ -19,6 +18,12 @@ impl Model for MemSink {
     ghost Value = { SinkState };
 
     ghost view = { λ sink. record { bytes = sink.bytes.items; calls = sink.calls } };
+}
+
+impl Drop for MemSink {
+    fn drop(self) {
+        let MemSink { bytes: _, calls: _ } = self;
+    }
 }
 
 impl MemSink {

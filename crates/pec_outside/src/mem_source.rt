@@ -10,7 +10,6 @@ use std::alloc::Global;
 use std::marker::Model;
 
 /// A source over bytes in memory, which gives them in pieces and fails where it is told. This project's profile.
-#[derive(Drop)]
 pub struct MemSource {
     rest: Unread,
     piece: usize,
@@ -23,6 +22,16 @@ impl Model for MemSource {
     ghost view = { λ source. record { rest = source.rest; piece = source.piece; calls = source.calls } };
 
     ghost invariant = { λ source. 0 < source.piece };
+}
+
+impl Drop for MemSource {
+    fn drop(self) {
+        let MemSource {
+            rest: _,
+            piece: _,
+            calls: _,
+        } = self;
+    }
 }
 
 impl MemSource {

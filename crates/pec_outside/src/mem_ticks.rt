@@ -13,7 +13,6 @@ use std::alloc::Global;
 use std::marker::Model;
 
 /// A clock that answers the moments that it is given, and fails where it is told. This project's profile.
-#[derive(Drop)]
 pub struct MemTicks {
     moments: Vec<Moment>,
     at: usize,
@@ -26,6 +25,16 @@ impl Model for MemTicks {
     ghost view = { λ ticks. record { coming = drop ticks.at ticks.moments.items; calls = ticks.calls } };
 
     ghost invariant = { λ ticks. ticks.at < vec_len ticks.moments };
+}
+
+impl Drop for MemTicks {
+    fn drop(self) {
+        let MemTicks {
+            moments: _,
+            at: _,
+            calls: _,
+        } = self;
+    }
 }
 
 impl MemTicks {

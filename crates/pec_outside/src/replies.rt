@@ -7,7 +7,6 @@ use std::alloc::{AllocError, Global};
 use std::marker::Model;
 
 /// What was written to connections, with room for what is written to those that are out.
-#[derive(Drop)]
 pub(crate) struct Replies {
     texts: Vec<Text8>,
     // Beside each text, whether its connection had faults.
@@ -21,6 +20,16 @@ impl Model for Replies {
     ghost view = { λ replies. record { all = replies_of replies.texts.items replies.raised.items; out = replies.out } };
 
     ghost invariant = { λ replies. HasRoom replies.texts replies.raised replies.out };
+}
+
+impl Drop for Replies {
+    fn drop(self) {
+        let Replies {
+            texts: _,
+            raised: _,
+            out: _,
+        } = self;
+    }
 }
 
 impl Replies {

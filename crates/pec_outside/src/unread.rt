@@ -3,7 +3,6 @@ ghost use Rattle.std.specs.Prelude.{◌≡◌, ℕ, ◌≤◌, min, List, ◌++�
 use std::marker::Model;
 
 /// Bytes in memory that are read from the front. Contracts see those that are left.
-#[derive(Drop)]
 pub(crate) struct Unread {
     bytes: Vec<u8>,
     at: usize,
@@ -15,6 +14,12 @@ impl Model for Unread {
     ghost view = { λ unread. drop unread.at unread.bytes.items };
 
     ghost invariant = { λ unread. unread.at ≤ vec_len unread.bytes };
+}
+
+impl Drop for Unread {
+    fn drop(self) {
+        let Unread { bytes: _, at: _ } = self;
+    }
 }
 
 impl Unread {
