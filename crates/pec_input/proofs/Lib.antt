@@ -1,3 +1,4 @@
+mod DirectoryLemmas
 mod FindingLemmas
 mod LineLemmas
 mod OpeningLemmas

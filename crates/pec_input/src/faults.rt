@@ -1,29 +1,64 @@
 ghost use Rattle.std.specs.Prelude.{◌≡◌, [], ◌∷◌, IfOk};
 ghost use Rattle.pec_script.specs.Pages.{line_after, rest_after};
-ghost use Rattle.pec_input.specs.Faults.{account_words, directory_words, field_word, field_words, provider_words, refused_directory_text, refused_directory_words};
+ghost use Rattle.pec_input.specs.Faults.{account_words, directory_words, field_word, field_words, ldif_words, place_words, provider_words, refusal_words, refused_directory_text, refused_directory_words};
 
 use pec_directory::{DirectoryFault, Field};
+use pec_ldif::{LdifFault, LdifRefused};
 use pec_script::{Page, lines_are_put_in_their_order};
 use pec_types::NoMemory;
 use std::alloc::Global;
 
 /// `refused directory FAULT`, a line: the fault by its word, and by the numbers of the provider, from 0, and of its
-/// account, from 1, where 0 is its receipt address. Want of memory has no line, and comes back as itself. This
-/// project's profile.
+/// account, from 1, where 0 is its receipt address, or, for a text of LDIF, by the place in bytes from 0. Want of memory
+/// has no line, and comes back as itself. This project's profile.
 #[tactic(auto, unfolding(crate::specs::Faults::refused_directory_text))]
-pub fn refused_directory_text(alloc: Global, fault: DirectoryFault) -> Result<Vec<u8>, NoMemory>
-    ensures { IfOk result (λ text. text.items ≡ refused_directory_text fault) }
+pub fn refused_directory_text(alloc: Global, why: LdifRefused) -> Result<Vec<u8>, NoMemory>
+    ensures { IfOk result (λ text. text.items ≡ refused_directory_text why) }
 {
     lines_are_put_in_their_order();
-    let page = add_refused(Page::new(alloc), fault)?;
+    let page = add_refused(Page::new(alloc), why)?;
     Ok(page.text)
 }
 
-fn add_refused(page: Page, fault: DirectoryFault) -> Result<Page, NoMemory>
-    ensures { IfOk result (λ new. new.text.items ≡ line_after page.text.items (refused_directory_words fault)) }
+fn add_refused(page: Page, why: LdifRefused) -> Result<Page, NoMemory>
+    ensures { IfOk result (λ new. new.text.items ≡ line_after page.text.items (refused_directory_words why)) }
 {
     let page = page.begin(b"refused")?.word(b"directory")?;
-    let page = add_fault(page, fault)?;
+    let page = add_why(page, why)?;
+    Ok(page)
+}
+
+/// Adds why a directory is refused, and ends the line.
+fn add_why(page: Page, why: LdifRefused) -> Result<Page, NoMemory>
+    ensures { IfOk result (λ new. new.text.items ≡ rest_after page.text.items (refusal_words why)) }
+{
+    match why {
+        LdifRefused::Ldif(fault) => add_ldif(page, fault),
+        LdifRefused::Directory(fault) => add_fault(page, fault),
+        LdifRefused::NoMemory => Err(NoMemory),
+    }
+}
+
+/// Adds a fault of LDIF by its word and its place, and ends the line.
+fn add_ldif(page: Page, fault: LdifFault) -> Result<Page, NoMemory>
+    ensures { IfOk result (λ new. new.text.items ≡ rest_after page.text.items (ldif_words fault)) }
+{
+    match fault {
+        LdifFault::Syntax(place) => add_place(page, b"syntax", place),
+        LdifFault::BadBase64(place) => add_place(page, b"base64", place),
+        LdifFault::NoDn(place) => add_place(page, b"no-dn", place),
+        LdifFault::Change(place) => add_place(page, b"change", place),
+        LdifFault::Orphan(place) => add_place(page, b"orphan", place),
+        LdifFault::NoMemory => Err(NoMemory),
+    }
+}
+
+/// `ldif WORD AT`
+fn add_place(page: Page, word: &[u8], place: usize) -> Result<Page, NoMemory>
+    ensures { IfOk result (λ new. new.text.items ≡ rest_after page.text.items (place_words word.now place)) }
+{
+    let page = page.word(b"ldif")?.word(word)?;
+    let page = page.number(place as u64)?.end()?;
     Ok(page)
 }
 

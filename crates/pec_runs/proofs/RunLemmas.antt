@@ -5,8 +5,7 @@ use Rattle.std.specs.List.{AllByRecursion}
 use Rattle.std.proofs.lemmas.Option.{none-some, same_Some}
 use Rattle.pec_types.specs.Bytes.{Bytes}
 use Rattle.pec_directory.specs.Directory.{Provider}
-use Rattle.pec_directory.specs.declared.faults.DirectoryFault.{DirectoryFault}
-use Rattle.pec_input.specs.Directory.{directory_in}
+use Rattle.pec_input.specs.Directory.{Refusal, directory_in}
 use Rattle.pec_records.specs.declared.entries.Entry.{Entry}
 use Rattle.pec_chronicle.specs.Chronicle.{IsJournalOf}
 use Rattle.pec_ledger.specs.Ledger.{Fit}
@@ -120,7 +119,7 @@ module _ (asked : Asked) (status : Status) (unread before after : Option Bytes) 
   directory_is =
       all.directory ∙ ap so (sym (ran.setting form script begun all.providers all.directory).kept)
     where
-      so : List Provider → Result (List Provider) DirectoryFault
+      so : List Provider → Result (List Provider) Refusal
       so providers = Ok providers
 
   pub is_world : IsTrade (world ran.happened)

@@ -6,14 +6,13 @@ use Rattle.pec_types.specs.Bytes.{Bytes}
 use Rattle.pec_outside.specs.Flow.{followed_by}
 use Rattle.pec_directory.specs.Directory.{Kept, Provider, providers_of}
 use Rattle.pec_directory.specs.Zones.{AreByRule}
-use Rattle.pec_directory.specs.declared.faults.DirectoryFault.{DirectoryFault}
 use Rattle.pec_records.specs.declared.entries.Entry.{Entry}
 use Rattle.pec_records.specs.declared.entries.Entry.TheVariants as entries
 use Rattle.pec_ledger.specs.Trade.{Trade}
 use Rattle.pec_plays.specs.Possible.{quiet_lucks}
 use Rattle.pec_seal.specs.Seals.{Seals}
 use Rattle.pec_trade.specs.TradeOf.{trade_of}
-use Rattle.pec_input.specs.Directory.{directory_in}
+use Rattle.pec_input.specs.Directory.{Refusal, directory_in}
 use Rattle.pec_input.specs.Parts.{Parts}
 use Rattle.pec_runs.specs.Happened.{Asked, Begun, Happened, IsSetting, Setting, by_next, providers_in, stage_of, trade_in}
 use Rattle.pec_runs.specs.Openings.{Disks, Form, IsOpening, Next, NoMore, Opening, Run, opened_all}
@@ -102,7 +101,7 @@ module _ (asked others : Asked) (one other : Happened) (form : Form) (script : S
 
 -- ---- one input
 
-same_ok : (directory : Result (List Provider) DirectoryFault) (one other : List Provider)
+same_ok : (directory : Result (List Provider) Refusal) (one other : List Provider)
     → directory ≡ Ok one → directory ≡ Ok other → other ≡ one
 same_ok directory one other e f = cc
 

@@ -3,9 +3,8 @@ use Rattle.std.proofs.Common.{◌≡◌, List, Bool, true, false, length, refl, 
 use Rattle.std.specs.Prelude.{if◌then◌else◌}
 use Rattle.pec_types.specs.Bytes.{Bytes}
 use Rattle.pec_directory.specs.Directory.{Provider}
-use Rattle.pec_directory.specs.declared.faults.DirectoryFault.{DirectoryFault}
 use Rattle.pec_runs.specs.Endings as ends
-use Rattle.pec_input.specs.Directory.{directory_in}
+use Rattle.pec_input.specs.Directory.{Refusal, directory_in}
 use Rattle.pec_input.specs.declared.opening.TheConstants.{LONGEST_DIRECTORY}
 use Rattle.pec_runs.specs.Happened.{Asked, Over, Begun, by_directory, by_form, by_script, stage_of}
 use Rattle.pec_input.specs.Parts.{Parts}
@@ -30,7 +29,7 @@ same_script : (a b : Form) (x y : Script) → Begun a x ≡ Begun b y → x ≡ 
 same_script a b x y e = cc
 
 module _ (asked : Asked) (early : Bool) (parts : Parts) (form : Form) (script : Script) where
-  by_read : (wanted : Form) (lines : List Bytes) (told : Result (List Provider) DirectoryFault)
+  by_read : (wanted : Form) (lines : List Bytes) (told : Result (List Provider) Refusal)
       → form_in asked.words ≡ Some wanted → early ≡ false
       → nat_lt LONGEST_DIRECTORY (length parts.directory) ≡ false → parts.script ≡ Some lines
       → directory_in parts.directory ≡ told

@@ -6,7 +6,6 @@ use Rattle.std.proofs.lemmas.Option.{none-some}
 use Rattle.pec_types.specs.Bytes.{Bytes}
 use Rattle.pec_outside.specs.Flow.{followed_by}
 use Rattle.pec_directory.specs.Directory.{Provider}
-use Rattle.pec_directory.specs.declared.faults.DirectoryFault.{DirectoryFault}
 use Rattle.pec_ledger.specs.Network.{Site}
 use Rattle.pec_ledger.specs.Trade.{Trade}
 use Rattle.pec_plays.specs.Commands.{Command, Luck, played}
@@ -14,7 +13,7 @@ use Rattle.pec_plays.specs.Scripts.{script}
 use Rattle.pec_runs.specs.AnswerLines.{answers_text}
 use Rattle.pec_runs.specs.Endings.{End, end_text}
 use Rattle.pec_runs.specs.Endings as ends
-use Rattle.pec_input.specs.Directory.{directory_in}
+use Rattle.pec_input.specs.Directory.{Refusal, directory_in}
 use Rattle.pec_input.specs.declared.opening.TheConstants.{LONGEST_DIRECTORY}
 use Rattle.pec_runs.specs.Happened.{Asked, Begun, Halted, Happened, Over, Stage, by_directory, by_form, by_next, by_script, outcome_at, outcome_of, providers_in, stage_of}
 use Rattle.pec_input.specs.Parts.{Parts}
@@ -215,7 +214,7 @@ module _ (asked : Asked) (happened : Happened) where
   next_done form written Stops is e = cc
 
   -- before a script there is no end that is done
-  not_done_by : (form : Form) (lines : List Bytes) (told : Result (List Provider) DirectoryFault)
+  not_done_by : (form : Form) (lines : List Bytes) (told : Result (List Provider) Refusal)
       → EndsSo (by_directory asked.finds form lines told) ends.Done
       → DoneAt (by_directory asked.finds form lines told)
   not_done_by form lines (Err fault) e = cc

@@ -4,7 +4,7 @@ use Rattle.std.specs.Prelude.{ℕ, List, [], ◌∷◌, codes}
 use Rattle.std.specs.Fmt.{decimal}
 use Rattle.pec_types.specs.Bytes.{Bytes}
 use Rattle.pec_directory.specs.Directory.{Provider}
-use Rattle.pec_directory.specs.declared.faults.DirectoryFault.{DirectoryFault}
+use Rattle.pec_input.specs.Directory.{Refusal}
 use Rattle.pec_input.specs.Faults.{refused_directory_words}
 use Rattle.pec_script.specs.Texts.{Row, name_of, refused_rows, text_of, unfit_words}
 use Rattle.pec_script.specs.declared.answers.Unfit.{Unfit}
@@ -16,7 +16,7 @@ pub data End : Type 0 where
   Usage : End  -- the words are no form
   LongDirectory : End
   NoScript : End
-  DirectoryRefused : (fault : DirectoryFault) → End
+  DirectoryRefused : (why : Refusal) → End
   NotEmpty : (provider : ℕ) → End  -- a journal was to be made on a disk that holds something
   NotFit : (provider : ℕ) (unfit : Unfit) → End  -- a disk holds no journal of the provider
   LongLine : (number : ℕ) → End
@@ -31,7 +31,7 @@ end_rows providers Done = []
 end_rows providers Usage = (codes "usage" ∷ []) ∷ []
 end_rows providers LongDirectory = (codes "too-long" ∷ codes "directory" ∷ []) ∷ []
 end_rows providers NoScript = (codes "refused" ∷ codes "no-script" ∷ []) ∷ []
-end_rows providers (DirectoryRefused fault) = refused_directory_words fault ∷ []
+end_rows providers (DirectoryRefused why) = refused_directory_words why ∷ []
 end_rows providers (NotEmpty provider) = (codes "not-empty" ∷ name_of providers provider ∷ []) ∷ []
 end_rows providers (NotFit provider unfit) = (codes "not-fit" ∷ name_of providers provider ∷ unfit_words unfit) ∷ []
 end_rows providers (LongLine number) = (codes "too-long" ∷ codes "line" ∷ decimal number ∷ []) ∷ []

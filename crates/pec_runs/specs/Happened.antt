@@ -5,7 +5,6 @@ use Rattle.pec_types.specs.Bytes.{Bytes}
 use Rattle.pec_directory.specs.Directory.{Kept, Provider, providers_of}
 use Rattle.pec_directory.specs.Lawful.{IsLawful}
 use Rattle.pec_directory.specs.Zones.{AreByRule}
-use Rattle.pec_directory.specs.declared.faults.DirectoryFault.{DirectoryFault}
 use Rattle.pec_seal.specs.Hmac.{hmac_seals}
 use Rattle.pec_seal.specs.Seals.{Seals}
 use Rattle.pec_trade.specs.Keys.{keys_of, names_of}
@@ -13,7 +12,7 @@ use Rattle.pec_ledger.specs.Trade.{Trade}
 use Rattle.pec_ledger.specs.TradeLaws.{IsTrade}
 use Rattle.pec_plays.specs.Commands.{Luck}
 use Rattle.pec_trade.specs.TradeOf.{trade_of}
-use Rattle.pec_input.specs.Directory.{directory_in}
+use Rattle.pec_input.specs.Directory.{Refusal, directory_in}
 use Rattle.pec_input.specs.Parts.{Parts}
 use Rattle.pec_input.specs.declared.opening.TheConstants.{LONGEST_DIRECTORY}
 use Rattle.pec_runs.specs.Endings.{End}
@@ -71,9 +70,9 @@ pub data Stage : Type 0 where
   Halted : Stage
   Begun : (form : Form) (script : Script) → Stage
 
--- the last test: the directory has a fault, or the run begins with the script of these lines
-abbrev pub by_directory : Finds → Form → List Bytes → Result (List Provider) DirectoryFault → Stage
-by_directory finds form lines (Err fault) = Over (ends.DirectoryRefused fault)
+-- the last test: the directory is refused, or the run begins with the script of these lines
+abbrev pub by_directory : Finds → Form → List Bytes → Result (List Provider) Refusal → Stage
+by_directory finds form lines (Err why) = Over (ends.DirectoryRefused why)
 by_directory finds form lines (Ok providers) = Begun form (script_of finds providers 1 lines)
 
 -- the test before it: no line says `%%`, so there is no script

@@ -11,6 +11,7 @@ ghost use Rattle.pec_runs.specs.AnswerLines.{answers_text};
 ghost use Rattle.pec_runs.specs.Endings as ends;
 ghost use Rattle.pec_runs.specs.Examples.{faulty_lucks, faulty_script, full_link, none_finds, six_lines, some_answers, twice_marked, two, unmarked};
 ghost use Rattle.pec_runs.specs.Headline.{Headline};
+ghost use Rattle.pec_input.specs.Directory.{of_directory};
 ghost use Rattle.pec_input.specs.Lines.{raw_lines};
 ghost use Rattle.pec_input.specs.Parts.{parts_of};
 ghost use Rattle.pec_runs.specs.Openings.{Resume, Run, form_in};
@@ -40,7 +41,8 @@ pub fn texts_of_the_examples()
     ensures answers { answers_text two some_answers
         ≡ codes "lost\nno-frame\nlink-full\nfault disk\nclock-back 7\nalfa dropped\nalfa sent beta 3\nround\n" }
     ensures ends { ends.end_text two ends.Done ++ ends.end_text two ends.Usage ++ ends.end_text two ends.LongDirectory
-        ++ ends.end_text two ends.NoScript ++ ends.end_text two (ends.DirectoryRefused (refusals.BadField 0 fields.Key))
+        ++ ends.end_text two ends.NoScript
+        ++ ends.end_text two (ends.DirectoryRefused (of_directory (refusals.BadField 0 fields.Key)))
         ++ ends.end_text two (ends.NotEmpty 0) ++ ends.end_text two (ends.NotFit 1 (unfits.Entry 3))
         ++ ends.end_text two (ends.LongLine 5)
         ++ ends.end_text two ends.LongScript ++ ends.end_text two (ends.LineRefused 5 (line_faults.BadNumber 2))
