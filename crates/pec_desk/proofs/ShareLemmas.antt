@@ -14,7 +14,7 @@ use Rattle.pec_types.specs.declared.turns.ProviderFault.TheVariants as faults
 use Rattle.pec_types.specs.declared.turns.Submitted.{Submitted}
 use Rattle.pec_directory.specs.Directory.{Kept, account_home, is_account_of, is_number, providers_of}
 use Rattle.pec_records.specs.declared.entries.Entry.{Entry}
-use Rattle.pec_screen.specs.Screened.{finds_by, finds_in}
+use Rattle.pec_screen.specs.Screened.{finds_in}
 use Rattle.pec_screen.specs.VerdictReading.{finds}
 use Rattle.pec_screen.specs.Verdicts.{Patterns}
 use Rattle.pec_seal.specs.Seals.{Seals}
@@ -36,7 +36,8 @@ use Rattle.pec_http.specs.declared.demands.Look.{Look}
 use Rattle.pec_http.specs.declared.demands.Look.TheVariants as looks
 use Rattle.pec_script.specs.Texts.{book_text, items_text}
 use Rattle.pec_desk.specs.Desks.{IsSeen, as_they_are, bytes_shown, items_shown, lines_shown}
-use Rattle.pec_service.specs.Own.{Share, entry_for, numbered, patterns_at, patterns_by, said_by, share_at, shown_to, text_or_none}
+use Rattle.pec_service.specs.Own.{Share, entry_for, numbered, patterns_at, said_by, share_at, shown_to, text_or_none}
+use Rattle.pec_service.specs.ShareLaws.{found_at}
 
 -- ---- answers, and what they tell
 
@@ -165,18 +166,6 @@ seen_if : {X Y : Type 0} (seen : X → Y) (b : Bool) (x y : Result X ProviderFau
     → seen_as seen (if b then x else y) ≡ (if b then seen_as seen x else seen_as seen y)
 seen_if seen true x y = refl
 seen_if seen false x y = refl
-
--- what the screens of a provider find is what those of its patterns do
-module _ (message : Bytes) where
-  found_by : (boxes : Option (List Patterns)) → finds_by boxes message ≡ finds (patterns_by boxes) message
-  unfolding finds
-  found_by None = refl
-  found_by (Some boxes) = refl
-
-  found_at : (screens : List (List Patterns)) (number : ℕ)
-      → finds_in screens number message ≡ finds (patterns_at screens number) message
-  unfolding finds_in
-  found_at screens number = found_by (slice_get screens number)
 
 module _ (kept : List Kept) (seals : Seals) (state : List Site) (screens : List (List Patterns)) (address : Bytes)
     (number : ℕ) (home : account_home (providers_of kept) address ≡ Some number) where

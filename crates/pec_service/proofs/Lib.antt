@@ -1,5 +1,6 @@
 pub mod CallLemmas
 pub mod ClockLemmas
 pub mod ConnectionLemmas
+pub mod IsolationLemmas
 pub mod RunLemmas
 pub mod StoredLemmas

@@ -5,8 +5,7 @@ use Rattle.std.specs.Prelude.{◌↔◌, if◌then◌else◌}
 use Rattle.pec_types.specs.Bytes.{Bytes}
 use Rattle.pec_outside.specs.Flow.{HasRisen, followed_by}
 use Rattle.pec_directory.specs.Directory.{Provider}
-use Rattle.pec_directory.specs.declared.faults.DirectoryFault.{DirectoryFault}
-use Rattle.pec_input.specs.Directory.{directory_in}
+use Rattle.pec_input.specs.Directory.{Refusal, directory_in}
 use Rattle.pec_input.specs.declared.opening.TheConstants.{LONGEST_DIRECTORY}
 use Rattle.pec_journal.specs.JournalFile.{HasNoEntry, IsBroken, front, header, open_gate}
 use Rattle.pec_ledger.specs.TradeLaws.{IsTrade}
@@ -31,7 +30,7 @@ has_directory true directory e = absurd (halts e)
     halts x = cc
 has_directory false directory e = so (nat_lt LONGEST_DIRECTORY (length directory)) (directory_in directory) refl e
   where
-    so : (long : Bool) (told : Result (List Provider) DirectoryFault) → directory_in directory ≡ told
+    so : (long : Bool) (told : Result (List Provider) Refusal) → directory_in directory ≡ told
         → (if long then Over ends.LongDirectory else by_directory told) ≡ Begins
         → (providers : List Provider) × (directory_in directory ≡ Ok providers)
     so true told is x = cc

@@ -10,9 +10,8 @@ use Rattle.pec_outside.specs.DiskModel.{Sight}
 use Rattle.pec_outside.specs.Doors.{Reply as ToldReply}
 use Rattle.pec_outside.specs.Flow.{HasRisen, WrotePart, followed_by}
 use Rattle.pec_directory.specs.Directory.{Provider}
-use Rattle.pec_directory.specs.declared.faults.DirectoryFault.{DirectoryFault}
 use Rattle.pec_words.specs.Numbers.{number_below}
-use Rattle.pec_input.specs.Directory.{directory_in}
+use Rattle.pec_input.specs.Directory.{Refusal, directory_in}
 use Rattle.pec_input.specs.declared.opening.TheConstants.{LONGEST_DIRECTORY}
 use Rattle.pec_records.specs.declared.entries.Entry.{Entry}
 use Rattle.pec_ledger.specs.Network.{Site}
@@ -80,8 +79,8 @@ pub data Stage : Type 0 where
   Halts : Stage
   Begins : Stage
 
-abbrev pub by_directory : Result (List Provider) DirectoryFault → Stage
-by_directory (Err fault) = Over (ends.DirectoryRefused fault)
+abbrev pub by_directory : Result (List Provider) Refusal → Stage
+by_directory (Err why) = Over (ends.DirectoryRefused why)
 by_directory (Ok providers) = Begins
 
 -- The directory's length first, then the directory itself.

@@ -4,11 +4,13 @@
 #![tactic(auto)]
 
 mod headline;
+mod isolation;
 mod joining;
 mod replies;
 mod runs;
 
 pub use headline::a_services_books_belong_to_the_ledger;
+pub use isolation::{a_caller_is_answered_its_own, a_runs_callers_are_answered_their_own};
 pub use joining::{acts_are_calls, calls_are_joined, connections_are_joined};
 pub use replies::{a_connection_has_one_reply, what_was_stored_is_not_answered_500};
 pub use runs::{

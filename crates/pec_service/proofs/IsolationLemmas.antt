@@ -1,0 +1,227 @@
+-- What the caller of a connection is answered is its own, unless a device fails.
+use Rattle.std.proofs.Common.{◌≡◌, inl, inr, ℕ, ◌+◌, ◌-◌, ◌^◌, ◌≤◌, ◌<◌, ◌==◌, Bool, true, List, [], ◌∷◌, ◌++◌, refl, ap, sym, ◌∙◌, subst, Option, Some, None, Result, Ok, Err, arith}
+use Rattle.std.specs.Prelude.{◌⊎◌, if◌then◌else◌}
+use Rattle.std.specs.Option.{option_and_then, option_map}
+use Rattle.std.proofs.lemmas.Bool.{cases_lt, eq-eqb}
+use Rattle.std.proofs.lemmas.Option.{none-some}
+use Rattle.pec_types.specs.Bytes.{Bytes, Path}
+use Rattle.pec_types.specs.declared.turns.ProviderFault.{ProviderFault}
+use Rattle.pec_types.specs.declared.turns.ProviderFault.TheVariants as faults
+use Rattle.pec_types.specs.declared.turns.Submitted.{Submitted}
+use Rattle.pec_outside.specs.Flow.{HasRisen}
+use Rattle.pec_directory.specs.Directory.{Kept, Provider, account_home, first_domain, providers_of}
+use Rattle.pec_screen.specs.Screened.{Finds, finds_in}
+use Rattle.pec_screen.specs.Verdicts.{Patterns}
+use Rattle.pec_seal.specs.Seals.{Seals}
+use Rattle.pec_ledger.specs.Network.{Site}
+use Rattle.pec_ledger.specs.Trade.{Trade}
+use Rattle.pec_plays.specs.Commands.{Answer, Command, Luck, Refuses, Submit, played}
+use Rattle.pec_trade.specs.TradeOf.{trade_of}
+use Rattle.pec_runs.specs.Plays.{RoseBy, faults_by}
+use Rattle.pec_http.specs.Asking.{Asks, Question, See, Submit as Submission}
+use Rattle.pec_http.specs.Replies.{Reply, memory_reply, shown_reply, stop_reply, submitted_reply}
+use Rattle.pec_http.specs.Serving.{kind_of}
+use Rattle.pec_http.specs.declared.demands.Look.{Look}
+use Rattle.pec_http.specs.declared.passes.Pass.{Pass}
+use Rattle.pec_http.specs.declared.stops.Stop.{Stop}
+use Rattle.pec_service.specs.Calls.{AreCalls, Call, State, answer_of, commands_of, state_behind}
+use Rattle.pec_service.specs.Connections.{Answering, AsksSo, Connection, Hearing, IsConnection, IsHeardSo, Place, answered_by, handed_by, handed_in, heard_from, said_in}
+use Rattle.pec_service.specs.Connections as connections
+use Rattle.pec_service.specs.Isolation.{DiskFailed, IsDeviceReply, IsOwn, answered, answering_of, asking_share, own_answer}
+use Rattle.pec_service.specs.Own.{Share, patterns_at, reply_to, said_by, share_at, shown_in, shown_with, submission_reply}
+use Rattle.pec_service.specs.Passes.{pass_of}
+use Rattle.pec_service.specs.Services.{AreConnections, place_behind}
+use Rattle.pec_service.specs.ShareLaws.{Says, submission_is}
+
+-- a request asks one thing
+abbrev pub AsksOne : Type 0
+AsksOne = (pass : Bytes → Bytes → Pass) (input : Bytes) (asked other : Result Question Stop)
+    → Asks pass input asked → Asks pass input other → asked ≡ other
+
+-- ---- how it was heard
+
+abbrev or_else : {X : Type 0} → X → Option X → X
+or_else d None = d
+or_else d (Some x) = x
+
+some_is : {X : Type 0} (x y : X) → Some x ≡ Some y → x ≡ y
+some_is {X} x y e = ap (λ (o : Option X). or_else x o) e
+
+module _ (kept : List Kept) (input : Bytes) (answering : Answering) where
+  asks_so : (hearing : Hearing) → answering_of hearing ≡ Some answering → IsHeardSo kept input hearing
+      → AsksSo kept input answering
+  asks_so connections.Unheard is so = absurd (none-some answering is)
+  asks_so (connections.Heard other) is so = subst (AsksSo kept input) (some_is other answering is) so
+  asks_so (connections.Broken other) is so = subst (AsksSo kept input) (some_is other answering is) so
+
+module _ (found : Finds) (moment : ℕ) (answering : Answering) where
+  handed_so : (hearing : Hearing) → answering_of hearing ≡ Some answering
+      → handed_in found moment hearing ≡ handed_by found moment answering
+  handed_so connections.Unheard is = absurd (none-some answering is)
+  handed_so (connections.Heard other) is = ap (handed_by found moment) (some_is other answering is)
+  handed_so (connections.Broken other) is = ap (handed_by found moment) (some_is other answering is)
+
+-- the first of some commands
+abbrev first_or : Command → List Command → Command
+first_or other [] = other
+first_or other (command ∷ commands) = command
+
+-- ---- counts of faults
+
+-- a count that rose by one, and never fell since, has risen
+rose_one : (rose_by a b c : ℕ) → rose_by ≡ 1 → RoseBy rose_by a b → b ≤ c → HasRisen a c
+rose_one rose_by a b c is rose later = λ small. elim (cases_lt b (2 ^ 64 - 1)) [
+  | inl less ↦ (let x : a + rose_by ≤ b = rose.1 less in omega (arith, x, is, later))
+  | inr most ↦ omega (arith, most, later, small)
+]
+
+never_falls : (trade : Trade) (here : State) (calls : List Call) → AreCalls trade here calls → (provider : ℕ)
+    → here.counts provider ≤ (state_behind here calls).counts provider
+never_falls trade here [] are provider = omega arith
+never_falls trade here (call ∷ calls) are provider =
+    let rose = (are.0.counts provider).0
+    in let more = never_falls trade call.behind calls are.1 provider in omega arith
+
+-- ---- what it looks at
+
+-- what is shown hangs on no screens
+shown_same : (trade : Trade) (providers : List Provider) (screens : List (List Patterns)) (state : List Site) (address : Bytes)
+    (looked : Look) (home : Option ℕ)
+    → shown_with providers (option_map (share_at trade [] state address) home) looked
+    ≡ shown_with providers (option_map (share_at trade screens state address) home) looked
+shown_same trade providers screens state address looked None = refl
+shown_same trade providers screens state address looked (Some number) = refl
+
+-- ---- all of it
+
+module _ (kept : List Kept) (seals : Seals) (screens : List (List Patterns)) (here : Place) (connection : Connection) where
+  abbrev trade : Trade
+  trade = trade_of kept seals
+
+  abbrev providers : List Provider
+  providers = providers_of kept
+
+  abbrev sites : List Site
+  sites = here.network.sites
+
+  abbrev IsIts : Result Question Stop → Reply → Type 0
+  IsIts asked reply = IsOwn kept seals screens here connection asked reply
+
+  module _ (number : ℕ) (address : Bytes) (path : Path) (message : Bytes)
+      (home : account_home providers address ≡ Some number) where
+    abbrev command : Command
+    command = Submit number connection.moment address path message (finds_in screens number message)
+
+    abbrev question : Result Question Stop
+    question = Ok (Submission address path message)
+
+    abbrev said : Result Submitted ProviderFault
+    said = said_by providers connection.moment number (share_at trade screens sites address number).figures
+        (patterns_at screens number) address path message
+
+    abbrev reply_by : Result Submitted ProviderFault → Reply
+    reply_by heard = submitted_reply (first_domain providers number) heard
+
+    own_is : own_answer kept seals screens here connection question ≡ reply_by said
+    own_is =
+        ap (λ (found : Option ℕ). submission_reply providers connection.moment
+        (option_map (share_at trade screens sites address) found) address path message) home
+
+    told_once : (told : Command) (answer : Answer) → told ≡ command → answer ≡ Refuses faults.DiskFault
+        → faults_by number told answer ≡ 1
+    told_once told answer same fault =
+        ap (λ (c : Command). faults_by number c answer) same
+        ∙ ap (λ (a : Answer). faults_by number command a) fault
+        ∙ ap (λ (b : Bool). if b then 1 else 0) (eq-eqb number number refl)
+
+    by_call : (call : Call) → call.command ≡ command
+        → RoseBy (faults_by number call.command (answer_of trade sites call)) (here.network.counts number) (call.behind.counts number)
+        → call.behind.counts number ≤ connection.behind.network.counts number
+        → Says said (answer_of trade sites call) → IsIts question (reply_by (said_in (answer_of trade sites call)))
+    by_call call is rose later says = elim says [
+      | inl same ↦ inl (ap reply_by same ∙ sym own_is)
+      | inr fault ↦ inr (inr (
+        number,
+        home,
+        ap (λ (a : Answer). reply_by (said_in a)) fault,
+        rose_one (faults_by number call.command (answer_of trade sites call)) (here.network.counts number)
+            (call.behind.counts number) (connection.behind.network.counts number)
+            (told_once call.command (answer_of trade sites call) is fault) rose later,
+      ))
+    ]
+
+    by_handed : (calls clock : List Call) → commands_of calls ≡ command ∷ [] → AreCalls trade here.network (calls ++ clock)
+        → (state_behind here.network (calls ++ clock)).counts number ≤ connection.behind.network.counts number
+        → IsIts question (reply_by (heard_from trade kept sites calls))
+    by_handed [] clock is are later = cc
+    by_handed (call ∷ calls) clock is are later =
+        by_call call (ap (first_or command) is) (are.0.counts number)
+        (let k = never_falls trade call.behind (calls ++ clock) are.1 number in omega arith)
+        (subst (λ (c : Command). Says said (played trade call.luck sites c).answer) (sym (ap (first_or command) is))
+        (submission_is kept seals screens sites address number home connection.moment path message call.luck))
+
+  module _ (is : IsConnection trade kept (finds_in screens) here connection) (one : AsksOne) (asked : Result Question Stop)
+      (asks : Asks (pass_of kept) connection.input asked) where
+    -- it asks what it was heard to ask
+    is_asked : (other : Result Question Stop) → Asks (pass_of kept) connection.input other → other ≡ asked
+    is_asked other so = one (pass_of kept) connection.input other asked so asks
+
+    by_answering : (answering : Answering) → AsksSo kept connection.input answering
+        → commands_of connection.handed ≡ handed_by (finds_in screens) connection.moment answering
+        → IsIts asked (answered kept seals here connection answering)
+    by_answering connections.Lacks so hands = inr (inl refl)
+    by_answering (connections.Stops stop) so hands =
+        subst (λ (a : Result Question Stop). IsIts a (stop_reply stop)) (is_asked (Err stop) so) (inl refl)
+    by_answering (connections.Sees address looked) so hands =
+        subst (λ (a : Result Question Stop).
+        IsIts a (shown_reply (kind_of looked) (shown_in trade providers sites address looked)))
+        (is_asked (Ok (See address looked)) so)
+        (inl (ap (λ (shown : Result Bytes ProviderFault). shown_reply (kind_of looked) shown)
+        (shown_same trade providers screens sites address looked (account_home providers address))))
+    by_answering (connections.HandsIn number address path message) so hands =
+        subst (λ (a : Result Question Stop).
+        IsIts a (submitted_reply (first_domain providers number) (heard_from trade kept sites connection.handed)))
+        (is_asked (Ok (Submission address path message)) so.0)
+        (by_handed number address path message so.1 connection.handed connection.clock hands is.calls (is.later number))
+
+    pub own : (answering : Answering) → answering_of connection.hearing ≡ Some answering
+        → IsIts asked (answered kept seals here connection answering)
+    own answering heard =
+        by_answering answering (asks_so kept connection.input answering connection.hearing heard is.heard)
+        (is.hands ∙ handed_so (finds_in screens) connection.moment answering connection.hearing heard)
+
+-- ---- two of them
+
+module _ (kept : List Kept) (seals keys : Seals) (screens boxes : List (List Patterns)) (here there : Place)
+    (one other : Connection) (asks_one : AsksOne) where
+  pub apart : IsConnection (trade_of kept seals) kept (finds_in screens) here one
+      → IsConnection (trade_of kept keys) kept (finds_in boxes) there other
+      → one.moment ≡ other.moment → one.input ≡ other.input
+      → (asked : Result Question Stop) → Asks (pass_of kept) one.input asked
+      → asking_share kept seals screens here.network.sites asked ≡ asking_share kept keys boxes there.network.sites asked
+      → (answering again : Answering) → answering_of one.hearing ≡ Some answering → answering_of other.hearing ≡ Some again
+      → (answered kept seals here one answering ≡ answered kept keys there other again)
+      ⊎ IsDeviceReply kept here one asked (answered kept seals here one answering)
+      ⊎ IsDeviceReply kept there other asked (answered kept keys there other again)
+  apart is be at input asked asks same answering again heard hears =
+      elim (own kept seals screens here one is asks_one asked asks answering heard) [
+        | inl first ↦ elim (own kept keys boxes there other be asks_one asked
+            (subst (λ (i : Bytes). Asks (pass_of kept) i asked) input asks) again hears) [
+              | inl second ↦ inl (first
+                  ∙ ap (λ (m : ℕ). reply_to (providers_of kept) m (asking_share kept seals screens here.network.sites asked) asked) at
+                  ∙ ap (λ (share : Option Share). reply_to (providers_of kept) other.moment share asked) same
+                  ∙ sym second)
+              | inr fault ↦ inr (inr fault)
+            ]
+        | inr fault ↦ inr (inl fault)
+      ]
+
+-- ---- those of a service
+
+-- a connection among others is one, from the place behind those before it
+pub connection_at : (trade : Trade) (kept : List Kept) (found : Finds) (here : Place) (front rest : List Connection)
+    (connection : Connection) → AreConnections trade kept found here (front ++ connection ∷ rest)
+    → IsConnection trade kept found (place_behind here front) connection
+connection_at trade kept found here [] rest connection are = are.0
+connection_at trade kept found here (one ∷ front) rest connection are =
+    connection_at trade kept found one.behind front rest connection are.1

@@ -1,0 +1,73 @@
+-- What the caller of a connection is answered, over a whole run that serves: the answer of HTTP as a function of the
+-- question, the moment, the directory and the caller's share of the network (`Share`), or what a device did in its place.
+-- This project's profile.
+use Rattle.std.specs.Prelude.{◌≡◌, ◌⊎◌, ℕ, ◌≤◌, List, Option, None, Some, Result, Ok, Err}
+use Rattle.std.specs.Option.{option_and_then}
+use Rattle.pec_types.specs.Bytes.{Bytes}
+use Rattle.pec_types.specs.declared.turns.ProviderFault.TheVariants as faults
+use Rattle.pec_outside.specs.Flow.{HasRisen}
+use Rattle.pec_directory.specs.Directory.{Kept, account_home, providers_of}
+use Rattle.pec_screen.specs.Verdicts.{Patterns}
+use Rattle.pec_seal.specs.Seals.{Seals}
+use Rattle.pec_ledger.specs.Network.{Site}
+use Rattle.pec_trade.specs.TradeOf.{trade_of}
+use Rattle.pec_http.specs.Asking.{Question, Submit, See}
+use Rattle.pec_http.specs.Replies.{Reply, fault_reply, memory_reply}
+use Rattle.pec_http.specs.declared.stops.Stop.{Stop}
+use Rattle.pec_service.specs.Connections.{Answering, Broken, Connection, Heard, Hearing, Place, Unheard, answered_by}
+use Rattle.pec_service.specs.Own.{Share, asker, reply_to, share_in}
+use Rattle.pec_service.specs.Runs.{Happened, Outside, first_place, world}
+use Rattle.pec_service.specs.Services.{place_behind}
+
+-- how a connection was answered, where its request was read
+abbrev pub answering_of : Hearing → Option Answering
+answering_of Unheard = None
+answering_of (Heard answering) = Some answering
+answering_of (Broken answering) = Some answering
+
+module _ (kept : List Kept) (seals : Seals) where
+  -- The share of whoever asks; only accounts have one.
+  abbrev pub asking_share : List (List Patterns) → List Site → Result Question Stop → Option Share
+  asking_share screens sites asked =
+      option_and_then (share_in (trade_of kept seals) (providers_of kept) screens sites) (asker asked)
+
+  -- what was answered: by `IsReplied`, its text is what was written, or begins with it
+  abbrev pub answered : Place → Connection → Answering → Reply
+  answered here connection answering =
+      answered_by (trade_of kept seals) kept here.network.sites connection.handed answering
+
+  -- what is the caller's own, as the connection was accepted
+  abbrev pub own_answer : List (List Patterns) → Place → Connection → Result Question Stop → Reply
+  own_answer screens here connection asked =
+      reply_to (providers_of kept) connection.moment (asking_share screens here.network.sites asked) asked
+
+-- The fault of a disk is answered: to a submission alone, and only where the count of faults of the disk of the caller's
+-- provider rose while the connection was served.
+abbrev pub DiskFailed : List Kept → Place → Connection → Result Question Stop → Reply → Type 0
+DiskFailed kept here connection (Ok (Submit address path message)) reply =
+    (number : ℕ) × (account_home (providers_of kept) address ≡ Some number)
+    × (reply ≡ fault_reply faults.DiskFault)
+    × HasRisen (here.network.counts number) (connection.behind.network.counts number)
+DiskFailed kept here connection (Ok (See address looked)) reply = ⊥
+DiskFailed kept here connection (Err stop) reply = ⊥
+
+-- Memory ran out, or the disk of the caller's provider failed.
+abbrev pub IsDeviceReply : List Kept → Place → Connection → Result Question Stop → Reply → Type 0
+IsDeviceReply kept here connection asked reply =
+    (reply ≡ memory_reply) ⊎ DiskFailed kept here connection asked reply
+
+-- What was asked is answered its own, or by what a device did.
+abbrev pub IsOwn : List Kept → Seals → List (List Patterns) → Place → Connection → Result Question Stop → Reply → Type 0
+IsOwn kept seals screens here connection asked reply =
+    (reply ≡ own_answer kept seals screens here connection asked) ⊎ IsDeviceReply kept here connection asked reply
+
+-- Of a run that serves: the caller of a connection behind these is answered its own, by what was there as the connection
+-- was accepted.
+pub record IsOwnInRun (happened : Happened) (from : ℕ → ℕ) (outside : Outside) (screens : List (List Patterns))
+    (front : List Connection) (connection : Connection) (answering : Answering) (asked : Result Question Stop) : Type 0 where
+  pub counts : ℕ → ℕ  -- of faults of disks, as the service began
+  pub sooner : (provider : ℕ) → from provider ≤ counts provider
+  pub here : Place
+  pub behind : here ≡ place_behind (first_place (world happened) happened.course.opening.journals counts outside) front
+  pub own : IsOwn happened.setting.kept happened.setting.seals screens here connection asked
+      (answered happened.setting.kept happened.setting.seals here connection answering)

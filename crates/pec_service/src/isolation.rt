@@ -1,0 +1,64 @@
+ghost use Rattle.std.specs.Prelude.{◌≡◌, ◌⊎◌, List, ◌∷◌, ◌++◌, Option, Some, Result};
+ghost use Rattle.pec_types.specs.Bytes.{Bytes};
+ghost use Rattle.pec_directory.specs.Directory.{Kept};
+ghost use Rattle.pec_http.specs.Asking.{Asks, Question};
+ghost use Rattle.pec_http.specs.declared.stops.Stop.{Stop};
+ghost use Rattle.pec_runs.specs.Openings.{Form, NoMore};
+ghost use Rattle.pec_runs.specs.Statuses.{Status};
+ghost use Rattle.pec_screen.specs.Screened.{finds_in};
+ghost use Rattle.pec_screen.specs.Verdicts.{Patterns};
+ghost use Rattle.pec_seal.specs.Seals.{Seals};
+ghost use Rattle.pec_service.specs.Connections.{Answering, Connection, IsConnection, Place};
+ghost use Rattle.pec_service.specs.Isolation.{IsDeviceReply, IsOwn, IsOwnInRun, answered, answering_of, asking_share};
+ghost use Rattle.pec_service.specs.Passes.{pass_of};
+ghost use Rattle.pec_service.specs.Runs.{AllCounts, Asked, Begins, Outside, ServiceRanOver, stage_of};
+ghost use Rattle.pec_service.specs.Services.{connections_of};
+ghost use Rattle.pec_trade.specs.TradeOf.{trade_of};
+
+use pec_http::a_request_asks_one_thing;
+use pec_outside::Depot;
+
+/// The law of accounts, over a whole run that serves: what the caller of a connection is answered is a function of the
+/// request, the moment, the directory, and the caller's share as the connection was accepted, which is its own book and
+/// items, what its provider comes to and what that provider's screens look for; but for want of memory, and, of a
+/// submission, for a fault of that provider's disk, whose count rose. So connections of two services of one directory, at
+/// one moment, whose callers have the same share, are answered the same, or one of them by such a fault.
+pub fn a_caller_is_answered_its_own()
+    ensures own { (kept : List Kept) (seals : Seals) (screens : List (List Patterns)) (here : Place)
+        (connection : Connection) → IsConnection (trade_of kept seals) kept (finds_in screens) here connection
+        → (answering : Answering) → answering_of connection.hearing ≡ Some answering
+        → (asked : Result Question Stop) → Asks (pass_of kept) connection.input asked
+        → IsOwn kept seals screens here connection asked (answered kept seals here connection answering) }
+    ensures apart { (kept : List Kept) (seals keys : Seals) (screens boxes : List (List Patterns)) (here there : Place)
+        (one other : Connection) → IsConnection (trade_of kept seals) kept (finds_in screens) here one
+        → IsConnection (trade_of kept keys) kept (finds_in boxes) there other
+        → one.moment ≡ other.moment → one.input ≡ other.input
+        → (asked : Result Question Stop) → Asks (pass_of kept) one.input asked
+        → asking_share kept seals screens here.network.sites asked ≡ asking_share kept keys boxes there.network.sites asked
+        → (answering again : Answering) → answering_of one.hearing ≡ Some answering
+        → answering_of other.hearing ≡ Some again
+        → (answered kept seals here one answering ≡ answered kept keys there other again)
+        ⊎ IsDeviceReply kept here one asked (answered kept seals here one answering)
+        ⊎ IsDeviceReply kept there other asked (answered kept keys there other again) }
+{
+    a_request_asks_one_thing();
+}
+
+/// The law of accounts, of a run of the program that serves: the caller of each of its connections is answered its own.
+pub fn a_runs_callers_are_answered_their_own<P: Depot>()
+    ensures { (asked : Asked) (status : Status) (unread before after : Option Bytes) (depot left : P) (here there : Outside)
+        (old new : AllCounts)
+        (ran : ServiceRanOver (P.tells × P.D.tells) P.D.sight asked status unread before after (P.home depot) (P.home left)
+        here there old new)
+        (form : Form) → stage_of ran.served.happened.early ran.served.happened.directory ≡ Begins
+        → ran.served.happened.form ≡ Some form → ran.served.happened.course.opening.next ≡ NoMore
+        → (screens : List (List Patterns)) → asked.finds ≡ finds_in screens
+        → (front rest : List Connection) (connection : Connection)
+        → connections_of ran.served.happened.course.service ≡ front ++ connection ∷ rest
+        → (answering : Answering) → answering_of connection.hearing ≡ Some answering
+        → (question : Result Question Stop)
+        → Asks (pass_of ran.served.happened.setting.kept) connection.input question
+        → IsOwnInRun ran.served.happened old.devices.disks here screens front connection answering question }
+{
+    a_caller_is_answered_its_own();
+}
