@@ -1,35 +1,34 @@
 ghost use Rattle.std.specs.Prelude.{◌≡◌, ◌+◌, ◌<◌, ◌≤◌, ◌↔◌, [], ◌∷◌, ◌++◌, length, IsNone, OnOk, IfOk, OnErr, IfErr};
 ghost use Rattle.std.specs.Option.{option_to_list};
 ghost use Rattle.pec_link.specs.Links.{repeated, swapped, without};
+ghost use Rattle.pec_link.specs.declared.ends.TheConstants.{MOST_FRAMES};
 ghost use Rattle.pec_link.specs.declared.faults.LinkFault.TheVariants as faults;
 
+use crate::ends::{MOST_FRAMES, Putter, Taker, new_link, waiting};
 use crate::faults::LinkFault;
+use crate::turning;
 use pec_types::{Frame, NoMemory};
 use std::alloc::Global;
-use std::collections::VecDeque;
 use std::marker::Model;
 
-/// The most frames that wait on a link. This project's profile.
-pub const MOST_FRAMES: usize = 64;
-
-/// The frames that wait between two providers, oldest first, at most 64. Contracts see their list.
+/// Both ends of a link at rest: no frame waits that the taker doesn't know. Contracts see the frames that wait, oldest first, at
+/// most 64.
 #[derive(Drop)]
 pub struct Link {
-    frames: VecDeque<Frame>,
+    putter: Putter,
+    taker: Taker,
 }
 
 impl Model for Link {
-    ghost use Rattle.std.specs.Prelude.{List, ◌≤◌, length};
-    ghost use Rattle.std.specs.VecDeque.{deque_capacity};
+    ghost use Rattle.std.specs.Prelude.{List};
     ghost use Rattle.pec_types.specs.Bytes.{Bytes};
-    ghost use Rattle.pec_link.specs.declared.links.TheConstants.{MOST_FRAMES};
+    ghost use Rattle.pec_link.specs.Ends.{AreSettled};
 
     ghost Value = { List Bytes };
 
-    ghost view = { λ link. link.frames.items };
+    ghost view = { λ link. link.taker.waiting };
 
-    // It has room for all its frames, so that putting one takes no memory.
-    ghost invariant = { λ link. (length link.frames.items ≤ MOST_FRAMES) × (MOST_FRAMES ≤ deque_capacity link.frames) };
+    ghost invariant = { λ link. AreSettled link.putter link.taker };
 }
 
 impl Link {
@@ -37,8 +36,8 @@ impl Link {
     pub fn new(alloc: Global) -> Result<Link, NoMemory>
         ensures { IfOk result (λ link. link ≡ []) }
     {
-        let frames = VecDeque::with_capacity(alloc, MOST_FRAMES)?;
-        Ok(Link { frames })
+        let (putter, taker) = new_link(alloc)?;
+        Ok(Link { putter, taker })
     }
 
     /// Puts a frame behind those that wait, or hands it back. It takes no memory.
@@ -50,10 +49,10 @@ impl Link {
         ensures back { IfErr result (λ given. given ≡ frame) }
         ensures unchanged { OnErr result (self.new ≡ self.old) }
     {
-        if self.frames.len() >= MOST_FRAMES {
+        if self.room() == 0 {
             return Err(frame);
         }
-        self.frames.push_back_reserved(frame);
+        turning::put_last(&mut self.putter, &mut self.taker, frame);
         Ok(())
     }
 
@@ -62,14 +61,16 @@ impl Link {
         ensures taken { self.old ≡ option_to_list result ++ self.new }
         ensures none { IsNone result ↔ (self.old ≡ []) }
     {
-        self.frames.pop_front()
+        let frame = self.taker.take();
+        waiting(&mut self.putter, &mut self.taker);
+        frame
     }
 
     /// How many more frames the link holds. It takes no memory.
     pub fn room(&self) -> usize
         ensures { result + length self.now ≡ MOST_FRAMES }
     {
-        MOST_FRAMES - self.frames.len()
+        MOST_FRAMES - self.taker.known()
     }
 
     /// How many frames wait. It takes no memory.
@@ -77,7 +78,7 @@ impl Link {
         ensures waiting { result ≡ length self.now }
         ensures bounded { result ≤ MOST_FRAMES }
     {
-        self.frames.len()
+        self.taker.known()
     }
 
     /// Takes out the frame at a place, counted from 0, and forgets it. `NoFrame` exactly where no frame waits there. It takes no
@@ -87,10 +88,7 @@ impl Link {
         ensures no_frame { IfErr result (λ fault. (fault ≡ faults.NoFrame) × (length self.old ≤ place)) }
         ensures unchanged { OnErr result (self.new ≡ self.old) }
     {
-        match self.frames.remove(place) {
-            Some(_) => Ok(()),
-            None => Err(LinkFault::NoFrame),
-        }
+        turning::lose(&mut self.putter, &mut self.taker, place)
     }
 
     /// Exchanges the frame at a place, counted from 0, with the next one. `NoFrame` exactly where one of the two doesn't wait. It
@@ -100,12 +98,7 @@ impl Link {
         ensures no_frame { IfErr result (λ fault. (fault ≡ faults.NoFrame) × (length self.old ≤ place + 1)) }
         ensures unchanged { OnErr result (self.new ≡ self.old) }
     {
-        let waiting = self.frames.len();
-        if waiting < 2 || place >= waiting - 1 {
-            return Err(LinkFault::NoFrame);
-        }
-        self.frames.swap(place, place + 1);
-        Ok(())
+        turning::swap(&mut self.putter, &mut self.taker, place)
     }
 
     /// Puts a copy of the frame at a place, counted from 0, behind those that wait. `NoFrame` exactly where no frame waits there,
@@ -116,14 +109,6 @@ impl Link {
         ensures full { IfErr result (λ fault. fault ≡ faults.Full → (place < length self.old) × (length self.old ≡ MOST_FRAMES)) }
         ensures unchanged { OnErr result (self.new ≡ self.old) }
     {
-        let Some(frame) = self.frames.get(place) else {
-            return Err(LinkFault::NoFrame);
-        };
-        if self.frames.len() >= MOST_FRAMES {
-            return Err(LinkFault::Full);
-        }
-        let copy = frame.copy(alloc)?;
-        self.frames.push_back_reserved(copy);
-        Ok(())
+        turning::repeat(alloc, &mut self.putter, &mut self.taker, place)
     }
 }
