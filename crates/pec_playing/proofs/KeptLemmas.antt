@@ -21,6 +21,7 @@ keeps_providers {D} {S} sight count tells old new same =
     let providers : new.providers ≡ old.providers = ap (λ (n : NetworkState D S). n.providers) same in
     record {
       directory = ap (λ (n : NetworkState D S). n.kept) same;
+      many = ap (λ (l : List (ProviderState D)). length l) providers;
       seals = ap (λ (n : NetworkState D S). n.sealer) same;
       stands = λ told all. subst (λ (l : List (ProviderState D)). AllStand sight l) (sym providers) all;
       later =
@@ -32,9 +33,22 @@ pub keeps_all : {D S : Type 0} (sight : D → Sight) (count : D → ℕ) (tells 
     → Keeps sight count tells network network
 keeps_all sight count tells network = record {
   directory = refl;
+  many = refl;
   seals = refl;
   stands = λ told all. all;
   later = none_falls count network.providers;
+}
+
+-- what is kept twice is kept
+pub keeps_on : {D S : Type 0} (sight : D → Sight) (count : D → ℕ) (tells : Type 0) (old mid new : NetworkState D S)
+    → Keeps sight count tells old mid → Keeps sight count tells mid new → Keeps sight count tells old new
+keeps_on sight count tells old mid new first second = record {
+  directory = second.directory ∙ first.directory;
+  many = second.many ∙ first.many;
+  seals = second.seals ∙ first.seals;
+  stands = λ told all. second.stands told (first.stands told all);
+  later = λ number other within.
+      omega (arith, first.later number other within, second.later number other (omega (arith, within, first.many)));
 }
 
 -- counts that didn't change don't fall
@@ -61,6 +75,7 @@ module _ {D S : Type 0} (old new : NetworkState D S) (number : ℕ) (only : Chan
       → NoneFalls count old.providers new.providers → Keeps sight count tells old new
   keeps_others sight count tells trade carries later = record {
     directory = ap (λ (n : NetworkState D S). n.kept) (only some);
+    many = as_many;
     seals = ap (λ (n : NetworkState D S). n.sealer) (only some);
     stands = λ told all k other l.
         (let l2 : k < length old.providers = omega (arith, l, as_many) in

@@ -8,3 +8,4 @@ pub mod PlayLemmas
 pub mod RestartLemmas
 pub mod RoundLemmas
 pub mod SameLemmas
+pub mod WritingLemmas

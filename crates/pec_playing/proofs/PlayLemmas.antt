@@ -8,7 +8,7 @@ use Rattle.pec_types.specs.declared.faults.NoMemory.{NoMemory}
 use Rattle.pec_directory.specs.Directory.{Provider, providers_of}
 use Rattle.pec_ledger.specs.Network.{Site, interrupted_at, journal_at}
 use Rattle.pec_ledger.specs.Trade.{Trade}
-use Rattle.pec_plays.specs.Commands.{Answer, Command, Luck, Played, played}
+use Rattle.pec_plays.specs.Commands.{Answer, Command, Luck, Played, Restart, played}
 use Rattle.pec_plays.specs.Possible.{MayMeet}
 use Rattle.pec_network.specs.Carrying.{AllStand}
 use Rattle.pec_network.specs.Network.{NetworkState, sites}
@@ -67,10 +67,11 @@ module _ {D S : Type 0} (sight : D → Sight) (count : D → ℕ) (tells : Type 
 
 -- a call that stands beside a depot
 module _ {D S : Type 0} (sight : D → Sight) (count : D → ℕ) (home disks : Type 0) (trade : Trade) (command : Command)
-    (old new : NetworkState D S) (stands : home × disks → AllStand sight old.providers) where
+    (old new : NetworkState D S)
+    (stands : (provider : ℕ) → command ≡ Restart provider → home × disks → AllStand sight old.providers) where
   strays : Strange sight disks old.providers (sites old) command → MayStray (home × disks) (sites old) (Some command)
   strays strange = record {
-    untold = λ tells. strange.never tells.1 (stands tells);
+    untold = λ tells. strange.never tells.1 (stands strange.provider strange.restarts tells);
     provider = strange.provider;
     restarts = ap (λ (c : Command). Some c) strange.restarts;
     down = strange.down;

@@ -1,7 +1,7 @@
 -- What a call for one command comes to, whoever asked for it: `Does`. It speaks of disks alone, and not of a depot.
 -- This
 -- project's profile.
-use Rattle.std.specs.Prelude.{◌≡◌, ◌⊎◌, ℕ, false, List, Some, Result, IfOk, OnErr}
+use Rattle.std.specs.Prelude.{◌≡◌, ◌⊎◌, ℕ, false, List, length, Some, Result, IfOk, OnErr}
 use Rattle.std.specs.declared.alloc.Global.{Global}
 use Rattle.std.specs.declared.vec.Vec.{Vec}
 use Rattle.pec_outside.specs.DiskModel.{Sight}
@@ -27,11 +27,12 @@ pub record Strange {D : Type 0} (sight : D → Sight) (tells : Type 0) (provider
   pub down : is_up state provider ≡ false
   pub never : tells → AllStand sight providers → ⊥
 
--- What every command keeps: the directory and who seals; that providers stand on disks that tell what they hold; and no
--- count of faults falls.
+-- What every command keeps: the directory, how many providers there are, and who seals; that providers stand on disks that
+-- tell what they hold; and no count of faults falls.
 pub record Keeps {D S : Type 0} (sight : D → Sight) (faults : D → ℕ) (tells : Type 0)
     (old new : NetworkState D S) : Type 0 where
   pub directory : new.kept ≡ old.kept
+  pub many : length new.providers ≡ length old.providers
   pub seals : new.sealer ≡ old.sealer
   pub stands : tells → AllStand sight old.providers → AllStand sight new.providers
   pub later : NoneFalls faults old.providers new.providers

@@ -7,14 +7,17 @@ ghost use Rattle.pec_plays.specs.Commands.{Refuses};
 ghost use Rattle.pec_network.specs.OfProviders.{ProviderState};
 ghost use Rattle.pec_network.specs.Carrying.{NoneFalls};
 ghost use Rattle.pec_network.specs.Changing.{HasRisenAt};
+ghost use Rattle.pec_network.specs.Network.{NetworkState};
 ghost use Rattle.pec_script.specs.LinesReading.{command_of};
 ghost use Rattle.pec_script.specs.declared.commands.Command.{Command as Written};
 ghost use Rattle.pec_runs.specs.ScriptLines.{longest_line};
 ghost use Rattle.pec_runs.specs.Plays.{RoseBy, faults_at};
+ghost use Rattle.pec_playing.specs.Doing.{Keeps};
 ghost use Rattle.pec_playing.specs.Playing.{CanPlay, counts_in};
 
 use pec_outside::Disk;
 use pec_script::a_line_has_one_reading;
+use pec_seal::Sealer;
 
 /// What a line says that isn't too long can be played over a network of the same directory.
 pub fn what_a_line_says_can_be_played()
@@ -34,4 +37,11 @@ pub fn what_is_told_was_counted<D: Disk>()
     ensures later { (old new : List (ProviderState D)) → length new ≡ length old → (elsewhere : ℕ → ℕ)
         → NoneFalls D.faults old new → (number : ℕ)
         → counts_in D.faults old elsewhere number ≤ counts_in D.faults new elsewhere number }
+{}
+
+/// What every command keeps is kept by all of them: by none, and by one behind others.
+pub fn what_is_kept_is_kept_on<D: Disk, S: Sealer>()
+    ensures none { (network : NetworkState D S) → Keeps D.sight D.faults D.tells network network }
+    ensures one { (old mid new : NetworkState D S) → Keeps D.sight D.faults D.tells old mid
+        → Keeps D.sight D.faults D.tells mid new → Keeps D.sight D.faults D.tells old new }
 {}

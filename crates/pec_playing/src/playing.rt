@@ -1,65 +1,70 @@
-ghost use Rattle.std.specs.Prelude.{◌≡◌, ℕ, ◌≤◌, length, map, IfOk, OnErr};
+ghost use Rattle.std.specs.Prelude.{◌≡◌, ℕ, ◌≤◌, [], ◌∷◌, length, map, IsErrOf};
 ghost use Rattle.pec_outside.specs.Depots.{Alike};
+ghost use Rattle.pec_outside.specs.Flow.{HasRisen};
 ghost use Rattle.pec_directory.specs.Directory.{providers_of};
-ghost use Rattle.pec_network.specs.Carrying.{AllStand, NoneFalls};
-ghost use Rattle.pec_network.specs.Network.{sites, world_of};
+ghost use Rattle.pec_network.specs.Carrying.{AllStand};
+ghost use Rattle.pec_network.specs.Network.{world_of};
+ghost use Rattle.pec_plays.specs.Commands.{Restart};
 ghost use Rattle.pec_runs.specs.ScriptLines.{command_in};
+ghost use Rattle.pec_runs.specs.Steps.{Goes, Plays};
 ghost use Rattle.pec_screen.specs.Screened.{finds_in};
-ghost use Rattle.pec_playing.specs.Doing.{Does};
+ghost use Rattle.pec_playing.specs.Doing.{Does, Keeps};
 ghost use Rattle.pec_playing.specs.Looking.{LooksBy};
-ghost use Rattle.pec_playing.specs.Playing.{CanPlay, HasPlayed, HasStopped, counts_in};
+ghost use Rattle.pec_playing.specs.Playing.{CanPlay};
+ghost use Rattle.pec_playing.specs.Points.{point_of, stop_in};
 
 use crate::accounts::{book, mailbox, show};
 use crate::crashes::{crash, restart};
 use crate::links::{inject, lose, repeat, swap};
 use crate::providers::{submit, tick};
 use crate::rounds::round;
+use crate::stops::Stop;
 use pec_network::Network;
-use pec_outside::{Depot, Disk};
+use pec_outside::{Depot, Disk, Sink, write_all};
+use pec_runs::an_act_is_done;
 use pec_screen::Judge;
 use pec_script::Command;
 use pec_seal::Sealer;
 use pec_types::NoMemory;
 use std::alloc::Global;
 
-/// Plays a command of a script, and gives the lines that are written of its answer. The screens of a provider are those
-/// at its number, and none where there are fewer. Want of memory ends the run: the
-/// command may have been played then, in whole or in part.
-pub fn play<D: Disk, S: Sealer, P: Depot<D = D>, J: Judge>(
+/// Plays a command of a script, and writes the lines of its answer. The screens of a provider are those at its number, and
+/// none where there are fewer. Want of memory ends the run: the command may have been played then, in whole or in part, and
+/// none of its lines is written.
+pub fn play_and_write<D: Disk, S: Sealer, P: Depot<D = D>, J: Judge, W: Sink>(
     alloc: Global,
     network: &mut Network<D, S>,
     depot: &mut P,
     screens: &mut [J],
     command: Command,
-) -> Result<Vec<u8>, NoMemory>
+    out: &mut W,
+) -> Result<(), Stop>
     requires can { CanPlay (length network.old.kept) command }
-
-    // All that is asked: where disks tell what they hold, each provider stands on its own.
-    ensures plays { (P.tells × D.tells → AllStand D.sight network.old.providers) → (elsewhere : ℕ → ℕ)
-        → IfOk result (λ text. HasPlayed (P.tells × D.tells)
-        (world_of S.seals network.old) (providers_of network.old.kept) (sites network.old)
-        (counts_in D.faults network.old.providers elsewhere) (counts_in D.faults network.new.providers elsewhere)
-        (command_in (finds_in (map J.patterns screens.old)) command) text.items (sites network.new)) }
-    ensures stops { (P.tells × D.tells → AllStand D.sight network.old.providers)
-        → OnErr result (HasStopped (P.tells × D.tells)
-        (world_of S.seals network.old) (sites network.old) (command_in (finds_in (map J.patterns screens.old)) command)
-        (sites network.new)) }
-    ensures same { (network.new.kept ≡ network.old.kept) × (network.new.sealer ≡ network.old.sealer) }
-    ensures stands { D.tells → AllStand D.sight network.old.providers → AllStand D.sight network.new.providers }
-    ensures later { NoneFalls D.faults network.old.providers network.new.providers }
+    // All that is asked: for a restart, where disks tell what they hold, each provider stands on its own.
+    ensures goes { ((provider : ℕ) → command_in (finds_in (map J.patterns screens.old)) command ≡ Restart provider
+        → P.tells × D.tells → AllStand D.sight network.old.providers) → (elsewhere : ℕ → ℕ)
+        → Goes (world_of S.seals network.old) (providers_of network.old.kept) (P.tells × D.tells)
+        (Plays (command_in (finds_in (map J.patterns screens.old)) command) ∷ [])
+        (point_of D.faults elsewhere network.old (W.held out.old) (W.faults out.old))
+        (point_of D.faults elsewhere network.new (W.held out.new) (W.faults out.new)) (stop_in result) }
+    ensures keeps { Keeps D.sight D.faults D.tells network.old network.new }
     ensures home { P.tells → Alike (P.home depot.old) (P.home depot.new) }
     ensures last { Alike (P.last depot.old) (P.last depot.new) }
-    ensures depot_later { P.faults depot.old ≤ P.faults depot.new }
+    ensures later { (P.faults depot.old ≤ P.faults depot.new) × (W.faults out.old ≤ W.faults out.new) }
+    ensures write_fault { IsErrOf result Stop.WriteFault → HasRisen (W.faults out.old) (W.faults out.new) }
     // Screens look at submissions alone, each once at most, and keep what they look for.
     ensures looked { LooksBy (providers_of network.old.kept)
         (command_in (finds_in (map J.patterns screens.old)) command)
         (map J.seen screens.old) (map J.seen screens.new) }
     ensures patterns { map J.patterns screens.new ≡ map J.patterns screens.old }
 {
-    play_command(alloc, network, depot, screens, command)
+    an_act_is_done::<P>();
+    let text = play_command(alloc, network, depot, screens, command)?;
+    write_all(out, &text)?;
+    Ok(())
 }
 
-/// The same, whatever is known of disks.
+/// Plays a command, and gives the lines of its answer, whatever is known of disks.
 fn play_command<D: Disk, S: Sealer, P: Depot<D = D>, J: Judge>(
     alloc: Global,
     network: &mut Network<D, S>,

@@ -63,7 +63,7 @@ pub(crate) fn submit<D: Disk, S: Sealer, J: Judge>(
 }
 
 /// Has a provider look at the clock: a line for each mark that it set, and `ticked`.
-pub fn tick<D: Disk, S: Sealer>(
+pub(crate) fn tick<D: Disk, S: Sealer>(
     alloc: Global,
     network: &mut Network<D, S>,
     provider: u32,

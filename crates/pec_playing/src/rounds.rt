@@ -11,7 +11,7 @@ use pec_types::{Moment, NoMemory};
 use std::alloc::Global;
 
 /// Has each provider take its turn: the lines of each turn, and `round`.
-pub fn round<D: Disk, S: Sealer>(
+pub(crate) fn round<D: Disk, S: Sealer>(
     alloc: Global,
     network: &mut Network<D, S>,
     moment: Moment,

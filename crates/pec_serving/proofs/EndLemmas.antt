@@ -1,5 +1,5 @@
 -- How a loop over connections goes on and ends, from the network with which the service began.
-use Rattle.std.proofs.Common.{◌≡◌, ◌+◌, ◌<◌, ◌≤◌, ◌-◌, ◌^◌, ℕ, List, length, arith, inl, inr, subst, Option, Result, Ok, Err}
+use Rattle.std.proofs.Common.{◌≡◌, ◌+◌, ◌<◌, ◌≤◌, ◌-◌, ◌^◌, ℕ, List, length, arith, inl, inr, subst, Option, None, Some}
 use Rattle.std.proofs.lemmas.Bool.{cases_lt}
 use Rattle.pec_types.specs.Bytes.{Bytes}
 use Rattle.pec_outside.specs.DiskModel.{Sight}
@@ -13,17 +13,18 @@ use Rattle.pec_ledger.specs.Trade.{Trade}
 use Rattle.pec_playing.specs.OfNetworks.{NetworkState, world_of}
 use Rattle.pec_http.specs.declared.serving.Served.{Served}
 use Rattle.pec_playing.specs.Doing.{Keeps}
-use Rattle.pec_service.specs.Calls.{clock_from}
+use Rattle.pec_playing.specs.Points.{point_of}
+use Rattle.pec_runs.specs.Steps.{NoMemory, Stop, WriteFault}
+use Rattle.pec_service.specs.Calls.{ClockWent, State, calls_text, clock_from}
 use Rattle.pec_service.specs.Connections.{Place}
-use Rattle.pec_serving.specs.Playing.{PlaysAll, state_of}
+use Rattle.pec_serving.specs.Playing.{state_of}
 use Rattle.pec_serving.specs.Serving.{ComesNext, ServesSo, place_of, served_line}
 use Rattle.pec_serving.specs.declared.next.Came.{Came}
 use Rattle.pec_serving.specs.declared.next.Came.TheVariants as came
 use Rattle.pec_serving.specs.declared.serving.Ending.TheVariants as endings
-use Rattle.pec_serving.specs.declared.stops.Stop.{Stop}
-use Rattle.pec_serving.specs.declared.stops.Stop.TheVariants as stops
 use Rattle.pec_serving.proofs.KeepLemmas.{as_begun}
-use Rattle.pec_serving.proofs.ServiceLemmas.{CallLaws, ConnectionLaws, Going, clock_lacks, clock_stops, goes_on, line_broke, none_met, none_told}
+use Rattle.pec_serving.proofs.ServiceLemmas.{CallLaws, ConnectionLaws, Going, broke, goes, lacks, line_broke, none_met, none_told}
+use Rattle.pec_serving.proofs.WritingLemmas.{part_behind}
 
 module _ {D S : Type 0} (sight : D → Sight) (count : D → ℕ) (disks : Type 0) (seals : S → Seals)
     (start : NetworkState D S) (screens : List (List Patterns)) (laws : CallLaws (world_of seals start))
@@ -74,46 +75,47 @@ module _ {D S : Type 0} (sight : D → Sight) (count : D → ℕ) (disks : Type 
         (comes_so (came.Served moment told) comes) wanted (omega (arith, few)) after part
 
     module _ (keeps_again : Keeps sight count disks start again) (last : NetworkState D S) (line_held after : Option Bytes)
-        (line : line_held ≡ followed_by mid (served_line told)) where
-      played_so : (result : Result (Unit {0}) Stop)
-          → PlaysAll (world_of seals again) (providers_of again.kept) (state_of count elsewhere again)
-          (state_of count elsewhere last) (clock_from (length again.kept) 0 moment) line_held after result
-          → PlaysAll trade (providers_of start.kept) (state_of count elsewhere again) (state_of count elsewhere last)
-          (clock_from (length start.kept) 0 moment) line_held after result
-      played_so result plays =
-          as_begun sight count disks seals start again keeps_again
-          (λ (t : Trade) (k : List Kept). PlaysAll t (providers_of k) (state_of count elsewhere again)
-          (state_of count elsewhere last) (clock_from (length k) 0 moment) line_held after result) plays
+        (from upto : ℕ) (line : line_held ≡ followed_by mid (served_line told)) where
+      abbrev network_left : State
+      network_left = state_of count elsewhere last
 
-      pub ends_written : PlaysAll (world_of seals again) (providers_of again.kept)
-          (state_of count elsewhere again) (state_of count elsewhere last) (clock_from (length again.kept) 0 moment)
-          line_held after (Ok tt)
+      abbrev Went : Trade → List Kept → Option Stop → Type 0
+      Went t k stop = ClockWent t (providers_of k) (clock_from (length k) 0 moment)
+          (point_of count elsewhere again line_held from) (point_of count elsewhere last after upto) stop
+
+      -- the clock calls, in the world of the beginning
+      went_so : (stop : Option Stop) → Went (world_of seals again) again.kept stop → Went trade start.kept stop
+      went_so stop went =
+          as_begun sight count disks seals start again keeps_again (λ (t : Trade) (k : List Kept). Went t k stop) went
+
+      pub ends_written : Went (world_of seals again) again.kept None
           → Going trade start.kept (finds_in screens) here (place_of count elsewhere last moments_then requests_then replies_then) (served + 1)
           before after
-      ends_written plays =
-          goes_on trade start.kept (finds_in screens) laws joins here at served before mid going left moment told
-          (comes_so (came.Served moment told) comes) line_held line (state_of count elsewhere last) after
-          (played_so (Ok tt) plays)
+      ends_written clock =
+          let went = went_so None clock
+          in goes trade start.kept (finds_in screens) laws joins here at served before mid going left moment told
+          (comes_so (came.Served moment told) comes) line_held line network_left went.calls went.unplayed went.plays went.are
+          went.ends.0 went.ends.1 after went.ends.2
 
-      pub ends_stopped : PlaysAll (world_of seals again) (providers_of again.kept)
-          (state_of count elsewhere again) (state_of count elsewhere last) (clock_from (length again.kept) 0 moment)
-          line_held after (Err stops.WriteFault)
+      pub ends_stopped : Went (world_of seals again) again.kept (Some WriteFault)
           → ServesSo trade start.kept (finds_in screens) wanted here (place_of count elsewhere last moments_then requests_then replies_then)
           before after endings.WriteFault
-      ends_stopped plays =
-          clock_stops trade start.kept (finds_in screens) laws joins here at served before mid going left moment told
-          (comes_so (came.Served moment told) comes) line_held line wanted (omega (arith, few))
-          (state_of count elsewhere last) after (played_so (Err stops.WriteFault) plays)
+      ends_stopped clock =
+          let went = went_so (Some WriteFault) clock
+          in broke trade start.kept (finds_in screens) laws joins here at served before mid going left moment told
+          (comes_so (came.Served moment told) comes) line_held line network_left went.calls went.unplayed went.plays went.are
+          wanted (omega (arith, few)) went.ends.0 after
+          (part_behind mid line_held after (served_line told)
+          (calls_text trade (providers_of start.kept) left.network went.calls) line went.ends.1)
 
-      pub ends_lacking : PlaysAll (world_of seals again) (providers_of again.kept)
-          (state_of count elsewhere again) (state_of count elsewhere last) (clock_from (length again.kept) 0 moment)
-          line_held after (Err stops.NoMemory)
+      pub ends_lacking : Went (world_of seals again) again.kept (Some NoMemory)
           → ServesSo trade start.kept (finds_in screens) wanted here (place_of count elsewhere last moments_then requests_then replies_then)
           before after endings.NoMemory
-      ends_lacking plays =
-          clock_lacks trade start.kept (finds_in screens) laws joins here at served before mid going left moment told
-          (comes_so (came.Served moment told) comes) line_held line wanted (omega (arith, few))
-          (state_of count elsewhere last) after (played_so (Err stops.NoMemory) plays)
+      ends_lacking clock =
+          let went = went_so (Some NoMemory) clock
+          in lacks trade start.kept (finds_in screens) laws joins here at served before mid going left moment told
+          (comes_so (came.Served moment told) comes) line_held line network_left went.calls went.unplayed went.plays went.are
+          wanted (omega (arith, few)) went.ends.0 went.ends.2 after went.ends.1
 
 -- a count that rose later rose from the beginning
 pub risen_since : (a b d : ℕ) → a ≤ b → b ≤ d → HasRisen b d → HasRisen a d

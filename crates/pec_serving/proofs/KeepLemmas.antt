@@ -1,5 +1,6 @@
 -- What the desk keeps of a network, whatever was asked of it.
-use Rattle.std.proofs.Common.{◌≡◌, inl, inr, ℕ, ◌<◌, List, [], length, refl, ap, sym, subst, ◌∙◌, arith, Option, Result, Ok, Err}
+use Rattle.std.proofs.Common.{◌≡◌, inl, inr, ℕ, ◌<◌, List, [], ◌++◌, length, map, take, drop, refl, ap, sym, subst, ◌∙◌, arith, Option, Result, Ok, Err}
+use Rattle.std.proofs.lemmas.List.{append-nil, drop_all, length-map, take_all}
 use Rattle.std.proofs.lemmas.Option.{slice_get_cases}
 use Rattle.pec_types.specs.Bytes.{Bytes}
 use Rattle.pec_types.specs.declared.turns.ProviderFault.{ProviderFault}
@@ -24,20 +25,22 @@ module _ {D S : Type 0} (sight : D → Sight) (count : D → ℕ) (disks : Type 
   pub keeps_all : (network : NetworkState D S) → Keeps sight count disks network network
   keeps_all network = record {
     directory = refl;
+    many = refl;
     seals = refl;
     stands = λ told all. all;
     later = λ number other within. omega arith;
   }
 
   -- what is kept twice is kept
-  pub keeps_on : (old mid new : NetworkState D S) → length mid.providers ≡ length old.providers
-      → Keeps sight count disks old mid → Keeps sight count disks mid new → Keeps sight count disks old new
-  keeps_on old mid new many first second = record {
+  pub keeps_on : (old mid new : NetworkState D S) → Keeps sight count disks old mid → Keeps sight count disks mid new
+      → Keeps sight count disks old new
+  keeps_on old mid new first second = record {
     directory = second.directory ∙ first.directory;
+    many = second.many ∙ first.many;
     seals = second.seals ∙ first.seals;
     stands = λ told all. second.stands told (first.stands told all);
     later = λ number other within.
-        omega (arith, first.later number other within, second.later number other (omega (arith, within, many)));
+        omega (arith, first.later number other within, second.later number other (omega (arith, within, first.many)));
   }
 
   -- What holds of a desk, and of it with a message handed in, holds of whatever it leaves.
@@ -82,6 +85,7 @@ module _ {D S : Type 0} (sight : D → Sight) (count : D → ℕ) (disks : Type 
               whole_after ∙ ap (λ (k : List Kept). length k) kept ∙ sym whole
               in record {
                 directory = kept;
+                many = many;
                 seals = ap (λ (n : NetworkState D S). n.sealer) only;
                 stands = λ told all number other within.
                     (let below : number < length desk.network.providers = omega (arith, within, many)
@@ -105,6 +109,15 @@ module _ {D S : Type 0} (sight : D → Sight) (count : D → ℕ) (disks : Type 
     serves_look left held held_then told serves =
         holds_served seals desk after (λ (d : DeskState D S). d.screens ≡ desk.screens) refl
         (λ address path message said handed. handed.screens) left held held_then told serves
+
+-- a list that was lent whole, and came back with what is said of its items unchanged
+pub given_back : {X Z : Type 0} (items back : List X) (count : ℕ) (told : X → Z) → count ≡ length items
+    → map told back ≡ map told items → map told (take count (back ++ drop (length back) items)) ≡ map told items
+given_back items back count told whole same =
+    let size : length back ≡ length items = sym (length-map back told) ∙ ap length same ∙ length-map items told in
+    ap (map told) (ap (take count) (ap (λ rest. back ++ rest) (drop_all (length back) items (omega (arith, size)))
+    ∙ append-nil back) ∙ take_all count back (omega (arith, whole, size)))
+    ∙ same
 
 -- the world is the same as long as directory and seals are kept
 pub as_begun : {D S : Type 0} (sight : D → Sight) (count : D → ℕ) (disks : Type 0) (seals : S → Seals)

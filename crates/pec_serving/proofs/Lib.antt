@@ -3,7 +3,6 @@ pub mod EndLemmas
 pub mod HearingLemmas
 pub mod KeepLemmas
 pub mod LineLemmas
-pub mod LoopLemmas
 pub mod NextLemmas
 pub mod ServiceLemmas
 pub mod WritingLemmas

@@ -1,5 +1,5 @@
 -- Connections one after another in a service, and how it ends.
-use Rattle.std.proofs.Common.{◌≡◌, ℕ, zero, suc, ◌+◌, ◌<◌, ◌≤◌, List, [], ◌∷◌, ◌++◌, length, refl, ap, sym, subst, ◌∙◌, arith, Option, Some, None, Ok, Err}
+use Rattle.std.proofs.Common.{◌≡◌, ℕ, zero, suc, ◌+◌, ◌<◌, ◌≤◌, List, [], ◌∷◌, ◌++◌, length, refl, ap, sym, subst, ◌∙◌, arith, Option, Some, None}
 use Rattle.std.specs.Prelude.{All, IfSome, slice_get}
 use Rattle.std.proofs.lemmas.List.{append-nil, append_assoc, length-append, length-map}
 use Rattle.std.proofs.lemmas.List.Elements.{All-append, All-cons, All-nil}
@@ -17,10 +17,8 @@ use Rattle.pec_service.specs.Calls.{AreCalls, Call, State, calls_text, clock_fro
 use Rattle.pec_service.specs.Connections.{Connection, IsConnection, IsWhole, Place, connection_text}
 use Rattle.pec_service.specs.Services.{AllServed, AreConnections, Halted, IsService, NoConnection, NoMoment, Service, connections_text, next_in, place_behind}
 use Rattle.pec_service.specs.Services as services
-use Rattle.pec_serving.specs.Playing.{NoneFell, PlaysAll}
 use Rattle.pec_serving.specs.Serving.{IsServedNext, ServesSo, served_line}
 use Rattle.pec_serving.specs.declared.serving.Ending.TheVariants as endings
-use Rattle.pec_serving.specs.declared.stops.Stop.TheVariants as stops
 use Rattle.pec_serving.proofs.WritingLemmas.{followed_nothing, followed_twice, part_behind}
 
 -- ---- what is known of calls and of connections that are joined
@@ -251,7 +249,7 @@ module _ (trade : Trade) (kept : List Kept) (finds : Finds) (laws : CallLaws tra
           ∙ ap length (sym (append-nil (commands_of calls)) ∙ ap (λ (l : List Command). commands_of calls ++ l) (sym none) ∙ plays)
           ∙ clock_size (length kept) 0 moment
 
-      goes : unplayed ≡ [] → state_behind there.network calls ≡ left → (after : Option Bytes)
+      pub goes : unplayed ≡ [] → state_behind there.network calls ≡ left → (after : Option Bytes)
           → after ≡ followed_by line_held (calls_text trade (providers_of kept) there.network calls)
           → Going trade kept finds here (moved there left) (served + 1) before after
       goes none is after written = record {
@@ -269,7 +267,7 @@ module _ (trade : Trade) (kept : List Kept) (finds : Finds) (laws : CallLaws tra
       halted : Connection → Service
       halted c = record { whole = going.whole; part = Some c; ending = Halted }
 
-      broke : (wanted : ℕ) → served ≤ wanted → state_behind there.network calls ≡ left → (after : Option Bytes)
+      pub broke : (wanted : ℕ) → served ≤ wanted → state_behind there.network calls ≡ left → (after : Option Bytes)
           → WrotePart mid after (served_line told ++ calls_text trade (providers_of kept) there.network calls)
           → ServesSo trade kept finds wanted here (moved there left) before after endings.WriteFault
       broke wanted few is after part = record {
@@ -293,9 +291,10 @@ module _ (trade : Trade) (kept : List Kept) (finds : Finds) (laws : CallLaws tra
       }
 
       -- memory ran out at the next command
-      lacks : (wanted : ℕ) → served ≤ wanted
+      pub lacks : (wanted : ℕ) → served ≤ wanted
           → LeavesOff trade (state_behind there.network calls).sites (slice_get unplayed 0) left.sites
-          → NoneFell (state_behind there.network calls) left → (after : Option Bytes)
+          → ((provider : ℕ) → (state_behind there.network calls).counts provider ≤ left.counts provider)
+          → (after : Option Bytes)
           → after ≡ followed_by line_held (calls_text trade (providers_of kept) there.network calls)
           → ServesSo trade kept finds wanted here (moved there left) before after endings.NoMemory
       lacks wanted few leaves later after written =
@@ -327,27 +326,6 @@ module _ (trade : Trade) (kept : List Kept) (finds : Finds) (laws : CallLaws tra
               ap (λ (m : ℕ). slice_get (clock_from (length kept) 0 m) (length calls)) next.moment_is
               ∙ ap (λ (l : List Command). slice_get l (length calls)) (sym plays)
               ∙ first_behind calls unplayed
-
-    pub goes_on : (left : State) (after : Option Bytes)
-        → PlaysAll trade (providers_of kept) there.network left due line_held after (Ok tt)
-        → Going trade kept finds here (moved there left) (served + 1) before after
-    goes_on left after plays =
-        goes left plays.calls plays.unplayed plays.front.plays plays.front.are plays.plays.0 plays.plays.1 after plays.plays.2
-
-    pub clock_stops : (wanted : ℕ) → served ≤ wanted → (left : State) (after : Option Bytes)
-        → PlaysAll trade (providers_of kept) there.network left due line_held after (Err stops.WriteFault)
-        → ServesSo trade kept finds wanted here (moved there left) before after endings.WriteFault
-    clock_stops wanted few left after plays =
-        broke left plays.calls plays.unplayed plays.front.plays plays.front.are wanted few plays.plays.0 after
-        (part_behind mid line_held after (served_line told) (calls_text trade (providers_of kept) there.network plays.calls)
-        line_written plays.plays.1)
-
-    pub clock_lacks : (wanted : ℕ) → served ≤ wanted → (left : State) (after : Option Bytes)
-        → PlaysAll trade (providers_of kept) there.network left due line_held after (Err stops.NoMemory)
-        → ServesSo trade kept finds wanted here (moved there left) before after endings.NoMemory
-    clock_lacks wanted few left after plays =
-        lacks left plays.calls plays.unplayed plays.front.plays plays.front.are wanted few plays.plays.0 plays.plays.2 after
-        plays.plays.1
 
   -- ---- between two connections
 

@@ -6,7 +6,11 @@ pub use Rattle.pec_playing.specs.OfNetworks.{IsRefused, IsUnfit, NetworkState, N
 pub use Rattle.pec_playing.specs.OfNetworks.{ProviderState, Says, Stands, StartFault, Waiting, all_rested, desk_of}
 pub use Rattle.pec_playing.specs.OfNetworks.{journals_had, reopened_as, rested, site_of, sites, sites_of, trade_of}
 pub use Rattle.pec_playing.specs.OfNetworks.{waiting_for, world_of}
-pub use Rattle.pec_playing.specs.Playing.{HasPlayed, HasStopped, IsPlayedSo, count_or, counts_in}
+pub use Rattle.pec_playing.specs.Doing.{Keeps}
+pub use Rattle.pec_playing.specs.Playing.{CanPlay, count_or, counts_in}
+pub use Rattle.pec_playing.specs.Points.{point_of, stop_in}
 pub use Rattle.pec_playing.specs.OfNetworks.faults as faults
 pub use Rattle.pec_playing.specs.OfNetworks.reasons as reasons
 pub use Rattle.pec_playing.specs.OfNetworks.ways as ways
+pub use Rattle.pec_playing.specs.declared.stops.Stop.{Stop}
+pub use Rattle.pec_playing.specs.declared.stops.Stop.TheVariants as play_stops

@@ -1,91 +1,62 @@
-ghost use Rattle.std.specs.Prelude.{◌≡◌, ℕ, ◌≤◌, ◌<◌, length, IsErrOf};
+ghost use Rattle.std.specs.Prelude.{◌≡◌, ℕ, ◌≤◌, length, map, IsErrOf};
+ghost use Rattle.pec_outside.specs.Depots.{Alike};
 ghost use Rattle.pec_outside.specs.Flow.{HasRisen};
 ghost use Rattle.pec_directory.specs.Directory.{providers_of};
-ghost use Rattle.pec_plays.specs.Commands.{Round, Tick};
 ghost use Rattle.pec_playing.specs.Doing.{Keeps};
 ghost use Rattle.pec_playing.specs.OfNetworks.{world_of};
-ghost use Rattle.pec_service.specs.Calls.{clock_from};
-ghost use Rattle.pec_serving.specs.Playing.{PlaysAll, PlaysOne, state_of};
+ghost use Rattle.pec_playing.specs.Points.{point_of, stop_in};
+ghost use Rattle.pec_service.specs.Calls.{ClockWent, clock_from};
 
-use crate::answering::as_many_providers;
-use crate::stops::Stop;
-use pec_outside::{Disk, Sink, write_all};
-use pec_playing::{Network, round, tick, what_is_told_was_counted};
+use pec_outside::{Depot, Disk, Sink};
+use pec_playing::{Network, Stop, play_and_write, what_is_kept_is_kept_on};
+use pec_runs::acts_are_joined;
+use pec_screen::Judge;
+use pec_script::Command;
 use pec_seal::Sealer;
-use pec_service::calls_are_joined;
+use pec_service::acts_are_calls;
 use pec_types::Moment;
 use std::alloc::Global;
 
 /// Has each provider look at the clock, in the order of the directory, and then plays one round, all at one moment. The
 /// lines of each answer are written before the next command is played.
-pub(crate) fn play_clock<D: Disk, S: Sealer, W: Sink>(
+pub(crate) fn play_clock<D: Disk, S: Sealer, P: Depot<D = D>, J: Judge, W: Sink>(
     alloc: Global,
     network: &mut Network<D, S>,
+    depot: &mut P,
+    screens: &mut [J],
     moment: Moment,
     out: &mut W,
 ) -> Result<(), Stop>
-    ensures plays { (elsewhere : ℕ → ℕ) → PlaysAll (world_of S.seals network.old)
-        (providers_of network.old.kept) (state_of D.faults elsewhere network.old) (state_of D.faults elsewhere network.new)
-        (clock_from (length network.old.kept) 0 moment) (W.held out.old) (W.held out.new) result }
+    ensures clock { (elsewhere : ℕ → ℕ) → ClockWent (world_of S.seals network.old) (providers_of network.old.kept)
+        (clock_from (length network.old.kept) 0 moment)
+        (point_of D.faults elsewhere network.old (W.held out.old) (W.faults out.old))
+        (point_of D.faults elsewhere network.new (W.held out.new) (W.faults out.new)) (stop_in result) }
     ensures keeps { Keeps D.sight D.faults D.tells network.old network.new }
+    ensures home { P.tells → Alike (P.home depot.old) (P.home depot.new) }
+    ensures last { Alike (P.last depot.old) (P.last depot.new) }
+    ensures later { (P.faults depot.old ≤ P.faults depot.new) × (W.faults out.old ≤ W.faults out.new) }
     ensures write_fault { IsErrOf result Stop.WriteFault → HasRisen (W.faults out.old) (W.faults out.new) }
-    ensures later { W.faults out.old ≤ W.faults out.new }
+    ensures patterns { map J.patterns screens.new ≡ map J.patterns screens.old }
 {
-    calls_are_joined();
-    as_many_providers(network);
+    acts_are_joined::<P>();
+    acts_are_calls::<P>();
+    what_is_kept_is_kept_on::<D, S>();
     for provider in 0..network.directory().count() {
-        if let Err(stop) = play_tick(alloc, network, provider, moment, out) {
-            return Err(stop);
-        }
-        as_many_providers(network);
+        play_and_write(
+            alloc,
+            network,
+            depot,
+            screens,
+            Command::Tick { provider, moment },
+            out,
+        )?;
     }
-    play_round(alloc, network, moment, out)
-}
-
-/// Has a provider look at the clock, and writes the lines.
-fn play_tick<D: Disk, S: Sealer, W: Sink>(
-    alloc: Global,
-    network: &mut Network<D, S>,
-    provider: u32,
-    moment: Moment,
-    out: &mut W,
-) -> Result<(), Stop>
-    requires { provider < length network.old.kept }
-    ensures plays { (elsewhere : ℕ → ℕ) → PlaysOne (world_of S.seals network.old)
-        (providers_of network.old.kept) (state_of D.faults elsewhere network.old) (state_of D.faults elsewhere network.new)
-        (Tick provider moment) (W.held out.old) (W.held out.new) result }
-    ensures keeps { Keeps D.sight D.faults D.tells network.old network.new }
-    ensures write_fault { IsErrOf result Stop.WriteFault → HasRisen (W.faults out.old) (W.faults out.new) }
-    ensures later { W.faults out.old ≤ W.faults out.new }
-{
-    what_is_told_was_counted::<D>();
-    as_many_providers(network);
-    let played = tick(alloc, network, provider, moment);
-    as_many_providers(network);
-    let text = played?;
-    write_all(out, &text)?;
-    Ok(())
-}
-
-/// Plays a round, and writes the lines.
-fn play_round<D: Disk, S: Sealer, W: Sink>(
-    alloc: Global,
-    network: &mut Network<D, S>,
-    moment: Moment,
-    out: &mut W,
-) -> Result<(), Stop>
-    ensures plays { (elsewhere : ℕ → ℕ) → PlaysOne (world_of S.seals network.old)
-        (providers_of network.old.kept) (state_of D.faults elsewhere network.old) (state_of D.faults elsewhere network.new)
-        (Round moment) (W.held out.old) (W.held out.new) result }
-    ensures keeps { Keeps D.sight D.faults D.tells network.old network.new }
-    ensures write_fault { IsErrOf result Stop.WriteFault → HasRisen (W.faults out.old) (W.faults out.new) }
-    ensures later { W.faults out.old ≤ W.faults out.new }
-{
-    what_is_told_was_counted::<D>();
-    as_many_providers(network);
-    let played = round(alloc, network, moment);
-    as_many_providers(network);
-    let text = played?;
-    write_all(out, &text)?;
-    Ok(())
+    play_and_write(
+        alloc,
+        network,
+        depot,
+        screens,
+        Command::Round { moment },
+        out,
+    )
 }

@@ -1,17 +1,16 @@
 ghost use Rattle.std.specs.Prelude.{◌≡◌, ℕ, ◌≤◌, map};
+ghost use Rattle.pec_outside.specs.Depots.{Alike};
 ghost use Rattle.pec_outside.specs.Flow.{HasRisen};
 ghost use Rattle.pec_screen.specs.Screened.{finds_in};
 ghost use Rattle.pec_playing.specs.Doing.{Keeps};
 ghost use Rattle.pec_playing.specs.OfNetworks.{world_of};
 ghost use Rattle.pec_serving.specs.Serving.{ServesSo, place_of};
 
-use crate::answering::as_many_providers;
 use crate::clock::play_clock;
 use crate::lines::write_outcome;
 use crate::next::{Came, next};
-use crate::stops::Stop;
-use pec_outside::{Disk, Door, Sink, Ticks};
-use pec_playing::Network;
+use pec_outside::{Depot, Disk, Door, Sink, Ticks};
+use pec_playing::{Network, Stop};
 use pec_screen::Judge;
 use pec_seal::{HmacSealer, Sealer};
 use pec_service::{calls_are_joined, connections_are_joined};
@@ -36,9 +35,10 @@ pub enum Ending {
 /// desk of the network at one moment, its line is written, and then every provider looks at the clock, in the order of the
 /// directory, and one round is played, all at that moment. The screens of a provider are those at its number; a provider
 /// past them has none. They are dropped in the end. This project's profile.
-pub fn serve<D: Disk, J: Judge, T: Ticks, R: Door, W: Sink>(
+pub fn serve<D: Disk, P: Depot<D = D>, J: Judge, T: Ticks, R: Door, W: Sink>(
     alloc: Global,
     network: Network<D, HmacSealer>,
+    depot: &mut P,
     screens: Vec<J>,
     ticks: &mut T,
     door: &mut R,
@@ -52,6 +52,9 @@ pub fn serve<D: Disk, J: Judge, T: Ticks, R: Door, W: Sink>(
         (place_of D.faults elsewhere result.0 (T.coming ticks.new) (R.requests door.new) (R.replies door.new))
         (W.held out.old) (W.held out.new) result.1 }
     ensures keeps { Keeps D.sight D.faults D.tells network result.0 }
+    ensures home { P.tells → Alike (P.home depot.old) (P.home depot.new) }
+    ensures last { Alike (P.last depot.old) (P.last depot.new) }
+    ensures depot_later { P.faults depot.old ≤ P.faults depot.new }
     ensures no_moment { result.1 ≡ Ending.NoMoment → HasRisen (T.faults ticks.old) (T.faults ticks.new) }
     ensures no_connection { result.1 ≡ Ending.NoConnection → HasRisen (R.faults door.old) (R.faults door.new) }
     ensures write_fault { result.1 ≡ Ending.WriteFault → HasRisen (W.faults out.old) (W.faults out.new) }
@@ -63,14 +66,12 @@ pub fn serve<D: Disk, J: Judge, T: Ticks, R: Door, W: Sink>(
 {
     calls_are_joined();
     connections_are_joined();
-    as_many_providers(&network);
     let mut network = network;
     let mut screens = screens;
     for served in 0..wanted {
         let (again, back, came) = next(alloc, network, screens, ticks, door);
         network = again;
         screens = back;
-        as_many_providers(&network);
         match came {
             Came::NoConnection => return (network, Ending::NoConnection),
             Came::NoMoment => return (network, Ending::NoMoment),
@@ -78,8 +79,15 @@ pub fn serve<D: Disk, J: Judge, T: Ticks, R: Door, W: Sink>(
                 if let Err(_) = write_outcome(out, told) {
                     return (network, Ending::WriteFault);
                 }
-                match play_clock(alloc, &mut network, moment, out) {
-                    Ok(()) => as_many_providers(&network),
+                match play_clock(
+                    alloc,
+                    &mut network,
+                    depot,
+                    screens.as_mut_slice(),
+                    moment,
+                    out,
+                ) {
+                    Ok(()) => (),
                     Err(Stop::WriteFault) => return (network, Ending::WriteFault),
                     Err(Stop::NoMemory) => return (network, Ending::NoMemory),
                 }

@@ -16,7 +16,7 @@ returns-in-Ok g c =
     let many : length new.providers ≡ length network.providers =
     c.as_many_providers-2.ensures ∙ ap (λ (k : List Kept). length k) told.same.0 ∙ sym c.as_many_providers.ensures in
     let keeps : Keeps g.D.Disk.sight g.D.Counted.faults g.D.Disk.tells network new =
-    record { directory = told.same.0; seals = told.same.1; stands = told.stands; later = told.later } in
+    record { directory = told.same.0; many = many; seals = told.same.1; stands = told.stands; later = told.later } in
     round_says g.D.Disk.sight g.D.Counted.faults g.D.Disk.tells trade c.args.moment network new keeps many
     c.in-Ok.turns.items
     c.in-Ok.ensures.plays c.in-Ok.ensures.disk_fault c.in_ok-text-in-Ok.text
@@ -34,7 +34,7 @@ returns-in-Err g c =
     let many : length new.providers ≡ length network.providers =
     c.as_many_providers-2.ensures ∙ ap (λ (k : List Kept). length k) told.same.0 ∙ sym c.as_many_providers.ensures in
     let keeps : Keeps g.D.Disk.sight g.D.Counted.faults g.D.Disk.tells network new =
-    record { directory = told.same.0; seals = told.same.1; stands = told.stands; later = told.later } in
+    record { directory = told.same.0; many = many; seals = told.same.1; stands = told.stands; later = told.later } in
     round_stops g.D.Disk.sight g.D.Counted.faults g.D.Disk.tells trade c.args.moment network new keeps many
     c.in-Err.ensures.stops
     _ refl
@@ -48,7 +48,7 @@ returns-in_err-text-in-Ok g c =
     let many : length new.providers ≡ length network.providers =
     c.as_many_providers-2.ensures ∙ ap (λ (k : List Kept). length k) told.same.0 ∙ sym c.as_many_providers.ensures in
     let keeps : Keeps g.D.Disk.sight g.D.Counted.faults g.D.Disk.tells network new =
-    record { directory = told.same.0; seals = told.same.1; stands = told.stands; later = told.later } in
+    record { directory = told.same.0; many = many; seals = told.same.1; stands = told.stands; later = told.later } in
     round_is_left g.D.Disk.sight g.D.Counted.faults g.D.Disk.tells trade c.args.moment network new keeps many
     c.in-Ok.turns.items
     c.in-Ok.ensures.plays c.in-Ok.ensures.disk_fault c.from_residual.result c.from_residual.ensures.0

@@ -1,113 +1,145 @@
-use Rattle.std.proofs.Common.{◌≡◌, ◌∙◌, ◌<◌, List, length, ap, sym, refl, arith}
+use Rattle.std.proofs.Common.{◌≡◌, ◌∙◌, ◌+◌, ◌<◌, [], ◌∷◌, List, length, map, ap, sym, subst, refl, arith, Option}
+use Rattle.std.proofs.lemmas.Result.{err_from_is_err_and}
 use Rattle.pec_directory.specs.Directory.{Kept, providers_of}
-use Rattle.pec_serving.proofs.ClockLemmas.{Joins}
-use Rattle.pec_serving.proofs.KeepLemmas.{keeps_all, keeps_on}
-use Rattle.pec_serving.proofs.LoopLemmas.{none_so, round_ends, tick_on, tick_stops}
-use Rattle.pec_serving.proofs.clock.play_clock.Goals as goal
 use Rattle.pec_playing.specs.OfNetworks.{world_of}
+use Rattle.pec_playing.specs.Points.{point_of, stop_in}
+use Rattle.pec_plays.specs.Commands.{Round, Tick}
+use Rattle.pec_runs.specs.Steps.{Act, Climbs, Goes, Plays, Stop}
+use Rattle.pec_service.specs.Calls.{clock_from}
+use Rattle.pec_serving.proofs.ClockLemmas.{all_due, by_result, by_stop, due_from, last_due, next_due, round_calm, tick_calm}
+use Rattle.pec_serving.proofs.clock.play_clock.Goals as goal
 
 pub loop-provider-init : goal.loop-provider-init
 loop-provider-init g c =
     let start = c.args.network.now in
-    let seals = g.S.Sealer.seals in
-    let joins : Joins (world_of seals start) (providers_of start.kept) = record {
-      one = c.calls_are_joined.ensures.one (world_of seals start);
-      behind = c.calls_are_joined.ensures.behind;
-      commands = c.calls_are_joined.ensures.commands;
-      text = c.calls_are_joined.ensures.text (world_of seals start) (providers_of start.kept);
-    } in
+    let tells = g.P.Depot.tells × g.D.Disk.tells in
+    let trade = world_of g.S.Sealer.seals start in
+    let providers = providers_of start.kept in
+    let due = map Plays (clock_from (length start.kept) 0 c.args.moment) in
     record {
-      plays = λ elsewhere. none_so g.D.Disk.sight g.D.Counted.faults g.D.Disk.tells seals start joins elsewhere c.args.moment
-          (g.W.Stream.held c.args.out.now);
-      keeps = keeps_all g.D.Disk.sight g.D.Counted.faults g.D.Disk.tells start;
+      climbs = λ elsewhere.
+          let here = point_of g.D.Counted.faults elsewhere start (g.W.Stream.held c.args.out.now)
+          (g.W.Counted.faults c.args.out.now) in
+          subst (λ (left : List Act). Climbs trade providers tells due left here here)
+          (sym (all_due (length start.kept) c.args.moment)) (c.acts_are_joined.ensures.starts trade providers due here);
+      keeps = c.what_is_kept_is_kept_on.ensures.none start;
+      home = λ told k. refl;
+      last = λ k. refl;
+      depot_later = omega arith;
       later = omega arith;
+      patterns = refl;
       within = omega arith;
-      many = refl;
     }
-
-pub returns-in-Err-clause-plays : goal.returns-in-Err-clause-plays
-returns-in-Err-clause-plays g c = λ elsewhere.
-    let start = c.args.network.now in
-    let seals = g.S.Sealer.seals in
-    let joins : Joins (world_of seals start) (providers_of start.kept) = record {
-      one = c.calls_are_joined.ensures.one (world_of seals start);
-      behind = c.calls_are_joined.ensures.behind;
-      commands = c.calls_are_joined.ensures.commands;
-      text = c.calls_are_joined.ensures.text (world_of seals start) (providers_of start.kept);
-    } in
-    let below : c.loop-provider.provider < length start.kept =
-    omega (
-      arith,
-      c.loop-provider-test.true,
-      c.count-provider-end.ensures.count,
-      ap (λ (k : List Kept). length k) c.directory.ensures.value,
-    ) in
-    tick_stops g.D.Disk.sight g.D.Counted.faults g.D.Disk.tells seals start joins elsewhere c.args.moment
-    c.loop-provider.network c.play_tick.new.network c.loop-provider.invariant.keeps c.loop-provider.provider below
-    (g.W.Stream.held c.args.out.now) (g.W.Stream.held c.loop-provider.out) (g.W.Stream.held c.play_tick.new.out)
-    (c.loop-provider.invariant.plays elsewhere) c.in-Err.stop (c.in-Err.ensures.plays elsewhere)
-
-pub returns-in-Err-clause-keeps : goal.returns-in-Err-clause-keeps
-returns-in-Err-clause-keeps g c =
-    keeps_on g.D.Disk.sight g.D.Counted.faults g.D.Disk.tells c.args.network.now c.loop-provider.network
-    c.play_tick.new.network c.loop-provider.invariant.many c.loop-provider.invariant.keeps c.in-Err.ensures.keeps
 
 pub loop-provider-preserved : goal.loop-provider-preserved
 loop-provider-preserved g c =
+    let so = c.loop-provider.invariant in
     let start = c.args.network.now in
-    let seals = g.S.Sealer.seals in
-    let joins : Joins (world_of seals start) (providers_of start.kept) = record {
-      one = c.calls_are_joined.ensures.one (world_of seals start);
-      behind = c.calls_are_joined.ensures.behind;
-      commands = c.calls_are_joined.ensures.commands;
-      text = c.calls_are_joined.ensures.text (world_of seals start) (providers_of start.kept);
-    } in
-    let below : c.loop-provider.provider < length start.kept =
+    let tells = g.P.Depot.tells × g.D.Disk.tells in
+    let trade = world_of g.S.Sealer.seals start in
+    let providers = providers_of start.kept in
+    let size = length start.kept in
+    let moment = c.args.moment in
+    let due = map Plays (clock_from size 0 moment) in
+    let number = c.loop-provider.provider in
+    let below : number < size =
     omega (
       arith,
       c.loop-provider-test.true,
       c.count-provider-end.ensures.count,
       ap (λ (k : List Kept). length k) c.directory.ensures.value,
     ) in
-    let keeps = keeps_on g.D.Disk.sight g.D.Counted.faults g.D.Disk.tells c.args.network.now c.loop-provider.network
-    c.play_tick.new.network c.loop-provider.invariant.many c.loop-provider.invariant.keeps c.in_default.ensures.keeps in
     record {
-      plays = λ elsewhere.
-          tick_on g.D.Disk.sight g.D.Counted.faults g.D.Disk.tells seals start joins elsewhere c.args.moment
-          c.loop-provider.network c.play_tick.new.network c.loop-provider.invariant.keeps c.loop-provider.provider below
-          (g.W.Stream.held c.args.out.now) (g.W.Stream.held c.loop-provider.out) (g.W.Stream.held c.play_tick.new.out)
-          (c.loop-provider.invariant.plays elsewhere) (c.in_default.ensures.plays elsewhere);
-      keeps = keeps;
-      later = omega (arith, c.loop-provider.invariant.later, c.play_tick.ensures.later);
+      climbs = λ elsewhere.
+          let first = point_of g.D.Counted.faults elsewhere start (g.W.Stream.held c.args.out.now)
+          (g.W.Counted.faults c.args.out.now) in
+          let here = point_of g.D.Counted.faults elsewhere c.loop-provider.network (g.W.Stream.held c.loop-provider.out)
+          (g.W.Counted.faults c.loop-provider.out) in
+          c.acts_are_joined.ensures.on trade providers due (Plays (Tick number moment) ∷ [])
+          (due_from size moment (number + 1)) first here _
+          (subst (λ (left : List Act). Climbs trade providers tells due left first here) (next_due size moment number below)
+          (so.climbs elsewhere))
+          (rw (so.keeps.directory, so.keeps.seals) at c.in_ok-play_and_write.ensures.goes
+          (λ other restarts. absurd (tick_calm number moment other restarts)) elsewhere);
+      keeps = c.what_is_kept_is_kept_on.ensures.one start c.loop-provider.network c.play_and_write.new.network
+          so.keeps c.play_and_write.ensures.keeps;
+      home = λ told k. c.play_and_write.ensures.home told k ∙ so.home told k;
+      last = λ k. c.play_and_write.ensures.last k ∙ so.last k;
+      depot_later = omega (arith, so.depot_later, c.play_and_write.ensures.later.0);
+      later = omega (arith, so.later, c.play_and_write.ensures.later.1);
+      patterns = c.play_and_write.ensures.patterns ∙ so.patterns;
       within = omega (arith, below);
-      many = c.as_many_providers-in-loop-provider.ensures ∙ ap (λ (k : List Kept). length k) keeps.directory
-          ∙ sym c.as_many_providers.ensures;
     }
 
-pub returns-clause-plays : goal.returns-clause-plays
-returns-clause-plays g c = λ elsewhere.
+pub returns-in_err-play_and_write-clause-clock : goal.returns-in_err-play_and_write-clause-clock
+returns-in_err-play_and_write-clause-clock g c = λ elsewhere.
+    let so = c.loop-provider.invariant in
     let start = c.args.network.now in
-    let seals = g.S.Sealer.seals in
-    let joins : Joins (world_of seals start) (providers_of start.kept) = record {
-      one = c.calls_are_joined.ensures.one (world_of seals start);
-      behind = c.calls_are_joined.ensures.behind;
-      commands = c.calls_are_joined.ensures.commands;
-      text = c.calls_are_joined.ensures.text (world_of seals start) (providers_of start.kept);
-    } in
-    let last : c.loop-provider.provider ≡ length start.kept =
+    let tells = g.P.Depot.tells × g.D.Disk.tells in
+    let trade = world_of g.S.Sealer.seals start in
+    let providers = providers_of start.kept in
+    let size = length start.kept in
+    let moment = c.args.moment in
+    let due = map Plays (clock_from size 0 moment) in
+    let number = c.loop-provider.provider in
+    let below : number < size =
     omega (
       arith,
-      c.loop-provider-test.false,
-      c.loop-provider.invariant.within,
+      c.loop-provider-test.true,
       c.count-provider-end.ensures.count,
       ap (λ (k : List Kept). length k) c.directory.ensures.value,
     ) in
-    round_ends g.D.Disk.sight g.D.Counted.faults g.D.Disk.tells seals start joins elsewhere c.args.moment
-    c.loop-provider.network c.play_round.new.network c.loop-provider.invariant.keeps c.loop-provider.provider last
-    (g.W.Stream.held c.args.out.now) (g.W.Stream.held c.loop-provider.out) (g.W.Stream.held c.play_round.new.out)
-    (c.loop-provider.invariant.plays elsewhere) c.play_round.result (c.play_round.ensures.plays elsewhere)
+    let first = point_of g.D.Counted.faults elsewhere start (g.W.Stream.held c.args.out.now)
+    (g.W.Counted.faults c.args.out.now) in
+    let here = point_of g.D.Counted.faults elsewhere c.loop-provider.network (g.W.Stream.held c.loop-provider.out)
+    (g.W.Counted.faults c.loop-provider.out) in
+    let there = point_of g.D.Counted.faults elsewhere c.play_and_write.new.network
+    (g.W.Stream.held c.play_and_write.new.out) (g.W.Counted.faults c.play_and_write.new.out) in
+    let climbs = subst (λ (left : List Act). Climbs trade providers tells due left first here)
+    (next_due size moment number below) (so.climbs elsewhere) in
+    let goes = rw (so.keeps.directory, so.keeps.seals) at c.in_err-play_and_write.ensures.goes
+    (λ other restarts. absurd (tick_calm number moment other restarts)) elsewhere in
+    let stop = c.in_err-play_and_write.field-0.0 in
+    let p = err_from_is_err_and c.from_residual.result
+    c.from_residual.ensures.1 in
+    rw (p.1, p.2) (c.acts_are_calls.ensures trade providers size 0 moment first there _
+    (by_stop (λ (o : Option Stop). Goes trade providers tells (Plays (Tick number moment) ∷ []) here there o)
+    (λ (o : Option Stop). Goes trade providers tells due first there o)
+    (λ why one. c.acts_are_joined.ensures.stops trade providers due (Plays (Tick number moment) ∷ [])
+    (due_from size moment (number + 1)) first here there why climbs one) stop goes))
 
-pub returns-clause-keeps : goal.returns-clause-keeps
-returns-clause-keeps g c =
-    keeps_on g.D.Disk.sight g.D.Counted.faults g.D.Disk.tells c.args.network.now c.loop-provider.network
-    c.play_round.new.network c.loop-provider.invariant.many c.loop-provider.invariant.keeps c.play_round.ensures.keeps
+pub returns-clause-clock : goal.returns-clause-clock
+returns-clause-clock g c = λ elsewhere.
+    let so = c.loop-provider.invariant in
+    let start = c.args.network.now in
+    let tells = g.P.Depot.tells × g.D.Disk.tells in
+    let trade = world_of g.S.Sealer.seals start in
+    let providers = providers_of start.kept in
+    let size = length start.kept in
+    let moment = c.args.moment in
+    let due = map Plays (clock_from size 0 moment) in
+    let last : c.loop-provider.provider ≡ size =
+    omega (
+      arith,
+      c.loop-provider-test.false,
+      so.within,
+      c.count-provider-end.ensures.count,
+      ap (λ (k : List Kept). length k) c.directory.ensures.value,
+    ) in
+    let first = point_of g.D.Counted.faults elsewhere start (g.W.Stream.held c.args.out.now)
+    (g.W.Counted.faults c.args.out.now) in
+    let here = point_of g.D.Counted.faults elsewhere c.loop-provider.network (g.W.Stream.held c.loop-provider.out)
+    (g.W.Counted.faults c.loop-provider.out) in
+    let there = point_of g.D.Counted.faults elsewhere c.play_and_write-2.new.network (g.W.Stream.held c.play_and_write-2.new.out)
+    (g.W.Counted.faults c.play_and_write-2.new.out) in
+    let climbs = subst (λ (left : List Act). Climbs trade providers tells due left first here)
+    (last_due size moment c.loop-provider.provider last) (so.climbs elsewhere) in
+    let goes = rw (so.keeps.directory, so.keeps.seals) at c.play_and_write-2.ensures.goes
+    (λ other restarts. absurd (round_calm moment other restarts)) elsewhere in
+    c.acts_are_calls.ensures trade providers size 0 moment first there (stop_in c.play_and_write-2.result)
+    (by_result (λ (o : Option Stop). Goes trade providers tells (Plays (Round moment) ∷ []) here there o)
+    (λ (o : Option Stop). Goes trade providers tells due first there o)
+    (λ one. c.acts_are_joined.ensures.ends trade providers due first there
+    (c.acts_are_joined.ensures.on trade providers due (Plays (Round moment) ∷ []) [] first here there climbs one))
+    (λ why one. c.acts_are_joined.ensures.stops trade providers due (Plays (Round moment) ∷ []) [] first here there why climbs
+    one) c.play_and_write-2.result goes)

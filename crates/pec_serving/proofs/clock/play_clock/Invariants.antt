@@ -1,22 +1,32 @@
-use Rattle.std.proofs.Common.{◌≡◌, ◌-◌, ◌≤◌, ℕ, length}
+use Rattle.std.proofs.Common.{◌≡◌, ◌≤◌, ℕ, length, map}
+use Rattle.pec_outside.specs.Depots.{Alike}
 use Rattle.pec_directory.specs.Directory.{providers_of}
 use Rattle.pec_playing.specs.Doing.{Keeps}
 use Rattle.pec_playing.specs.OfNetworks.{world_of}
+use Rattle.pec_playing.specs.Points.{point_of}
+use Rattle.pec_runs.specs.Steps.{Climbs, Plays}
 use Rattle.pec_service.specs.Calls.{clock_from}
-use Rattle.pec_serving.specs.Playing.{HasPlayed, state_of}
+use Rattle.pec_serving.proofs.ClockLemmas.{due_from}
 use Rattle.pec_serving.proofs.clock.play_clock.Given as goal
 
 -- The clock calls so far were played, and those of the other providers and the round are due.
 abbrev pub invariant-loop-provider : goal.invariant-loop-provider
-invariant-loop-provider g l = record {
-  plays : (elsewhere : ℕ → ℕ)
-      → HasPlayed (world_of g.S.Sealer.seals l.fn.network) (providers_of l.fn.network.kept)
-      (state_of g.D.Counted.faults elsewhere l.fn.network) (state_of g.D.Counted.faults elsewhere l.network)
-      (clock_from (length l.fn.network.kept) 0 l.moment)
-      (clock_from (length l.fn.network.kept - l.provider) l.provider l.moment)
-      (g.W.Stream.held l.fn.out) (g.W.Stream.held l.out);
-  keeps : Keeps g.D.Disk.sight g.D.Counted.faults g.D.Disk.tells l.fn.network l.network;
-  later : g.W.Counted.faults l.fn.out ≤ g.W.Counted.faults l.out;
-  within : l.provider ≤ length l.fn.network.kept;
-  many : length l.network.providers ≡ length l.fn.network.providers;
-}
+invariant-loop-provider g l =
+    let depot = g.P.Depot in
+    let sink = g.W.Stream in
+    let faults = g.D.Counted.faults in
+    record {
+      climbs : (elsewhere : ℕ → ℕ)
+          → Climbs (world_of g.S.Sealer.seals l.fn.network) (providers_of l.fn.network.kept)
+          (depot.tells × g.D.Disk.tells) (map Plays (clock_from (length l.fn.network.kept) 0 l.moment))
+          (due_from (length l.fn.network.kept) l.moment l.provider)
+          (point_of faults elsewhere l.fn.network (sink.held l.fn.out) (g.W.Counted.faults l.fn.out))
+          (point_of faults elsewhere l.network (sink.held l.out) (g.W.Counted.faults l.out));
+      keeps : Keeps g.D.Disk.sight faults g.D.Disk.tells l.fn.network l.network;
+      home : depot.tells → Alike (depot.home l.fn.depot) (depot.home l.depot);
+      last : Alike (depot.last l.fn.depot) (depot.last l.depot);
+      depot_later : g.P.Counted.faults l.fn.depot ≤ g.P.Counted.faults l.depot;
+      later : g.W.Counted.faults l.fn.out ≤ g.W.Counted.faults l.out;
+      patterns : map g.J.Judge.patterns l.screens ≡ map g.J.Judge.patterns l.fn.screens;
+      within : l.provider ≤ length l.fn.network.kept;
+    }

@@ -5,13 +5,13 @@ use Rattle.pec_screen.specs.Verdicts.{Patterns}
 use Rattle.pec_seal.specs.Hmac.{hmac_seals}
 use Rattle.pec_seal.specs.Seals.{Seals}
 use Rattle.pec_seal.specs.declared.hmac.HmacSealer.{HmacSealer}
-use Rattle.pec_service.specs.Calls.{clock_from}
-use Rattle.pec_serving.specs.Playing.{PlaysAll, state_of}
+use Rattle.pec_playing.specs.Points.{point_of, stop_in}
+use Rattle.pec_service.specs.Calls.{ClockWent, clock_from}
 use Rattle.pec_serving.specs.Serving.{ComesNext, place_of}
 use Rattle.pec_serving.specs.declared.next.Came.{Came}
-use Rattle.pec_serving.specs.declared.stops.Stop.{Stop}
+use Rattle.pec_playing.specs.declared.stops.Stop.{Stop}
 use Rattle.pec_serving.proofs.EndLemmas.{risen_since, ends_broken, ends_lacking, ends_stopped, ends_unmet, ends_untold, ends_written}
-use Rattle.pec_serving.proofs.KeepLemmas.{keeps_all, keeps_on}
+use Rattle.pec_serving.proofs.KeepLemmas.{given_back, keeps_all, keeps_on}
 use Rattle.pec_serving.proofs.ServiceLemmas.{CallLaws, ConnectionLaws, all_served, goes_none}
 use Rattle.pec_serving.proofs.serving.serve.Goals as goal
 use Rattle.pec_playing.specs.OfNetworks.{world_of}
@@ -28,7 +28,9 @@ loop-served-init g c = record {
       (g.R.Door.requests c.args.door.now) (g.R.Door.replies c.args.door.now)) (g.W.Stream.held c.args.out.now);
   patterns = refl;
   keeps = keeps_all g.D.Disk.sight g.D.Counted.faults g.D.Disk.tells c.args.network;
-  many = refl;
+  home = λ told k. refl;
+  last = λ k. refl;
+  depot_later = omega arith;
   out = refl;
   clock_later = omega arith;
   door_later = omega arith;
@@ -74,7 +76,7 @@ returns-in-NoConnection-clause-serves g c = λ elsewhere.
 pub returns-in-NoConnection-clause-keeps : goal.returns-in-NoConnection-clause-keeps
 returns-in-NoConnection-clause-keeps g c =
     keeps_on g.D.Disk.sight g.D.Counted.faults g.D.Disk.tells c.args.network c.loop-served.network c.next-again.result.0
-    c.loop-served.invariant.many c.loop-served.invariant.keeps c.next-again.ensures.keeps
+    c.loop-served.invariant.keeps c.next-again.ensures.keeps
 
 pub returns-in-NoConnection-clause-no_connection : goal.returns-in-NoConnection-clause-no_connection
 returns-in-NoConnection-clause-no_connection g c = λ same.
@@ -121,7 +123,7 @@ returns-in-NoMoment-clause-serves g c = λ elsewhere.
 pub returns-in-NoMoment-clause-keeps : goal.returns-in-NoMoment-clause-keeps
 returns-in-NoMoment-clause-keeps g c =
     keeps_on g.D.Disk.sight g.D.Counted.faults g.D.Disk.tells c.args.network c.loop-served.network c.next-again.result.0
-    c.loop-served.invariant.many c.loop-served.invariant.keeps c.next-again.ensures.keeps
+    c.loop-served.invariant.keeps c.next-again.ensures.keeps
 
 pub returns-in-NoMoment-clause-no_moment : goal.returns-in-NoMoment-clause-no_moment
 returns-in-NoMoment-clause-no_moment g c = λ same.
@@ -170,7 +172,7 @@ returns-in-Err-clause-serves g c = λ elsewhere.
 pub returns-in-Err-clause-keeps : goal.returns-in-Err-clause-keeps
 returns-in-Err-clause-keeps g c =
     keeps_on g.D.Disk.sight g.D.Counted.faults g.D.Disk.tells c.args.network c.loop-served.network c.next-again.result.0
-    c.loop-served.invariant.many c.loop-served.invariant.keeps c.next-again.ensures.keeps
+    c.loop-served.invariant.keeps c.next-again.ensures.keeps
 
 pub returns-in-Err-WriteFault-clause-serves : goal.returns-in-Err-WriteFault-clause-serves
 returns-in-Err-WriteFault-clause-serves g c = λ elsewhere.
@@ -209,20 +211,20 @@ returns-in-Err-WriteFault-clause-serves g c = λ elsewhere.
     (g.R.Door.requests c.next-again.new.door) (g.R.Door.replies c.next-again.new.door)) came) c.in-Served.is
     (c.next-again.ensures.comes elsewhere))
     (keeps_on g.D.Disk.sight g.D.Counted.faults g.D.Disk.tells c.args.network c.loop-served.network c.next-again.result.0
-    c.loop-served.invariant.many c.loop-served.invariant.keeps c.next-again.ensures.keeps) c.play_clock.new.network (g.W.Stream.held c.write_outcome.new.out)
-    (g.W.Stream.held c.play_clock.new.out) c.in_default.ensures.ok
-    (subst (λ (stop : Stop). PlaysAll (world_of seals_of again) (providers_of again.kept)
-    (state_of g.D.Counted.faults elsewhere again) (state_of g.D.Counted.faults elsewhere c.play_clock.new.network)
-    (clock_from (length again.kept) 0 c.in-Served.moment) (g.W.Stream.held c.write_outcome.new.out)
-    (g.W.Stream.held c.play_clock.new.out) (Err stop)) c.in-Err-WriteFault.field-0-is (c.in-Err-WriteFault.ensures.plays elsewhere))
+    c.loop-served.invariant.keeps c.next-again.ensures.keeps) c.play_clock.new.network (g.W.Stream.held c.write_outcome.new.out)
+    (g.W.Stream.held c.play_clock.new.out) (g.W.Counted.faults c.write_outcome.new.out)
+    (g.W.Counted.faults c.play_clock.new.out) c.in_default.ensures.ok
+    (subst (λ (stop : Stop). ClockWent (world_of seals_of again) (providers_of again.kept)
+    (clock_from (length again.kept) 0 c.in-Served.moment)
+    (point_of g.D.Counted.faults elsewhere again (g.W.Stream.held c.write_outcome.new.out) (g.W.Counted.faults c.write_outcome.new.out))
+    (point_of g.D.Counted.faults elsewhere c.play_clock.new.network (g.W.Stream.held c.play_clock.new.out)
+    (g.W.Counted.faults c.play_clock.new.out)) (stop_in {T = Unit {0}} (Err stop))) c.in-Err-WriteFault.field-0-is (c.in-Err-WriteFault.ensures.clock elsewhere))
 
 pub returns-in-Err-WriteFault-clause-keeps : goal.returns-in-Err-WriteFault-clause-keeps
 returns-in-Err-WriteFault-clause-keeps g c =
     keeps_on g.D.Disk.sight g.D.Counted.faults g.D.Disk.tells c.args.network c.next-again.result.0 c.play_clock.new.network
-    (c.as_many_providers-in-loop-served.ensures
-    ∙ ap (λ (k : List Kept). length k) (keeps_on g.D.Disk.sight g.D.Counted.faults g.D.Disk.tells c.args.network c.loop-served.network c.next-again.result.0
-    c.loop-served.invariant.many c.loop-served.invariant.keeps c.next-again.ensures.keeps).directory ∙ sym c.as_many_providers.ensures) (keeps_on g.D.Disk.sight g.D.Counted.faults g.D.Disk.tells c.args.network c.loop-served.network c.next-again.result.0
-    c.loop-served.invariant.many c.loop-served.invariant.keeps c.next-again.ensures.keeps) c.play_clock.ensures.keeps
+    (keeps_on g.D.Disk.sight g.D.Counted.faults g.D.Disk.tells c.args.network c.loop-served.network c.next-again.result.0
+    c.loop-served.invariant.keeps c.next-again.ensures.keeps) c.play_clock.ensures.keeps
 
 pub returns-in-Err-NoMemory-clause-serves : goal.returns-in-Err-NoMemory-clause-serves
 returns-in-Err-NoMemory-clause-serves g c = λ elsewhere.
@@ -261,28 +263,26 @@ returns-in-Err-NoMemory-clause-serves g c = λ elsewhere.
     (g.R.Door.requests c.next-again.new.door) (g.R.Door.replies c.next-again.new.door)) came) c.in-Served.is
     (c.next-again.ensures.comes elsewhere))
     (keeps_on g.D.Disk.sight g.D.Counted.faults g.D.Disk.tells c.args.network c.loop-served.network c.next-again.result.0
-    c.loop-served.invariant.many c.loop-served.invariant.keeps c.next-again.ensures.keeps) c.play_clock.new.network (g.W.Stream.held c.write_outcome.new.out)
-    (g.W.Stream.held c.play_clock.new.out) c.in_default.ensures.ok
-    (subst (λ (stop : Stop). PlaysAll (world_of seals_of again) (providers_of again.kept)
-    (state_of g.D.Counted.faults elsewhere again) (state_of g.D.Counted.faults elsewhere c.play_clock.new.network)
-    (clock_from (length again.kept) 0 c.in-Served.moment) (g.W.Stream.held c.write_outcome.new.out)
-    (g.W.Stream.held c.play_clock.new.out) (Err stop)) c.in-Err-NoMemory.field-0-is (c.in-Err-NoMemory.ensures.plays elsewhere))
+    c.loop-served.invariant.keeps c.next-again.ensures.keeps) c.play_clock.new.network (g.W.Stream.held c.write_outcome.new.out)
+    (g.W.Stream.held c.play_clock.new.out) (g.W.Counted.faults c.write_outcome.new.out)
+    (g.W.Counted.faults c.play_clock.new.out) c.in_default.ensures.ok
+    (subst (λ (stop : Stop). ClockWent (world_of seals_of again) (providers_of again.kept)
+    (clock_from (length again.kept) 0 c.in-Served.moment)
+    (point_of g.D.Counted.faults elsewhere again (g.W.Stream.held c.write_outcome.new.out) (g.W.Counted.faults c.write_outcome.new.out))
+    (point_of g.D.Counted.faults elsewhere c.play_clock.new.network (g.W.Stream.held c.play_clock.new.out)
+    (g.W.Counted.faults c.play_clock.new.out)) (stop_in {T = Unit {0}} (Err stop))) c.in-Err-NoMemory.field-0-is (c.in-Err-NoMemory.ensures.clock elsewhere))
 
 pub returns-in-Err-NoMemory-clause-keeps : goal.returns-in-Err-NoMemory-clause-keeps
 returns-in-Err-NoMemory-clause-keeps g c =
     keeps_on g.D.Disk.sight g.D.Counted.faults g.D.Disk.tells c.args.network c.next-again.result.0 c.play_clock.new.network
-    (c.as_many_providers-in-loop-served.ensures
-    ∙ ap (λ (k : List Kept). length k) (keeps_on g.D.Disk.sight g.D.Counted.faults g.D.Disk.tells c.args.network c.loop-served.network c.next-again.result.0
-    c.loop-served.invariant.many c.loop-served.invariant.keeps c.next-again.ensures.keeps).directory ∙ sym c.as_many_providers.ensures) (keeps_on g.D.Disk.sight g.D.Counted.faults g.D.Disk.tells c.args.network c.loop-served.network c.next-again.result.0
-    c.loop-served.invariant.many c.loop-served.invariant.keeps c.next-again.ensures.keeps) c.play_clock.ensures.keeps
+    (keeps_on g.D.Disk.sight g.D.Counted.faults g.D.Disk.tells c.args.network c.loop-served.network c.next-again.result.0
+    c.loop-served.invariant.keeps c.next-again.ensures.keeps) c.play_clock.ensures.keeps
 
 pub loop-served-preserved : goal.loop-served-preserved
 loop-served-preserved g c =
     let keeps_again = keeps_on g.D.Disk.sight g.D.Counted.faults g.D.Disk.tells c.args.network c.next-again.result.0 c.play_clock.new.network
-    (c.as_many_providers-in-loop-served.ensures
-    ∙ ap (λ (k : List Kept). length k) (keeps_on g.D.Disk.sight g.D.Counted.faults g.D.Disk.tells c.args.network c.loop-served.network c.next-again.result.0
-    c.loop-served.invariant.many c.loop-served.invariant.keeps c.next-again.ensures.keeps).directory ∙ sym c.as_many_providers.ensures) (keeps_on g.D.Disk.sight g.D.Counted.faults g.D.Disk.tells c.args.network c.loop-served.network c.next-again.result.0
-    c.loop-served.invariant.many c.loop-served.invariant.keeps c.next-again.ensures.keeps) c.play_clock.ensures.keeps in record {
+    (keeps_on g.D.Disk.sight g.D.Counted.faults g.D.Disk.tells c.args.network c.loop-served.network c.next-again.result.0
+    c.loop-served.invariant.keeps c.next-again.ensures.keeps) c.play_clock.ensures.keeps in record {
       going = λ elsewhere.
           let start = c.args.network in
           let seals = seals_of in
@@ -319,16 +319,21 @@ loop-served-preserved g c =
           (g.R.Door.requests c.next-again.new.door) (g.R.Door.replies c.next-again.new.door)) came) c.in-Served.is
           (c.next-again.ensures.comes elsewhere))
           (keeps_on g.D.Disk.sight g.D.Counted.faults g.D.Disk.tells c.args.network c.loop-served.network c.next-again.result.0
-          c.loop-served.invariant.many c.loop-served.invariant.keeps c.next-again.ensures.keeps) c.play_clock.new.network (g.W.Stream.held c.write_outcome.new.out)
-          (g.W.Stream.held c.play_clock.new.out) c.in_default.ensures.ok (c.in-Ok.ensures.plays elsewhere);
-      patterns = c.next-again.ensures.patterns ∙ c.loop-served.invariant.patterns;
+          c.loop-served.invariant.keeps c.next-again.ensures.keeps) c.play_clock.new.network (g.W.Stream.held c.write_outcome.new.out)
+          (g.W.Stream.held c.play_clock.new.out) (g.W.Counted.faults c.write_outcome.new.out)
+          (g.W.Counted.faults c.play_clock.new.out) c.in_default.ensures.ok (c.in-Ok.ensures.clock elsewhere);
+      patterns = given_back c.next-again.result.1.items c.play_clock.new.screens c.next-again.result.1.len
+          g.J.Judge.patterns c.next-again.result.1.ok.0
+          (c.play_clock.ensures.patterns ∙ ap (map g.J.Judge.patterns) c.as_mut_slice.ensures.value)
+          ∙ c.next-again.ensures.patterns ∙ c.loop-served.invariant.patterns;
+      home = λ told k. c.play_clock.ensures.home told k ∙ c.loop-served.invariant.home told k;
+      last = λ k. c.play_clock.ensures.last k ∙ c.loop-served.invariant.last k;
+      depot_later = omega (arith, c.loop-served.invariant.depot_later, c.play_clock.ensures.later.0);
       keeps = keeps_again;
-      many = c.as_many_providers-in-Ok.ensures ∙ ap (λ (k : List Kept). length k) keeps_again.directory
-          ∙ sym c.as_many_providers.ensures;
       out = c.next-again.ensures.out ∙ c.loop-served.invariant.out;
       clock_later = omega (arith, c.loop-served.invariant.clock_later, c.next-again.ensures.clock_later);
       door_later = omega (arith, c.loop-served.invariant.door_later, c.next-again.ensures.door_later);
-      out_later = omega (arith, c.loop-served.invariant.out_later, c.write_outcome.ensures.later, c.play_clock.ensures.later);
+      out_later = omega (arith, c.loop-served.invariant.out_later, c.write_outcome.ensures.later, c.play_clock.ensures.later.1);
     }
 
 pub returns-clause-serves : goal.returns-clause-serves

@@ -1,4 +1,5 @@
-use Rattle.std.proofs.Common.{◌≡◌, ◌≤◌, ℕ, length, map}
+use Rattle.std.proofs.Common.{◌≡◌, ◌≤◌, ℕ, map}
+use Rattle.pec_outside.specs.Depots.{Alike}
 use Rattle.pec_screen.specs.Screened.{finds_in}
 use Rattle.pec_seal.specs.Hmac.{hmac_seals}
 use Rattle.pec_playing.specs.OfNetworks.{trade_of}
@@ -20,7 +21,9 @@ invariant-loop-served g l = record {
       l.served (g.W.Stream.held l.fn.out) (g.W.Stream.held l.out);
   patterns : map g.J.Judge.patterns l.screens.items ≡ map g.J.Judge.patterns l.fn.screens.items;
   keeps : Keeps g.D.Disk.sight g.D.Counted.faults g.D.Disk.tells l.fn.network l.network;
-  many : length l.network.providers ≡ length l.fn.network.providers;
+  home : g.P.Depot.tells → Alike (g.P.Depot.home l.fn.depot) (g.P.Depot.home l.depot);
+  last : Alike (g.P.Depot.last l.fn.depot) (g.P.Depot.last l.depot);
+  depot_later : g.P.Counted.faults l.fn.depot ≤ g.P.Counted.faults l.depot;
   out : g.R.Door.out l.door ≡ g.R.Door.out l.fn.door;
   clock_later : g.T.Counted.faults l.fn.ticks ≤ g.T.Counted.faults l.ticks;
   door_later : g.R.Counted.faults l.fn.door ≤ g.R.Counted.faults l.door;

@@ -1,12 +1,12 @@
 ghost use Rattle.std.specs.Prelude.{◌≡◌};
-ghost use Rattle.pec_serving.specs.declared.stops.Stop.TheVariants as stops;
+ghost use Rattle.pec_playing.specs.declared.stops.Stop.TheVariants as stops;
 
 use pec_outside::Failed;
 use pec_types::NoMemory;
 
-/// What stops a service within a connection.
+/// What stops a run within a command.
 #[derive(Clone, Copy, Debug, PartialEq, Eq)]
-pub(crate) enum Stop {
+pub enum Stop {
     NoMemory,
     /// The output failed.
     WriteFault,

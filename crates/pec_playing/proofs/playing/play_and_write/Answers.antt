@@ -1,0 +1,91 @@
+use Rattle.std.proofs.Common.{◌∙◌, Ok, Err, map, arith, ap, refl, subst}
+use Rattle.std.proofs.lemmas.Result.{err_from_is_err_and}
+use Rattle.pec_types.specs.Bytes.{Bytes}
+use Rattle.pec_outside.specs.Flow.{WrotePart, followed_by}
+use Rattle.pec_directory.specs.Directory.{providers_of}
+use Rattle.pec_network.specs.Network.{world_of}
+use Rattle.pec_runs.specs.ScriptLines.{command_in}
+use Rattle.pec_screen.specs.Screened.{finds_in}
+use Rattle.pec_playing.specs.Points.{point_of}
+use Rattle.pec_playing.specs.declared.stops.Stop.{Stop}
+use Rattle.pec_playing.proofs.PlayLemmas.{play_says, play_stops}
+use Rattle.pec_playing.proofs.WritingLemmas.{ActLaws, play_breaks, play_ends, play_lacks}
+use Rattle.pec_playing.proofs.playing.play_and_write.Goals as goal
+
+pub returns-in_err-text-clause-goes : goal.returns-in_err-text-clause-goes
+returns-in_err-text-clause-goes g c = λ stands elsewhere.
+    let old = c.args.network.now in
+    let new = c.play_command.new.network in
+    let tells = g.P.Depot.tells × g.D.Disk.tells in
+    let trade = world_of g.S.Sealer.seals old in
+    let providers = providers_of old.kept in
+    let command = command_in (finds_in (map g.J.Judge.patterns c.args.screens.now)) c.args.command in
+    let does = c.in_err-text.ensures.does in
+    let held = g.W.Stream.held c.args.out.now in
+    let count = g.W.Counted.faults c.args.out.now in
+    let here = point_of g.D.Counted.faults elsewhere old held count in
+    let there = point_of g.D.Counted.faults elsewhere new held count in
+    let laws : ActLaws trade providers tells command here there = record {
+      played_so = λ luck stop. c.an_act_is_done.ensures.played trade providers command luck here there stop;
+      stopped_so = c.an_act_is_done.ensures.stopped trade providers command here there;
+      strayed_so = λ text stop. c.an_act_is_done.ensures.strayed trade providers command here there text stop;
+    } in
+    let p = err_from_is_err_and c.from_residual.result c.from_residual.ensures.1 in
+    play_lacks g.D.Disk.sight g.D.Counted.faults g.D.Disk.tells tells trade command old new does.keeps elsewhere held held
+    count count (omega arith) laws
+    (play_stops g.D.Disk.sight g.D.Counted.faults g.P.Depot.tells g.D.Disk.tells trade command old new stands
+    (Err c.in_err-text.field-0.0) does) refl c.from_residual.result (p.1 ∙ ap (λ (s : Stop). Err s) p.2)
+
+pub returns-in_err-write_all-clause-goes : goal.returns-in_err-write_all-clause-goes
+returns-in_err-write_all-clause-goes g c = λ stands elsewhere.
+    let old = c.args.network.now in
+    let new = c.play_command.new.network in
+    let tells = g.P.Depot.tells × g.D.Disk.tells in
+    let trade = world_of g.S.Sealer.seals old in
+    let providers = providers_of old.kept in
+    let command = command_in (finds_in (map g.J.Judge.patterns c.args.screens.now)) c.args.command in
+    let does = c.in_ok-text.ensures.does in
+    let before = g.W.Stream.held c.args.out.now in
+    let after = g.W.Stream.held c.write_all.new.out in
+    let from = g.W.Counted.faults c.args.out.now in
+    let upto = g.W.Counted.faults c.write_all.new.out in
+    let here = point_of g.D.Counted.faults elsewhere old before from in
+    let there = point_of g.D.Counted.faults elsewhere new after upto in
+    let laws : ActLaws trade providers tells command here there = record {
+      played_so = λ luck stop. c.an_act_is_done.ensures.played trade providers command luck here there stop;
+      stopped_so = c.an_act_is_done.ensures.stopped trade providers command here there;
+      strayed_so = λ text stop. c.an_act_is_done.ensures.strayed trade providers command here there text stop;
+    } in
+    let p = err_from_is_err_and c.from_residual-in_err-write_all.result c.from_residual-in_err-write_all.ensures.1 in
+    play_breaks g.D.Disk.sight g.D.Counted.faults g.D.Disk.tells tells trade command old new does.keeps elsewhere before after
+    from upto c.write_all.ensures.later laws c.in_ok-text.text.items
+    (play_says g.D.Disk.sight g.D.Counted.faults g.P.Depot.tells g.D.Disk.tells trade command old new stands
+    (Ok c.in_ok-text.text) does elsewhere)
+    (subst (λ (t : Bytes). WrotePart before after t) c.deref.ensures.value c.in_err-write_all.ensures.err)
+    c.in_err-write_all.ensures.cause c.from_residual-in_err-write_all.result (p.1 ∙ ap (λ (s : Stop). Err s) p.2)
+
+pub returns-clause-goes : goal.returns-clause-goes
+returns-clause-goes g c = λ stands elsewhere.
+    let old = c.args.network.now in
+    let new = c.play_command.new.network in
+    let tells = g.P.Depot.tells × g.D.Disk.tells in
+    let trade = world_of g.S.Sealer.seals old in
+    let providers = providers_of old.kept in
+    let command = command_in (finds_in (map g.J.Judge.patterns c.args.screens.now)) c.args.command in
+    let does = c.in_ok-text.ensures.does in
+    let before = g.W.Stream.held c.args.out.now in
+    let after = g.W.Stream.held c.write_all.new.out in
+    let from = g.W.Counted.faults c.args.out.now in
+    let upto = g.W.Counted.faults c.write_all.new.out in
+    let here = point_of g.D.Counted.faults elsewhere old before from in
+    let there = point_of g.D.Counted.faults elsewhere new after upto in
+    let laws : ActLaws trade providers tells command here there = record {
+      played_so = λ luck stop. c.an_act_is_done.ensures.played trade providers command luck here there stop;
+      stopped_so = c.an_act_is_done.ensures.stopped trade providers command here there;
+      strayed_so = λ text stop. c.an_act_is_done.ensures.strayed trade providers command here there text stop;
+    } in
+    play_ends g.D.Disk.sight g.D.Counted.faults g.D.Disk.tells tells trade command old new does.keeps elsewhere before after
+    from upto c.write_all.ensures.later laws c.in_ok-text.text.items
+    (play_says g.D.Disk.sight g.D.Counted.faults g.P.Depot.tells g.D.Disk.tells trade command old new stands
+    (Ok c.in_ok-text.text) does elsewhere)
+    (c.in_ok-write_all.ensures.ok ∙ ap (followed_by before) c.deref.ensures.value)
