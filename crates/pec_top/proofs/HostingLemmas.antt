@@ -7,8 +7,7 @@ use Rattle.std.proofs.lemmas.List.{length-replicate}
 use Rattle.pec_types.specs.Bytes.{Bytes}
 use Rattle.pec_outside.specs.Flow.{HasRisen}
 use Rattle.pec_directory.specs.Directory.{Provider}
-use Rattle.pec_directory.specs.declared.faults.DirectoryFault.{DirectoryFault}
-use Rattle.pec_input.specs.Directory.{directory_in}
+use Rattle.pec_input.specs.Directory.{Refusal, directory_in}
 use Rattle.pec_input.specs.declared.opening.TheConstants.{LONGEST_DIRECTORY}
 use Rattle.pec_serving.specs.OfNetworks.{BlamesDisk, NotFit, StartFault}
 use Rattle.pec_serving.specs.OfNetworks.faults as faults
@@ -96,10 +95,6 @@ blames_since statuses.ClockFault a b c first second blames =
 blames_since statuses.DoorFault a b c first second blames = risen_since a.door b.door c.door first.door second.door blames
 blames_since statuses.InputTooLong a b c first second blames = tt
 
--- earlier counts
-pub counts_since : (status : Status) (a b c : AllCounts) → NoneFell a b → CountsGo status b c → CountsGo status a c
-counts_since status a b c first go = (blames_since status a b c first go.1 go.0, none_fell_on a b c first go.1)
-
 -- disks alone rose, and later counts
 pub start_until : (a b c : AllCounts) → NoneFell b c
     → HasRisen a.devices.depot b.devices.depot
@@ -171,7 +166,7 @@ stage_long directory long =
     (lt-ltb LONGEST_DIRECTORY (length directory) long)
 
 pub stage_read : (directory : Bytes) → length directory ≤ LONGEST_DIRECTORY
-    → (told : Result (List Provider) DirectoryFault) → directory_in directory ≡ told
+    → (told : Result (List Provider) Refusal) → directory_in directory ≡ told
     → stage_of false directory ≡ by_directory told
 unfolding stage_of
 stage_read directory short told reads =
@@ -185,7 +180,8 @@ over_not end e = cc
 halts_not : Halts ≡ Begins → ⊥
 halts_not e = cc
 
-text_there : (unread : Option Bytes) → (directory : Bytes) × IfSome unread (λ text. directory ≡ text)
+-- an input, as far as it is told
+pub text_there : (unread : Option Bytes) → (directory : Bytes) × IfSome unread (λ text. directory ≡ text)
 text_there None = ([], tt)
 text_there (Some text) = (text, refl)
 

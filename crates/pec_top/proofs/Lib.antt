@@ -1,5 +1,6 @@
-pub mod ComingLemmas
 pub mod CountLemmas
+pub mod EndLemmas
+pub mod ExportingLemmas
 pub mod FlowLemmas
 pub mod HadLemmas
 pub mod HeadlessLemmas
@@ -7,12 +8,11 @@ pub mod HostedLemmas
 pub mod HostingLemmas
 pub mod InputLemmas
 pub mod LineReadLemmas
-pub mod LoopPlaces
+pub mod LoopLemmas
 pub mod RefusedLemmas
 pub mod RestLemmas
 pub mod RunningLemmas
 pub mod SaidLemmas
-pub mod StepLemmas
 pub mod TopLemmas
 pub mod UnfitLemmas
 pub mod WholeLemmas

@@ -9,8 +9,7 @@ use Rattle.pec_outside.specs.DiskModel.{Sight}
 use Rattle.pec_outside.specs.Flow.{followed_by}
 use Rattle.pec_top.proofs.FlowLemmas.{followed_by-nil}
 use Rattle.pec_directory.specs.Directory.{Provider}
-use Rattle.pec_directory.specs.declared.faults.DirectoryFault.{DirectoryFault}
-use Rattle.pec_input.specs.Directory.{directory_in}
+use Rattle.pec_input.specs.Directory.{Refusal, directory_in}
 use Rattle.pec_input.specs.Opening.{parts_left}
 use Rattle.pec_input.specs.Parts.{Parts}
 use Rattle.pec_input.specs.declared.opening.TheConstants.{LONGEST_DIRECTORY}
@@ -157,7 +156,7 @@ module _ (asked : Asked) (form : Form) (parts : Parts) (is : form_in asked.words
   stage_unmarked short none = stage_short short ∙ ap (by_script asked.finds form parts.directory) none
 
   pub stage_read : length parts.directory ≤ LONGEST_DIRECTORY → (lines : List Bytes) → parts.script ≡ Some lines
-      → (told : Result (List Provider) DirectoryFault) → directory_in parts.directory ≡ told
+      → (told : Result (List Provider) Refusal) → directory_in parts.directory ≡ told
       → stage_of asked false parts ≡ by_directory asked.finds form lines told
   stage_read short lines some told reads =
       stage_short short ∙ (ap (by_script asked.finds form parts.directory) some ∙ ap (by_directory asked.finds form lines) reads)
@@ -178,7 +177,7 @@ parts_are unread (Some text) bytes lines e left =
     read_parts : Bytes → List Bytes → Parts
     read_parts bytes lines = record { directory = bytes; script = Some lines }
 
-pub same_ok : (told : Result (List Provider) DirectoryFault) (a b : List Provider) → told ≡ Ok a → told ≡ Ok b → a ≡ b
+pub same_ok : (told : Result (List Provider) Refusal) (a b : List Provider) → told ≡ Ok a → told ≡ Ok b → a ≡ b
 same_ok told a b e f = cc
 
 -- ---- a run that begins

@@ -1,15 +1,14 @@
 -- What a line is, by its number and what it says, and how a script ends at one.
-use Rattle.std.proofs.Common.{◌≡◌, ℕ, ◌+◌, ◌<◌, ◌≤◌, Bool, true, false, List, [], ◌∷◌, refl, ap, ◌∙◌, arith, length}
-use Rattle.std.proofs.Common.{nat_lt, Some, codes}
-use Rattle.std.specs.Prelude.{if◌then◌else◌, option_map}
+use Rattle.std.proofs.Common.{◌≡◌, ℕ, ◌+◌, ◌<◌, ◌≤◌, Bool, true, false, List, [], ◌∷◌, inl, inr, refl, ap, ◌∙◌, arith, length}
+use Rattle.std.proofs.Common.{nat_lt, codes}
+use Rattle.std.specs.Prelude.{if◌then◌else◌}
 use Rattle.std.specs.Fmt.{decimal}
-use Rattle.std.proofs.lemmas.Bool.{le-ltb, lt-ltb}
+use Rattle.std.proofs.lemmas.Bool.{cases_lt, le-ltb, lt-ltb}
 use Rattle.pec_types.specs.Bytes.{Bytes}
 use Rattle.pec_directory.specs.Directory.{Provider}
-use Rattle.pec_directory.specs.declared.faults.DirectoryFault.{DirectoryFault}
+use Rattle.pec_input.specs.Directory.{Refusal}
 use Rattle.pec_input.specs.Faults.{refused_directory_text}
 use Rattle.pec_input.specs.Lines.{content_of}
-use Rattle.pec_ledger.specs.Network.{Site}
 use Rattle.pec_script.specs.LinesReading.{command_of}
 use Rattle.pec_script.specs.Texts.{line_of, name_of, refused_text, text_of, unfit_words}
 use Rattle.pec_script.specs.declared.answers.Unfit.{Unfit}
@@ -21,8 +20,9 @@ use Rattle.pec_screen.specs.Screened.{Finds}
 use Rattle.pec_runs.specs.ScriptLines.{line_by, longest_line, most_lines, nothing_but, said_by, script_of}
 use Rattle.pec_runs.specs.Statuses.{status_of}
 use Rattle.pec_top.specs.Shown.{end_shown}
-use Rattle.pec_top.specs.Taking.{EndsAt}
-use Rattle.pec_top.specs.declared.taking.Taken.{Taken}
+use Rattle.pec_top.specs.Saying.{EndsAt, end_past}
+use Rattle.pec_top.specs.declared.ending.End.{End as Last}
+use Rattle.pec_top.specs.declared.ending.End.TheVariants as lasts
 
 -- ---- lines
 
@@ -68,24 +68,42 @@ module _ (finds : Finds) (providers : List Provider) (number : ℕ) (line : Byte
       (ap is_passed_over is ∙ some) ∙ ap (λ (b : Bytes). line_by finds (command_of providers b)) is)
 
 -- a script that ends at a line
-pub ends_so : (finds : Finds) (providers : List Provider) (state : List Site) (number : ℕ) (counts : ℕ → ℕ) (line : Bytes)
-    (taken : Taken)
-    (end : End) (what : Line) → said_by finds providers number line ≡ what
+pub ends_so : (finds : Finds) (providers : List Provider) (number : ℕ) (line : Bytes) (lines : List Bytes) (text : Bytes)
+    (last : Last) (end : End) (what : Line) → said_by finds providers number line ≡ what
     → ((script : Script) → behind_line number what script ≡ nothing_but end)
-    → taken.text.items ≡ end_text providers end
-    → option_map end_shown taken.end ≡ Some (status_of end)
-    → EndsAt finds providers state number counts counts line taken state
-ends_so finds providers state number counts line taken end what said ends text shown = record {
+    → text ≡ end_text providers end → end_shown last ≡ status_of end
+    → EndsAt finds providers number (line ∷ lines) text last
+ends_so finds providers number line lines text last end what said ends text_is shown = record {
   end = end;
-  script = λ lines. ap (λ (w : Line). behind_line number w (script_of finds providers (number + 1) lines)) said
+  script = ap (λ (w : Line). behind_line number w (script_of finds providers (number + 1) lines)) said
       ∙ ends (script_of finds providers (number + 1) lines);
-  text = text;
+  text_is = text_is;
   shown = shown;
-  same = refl;
-  later = λ p. omega arith;
 }
 
+-- it ends at a line past a limit
+pub past_ends : (finds : Finds) (providers : List Provider) (number : ℕ) (line : Bytes) (lines : List Bytes) (text : Bytes)
+    → (number ≤ most_lines → longest_line < length (content_of line)) → text ≡ end_text providers (end_past number)
+    → EndsAt finds providers number (line ∷ lines) text lasts.TooLong
+past_ends finds providers number line lines text long is = elim (cases_lt most_lines number) [
+  | inl many ↦
+      ends_so finds providers number line lines text lasts.TooLong ends.LongScript TooMany
+      (said_many finds providers number line many) (λ script. refl)
+      (is ∙ ap (λ (past : Bool). end_text providers (if past then ends.LongScript else ends.LongLine number))
+      (lt-ltb most_lines number many)) refl
+  | inr few ↦
+      ends_so finds providers number line lines text lasts.TooLong (ends.LongLine number) TooLong
+      (said_long finds providers number line few (long few)) (λ script. refl)
+      (is ∙ ap (λ (past : Bool). end_text providers (if past then ends.LongScript else ends.LongLine number))
+      (le-ltb most_lines number few)) refl
+]
+
 -- ---- last lines
+
+-- a run that is done writes none
+pub done_text : (providers : List Provider) → end_text providers ends.Done ≡ []
+unfolding end_text
+done_text providers = refl
 
 pub usage_text : (providers : List Provider) → end_text providers ends.Usage ≡ codes "usage\n"
 unfolding end_text line_of
@@ -109,7 +127,7 @@ pub refused_line_text : (providers : List Provider) (number : ℕ) (fault : Line
 unfolding end_text refused_text
 refused_line_text providers number fault = refl
 
-pub refused_directory : (providers : List Provider) (fault : DirectoryFault)
+pub refused_directory : (providers : List Provider) (fault : Refusal)
     → end_text providers (ends.DirectoryRefused fault) ≡ refused_directory_text fault
 unfolding end_text refused_directory_text
 refused_directory providers fault = refl

@@ -1,6 +1,9 @@
--- What a status blames, by what stopped the run.
-use Rattle.std.proofs.Common.{refl, Err}
+-- What a status blames, by what stopped the run; and which form words are.
+use Rattle.std.proofs.Common.{◌≡◌, List, [], ◌∷◌, None, true, refl, Err}
+use Rattle.pec_types.specs.Bytes.{Bytes}
+use Rattle.pec_export.specs.Exports.{asks_ldif}
 use Rattle.pec_runs.specs.Ran.{Blames, Counts}
+use Rattle.pec_service.specs.Runs.{wanted_in}
 use Rattle.pec_top.specs.Blaming.{BlamesDevices, BlamesDisks}
 use Rattle.pec_top.specs.Shown.{end_shown, stop_shown}
 use Rattle.pec_top.specs.declared.ending.End.{End}
@@ -23,3 +26,9 @@ blames_end ends.Refused old new = tt
 blames_end ends.NotEmpty old new = tt
 blames_end ends.NotFit old new = tt
 blames_end ends.TooLong old new = tt
+
+-- Words that ask for the directory as LDIF ask to serve nobody.
+pub serves_none : (words : List Bytes) → asks_ldif words ≡ true → wanted_in words ≡ None
+serves_none [] e = cc
+serves_none (word ∷ []) e = refl
+serves_none (word ∷ other ∷ words) e = cc

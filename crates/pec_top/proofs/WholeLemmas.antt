@@ -1,5 +1,5 @@
 -- A script that was played over all journals, and the disks behind it: a run.
-use Rattle.std.proofs.Common.{◌≡◌, ◌≢◌, ℕ, zero, suc, ◌<◌, ◌≤◌, List, [], ◌∷◌, refl, ap, sym, subst, ◌∙◌, arith}
+use Rattle.std.proofs.Common.{◌≡◌, ◌≢◌, ℕ, zero, suc, ◌+◌, ◌<◌, ◌≤◌, List, [], ◌∷◌, refl, ap, sym, subst, ◌∙◌, arith}
 use Rattle.std.proofs.Common.{length, get_or, Option, Some, None, Ok}
 use Rattle.std.proofs.lemmas.Option.{none-some, same_Some}
 use Rattle.pec_seal.specs.Seals.{Seals}
@@ -16,17 +16,17 @@ use Rattle.pec_ledger.specs.Trade.{Trade}
 use Rattle.pec_serving.specs.OfNetworks.{AllAt, AllStand, IsOfDirectory, NetworkState, ProviderState, Stands, desk_of, site_of, sites, sites_of}
 use Rattle.pec_plays.specs.Commands.{Luck}
 use Rattle.pec_serving.specs.OfNetworks.{Waiting, waiting_for}
-use Rattle.pec_runs.specs.Climbing.{Comes, Place}
 use Rattle.pec_runs.specs.Happened.{Asked, IsSetting, Setting, providers_in, trade_in}
 use Rattle.pec_runs.specs.Openings.{AreLeft, Disks, Form, IsLeft, IsOpening, IsUntouched, NoMore, disks_at, form_in, opened_all}
-use Rattle.pec_runs.specs.Plays.{MayPlay, Outcome, Rest}
+use Rattle.pec_runs.specs.Plays.{MayPlay, Rest, RoseBy, outcome_from}
 use Rattle.pec_runs.specs.Ran.{LeavesOff, Tells, command_in_hand}
 use Rattle.pec_runs.specs.ScriptLines.{Script, script_of}
 use Rattle.pec_screen.specs.Screened.{Finds}
 use Rattle.pec_runs.specs.Statuses.{Status}
 use Rattle.pec_top.specs.Running.{RanSo, parts_behind}
-use Rattle.pec_top.specs.Scripts.{AreKept, ScriptRan}
-use Rattle.pec_top.proofs.ComingLemmas.{rose_on}
+use Rattle.pec_runs.specs.Steps.{Point, lucks_in}
+use Rattle.pec_runs.specs.Reading.{IsRead}
+use Rattle.pec_top.specs.Scripts.{AreKept, at_first}
 use Rattle.pec_top.proofs.HadLemmas.{left_so}
 use Rattle.pec_top.proofs.RunningLemmas.{ran_begun, untouched_same}
 
@@ -34,36 +34,22 @@ there : {X : Type 0} (xs : List X) (k : ℕ) → k < length xs → X
 there [] k l = absurd (omega (arith, l))
 there (x ∷ xs) k l = x
 
-abbrev further : (tells : Type 0) (trade : Trade) (finds : Finds) (providers : List Provider) (place : Place) (upto later : ℕ → ℕ)
-    (outcome : Outcome) → ((p : ℕ) → upto p ≤ later p) → Comes trade finds providers tells place upto outcome
-    → Comes trade finds providers tells place later outcome
-further tells trade finds providers place upto later outcome on comes = record {
-  lines = comes.lines;
-  lucks = comes.lucks;
-  rest = comes.rest;
-  left = comes.left;
-  may = record {
-    enough = comes.may.enough;
-    meet = comes.may.meet;
-    memory = comes.may.memory;
-    counts = λ p. rose_on _ (place.counts p) (upto p) (later p) (comes.may.counts p) (on p);
-    strays = comes.may.strays;
-  };
-  is = comes.is;
-}
+-- counts that are taken earlier, and later
+rose_between : (number earlier from upto later : ℕ) → earlier ≤ from → RoseBy number from upto → upto ≤ later
+    → RoseBy number earlier later
+rose_between number earlier from upto later first rose second =
+    let least = rose.0 in
+    (omega arith, λ low. let more : from + number ≤ upto = rose.1 (omega arith) in omega (arith, more, first, second))
 
--- The script may be said of later counts.
-pub ran_later : (tells : Type 0) (trade : Trade) (finds : Finds) (providers : List Provider) (first : Place) (upto later : ℕ → ℕ)
-    (status : Status) (before after : Option Bytes) (state : List Site) → ((k : ℕ) → upto k ≤ later k)
-    → ScriptRan tells trade finds providers first upto status before after state
-    → ScriptRan tells trade finds providers first later status before after state
-ran_later tells trade finds providers first upto later status before after state on ran = record {
-  outcome = ran.outcome;
-  comes = further tells trade finds providers first upto later ran.outcome on ran.comes;
-  told = ran.told;
-  left = ran.left;
-  leaves_off = ran.leaves_off;
-  is_left = ran.is_left;
+may_between : (tells : Type 0) (trade : Trade) (sites : List Site) (earlier from upto later : ℕ → ℕ) (script : Script)
+    (lucks : List Luck) (rest : Rest) → ((k : ℕ) → earlier k ≤ from k) → ((k : ℕ) → upto k ≤ later k)
+    → MayPlay trade tells sites from upto script lucks rest → MayPlay trade tells sites earlier later script lucks rest
+may_between tells trade sites earlier from upto later script lucks rest first second may = record {
+  enough = may.enough;
+  meet = may.meet;
+  memory = may.memory;
+  counts = λ k. rose_between _ (earlier k) (from k) (upto k) (later k) (first k) (may.counts k) (second k);
+  strays = may.strays;
 }
 
 -- ---- disks that are kept again
@@ -156,42 +142,34 @@ module _ {D : Type 0} (tells : Type 0) (sight : D → Sight)
     others = λ k far was before. untouched_at k (omega (arith, size, far)) was before;
   }
 
--- what a law of pec_runs says: the counts may be taken earlier
-abbrev pub MaySince : Type 0 → Trade → Type 0
-MaySince tells trade =
-    (sites : List Site) (earlier from upto : ℕ → ℕ) (written : Script) (lucks : List Luck) (rest : Rest)
-    → ((p : ℕ) → earlier p ≤ from p) → MayPlay trade tells sites from upto written lucks rest
-    → MayPlay trade tells sites earlier upto written lucks rest
-
-pub ran_script : (asked : Asked) (form : Form) → form_in asked.words ≡ Some form → (bytes : Bytes)
+pub ran_script : {D : Type 0} (asked : Asked) (form : Form) → form_in asked.words ≡ Some form → (bytes : Bytes)
     → length bytes ≤ LONGEST_DIRECTORY
     → (setting : Setting) → directory_in bytes ≡ Ok (providers_in setting)
     → IsSetting (providers_in setting) setting
-    → (journals : List (List Entry)) (status : Status) (unread behind before after : Option Bytes) (tells : Type 0)
-    (old new : Disks) (from counts upto : ℕ → ℕ) (start state : List Site) → MaySince tells (trade_in setting)
-    → start ≡ opened_all (trade_in setting) journals → ((k : ℕ) → from k ≤ counts k)
-    → parts_left unread ≡ parts_behind bytes behind
+    → (journals : List (List Entry)) (status : Status) (unread behind : Option Bytes) (tells : Type 0)
+    (old new : Disks) (from upto : ℕ → ℕ) (point there : Point D)
+    → point.state.sites ≡ opened_all (trade_in setting) journals → ((k : ℕ) → from k ≤ point.state.counts k)
+    → ((k : ℕ) → there.state.counts k ≤ upto k) → parts_left unread ≡ parts_behind bytes behind
     → IsOpening (trade_in setting) old form (record { journals = journals; next = NoMore })
-    → ((left : List Site) → (tells → left ≡ state)
+    → IsRead (trade_in setting) asked.finds (providers_in setting) tells (at_first point behind) there status
+    → ((left : List Site) → (tells → left ≡ there.state.sites)
     → AreLeft old new form (record { journals = journals; next = NoMore }) left)
-    → ScriptRan tells (trade_in setting) asked.finds (providers_in setting)
-    (record { sites = start; number = 1; unread = behind; counts = counts }) upto status before after state
-    → RanSo asked status unread before after tells old new from upto
-ran_script asked form is bytes short setting reads is_setting journals status unread behind before after tells old new
-    from counts upto start state may_since begins since input opens leaves ran_from =
+    → RanSo asked status unread point.held there.held tells old new from upto
+ran_script asked form is bytes short setting reads is_setting journals status unread behind tells old new from upto point
+    there begins since later input opens read leaves =
     let trade = trade_in setting
     in let providers = providers_in setting
-    in let ran = subst (λ (s : List Site). ScriptRan tells trade asked.finds providers
-    (record { sites = s; number = 1; unread = behind; counts = counts }) upto status before after state) begins
-    ran_from
-    in let comes = ran.comes
-    in let script = script_of asked.finds providers 1 comes.lines
-    in ran_begun asked form is bytes short setting reads is_setting comes.lines
-    (record { journals = journals; next = NoMore }) comes.lucks comes.rest status unread behind before after tells
-    old new from upto ran.left input comes.left opens
-    (may_since (opened_all trade journals) from counts upto script comes.lucks comes.rest since
-    comes.may)
-    (subst (λ (o : Outcome). LeavesOff trade o.after (command_in_hand status NoMore comes.rest comes.lucks script)
-    ran.left) comes.is ran.leaves_off)
-    (leaves ran.left ran.is_left)
-    (subst (Tells providers status before after) comes.is ran.told)
+    in let played = read.played
+    in let lucks = lucks_in played.steps
+    in let script = script_of asked.finds providers 1 read.lines
+    in ran_begun asked form is bytes short setting reads is_setting read.lines
+    (record { journals = journals; next = NoMore }) lucks played.rest status unread behind point.held there.held tells
+    old new from upto played.left input read.left opens
+    (subst (λ (s : List Site). MayPlay trade tells s from upto script lucks played.rest) begins
+    (may_between tells trade point.state.sites from point.state.counts there.state.counts upto script lucks
+    played.rest since later played.may))
+    (subst (λ (s : List Site). LeavesOff trade (outcome_from trade lucks played.rest s script).after
+    (command_in_hand status NoMore played.rest lucks script) played.left) begins played.leaves_off)
+    (leaves played.left played.is_left)
+    (subst (λ (s : List Site). Tells providers status point.held there.held (outcome_from trade lucks played.rest s script))
+    begins played.told)

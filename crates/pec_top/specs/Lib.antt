@@ -1,9 +1,10 @@
 pub mod Blaming
 pub mod Hosting
+pub mod Inputs
 pub mod LoopLaws
 pub mod Running
 pub mod Scripts
 pub mod Shown
 pub mod Starting
 pub mod Surveys
-pub mod Taking
+pub mod Saying

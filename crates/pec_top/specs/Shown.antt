@@ -8,6 +8,8 @@ use Rattle.pec_serving.specs.OfNetworks.{NotFit}
 use Rattle.pec_serving.specs.OfNetworks.reasons as reasons
 use Rattle.pec_serving.specs.OfNetworks.{Form as Way}
 use Rattle.pec_serving.specs.OfNetworks.ways as ways
+use Rattle.pec_serving.specs.OfNetworks.{Stop as PlayStop}
+use Rattle.pec_serving.specs.OfNetworks.play_stops as play_stops
 use Rattle.pec_script.specs.declared.answers.Unfit.{Unfit}
 use Rattle.pec_script.specs.declared.answers.Unfit.TheVariants as unfits
 use Rattle.pec_runs.specs.Openings as runs
@@ -58,6 +60,11 @@ result_shown (Err stop) = stop_shown stop
 abbrev pub stop_of : InputFault → Stop
 stop_of faults.NoMemory = stops.NoMemory
 stop_of faults.ReadFault = stops.ReadFault
+
+-- what stops a run within a command
+abbrev pub played_stop : PlayStop → Stop
+played_stop play_stops.NoMemory = stops.NoMemory
+played_stop play_stops.WriteFault = stops.WriteFault
 
 -- ---- forms
 

@@ -1,9 +1,10 @@
-ghost use Rattle.pec_top.specs.Shown.{stop_of};
+ghost use Rattle.pec_top.specs.Shown.{played_stop, stop_of};
 ghost use Rattle.pec_top.specs.declared.ending.Stop.TheVariants as stops;
 ghost use Rattle.std.specs.Prelude.{◌≡◌};
 
 use pec_input::InputFault;
 use pec_outside::Failed;
+use pec_serving::Stop as PlayStop;
 use pec_types::NoMemory;
 
 /// How a run ends, where no device stops it and memory is there.
@@ -42,6 +43,17 @@ impl From<InputFault> for Stop {
         match fault {
             InputFault::NoMemory => Stop::NoMemory,
             InputFault::ReadFault => Stop::ReadFault,
+        }
+    }
+}
+
+impl From<PlayStop> for Stop {
+    ghost from_gives = { λ stop other. other ≡ played_stop stop };
+
+    fn from(stop: PlayStop) -> Self {
+        match stop {
+            PlayStop::NoMemory => Stop::NoMemory,
+            PlayStop::WriteFault => Stop::WriteFault,
         }
     }
 }

@@ -1,5 +1,6 @@
 ghost use Rattle.std.specs.Prelude.{◌≡◌, codes, map, None, option_map, string_bytes, if◌then◌else◌};
 ghost use Rattle.std.specs.Str.{bytes_eq};
+ghost use Rattle.pec_export.specs.Exports.{asks_ldif};
 ghost use Rattle.pec_runs.specs.Openings.{form_in};
 ghost use Rattle.pec_service.specs.Runs.{number_wanted, wanted_in};
 ghost use Rattle.pec_top.specs.Shown.{form_named, form_shown};
@@ -41,6 +42,16 @@ fn named(word: &str) -> Option<Form>
         return Some(Form::Resume);
     }
     None
+}
+
+/// Whether the words ask for the directory as LDIF: `ldif`.
+pub(crate) fn asks_ldif(words: &[String]) -> bool
+    ensures { result ≡ asks_ldif (map string_bytes words.now) }
+{
+    match words {
+        [word] => word.as_str() == "ldif",
+        _ => false,
+    }
 }
 
 /// How many connections the words ask for, where they are `serve N`.

@@ -1,12 +1,10 @@
-ghost use Rattle.std.specs.Prelude.{◌≡◌, ◌≢◌, ◌⊎◌, ℕ, ◌<◌, ◌≤◌, Ok, None, IfSome, Option, length, map};
+ghost use Rattle.std.specs.Prelude.{◌≡◌, ◌≢◌, ◌⊎◌, ℕ, ◌<◌, ◌≤◌, Ok, None, Option, length, map};
 ghost use Rattle.pec_types.specs.Bytes.{Bytes};
 ghost use Rattle.pec_outside.specs.Depots.{depot_places};
 ghost use Rattle.pec_outside.specs.Flow.{HasRisen};
 ghost use Rattle.pec_directory.specs.Directory.{providers_of};
-ghost use Rattle.pec_input.specs.Directory.{directory_in};
 ghost use Rattle.pec_input.specs.Finding.{IsAtEnd};
-ghost use Rattle.pec_input.specs.declared.opening.TheConstants.{LONGEST_DIRECTORY};
-ghost use Rattle.pec_serving.specs.OfNetworks.{AllStand, Fits, NoneFell, world_of};
+ghost use Rattle.pec_serving.specs.OfNetworks.{Fits};
 ghost use Rattle.pec_serving.specs.OfNetworks.reasons as reasons;
 ghost use Rattle.pec_serving.specs.OfNetworks.faults as faults;
 ghost use Rattle.pec_runs.specs.Openings.{disks_at};
@@ -14,27 +12,27 @@ ghost use Rattle.pec_runs.specs.Statuses as statuses;
 ghost use Rattle.pec_screen.specs.Screened.{finds_in};
 ghost use Rattle.pec_service.specs.Runs.{Blames, Course, HasJournals, HasServed, ServiceRanOver};
 ghost use Rattle.pec_service.specs.Runs as services;
-ghost use Rattle.pec_serving.specs.Serving.{place_of};
-ghost use Rattle.pec_top.specs.Hosting.{CountsGo, EndsUnfit, HostsSo, counts_of, ended_as, headless_of, told_shown};
+ghost use Rattle.pec_top.specs.Hosting.{CountsGo, EndsUnfit, counts_of, ended_as, headless_of, told_shown};
+ghost use Rattle.pec_top.specs.Inputs.{IsWholeTaken};
 ghost use Rattle.pec_top.specs.Running.{AreHomeAgain};
 ghost use Rattle.pec_top.specs.Shown.{form_shown, status_shown};
 ghost use Rattle.pec_top.specs.Starting.{EndsSo, provider_named};
 ghost use Rattle.pec_top.specs.Surveys.{AreAsTheyWere};
 
 use crate::beginning::{begin, end_at_start};
-use crate::ending::{End, Stop};
+use crate::ending::Stop;
 use crate::forms::Form;
+use crate::input::Input;
 use crate::laws::{a_disk_reads_as_an_image, a_network_is_whole};
 use crate::run::write_last;
 use crate::status::{Status, end_status, stop_status};
 use crate::survey::{choose_form, holds_something};
 use pec_directory::Directory;
-use pec_input::{Opened, Whole, open_directory, read_whole, refused_directory_text};
 use pec_outside::{Depot, Disk, Door, Sink, Source, Ticks};
 use pec_screen::Judge;
 use pec_seal::{HmacSealer, Sealer};
 use pec_serving::{
-    Ending, Network, NotFit, StartFault, a_trade_says_what_its_parts_say, sealer_of, serve,
+    Ending, NotFit, StartFault, a_trade_says_what_its_parts_say, sealer_of, serve,
     the_texts_are_a_trade,
 };
 use std::alloc::Global;
@@ -96,51 +94,13 @@ fn serve_input<S: Source, W: Sink, P: Depot, T: Ticks, R: Door, J: Judge>(
     ensures home { P.tells → AreHomeAgain (P.home depot.old) (P.home depot.new) }
     ensures out { R.out door.new ≡ R.out door.old }
 {
-    match read_whole(alloc, input)? {
-        Whole::TooLong => {
-            let end = write_last(out, b"too-long directory\n", End::TooLong)?;
-            Ok(end_status(end))
-        }
-        Whole::All(bytes) => {
-            serve_directory(alloc, wanted, &bytes, out, depot, ticks, door, screens)
-        }
-    }
-}
-
-/// Takes the directory, and serves.
-fn serve_directory<W: Sink, P: Depot, T: Ticks, R: Door, J: Judge>(
-    alloc: Global,
-    wanted: u32,
-    bytes: &[u8],
-    out: &mut W,
-    depot: &mut P,
-    ticks: &mut T,
-    door: &mut R,
-    screens: Vec<J>,
-) -> Result<Status, Stop>
-    requires size { length bytes.now ≤ LONGEST_DIRECTORY }
-    ensures served { (unread : Option Bytes) → IfSome unread (λ text. bytes.now ≡ text)
-        → HasServed (record { wanted = wanted; finds = finds_in (map J.patterns screens.items) })
-        (told_shown result) unread (W.held out.old) (W.held out.new)
-        (disks_at (P.tells × P.D.tells) P.D.sight (P.home depot.old))
-        (disks_at (P.tells × P.D.tells) P.D.sight (P.home depot.new))
-        (record { moments = T.coming ticks.old; requests = R.requests door.old; replies = R.replies door.old })
-        (record { moments = T.coming ticks.new; requests = R.requests door.new; replies = R.replies door.new })
-        (P.last depot.old) (P.last depot.new) }
-    ensures counts { CountsGo (told_shown result)
-        (counts_of 0 (W.faults out.old) (P.faults depot.old) (P.last depot.old) (T.faults ticks.old) (R.faults door.old))
-        (counts_of 0 (W.faults out.new) (P.faults depot.new) (P.last depot.new) (T.faults ticks.new) (R.faults door.new)) }
-    ensures home { P.tells → AreHomeAgain (P.home depot.old) (P.home depot.new) }
-    ensures out { R.out door.new ≡ R.out door.old }
-{
-    match open_directory(alloc, bytes)? {
-        Opened::Refused(fault) => {
-            let text = refused_directory_text(alloc, fault)?;
-            let end = write_last(out, &text, End::Refused)?;
-            Ok(end_status(end))
-        }
-        Opened::Opens(directory) => {
+    match Input::whole(alloc, input)? {
+        Input::Opens(directory) => {
             serve_opened(alloc, wanted, directory, out, depot, ticks, door, screens)
+        }
+        Input::Ends(text, last) => {
+            let end = write_last(out, &text, last)?;
+            Ok(end_status(end))
         }
     }
 }
@@ -156,8 +116,7 @@ fn serve_opened<W: Sink, P: Depot, T: Ticks, R: Door, J: Judge>(
     door: &mut R,
     screens: Vec<J>,
 ) -> Result<Status, Stop>
-    ensures served { (bytes : Bytes) (unread : Option Bytes) → length bytes ≤ LONGEST_DIRECTORY
-        → directory_in bytes ≡ Ok (providers_of directory) → IfSome unread (λ text. bytes ≡ text)
+    ensures served { (unread left : Option Bytes) → IsWholeTaken unread left (providers_of directory)
         → HasServed (record { wanted = wanted; finds = finds_in (map J.patterns screens.items) })
         (told_shown result) unread (W.held out.old) (W.held out.new)
         (disks_at (P.tells × P.D.tells) P.D.sight (P.home depot.old))
@@ -181,7 +140,7 @@ fn serve_opened<W: Sink, P: Depot, T: Ticks, R: Door, J: Judge>(
     )
 }
 
-/// Begins the network of a directory, and serves.
+/// Begins the network of a directory, serves at its desk, and keeps its disks in the depot again.
 fn serve_formed<W: Sink, P: Depot, T: Ticks, R: Door, J: Judge>(
     alloc: Global,
     wanted: u32,
@@ -215,43 +174,13 @@ fn serve_formed<W: Sink, P: Depot, T: Ticks, R: Door, J: Judge>(
     match begin(alloc, form, directory, sealer, depot) {
         Ok(network) => {
             a_network_is_whole(&network);
-            serve_all(alloc, wanted, network, out, depot, ticks, door, screens)
+            let (network, ending) = serve(alloc, network, depot, screens, ticks, door, out, wanted);
+            a_network_is_whole(&network);
+            network.close(depot);
+            ended(ending)
         }
         Err(refused) => end_unfit(alloc, &refused.1, refused.0, out, depot),
     }
-}
-
-/// Serves at the desk of a network, and then keeps its disks in the depot again.
-fn serve_all<D: Disk, W: Sink, P: Depot<D = D>, T: Ticks, R: Door, J: Judge>(
-    alloc: Global,
-    wanted: u32,
-    network: Network<D, HmacSealer>,
-    out: &mut W,
-    depot: &mut P,
-    ticks: &mut T,
-    door: &mut R,
-    screens: Vec<J>,
-) -> Result<Status, Stop>
-    ensures hosts { (P.tells × D.tells → AllStand D.sight network.providers)
-        → HostsSo (world_of (⟦<HmacSealer as Sealer>⟧.seals) network) network.kept
-        (finds_in (map J.patterns screens.items)) wanted (P.tells × D.tells) D.sight
-        (place_of D.faults (P.last depot.old) network (T.coming ticks.old) (R.requests door.old) (R.replies door.old))
-        (record { moments = T.coming ticks.new; requests = R.requests door.new; replies = R.replies door.new })
-        (W.held out.old) (W.held out.new) (told_shown result) (P.home depot.old) (P.home depot.new) (P.last depot.new) }
-    ensures home { P.tells → (provider : ℕ) → provider < length network.kept → P.home depot.new provider ≢ None }
-    ensures elsewhere { P.tells → (provider : ℕ) → length network.kept ≤ provider
-        → P.home depot.new provider ≡ P.home depot.old provider }
-    ensures counts { NoneFell D.faults (P.last depot.old) network.providers
-        → CountsGo (told_shown result)
-        (counts_of 0 (W.faults out.old) (P.faults depot.old) (P.last depot.old) (T.faults ticks.old) (R.faults door.old))
-        (counts_of 0 (W.faults out.new) (P.faults depot.new) (P.last depot.new) (T.faults ticks.new) (R.faults door.new)) }
-    ensures out { R.out door.new ≡ R.out door.old }
-{
-    a_network_is_whole(&network);
-    let (network, ending) = serve(alloc, network, screens, ticks, door, out, wanted);
-    a_network_is_whole(&network);
-    network.close(depot);
-    ended(ending)
 }
 
 /// The status of a service that ended so.

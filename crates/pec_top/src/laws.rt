@@ -7,7 +7,7 @@ ghost use Rattle.pec_top.specs.LoopLaws.{LoopLaws};
 
 use pec_input::lines_are_the_text;
 use pec_outside::{Depot, Disk};
-use pec_runs::{a_run_is_climbed, a_script_is_played_line_by_line};
+use pec_runs::{acts_are_joined, an_act_is_done, lines_are_climbed};
 use pec_seal::Sealer;
 use pec_serving::Network;
 
@@ -26,9 +26,10 @@ pub(crate) fn a_disk_reads_as_an_image<D: Disk>()
 /// What is said of a loop over the lines of a script, in every world.
 pub(crate) fn a_loop_climbs<P: Depot>()
     ensures { (trade : Trade) (finds : Finds) (providers : List Provider)
-        → LoopLaws (P.tells × P.D.tells) trade finds providers }
+        → LoopLaws P.D (P.tells × P.D.tells) trade finds providers }
 {
     lines_are_the_text();
-    a_run_is_climbed::<P>();
-    a_script_is_played_line_by_line::<P>();
+    acts_are_joined::<P>();
+    an_act_is_done::<P>();
+    lines_are_climbed::<P>();
 }

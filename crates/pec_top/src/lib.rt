@@ -4,14 +4,16 @@
 
 mod beginning;
 mod ending;
+mod exporting;
 mod forms;
 mod hosting;
+mod input;
 mod laws;
 mod run;
+mod said;
 mod script;
 mod status;
 mod survey;
-mod taking;
 mod texts;
 mod top;
 

@@ -8,16 +8,22 @@ use Rattle.pec_serving.specs.OfNetworks.{AllStand, NoneFell, counts_in, journals
 use Rattle.pec_runs.specs.Happened.{Setting, trade_in}
 use Rattle.pec_runs.specs.Openings.{disks_at}
 use Rattle.pec_screen.specs.Screened.{finds_in}
-use Rattle.pec_service.specs.Runs.{Asked, Outside}
-use Rattle.pec_top.specs.Hosting.{EndsUnfit, counts_of, told_shown}
+use Rattle.pec_service.specs.Runs.{Asked, Blames, Outside, TellsService}
+use Rattle.pec_runs.specs.Statuses.{Status}
+use Rattle.pec_service.specs.Services.{service_text}
+use Rattle.pec_serving.specs.Playing.{state_of}
+use Rattle.pec_serving.specs.Serving.{place_of}
+use Rattle.pec_top.specs.Hosting.{EndsUnfit, HostsSo, counts_of, told_shown}
+use Rattle.pec_top.specs.Scripts.{AreKept}
 use Rattle.pec_top.specs.Shown.{form_shown}
-use Rattle.pec_top.proofs.CountLemmas.{fell_so}
+use Rattle.pec_top.proofs.CountLemmas.{closed_so, counts_later, fell_so}
 use Rattle.pec_top.proofs.HadLemmas.{begins_so, opening_whole}
 use Rattle.pec_top.proofs.HostedLemmas.{journals_hosted}
-use Rattle.pec_top.proofs.HostingLemmas.{counts_since, unfit_counts}
+use Rattle.pec_top.proofs.HostingLemmas.{blames_ended, told_as, unfit_counts}
 use Rattle.pec_top.proofs.RefusedLemmas.{home_again}
 use Rattle.pec_top.proofs.RestLemmas.{home_rest}
 use Rattle.pec_top.proofs.UnfitLemmas.{journals_unfit}
+use Rattle.pec_top.proofs.WholeLemmas.{all_kept_so, none_gone}
 use Rattle.pec_top.proofs.hosting.serve_formed.Goals as goal
 
 pub returns-in-Ok-clause-served : goal.returns-in-Ok-clause-served
@@ -32,7 +38,7 @@ returns-in-Ok-clause-served g c =
     let from = g.P.Depot.last c.args.depot.now in
     let network = c.in-Ok.network in
     let mid = g.P.Depot.home c.begin.new.depot in
-    let new = g.P.Depot.home c.serve_all.new.depot in
+    let new = g.P.Depot.home c.close.new.depot in
     let mid_last = g.P.Depot.last c.begin.new.depot in
     let faults = g.P.D.Counted.faults in
     let journals = journals_had network.providers in
@@ -46,60 +52,94 @@ returns-in-Ok-clause-served g c =
     within).stands told.1 in
     let fell : NoneFell faults mid_last network.providers = λ k other within.
     let l = c.in-Ok.ensures.counts k other within in let e = c.in-Ok.ensures.last k in omega (arith, l, e) in
-    let hosts = rw (same, c.in-Ok.ensures.same.1) at c.serve_all.ensures.hosts stand in
-    let opening = opening_whole g.P.Depot.tells g.P.D.Disk.tells g.P.D.Disk.sight kept seals of old c.args.form
-    network.providers count begun in
+    let served = c.serve-network.result.0 in
+    let ending = c.serve-network.result.1 in
+    let keeps = c.serve-network.ensures.keeps in
+    let before = g.W.Stream.held c.args.out.now in
+    let after = g.W.Stream.held c.serve-network.new.out in
+    let closed = closed_so faults mid_last (g.P.Depot.last c.serve-network.new.depot) (g.P.Depot.last c.close.new.depot)
+    served.providers c.serve-network.ensures.last c.close.ensures.last in
+    let first = place_of faults mid_last network (g.T.Ticks.coming c.args.ticks.now) (g.R.Door.requests c.args.door.now)
+    (g.R.Door.replies c.args.door.now) in
     let here : Outside = record {
       moments = g.T.Ticks.coming c.args.ticks.now;
       requests = g.R.Door.requests c.args.door.now;
       replies = g.R.Door.replies c.args.door.now;
     } in
     let there : Outside = record {
-      moments = g.T.Ticks.coming c.serve_all.new.ticks;
-      requests = g.R.Door.requests c.serve_all.new.door;
-      replies = g.R.Door.replies c.serve_all.new.door;
+      moments = g.T.Ticks.coming c.serve-network.new.ticks;
+      requests = g.R.Door.requests c.serve-network.new.door;
+      replies = g.R.Door.replies c.serve-network.new.door;
     } in
+    let serves = rw (same, c.in-Ok.ensures.same.1) at c.serve-network.ensures.serves mid_last in
+    let text = service_text (trade_in setting) kept first serves.service in
+    let hosts : HostsSo (trade_in setting) kept asked.finds asked.wanted tells g.P.D.Disk.sight first there before after
+    (told_shown c.ended.result) mid new (g.P.Depot.last c.close.new.depot) = record {
+      network = state_of faults mid_last served;
+      service = serves.service;
+      is = serves.is;
+      told = subst (λ (s : Status). TellsService s before after text serves.service.ending) (sym c.ended.ensures)
+          (told_as ending before after text serves.service.ending serves.ending_is serves.written);
+      later = λ k. let e = closed k in omega (arith, e);
+      kept_so = subst (λ (k : List Kept). AreKept tells g.P.D.Disk.sight (length k) (sites served) mid new)
+          (keeps.directory ∙ same) (all_kept_so g.P.Depot.tells g.P.D.Disk.tells g.P.D.Disk.sight served
+          c.a_network_is_whole-in-Ok.ensures (g.P.Depot.home c.serve-network.new.depot) new c.close.ensures.kept mid
+          (λ told. keeps.stands told.1 (stand told)) c.serve-network.ensures.home);
+    } in
+    let opening = opening_whole g.P.Depot.tells g.P.D.Disk.tells g.P.D.Disk.sight kept seals of old c.args.form
+    network.providers count begun in
     journals_hosted tells g.P.D.Disk.sight (λ told. c.a_disk_reads_as_an_image.ensures told.1) asked
-    (told_shown c.serve_all.result) (g.W.Stream.held c.args.out.now) (g.W.Stream.held c.serve_all.new.out) setting
-    (form_shown c.args.form) journals old mid new here there from (counts_in faults network.providers mid_last)
-    (g.P.Depot.last c.serve_all.new.depot) (sites network) size
+    (told_shown c.ended.result) before after setting (form_shown c.args.form) journals old mid new here there from
+    (counts_in faults network.providers mid_last) (g.P.Depot.last c.close.new.depot) (sites network) size
     (λ told k past. (c.in-Ok.ensures.out told.0).elsewhere k (omega (arith, count, past)))
     (λ k. let l = fell_so faults mid_last network.providers fell k in let e = c.in-Ok.ensures.last k in omega (arith, l, e))
     (begins_so (trade_in setting) journals (sites network) (size ∙ sym many) c.in-Ok.ensures.rests) opening hosts
 
 pub returns-in-Ok-clause-counts : goal.returns-in-Ok-clause-counts
 returns-in-Ok-clause-counts g c =
+    let faults = g.P.D.Counted.faults in
     let mid_last = g.P.Depot.last c.begin.new.depot in
-    let fell : NoneFell g.P.D.Counted.faults mid_last c.in-Ok.network.providers = λ k other within.
-    let l = c.in-Ok.ensures.counts k other within in let e = c.in-Ok.ensures.last k in omega (arith, l, e) in
-    let sink = g.W.Counted.faults c.args.out.now in
-    let clock = g.T.Counted.faults c.args.ticks.now in
-    let door = g.R.Counted.faults c.args.door.now in
-    counts_since (told_shown c.serve_all.result)
-    (counts_of 0 sink (g.P.Counted.faults c.args.depot.now) (g.P.Depot.last c.args.depot.now) clock door)
-    (counts_of 0 sink (g.P.Counted.faults c.begin.new.depot) mid_last clock door)
-    (counts_of 0 (g.W.Counted.faults c.serve_all.new.out) (g.P.Counted.faults c.serve_all.new.depot)
-    (g.P.Depot.last c.serve_all.new.depot) (g.T.Counted.faults c.serve_all.new.ticks) (g.R.Counted.faults c.serve_all.new.door))
-    (record {
-      devices = record {
-        source = omega arith;
-        sink = omega arith;
-        depot = c.begin.ensures.later;
-        disks = λ k. let e = c.in-Ok.ensures.last k in omega (arith, e);
-      };
-      clock = omega arith;
-      door = omega arith;
-    })
-    (c.serve_all.ensures.counts fell)
+    let network = c.in-Ok.network in
+    let served = c.serve-network.result.0 in
+    let fell : NoneFell faults mid_last network.providers = λ n other within.
+    let l = c.in-Ok.ensures.counts n other within in let e = c.in-Ok.ensures.last n in omega (arith, l, e) in
+    let closed = closed_so faults mid_last (g.P.Depot.last c.serve-network.new.depot) (g.P.Depot.last c.close.new.depot)
+    served.providers c.serve-network.ensures.last c.close.ensures.last in
+    let began = fell_so faults mid_last network.providers fell in
+    let later = counts_later faults network.providers served.providers (sym c.serve-network.ensures.keeps.many)
+    c.serve-network.ensures.keeps.later mid_last in
+    let old = counts_of 0 (g.W.Counted.faults c.args.out.now) (g.P.Counted.faults c.args.depot.now)
+    (g.P.Depot.last c.args.depot.now) (g.T.Counted.faults c.args.ticks.now) (g.R.Counted.faults c.args.door.now) in
+    let new = counts_of 0 (g.W.Counted.faults c.serve-network.new.out) (g.P.Counted.faults c.close.new.depot)
+    (g.P.Depot.last c.close.new.depot) (g.T.Counted.faults c.serve-network.new.ticks)
+    (g.R.Counted.faults c.serve-network.new.door) in (
+      subst (λ (s : Status). Blames s old new) (sym c.ended.ensures)
+          (blames_ended c.serve-network.result.1 old new c.serve-network.ensures.no_moment c.serve-network.ensures.no_connection
+          c.serve-network.ensures.write_fault),
+      record {
+        devices = record {
+          source = omega arith;
+          sink = c.serve-network.ensures.out_later;
+          depot = omega (arith, c.begin.ensures.later, c.serve-network.ensures.depot_later, c.close.ensures.later);
+          disks = λ k. let s = c.in-Ok.ensures.last k in let a = began k in let b = later k in let e = closed k in
+              omega (arith, s, a, b, e);
+        };
+        clock = c.serve-network.ensures.clock_later;
+        door = c.serve-network.ensures.door_later;
+      },
+    )
 
 pub returns-in-Ok-clause-home : goal.returns-in-Ok-clause-home
 returns-in-Ok-clause-home g c = λ told k some.
-    let kept = c.in-Ok.network.kept in
-    let count = c.a_network_is_whole.ensures.count in
-    elim (cases_lt k (length kept)) [
-      | inl within ↦ c.serve_all.ensures.home told k within
-      | inr past ↦ λ gone. some (sym ((c.in-Ok.ensures.out told).elsewhere k (omega (arith, count, past))) ∙ (sym
-          (c.serve_all.ensures.elsewhere told k past) ∙ gone))
+    let network = c.serve-network.result.0 in
+    let count = c.a_network_is_whole-in-Ok.ensures.count in
+    let many = c.serve-network.ensures.keeps.many in
+    elim (cases_lt k (length network.kept)) [
+      | inl within ↦ none_gone g.P.Depot.tells g.P.D.Disk.tells g.P.D.Disk.sight network c.a_network_is_whole-in-Ok.ensures
+          (g.P.Depot.home c.serve-network.new.depot) (g.P.Depot.home c.close.new.depot) c.close.ensures.kept told k within
+      | inr past ↦ λ gone. some (sym ((c.in-Ok.ensures.out told).elsewhere k (omega (arith, count, many, past)))
+          ∙ (sym (c.serve-network.ensures.home told k)
+          ∙ (sym ((c.close.ensures.kept told).elsewhere k (omega (arith, count, past))) ∙ gone)))
     ]
 
 pub returns-in-Err-clause-served : goal.returns-in-Err-clause-served

@@ -19,7 +19,7 @@ use Rattle.pec_top.proofs.RunningLemmas.{untouched}
 use Rattle.pec_top.proofs.hosting.serve_opened.Goals as goal
 
 pub returns-in_err-sealer-clause-served : goal.returns-in_err-sealer-clause-served
-returns-in_err-sealer-clause-served g c = λ bytes unread short opens input.
+returns-in_err-sealer-clause-served g c = λ unread left taken.
     let asked : Asked = record { wanted = c.args.wanted; finds = finds_in (map g.J.Judge.patterns c.args.screens.items) } in
     let tells = g.P.Depot.tells × g.P.D.Disk.tells in
     let home = g.P.Depot.home c.args.depot.now in
@@ -36,7 +36,7 @@ returns-in_err-sealer-clause-served g c = λ bytes unread short opens input.
     (untouched tells g.P.D.Disk.sight home) refl (refl, sym (followed_by-nil before)))
 
 pub returns-in_default-clause-served : goal.returns-in_default-clause-served
-returns-in_default-clause-served g c = λ bytes unread short opens input.
+returns-in_default-clause-served g c = λ unread left taken.
     let asked : Asked = record { wanted = c.args.wanted; finds = finds_in (map g.J.Judge.patterns c.args.screens.items) } in
     let tells = g.P.Depot.tells × g.P.D.Disk.tells in
     let home = g.P.Depot.home c.args.depot.now in
@@ -61,12 +61,12 @@ returns-in_default-clause-served g c = λ bytes unread short opens input.
     } in
     let new = g.P.Depot.home c.choose_form.new.depot in
     served_unlooked asked statuses.StartFault unread before before disks (disks_at tells g.P.D.Disk.sight new) here here last
-    (g.P.Depot.last c.choose_form.new.depot) bytes short setting opens is_setting input
+    (g.P.Depot.last c.choose_form.new.depot) taken.bytes taken.short setting taken.reads is_setting taken.input
     (untouched_rest g.P.Depot.tells g.P.D.Disk.tells g.P.D.Disk.sight home new c.choose_form.ensures.rest) refl
     (refl, sym (followed_by-nil before))
 
 pub returns-clause-served : goal.returns-clause-served
-returns-clause-served g c = λ bytes unread short opens input.
+returns-clause-served g c = λ unread left taken.
     let asked : Asked = record { wanted = c.args.wanted; finds = finds_in (map g.J.Judge.patterns c.args.screens.items) } in
     let tells = g.P.Depot.tells × g.P.D.Disk.tells in
     let home = g.P.Depot.home c.args.depot.now in
@@ -103,8 +103,8 @@ returns-clause-served g c = λ bytes unread short opens input.
     let many : length (providers_of kept) ≡ length kept = length-map kept (λ (one : Kept). one.provider) in
     let chosen = subst (λ (count : _). IsChosen disks count form) (c.count.ensures.count ∙ sym many) c.in-Ok.ensures.chosen in
     let served = c.serve_formed.ensures.served in
-    served_begun asked status unread before after disks (disks_at tells g.P.D.Disk.sight new) here there last upto bytes short
-    setting opens is_setting input form served.0 chosen
+    served_begun asked status unread before after disks (disks_at tells g.P.D.Disk.sight new) here there last upto taken.bytes
+    taken.short setting taken.reads is_setting taken.input form served.0 chosen
     (journals_since asked status before after disks (disks_at tells g.P.D.Disk.sight mid) (disks_at tells g.P.D.Disk.sight new)
     (reads_on g.P.Depot.tells g.P.D.Disk.tells g.P.D.Disk.sight home mid c.choose_form.ensures.rest)
     (leaves_back g.P.Depot.tells g.P.D.Disk.tells g.P.D.Disk.sight home mid c.choose_form.ensures.rest) here there last

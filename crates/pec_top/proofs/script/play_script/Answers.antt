@@ -1,32 +1,17 @@
 -- From line to line, and to each exit.
-use Rattle.std.proofs.Common.{◌≡◌, ◌∙◌, ap, arith, map, refl, Some, None}
+use Rattle.std.proofs.Common.{◌∙◌, ap, arith, map, refl}
 use Rattle.std.proofs.lemmas.Result.{err_from_is_err_and}
 use Rattle.pec_outside.specs.Flow.{behind, followed_by}
-use Rattle.pec_directory.specs.Directory.{providers_of}
-use Rattle.pec_input.specs.declared.buffers.InputFault.{InputFault}
-use Rattle.pec_input.specs.declared.buffers.InputFault.TheVariants as faults
-use Rattle.pec_serving.specs.OfNetworks.{AllStand, counts_in, sites, world_of}
 use Rattle.pec_screen.specs.Screened.{finds_in}
-use Rattle.pec_top.specs.Scripts.{place_at}
-use Rattle.pec_top.specs.Shown.{stop_of, stop_shown}
-use Rattle.pec_top.proofs.ComingLemmas.{halts}
-use Rattle.pec_top.proofs.LoopPlaces.{ByInput, ByMemory, IsHalt, starts}
-use Rattle.pec_top.proofs.LineReadLemmas.{lines_there}
-use Rattle.pec_top.proofs.StepLemmas.{found_ends, found_in_part, found_on, memory_at}
+use Rattle.pec_serving.specs.OfNetworks.{point_of}
+use Rattle.pec_top.proofs.LoopLemmas.{ends_broken, ends_here, ends_whole, input_fails, lacks_here, passes, plays, stops}
 use Rattle.pec_top.proofs.script.play_script.Goals as goal
-
-halt_of : (tells : Type 0) (trade : _) (finds : _) (providers : _) (fault : InputFault) → IsHalt tells trade finds providers
-    (stop_shown (stop_of fault))
-halt_of tells trade finds providers faults.NoMemory = ByMemory refl
-halt_of tells trade finds providers faults.ReadFault = ByInput refl
 
 pub lines-init : goal.lines-init
 lines-init g c = record {
-  came = λ stand elsewhere. starts _ _ _ _ _ _;
+  reads = λ stand elsewhere. (c.a_loop_climbs.ensures _ _ _).starts _;
   number = omega arith;
-  same = (refl, refl);
-  stands = λ told stand. stand;
-  later = λ elsewhere p. omega arith;
+  keeps = c.what_is_kept_is_kept_on.ensures.none c.args.network.now;
   home = λ told k. refl;
   last = λ k. refl;
   depot_later = omega arith;
@@ -35,241 +20,118 @@ lines-init g c = record {
   sink_later = omega arith;
 }
 
-pub returns-in_err-found-clause-ran : goal.returns-in_err-found-clause-ran
-returns-in_err-found-clause-ran g c = λ stand elsewhere.
-    let tells = g.P.Depot.tells × g.D.Disk.tells in
-    let trade = world_of g.H.Sealer.seals c.args.network.now in
-    let providers = providers_of c.args.network.now.kept in
-    let finds = finds_in (map g.J.Judge.patterns c.args.screens.now) in
-    let laws = c.a_loop_climbs.ensures trade finds providers in
-    let first = place_at g.D.Counted.faults c.args.network.now elsewhere 1 (behind c.args.buffer.now (g.S.Stream.left
-    c.args.source.now)) in
-    let here = place_at g.D.Counted.faults c.lines.network elsewhere c.lines.number (behind c.lines.buffer
-    (g.S.Stream.left c.lines.source)) in
-    let came = c.lines.invariant.came stand elsewhere in
+pub returns-in_err-found-clause-read : goal.returns-in_err-found-clause-read
+returns-in_err-found-clause-read g c = λ stand elsewhere.
     let p = err_from_is_err_and c.from_residual.result c.from_residual.ensures.1 in
-    let lines = lines_there here.unread in
-    rw (p.1, p.2) (halts tells trade finds providers laws first here (counts_in g.D.Counted.faults
-    c.lines.network.providers elsewhere) _ (g.W.Stream.held c.args.out.now) (g.W.Stream.held c.lines.out)
-    lines.0 (sites c.lines.network) (halt_of tells trade finds providers c.in_err-found.field-0.0) lines.1 (λ q. omega
-    arith) refl came)
+    rw (p.1, p.2) (input_fails (c.lines.invariant.reads stand elsewhere) (c.a_loop_climbs.ensures _ _ _)
+    c.in_err-found.field-0.0)
 
-pub returns-in_err-taken-clause-ran : goal.returns-in_err-taken-clause-ran
-returns-in_err-taken-clause-ran g c = λ stand elsewhere.
-    let tells = g.P.Depot.tells × g.D.Disk.tells in
-    let trade = world_of g.H.Sealer.seals c.args.network.now in
-    let providers = providers_of c.args.network.now.kept in
-    let finds = finds_in (map g.J.Judge.patterns c.args.screens.now) in
-    let laws = c.a_loop_climbs.ensures trade finds providers in
-    let first = place_at g.D.Counted.faults c.args.network.now elsewhere 1 (behind c.args.buffer.now (g.S.Stream.left
-    c.args.source.now)) in
-    let here = place_at g.D.Counted.faults c.lines.network elsewhere c.lines.number (behind c.lines.buffer
-    (g.S.Stream.left c.lines.source)) in
-    let came = c.lines.invariant.came stand elsewhere in
-    let unread = behind c.next_line.new.buffer (g.S.Stream.left c.next_line.new.source) in
-    let upto = counts_in g.D.Counted.faults c.take_found.new.network.providers elsewhere in
-    let line = c.next_line.new.line.items in
-    let now = sites c.take_found.new.network in
-    let stand_here : tells → AllStand g.D.Disk.sight c.lines.network.providers = λ told. c.lines.invariant.stands
-    told.1 (stand told) in
-    let stopped = rw (c.deref.ensures.value, c.lines.invariant.same.0, c.lines.invariant.same.1, c.lines.invariant.patterns) at
-    c.in_err-taken.ensures.stops stand_here in
-    let p = err_from_is_err_and c.from_residual-in_err-taken.result c.from_residual-in_err-taken.ensures.1 in
-    rw (p.1, p.2) (memory_at tells trade finds providers laws first here upto line unread now (g.W.Stream.held
-    c.args.out.now) (g.W.Stream.held c.lines.out)
-    (c.take_found.ensures.later elsewhere) c.in_ok-found.found stopped c.in_ok-found.ensures.found came)
+pub returns-in_err-said-clause-read : goal.returns-in_err-said-clause-read
+returns-in_err-said-clause-read g c = λ stand elsewhere.
+    let p = err_from_is_err_and c.from_residual-in_err-said.result c.from_residual-in_err-said.ensures.1 in
+    rw (p.1, p.2) (lacks_here (c.lines.invariant.reads stand elsewhere) (c.a_loop_climbs.ensures _ _ _))
 
-pub returns-in_err-write_all-clause-ran : goal.returns-in_err-write_all-clause-ran
-returns-in_err-write_all-clause-ran g c = λ stand elsewhere.
-    let tells = g.P.Depot.tells × g.D.Disk.tells in
-    let trade = world_of g.H.Sealer.seals c.args.network.now in
-    let providers = providers_of c.args.network.now.kept in
+pub returns-in_err-play_and_write-in-Command-clause-read : goal.returns-in_err-play_and_write-in-Command-clause-read
+returns-in_err-play_and_write-in-Command-clause-read g c = λ stand elsewhere.
+    let so = c.lines.invariant in
     let finds = finds_in (map g.J.Judge.patterns c.args.screens.now) in
-    let laws = c.a_loop_climbs.ensures trade finds providers in
-    let first = place_at g.D.Counted.faults c.args.network.now elsewhere 1 (behind c.args.buffer.now (g.S.Stream.left
-    c.args.source.now)) in
-    let here = place_at g.D.Counted.faults c.lines.network elsewhere c.lines.number (behind c.lines.buffer
-    (g.S.Stream.left c.lines.source)) in
-    let came = c.lines.invariant.came stand elsewhere in
-    let unread = behind c.next_line.new.buffer (g.S.Stream.left c.next_line.new.source) in
-    let upto = counts_in g.D.Counted.faults c.take_found.new.network.providers elsewhere in
-    let line = c.next_line.new.line.items in
-    let now = sites c.take_found.new.network in
-    let stand_here : tells → AllStand g.D.Disk.sight c.lines.network.providers = λ told. c.lines.invariant.stands
-    told.1 (stand told) in
-    let takes = rw (c.deref.ensures.value, c.lines.invariant.same.0, c.lines.invariant.same.1, c.lines.invariant.patterns) at
-    c.in_ok-taken.ensures.takes stand_here elsewhere in
-    let part = rw c.deref-in-lines.ensures.value at c.in_err-write_all.ensures.err in
-    let p = err_from_is_err_and c.from_residual-in_err-write_all.result c.from_residual-in_err-write_all.ensures.1 in
-    rw (p.1, p.2) (found_in_part tells trade finds providers laws first here upto line unread c.in_ok-taken.taken now
-    (g.W.Stream.held c.args.out.now) (g.W.Stream.held c.lines.out)
-    c.in_ok-found.found (g.W.Stream.held c.write_all.new.out) takes c.in_ok-found.ensures.found part came)
+    let says = rw (c.in-Command.is, c.directory.ensures.value, so.keeps.directory, c.deref.ensures.value) at
+    c.in_ok-said.ensures.says finds in
+    let goes = rw (so.keeps.directory, so.keeps.seals, so.patterns) at
+    c.in_err-play_and_write-in-Command.ensures.goes (λ provider restarts told. so.keeps.stands told.1 (stand told)) elsewhere in
+    let p = err_from_is_err_and c.from_residual-in_err-play_and_write-in-Command.result
+    c.from_residual-in_err-play_and_write-in-Command.ensures.1 in
+    rw (p.1, p.2) (stops (so.reads stand elsewhere) (c.a_loop_climbs.ensures _ _ _) c.next_line.new.line.items
+    (behind c.next_line.new.buffer (g.S.Stream.left c.next_line.new.source)) c.in_ok-found.found
+    c.in_ok-found.ensures.found c.in-Command.command says _ c.in_err-play_and_write-in-Command.field-0.0 goes)
 
-pub returns-in-Some-clause-ran : goal.returns-in-Some-clause-ran
-returns-in-Some-clause-ran g c = λ stand elsewhere.
-    let tells = g.P.Depot.tells × g.D.Disk.tells in
-    let trade = world_of g.H.Sealer.seals c.args.network.now in
-    let providers = providers_of c.args.network.now.kept in
+pub returns-in_err-write_all-in-Last-clause-read : goal.returns-in_err-write_all-in-Last-clause-read
+returns-in_err-write_all-in-Last-clause-read g c = λ stand elsewhere.
+    let so = c.lines.invariant in
     let finds = finds_in (map g.J.Judge.patterns c.args.screens.now) in
-    let laws = c.a_loop_climbs.ensures trade finds providers in
-    let first = place_at g.D.Counted.faults c.args.network.now elsewhere 1 (behind c.args.buffer.now (g.S.Stream.left
-    c.args.source.now)) in
-    let here = place_at g.D.Counted.faults c.lines.network elsewhere c.lines.number (behind c.lines.buffer
-    (g.S.Stream.left c.lines.source)) in
-    let came = c.lines.invariant.came stand elsewhere in
-    let unread = behind c.next_line.new.buffer (g.S.Stream.left c.next_line.new.source) in
-    let upto = counts_in g.D.Counted.faults c.take_found.new.network.providers elsewhere in
+    let says = rw (c.in-Last.is, c.directory.ensures.value, so.keeps.directory, c.deref.ensures.value) at
+    c.in_ok-said.ensures.says finds in
     let line = c.next_line.new.line.items in
-    let now = sites c.take_found.new.network in
-    let stand_here : tells → AllStand g.D.Disk.sight c.lines.network.providers = λ told. c.lines.invariant.stands
-    told.1 (stand told) in
-    let takes = rw (c.deref.ensures.value, c.lines.invariant.same.0, c.lines.invariant.same.1, c.lines.invariant.patterns) at
-    c.in_ok-taken.ensures.takes stand_here elsewhere in
-    let ended : c.in_ok-taken.taken.end ≡ Some c.in-Some.end = c.in-Some.is in
-    found_ends tells trade finds providers laws first here upto line unread c.in_ok-taken.taken now (g.W.Stream.held
-    c.args.out.now) (g.W.Stream.held c.lines.out)
-    c.in_ok-found.found (g.W.Stream.held c.write_all.new.out) c.in-Some.end takes c.in_ok-found.ensures.found ended
-    (c.in_ok-write_all.ensures.ok ∙ ap (followed_by (g.W.Stream.held c.lines.out)) c.deref-in-lines.ensures.value) came
+    let unread = behind c.next_line.new.buffer (g.S.Stream.left c.next_line.new.source) in
+    let reads = so.reads stand elsewhere in
+    let laws = c.a_loop_climbs.ensures _ _ _ in
+    let p = err_from_is_err_and c.from_residual-in_err-write_all-in-Last.result c.from_residual-in_err-write_all-in-Last.ensures.1 in
+    rw (p.1, p.2) (ends_broken reads laws line unread c.in-Last.text.items c.in-Last.end
+    (ends_here reads laws line unread c.in_ok-found.found c.in_ok-found.ensures.found c.in-Last.text c.in-Last.end says)
+    (point_of g.D.Counted.faults elsewhere c.lines.network (g.W.Stream.held c.write_all.new.out)
+    (g.W.Counted.faults c.write_all.new.out)) refl
+    (record { disks = λ k. omega arith; output = c.write_all.ensures.later })
+    (rw c.deref-in-Last.ensures.value at c.in_err-write_all-in-Last.ensures.err, c.in_err-write_all-in-Last.ensures.cause))
+
+pub returns-in-Last-clause-read : goal.returns-in-Last-clause-read
+returns-in-Last-clause-read g c = λ stand elsewhere.
+    let so = c.lines.invariant in
+    let finds = finds_in (map g.J.Judge.patterns c.args.screens.now) in
+    let says = rw (c.in-Last.is, c.directory.ensures.value, so.keeps.directory, c.deref.ensures.value) at
+    c.in_ok-said.ensures.says finds in
+    let line = c.next_line.new.line.items in
+    let unread = behind c.next_line.new.buffer (g.S.Stream.left c.next_line.new.source) in
+    let reads = so.reads stand elsewhere in
+    let laws = c.a_loop_climbs.ensures _ _ _ in
+    ends_whole reads laws line unread c.in-Last.text.items c.in-Last.end
+    (ends_here reads laws line unread c.in_ok-found.found c.in_ok-found.ensures.found c.in-Last.text c.in-Last.end says)
+    (point_of g.D.Counted.faults elsewhere c.lines.network (g.W.Stream.held c.write_all.new.out)
+    (g.W.Counted.faults c.write_all.new.out)) refl
+    (record { disks = λ k. omega arith; output = c.write_all.ensures.later })
+    (c.in_ok-write_all-in-Last.ensures.ok ∙ ap (followed_by (g.W.Stream.held c.lines.out)) c.deref-in-Last.ensures.value)
+
+pub returns-in_err-play_and_write-in-Command-clause-keeps : goal.returns-in_err-play_and_write-in-Command-clause-keeps
+returns-in_err-play_and_write-in-Command-clause-keeps g c =
+    c.what_is_kept_is_kept_on.ensures.one c.args.network.now c.lines.network c.play_and_write.new.network
+    c.lines.invariant.keeps c.play_and_write.ensures.keeps
+
+pub returns-in_err-play_and_write-in-Command-clause-home : goal.returns-in_err-play_and_write-in-Command-clause-home
+returns-in_err-play_and_write-in-Command-clause-home g c = λ told k. c.play_and_write.ensures.home told k ∙ c.lines.invariant.home told k
+
+pub returns-in_err-play_and_write-in-Command-clause-last : goal.returns-in_err-play_and_write-in-Command-clause-last
+returns-in_err-play_and_write-in-Command-clause-last g c = λ k. c.play_and_write.ensures.last k ∙ c.lines.invariant.last k
+
+pub lines-preserved-in-Nothing : goal.lines-preserved-in-Nothing
+lines-preserved-in-Nothing g c =
+    let so = c.lines.invariant in
+    let few = c.in_ok-said.ensures.few (rw c.in-Nothing.is refl) in
+    record {
+      reads = λ stand elsewhere.
+          let says = rw (c.in-Nothing.is, c.directory.ensures.value, so.keeps.directory, c.deref.ensures.value) at
+          c.in_ok-said.ensures.says (finds_in (map g.J.Judge.patterns c.args.screens.now)) in
+          passes (so.reads stand elsewhere) (c.a_loop_climbs.ensures _ _ _) c.next_line.new.line.items
+          (behind c.next_line.new.buffer (g.S.Stream.left c.next_line.new.source)) c.in_ok-found.found
+          c.in_ok-found.ensures.found says;
+      number = omega (arith, few);
+      keeps = so.keeps;
+      home = so.home;
+      last = so.last;
+      depot_later = so.depot_later;
+      patterns = so.patterns;
+      source_later = let l = so.source_later in let k = c.next_line.ensures.later in omega (arith, l, k);
+      sink_later = so.sink_later;
+    }
 
 pub lines-preserved : goal.lines-preserved
 lines-preserved g c =
-    let goes_on : c.in_ok-taken.taken.end ≡ None = c.in_default.is in
+    let so = c.lines.invariant in
+    let few = c.in_ok-said.ensures.few (rw c.in-Command.is refl) in
     record {
-      came = λ stand elsewhere.
-          let tells = g.P.Depot.tells × g.D.Disk.tells in
-          let trade = world_of g.H.Sealer.seals c.args.network.now in
-          let providers = providers_of c.args.network.now.kept in
-          let finds = finds_in (map g.J.Judge.patterns c.args.screens.now) in
-          let laws = c.a_loop_climbs.ensures trade finds providers in
-          let first = place_at g.D.Counted.faults c.args.network.now elsewhere 1 (behind c.args.buffer.now
-          (g.S.Stream.left c.args.source.now)) in
-          let here = place_at g.D.Counted.faults c.lines.network elsewhere c.lines.number (behind c.lines.buffer
-          (g.S.Stream.left c.lines.source)) in
-          let came = c.lines.invariant.came stand elsewhere in
-          let unread = behind c.next_line.new.buffer (g.S.Stream.left c.next_line.new.source) in
-          let upto = counts_in g.D.Counted.faults c.take_found.new.network.providers elsewhere in
-          let line = c.next_line.new.line.items in
-          let now = sites c.take_found.new.network in
-          let stand_here : tells → AllStand g.D.Disk.sight c.lines.network.providers = λ told.
-          c.lines.invariant.stands told.1 (stand told) in
-          let takes = rw (c.deref.ensures.value, c.lines.invariant.same.0, c.lines.invariant.same.1, c.lines.invariant.patterns) at
-          c.in_ok-taken.ensures.takes stand_here elsewhere in
-          found_on tells trade finds providers laws first here upto line unread c.in_ok-taken.taken now (g.W.Stream.held
-          c.args.out.now) (g.W.Stream.held c.lines.out)
-          c.in_ok-found.found (g.W.Stream.held c.write_all.new.out) takes c.in_ok-found.ensures.found goes_on
-          (c.in_ok-write_all.ensures.ok ∙ ap (followed_by (g.W.Stream.held c.lines.out))
-          c.deref-in-lines.ensures.value) came;
-      number = let bound = c.in_ok-taken.ensures.bound goes_on in omega (arith, bound);
-      same = (
-        c.take_found.ensures.same.0 ∙ c.lines.invariant.same.0,
-        c.take_found.ensures.same.1 ∙
-            c.lines.invariant.same.1,
-      );
-      stands = λ told stand. c.take_found.ensures.stands told (c.lines.invariant.stands told stand);
-      later = λ elsewhere q. let l = c.lines.invariant.later elsewhere q in let k = c.take_found.ensures.later
-          elsewhere q in omega (arith, l, k);
-      home = λ told k. c.take_found.ensures.home told k ∙ c.lines.invariant.home told k;
-      last = λ k. c.take_found.ensures.last k ∙ c.lines.invariant.last k;
-      depot_later = let l = c.lines.invariant.depot_later in let k = c.take_found.ensures.depot_later in omega
-          (arith, l, k);
-      patterns = c.take_found.ensures.patterns ∙ c.lines.invariant.patterns;
-      source_later = let l = c.lines.invariant.source_later in let k = c.next_line.ensures.later in omega (
-        arith,
-        l,
-        k,
-      );
-      sink_later = let l = c.lines.invariant.sink_later in let k = c.write_all.ensures.later in omega (arith, l, k);
+      reads = λ stand elsewhere.
+          let says = rw (c.in-Command.is, c.directory.ensures.value, so.keeps.directory, c.deref.ensures.value) at
+          c.in_ok-said.ensures.says (finds_in (map g.J.Judge.patterns c.args.screens.now)) in
+          let goes = rw (so.keeps.directory, so.keeps.seals, so.patterns) at
+          c.in_ok-play_and_write-in-Command.ensures.goes (λ provider restarts told. so.keeps.stands told.1 (stand told)) elsewhere in
+          plays (so.reads stand elsewhere) (c.a_loop_climbs.ensures _ _ _) c.next_line.new.line.items
+          (behind c.next_line.new.buffer (g.S.Stream.left c.next_line.new.source)) c.in_ok-found.found
+          c.in_ok-found.ensures.found c.in-Command.command says _ goes;
+      number = omega (arith, few);
+      keeps = c.what_is_kept_is_kept_on.ensures.one c.args.network.now c.lines.network c.play_and_write.new.network
+          so.keeps c.play_and_write.ensures.keeps;
+      home = λ told k. c.play_and_write.ensures.home told k ∙ so.home told k;
+      last = λ k. c.play_and_write.ensures.last k ∙ so.last k;
+      depot_later = let l = so.depot_later in let k = c.play_and_write.ensures.later.0 in omega (arith, l, k);
+      patterns = c.play_and_write.ensures.patterns ∙ so.patterns;
+      source_later = let l = so.source_later in let k = c.next_line.ensures.later in omega (arith, l, k);
+      sink_later = let l = so.sink_later in let k = c.play_and_write.ensures.later.1 in omega (arith, l, k);
     }
-
-pub lines-smaller : goal.lines-smaller
-lines-smaller g c = let bound = c.in_ok-taken.ensures.bound c.in_default.is in omega (arith, bound)
-
-pub returns-in_err-found-clause-same : goal.returns-in_err-found-clause-same
-returns-in_err-found-clause-same g c = c.lines.invariant.same
-
-pub returns-in_err-taken-clause-same : goal.returns-in_err-taken-clause-same
-returns-in_err-taken-clause-same g c = (
-  c.take_found.ensures.same.0 ∙ c.lines.invariant.same.0,
-  c.take_found.ensures.same.1 ∙ c.lines.invariant.same.1,
-)
-
-pub returns-in_err-write_all-clause-same : goal.returns-in_err-write_all-clause-same
-returns-in_err-write_all-clause-same g c = (
-  c.take_found.ensures.same.0 ∙ c.lines.invariant.same.0,
-  c.take_found.ensures.same.1 ∙ c.lines.invariant.same.1,
-)
-
-pub returns-in-Some-clause-same : goal.returns-in-Some-clause-same
-returns-in-Some-clause-same g c = (
-  c.take_found.ensures.same.0 ∙ c.lines.invariant.same.0,
-  c.take_found.ensures.same.1 ∙ c.lines.invariant.same.1,
-)
-
-pub returns-in_err-found-clause-stands : goal.returns-in_err-found-clause-stands
-returns-in_err-found-clause-stands g c = c.lines.invariant.stands
-
-pub returns-in_err-taken-clause-stands : goal.returns-in_err-taken-clause-stands
-returns-in_err-taken-clause-stands g c = λ told stand. c.take_found.ensures.stands told (c.lines.invariant.stands
-    told stand)
-
-pub returns-in_err-write_all-clause-stands : goal.returns-in_err-write_all-clause-stands
-returns-in_err-write_all-clause-stands g c = λ told stand. c.take_found.ensures.stands told (c.lines.invariant.stands
-    told stand)
-
-pub returns-in-Some-clause-stands : goal.returns-in-Some-clause-stands
-returns-in-Some-clause-stands g c = λ told stand. c.take_found.ensures.stands told (c.lines.invariant.stands told
-    stand)
-
-pub returns-in_err-found-clause-later : goal.returns-in_err-found-clause-later
-returns-in_err-found-clause-later g c = c.lines.invariant.later
-
-pub returns-in_err-taken-clause-later : goal.returns-in_err-taken-clause-later
-returns-in_err-taken-clause-later g c = λ elsewhere q. let l = c.lines.invariant.later elsewhere q in let k =
-    c.take_found.ensures.later elsewhere q in omega (arith, l, k)
-
-pub returns-in_err-write_all-clause-later : goal.returns-in_err-write_all-clause-later
-returns-in_err-write_all-clause-later g c = λ elsewhere q. let l = c.lines.invariant.later elsewhere q in let k =
-    c.take_found.ensures.later elsewhere q in omega (arith, l, k)
-
-pub returns-in-Some-clause-later : goal.returns-in-Some-clause-later
-returns-in-Some-clause-later g c = λ elsewhere q. let l = c.lines.invariant.later elsewhere q in let k =
-    c.take_found.ensures.later elsewhere q in omega (arith, l, k)
-
-pub returns-in_err-found-clause-home : goal.returns-in_err-found-clause-home
-returns-in_err-found-clause-home g c = c.lines.invariant.home
-
-pub returns-in_err-taken-clause-home : goal.returns-in_err-taken-clause-home
-returns-in_err-taken-clause-home g c = λ told k. c.take_found.ensures.home told k ∙ c.lines.invariant.home told k
-
-pub returns-in_err-write_all-clause-home : goal.returns-in_err-write_all-clause-home
-returns-in_err-write_all-clause-home g c = λ told k. c.take_found.ensures.home told k ∙ c.lines.invariant.home told k
-
-pub returns-in-Some-clause-home : goal.returns-in-Some-clause-home
-returns-in-Some-clause-home g c = λ told k. c.take_found.ensures.home told k ∙ c.lines.invariant.home told k
-
-pub returns-in_err-found-clause-last : goal.returns-in_err-found-clause-last
-returns-in_err-found-clause-last g c = c.lines.invariant.last
-
-pub returns-in_err-taken-clause-last : goal.returns-in_err-taken-clause-last
-returns-in_err-taken-clause-last g c = λ k. c.take_found.ensures.last k ∙ c.lines.invariant.last k
-
-pub returns-in_err-write_all-clause-last : goal.returns-in_err-write_all-clause-last
-returns-in_err-write_all-clause-last g c = λ k. c.take_found.ensures.last k ∙ c.lines.invariant.last k
-
-pub returns-in-Some-clause-last : goal.returns-in-Some-clause-last
-returns-in-Some-clause-last g c = λ k. c.take_found.ensures.last k ∙ c.lines.invariant.last k
-
-pub returns-in_err-found-clause-depot_later : goal.returns-in_err-found-clause-depot_later
-returns-in_err-found-clause-depot_later g c = c.lines.invariant.depot_later
-
-pub returns-in_err-taken-clause-depot_later : goal.returns-in_err-taken-clause-depot_later
-returns-in_err-taken-clause-depot_later g c = let l = c.lines.invariant.depot_later in let k =
-    c.take_found.ensures.depot_later in omega (arith, l, k)
-
-pub returns-in_err-write_all-clause-depot_later : goal.returns-in_err-write_all-clause-depot_later
-returns-in_err-write_all-clause-depot_later g c = let l = c.lines.invariant.depot_later in let k =
-    c.take_found.ensures.depot_later in omega (arith, l, k)
-
-pub returns-in-Some-clause-depot_later : goal.returns-in-Some-clause-depot_later
-returns-in-Some-clause-depot_later g c = let l = c.lines.invariant.depot_later in let k =
-    c.take_found.ensures.depot_later in omega (arith, l, k)

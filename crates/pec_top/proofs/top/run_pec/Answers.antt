@@ -1,11 +1,41 @@
--- How many connections are served is what the words say.
-use Rattle.std.proofs.Common.{map, ◌≡◌, ◌∙◌, ℕ, subst}
-use Rattle.std.proofs.lemmas.Option.{same_Some}
+-- How many connections are served is what the words say; and the form `ldif` is no other.
+use Rattle.std.proofs.Common.{map, ◌≡◌, ◌∙◌, ℕ, subst, sym}
+use Rattle.std.specs.Prelude.{string_bytes}
+use Rattle.std.proofs.lemmas.Bool.{false≢true}
+use Rattle.std.proofs.lemmas.Option.{none-some, same_Some}
 use Rattle.pec_screen.specs.Screened.{finds_in}
 use Rattle.pec_service.specs.Runs.{ServiceRanOver}
 use Rattle.pec_top.specs.Hosting.{counts_of}
 use Rattle.pec_top.specs.Shown.{status_shown}
+use Rattle.pec_top.proofs.TopLemmas.{serves_none}
 use Rattle.pec_top.proofs.top.run_pec.Goals as goal
+
+pub returns-then-asks_ldif-clause-ran : goal.returns-then-asks_ldif-clause-ran
+returns-then-asks_ldif-clause-ran g c = λ none other. absurd (false≢true (sym other ∙ sym c.if-asks_ldif.ensures))
+
+pub returns-then-asks_ldif-clause-served : goal.returns-then-asks_ldif-clause-served
+returns-then-asks_ldif-clause-served g c = λ wanted is.
+    absurd (none-some wanted (sym (serves_none (map string_bytes c.args.words.now) (sym c.if-asks_ldif.ensures)) ∙ is))
+
+pub returns-then-asks_ldif-clause-wrote : goal.returns-then-asks_ldif-clause-wrote
+returns-then-asks_ldif-clause-wrote g c = λ is.
+    c.export_words.ensures.ran (g.P.Counted.faults c.args.depot.now) (g.P.Depot.last c.args.depot.now)
+
+pub returns-then-asks_ldif-clause-unread : goal.returns-then-asks_ldif-clause-unread
+returns-then-asks_ldif-clause-unread g c = λ form none other.
+    absurd (false≢true (sym other ∙ sym c.if-asks_ldif.ensures))
+
+pub returns-in-Some-clause-wrote : goal.returns-in-Some-clause-wrote
+returns-in-Some-clause-wrote g c = λ is. absurd (false≢true (c.if-asks_ldif.ensures ∙ is))
+
+pub returns-in-Some-clause-undisturbed : goal.returns-in-Some-clause-undisturbed
+returns-in-Some-clause-undisturbed g c = λ is. absurd (false≢true (c.if-asks_ldif.ensures ∙ is))
+
+pub returns-in-None-clause-wrote : goal.returns-in-None-clause-wrote
+returns-in-None-clause-wrote g c = λ is. absurd (false≢true (c.if-asks_ldif.ensures ∙ is))
+
+pub returns-in-None-clause-undisturbed : goal.returns-in-None-clause-undisturbed
+returns-in-None-clause-undisturbed g c = λ is. absurd (false≢true (c.if-asks_ldif.ensures ∙ is))
 
 pub returns-in-Some-clause-served : goal.returns-in-Some-clause-served
 returns-in-Some-clause-served g c = λ wanted is.
