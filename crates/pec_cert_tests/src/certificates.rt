@@ -1,7 +1,8 @@
 //! Certification texts, dates and zones.
+use crate::texts::{is_text, put};
 use pec_cert::*;
 use pec_types::{Moment, Text};
-use std::alloc::{AllocError, Global};
+use std::alloc::Global;
 
 const ENVELOPE: &str = "<?xml version=\"1.0\" encoding=\"UTF-8\"?>\r\n\
     <postacert tipo=\"posta-certificata\" errore=\"nessuno\">\r\n\
@@ -66,6 +67,15 @@ const BARE: &str = "<?xml version=\"1.0\" encoding=\"UTF-8\"?>\r\n\
     </dati>\r\n\
     </postacert>\r\n";
 
+/// The texts, by functions without a clause: the proofs of the tests are spared them.
+fn envelope() -> &'static str {
+    ENVELOPE
+}
+
+fn full() -> &'static str {
+    FULL
+}
+
 const ITALY: &str = "CET-1CEST,M3.5.0,M10.5.0/3";
 
 const SYDNEY: &str = "AEST-10AEDT,M10.1.0,M4.1.0/3";
@@ -75,7 +85,7 @@ const ADELAIDE: &str = "ACST-9:30ACDT,M10.1.0,M4.1.0/3";
 const NEWFOUNDLAND: &str = "NST3:30NDT,M3.2.0,M11.1.0";
 
 // Rules, seconds since 1970, and the minutes that a clock there is ahead of UTC.
-const STAMPS: [(&str, u64, i32); 18] = [
+static STAMPS: [(&str, u64, i32); 18] = [
     (ITALY, 1704186000, 60), // winter
     (ITALY, 1719824400, 120), // summer
     (ITALY, 1711846799, 60), // the second before summer time
@@ -99,16 +109,15 @@ const STAMPS: [(&str, u64, i32); 18] = [
 #[test]
 fn a_zone_stamps_with_whole_minutes(rt: HostRuntime) {
     for (rule, seconds, minutes) in &STAMPS {
-        assert!(rt; has_stamp(rt.alloc(), rule, *seconds, *minutes), "{rule}");
+        assert!(rt;
+            is_stamp(stamped(rt.alloc(), rule, *seconds), *seconds, *minutes),
+            "{rule}"
+        );
     }
-    assert!(rt; zone_of(rt.alloc(), b"nonsense!").is_none());
+    assert!(rt; is_no_rule(rt.alloc(), b"nonsense!"));
 }
 
-/// Whether a clock under the rule is ahead of UTC by so many minutes at a moment.
-fn has_stamp(alloc: Global, rule: &str, seconds: u64, minutes: i32) -> bool {
-    is_stamp(stamped(alloc, rule, seconds), seconds, minutes)
-}
-
+/// Whether this is the stamp of a moment by a clock that is ahead of UTC by so many minutes.
 fn is_stamp(found: Option<Stamp>, seconds: u64, minutes: i32) -> bool {
     match found {
         Some(stamp) => stamp.minutes == minutes && stamp.moment.seconds() == seconds,
@@ -116,13 +125,28 @@ fn is_stamp(found: Option<Stamp>, seconds: u64, minutes: i32) -> bool {
     }
 }
 
+/// The stamp of a moment by a clock under the rule.
 fn stamped(alloc: Global, rule: &str, seconds: u64) -> Option<Stamp> {
-    let zone = zone_of(alloc, rule.as_bytes())?;
-    Some(zone.stamp(Moment::new(seconds)?))
+    let moment = Moment::new(seconds)?;
+    match zone_of(alloc, rule.as_bytes()) {
+        Some(zone) => Some(zone.stamp(moment)),
+        None => None,
+    }
+}
+
+fn is_no_rule(alloc: Global, rule: &[u8]) -> bool {
+    zone_of(alloc, rule).is_none()
+}
+
+fn zone_of(alloc: Global, rule: &[u8]) -> Option<Zone> {
+    match Text::new(alloc, rule) {
+        Ok(rule) => Zone::read(&rule).ok(),
+        Err(_) => None,
+    }
 }
 
 // Rules, seconds since 1970, and the date of a head.
-const HEADER_DATES: [(&str, u64, &str); 20] = [
+static HEADER_DATES: [(&str, u64, &str); 20] = [
     (ITALY, 1704186000, "Tue, 02 Jan 2024 10:00:00 +0100"), // winter
     (ITALY, 1719824400, "Mon, 01 Jul 2024 11:00:00 +0200"), // summer
     ("UTC0", 0, "Thu, 01 Jan 1970 00:00:00 +0000"), // the first second
@@ -147,7 +171,7 @@ const HEADER_DATES: [(&str, u64, &str); 20] = [
 ];
 
 // And the line of a text.
-const DAY_LINES: [(&str, u64, &str); 5] = [
+static DAY_LINES: [(&str, u64, &str); 5] = [
     (ITALY, 1704186000, "Giorno 02/01/2024 ore 10:00:00 (+0100)"), // winter
     (ITALY, 1719824400, "Giorno 01/07/2024 ore 11:00:00 (+0200)"), // summer
     ("UTC0", 0, "Giorno 01/01/1970 ore 00:00:00 (+0000)"), // the first second
@@ -162,40 +186,46 @@ const DAY_LINES: [(&str, u64, &str); 5] = [
 #[test]
 fn a_stamp_is_printed_in_heads_and_texts(rt: HostRuntime) {
     for (rule, seconds, date) in &HEADER_DATES {
-        assert!(rt; is_date(rt.alloc(), rule, *seconds, date), "{date}");
+        assert!(rt;
+            is_date(rt.alloc(), stamped(rt.alloc(), rule, *seconds), date),
+            "{date}"
+        );
     }
     for (rule, seconds, line) in &DAY_LINES {
-        assert!(rt; is_line(rt.alloc(), rule, *seconds, line), "{line}");
+        assert!(rt;
+            is_line(rt.alloc(), stamped(rt.alloc(), rule, *seconds), line),
+            "{line}"
+        );
     }
 }
 
 /// Whether the stamp is printed as this date, which is read as it.
-fn is_date(alloc: Global, rule: &str, seconds: u64, date: &str) -> bool {
-    match stamped(alloc, rule, seconds) {
+fn is_date(alloc: Global, stamp: Option<Stamp>, date: &str) -> bool {
+    match stamp {
         Some(stamp) => {
-            is_text(header_date(alloc, stamp).ok(), date)
-                && read_header_date(date.as_bytes()) == Some(stamp)
+            is_text(header_date(alloc, stamp).ok(), date.as_bytes())
+                && is_read_as(date.as_bytes(), stamp)
         }
         None => false,
     }
 }
 
+fn is_read_as(date: &[u8], stamp: Stamp) -> bool {
+    match read_header_date(date) {
+        Some(read) => read == stamp,
+        None => false,
+    }
+}
+
 /// Whether the stamp is printed as this line.
-fn is_line(alloc: Global, rule: &str, seconds: u64, line: &str) -> bool {
-    match stamped(alloc, rule, seconds) {
-        Some(stamp) => is_text(day_line(alloc, stamp).ok(), line),
+fn is_line(alloc: Global, stamp: Option<Stamp>, line: &str) -> bool {
+    match stamp {
+        Some(stamp) => is_text(day_line(alloc, stamp).ok(), line.as_bytes()),
         None => false,
     }
 }
 
-fn is_text(found: Option<Vec<u8>>, wanted: &str) -> bool {
-    match found {
-        Some(text) => text.as_slice() == wanted.as_bytes(),
-        None => false,
-    }
-}
-
-const NO_DATES: [&str; 17] = [
+static NO_DATES: [&str; 17] = [
     "",
     "Mon, 02 Jan 2024 10:00:00 +0100", // a Tuesday
     "tue, 02 Jan 2024 10:00:00 +0100", // names have one spelling
@@ -222,50 +252,17 @@ fn other_spellings_are_no_dates(rt: HostRuntime) {
     }
 }
 
-fn zone_of(alloc: Global, rule: &[u8]) -> Option<Zone> {
-    let rule = Text::new(alloc, rule).ok()?;
-    Zone::read(&rule).ok()
-}
-
-fn certificate(alloc: Global, text: &[u8]) -> Result<CertData, CertFault> {
-    read(alloc, text)
-}
-
-fn fault_of(alloc: Global, text: &[u8]) -> Option<CertFault> {
-    match certificate(alloc, text) {
-        Ok(_) => None,
-        Err(fault) => Some(fault),
-    }
-}
-
-// The envelope's text with some bytes cut out at a place and others put there.
-fn edited(alloc: Global, place: usize, cut: usize, put: &[u8]) -> Result<Vec<u8>, AllocError> {
-    let mut text = Vec::new(alloc);
-    for (i, b) in ENVELOPE.as_bytes().iter().enumerate() {
-        if i == place {
-            text.extend_from_slice(put)?;
-        }
-        if i < place || place.saturating_add(cut) <= i {
-            text.push(*b)?;
-        }
-    }
-    if place == ENVELOPE.len() {
-        text.extend_from_slice(put)?;
-    }
-    Ok(text)
-}
-
 #[test]
 fn what_is_read_is_written_again(rt: HostRuntime) {
-    assert!(rt; is_written_again(rt.alloc(), ENVELOPE));
-    assert!(rt; is_written_again(rt.alloc(), FULL));
-    assert!(rt; is_written_again(rt.alloc(), BARE));
+    for text in &[envelope(), full(), BARE] {
+        assert!(rt; is_written_again(rt.alloc(), text.as_bytes()));
+    }
     assert!(rt; is_full(rt.alloc()));
 }
 
 // Whether the text is read, and what is read is written as the same text.
-fn is_written_again(alloc: Global, text: &str) -> bool {
-    match certificate(alloc, text.as_bytes()) {
+fn is_written_again(alloc: Global, text: &[u8]) -> bool {
+    match read(alloc, text) {
         Ok(cert) => is_text(written(alloc, &cert), text),
         Err(_) => false,
     }
@@ -279,7 +276,7 @@ fn written(alloc: Global, cert: &CertData) -> Option<Vec<u8>> {
 }
 
 fn is_full(alloc: Global) -> bool {
-    match certificate(alloc, FULL.as_bytes()) {
+    match read(alloc, full().as_bytes()) {
         Ok(cert) => says_all(&cert),
         Err(_) => false,
     }
@@ -288,16 +285,20 @@ fn is_full(alloc: Global) -> bool {
 fn says_all(cert: &CertData) -> bool {
     cert.kind == CertKind::DelayNotice
         && cert.error == CertError::Other
-        && cert.reply.bytes() == "<&>\"".as_bytes()
+        && cert.reply.bytes() == b"<&>\"".as_slice()
         && is_stamp(Some(cert.stamp), 7199, -1559)
         && cert.stamp.shown().zone.hours == 25
         && cert.received.as_slice().len() == 2
 }
 
+fn fault_of(alloc: Global, text: &[u8]) -> Option<CertFault> {
+    read(alloc, text).err()
+}
+
 // A byte or more of the envelope's text, by their place and number, what stands there instead, and the fault of that text.
 type Row = (usize, usize, &'static str, CertFault);
 
-const SHAPES: [Row; 26] = [
+static SHAPES: [Row; 26] = [
     (0, 1, "", CertFault::Syntax(0)), // the first byte is wanting
     (57, 1, "q", CertFault::Syntax(57)), // no kind begins so
     (58, 1, "r", CertFault::Syntax(59)), // `pr` goes on as another kind does
@@ -326,7 +327,7 @@ const SHAPES: [Row; 26] = [
     (544, 0, "x", CertFault::Syntax(544)), // bytes behind the end
 ];
 
-const VALUES: [Row; 16] = [
+static VALUES: [Row; 16] = [
     (121, 1, "A", CertFault::BadAddress(121)), // capitals
     (121, 18, "", CertFault::BadAddress(121)), // nothing at all
     (126, 1, "x", CertFault::BadAddress(121)), // no `@`
@@ -345,14 +346,6 @@ const VALUES: [Row; 16] = [
     (365, 5, "+2560", CertFault::BadDate(365)),
 ];
 
-/// Whether the text that a row says has its fault.
-fn has_fault(alloc: Global, row: &Row) -> bool {
-    match edited(alloc, row.0, row.1, row.2.as_bytes()) {
-        Ok(text) => fault_of(alloc, &text) == Some(row.3),
-        Err(_) => false,
-    }
-}
-
 #[test]
 fn a_text_of_another_shape_has_its_first_fault(rt: HostRuntime) {
     for row in &SHAPES {
@@ -369,9 +362,33 @@ fn a_wrong_value_has_its_place(rt: HostRuntime) {
     assert!(rt; has_the_farthest_zone(rt.alloc()));
 }
 
+/// Whether the text that a row says has its fault.
+fn has_fault(alloc: Global, row: &Row) -> bool {
+    let text = edited(alloc, row.0, row.1, row.2);
+    fault_of(alloc, &text) == Some(row.3)
+}
+
 fn has_the_farthest_zone(alloc: Global) -> bool {
-    match edited(alloc, 365, 5, b"+2500") {
-        Ok(text) => fault_of(alloc, &text).is_none(),
-        Err(_) => false,
+    let text = edited(alloc, 365, 5, "+2500");
+    fault_of(alloc, &text).is_none()
+}
+
+/// The envelope's text with some bytes cut out at a place and others put there.
+fn edited(alloc: Global, place: usize, cut: usize, instead: &str) -> Vec<u8> {
+    let whole = envelope().as_bytes();
+    let mut text = Vec::new(alloc);
+    put(&mut text, part(whole, 0, place));
+    put(&mut text, instead.as_bytes());
+    put(
+        &mut text,
+        part(whole, place.saturating_add(cut), whole.len()),
+    );
+    text
+}
+
+fn part(text: &[u8], from: usize, to: usize) -> &[u8] {
+    match text.get(from..to) {
+        Some(part) => part,
+        None => b"",
     }
 }

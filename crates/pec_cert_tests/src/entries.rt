@@ -1,5 +1,5 @@
 //! An entry of each kind.
-ghost use Rattle.std.specs.Prelude.{◌<◌, ◌^◌, length, IfSome};
+ghost use Rattle.std.specs.Prelude.{◌≡◌, ◌<◌, ◌^◌, length, vec_len, IfSome};
 ghost use Rattle.pec_records.specs.Entry.{HasCounts};
 
 use pec_records::{Entry, encode};
@@ -8,8 +8,10 @@ use std::alloc::Global;
 
 /// The bytes of the entry of this tag.
 pub(crate) fn encoded(alloc: Global, tag: usize) -> Option<Vec<u8>> {
-    let entry = entry_of(alloc, tag)?;
-    encode(alloc, &entry).ok()
+    match entry_of(alloc, tag) {
+        Some(entry) => encode(alloc, &entry).ok(),
+        None => None,
+    }
 }
 
 fn entry_of(alloc: Global, tag: usize) -> Option<Entry>
@@ -29,7 +31,7 @@ fn entry_of(alloc: Global, tag: usize) -> Option<Entry>
         6 => learned(alloc, moment),
         7 => acked(alloc, moment),
         8 => Some(Entry::Ticked { moment }),
-        _ => anomaly(alloc, moment),
+        _ => Some(anomaly(alloc, moment)),
     }
 }
 
@@ -41,30 +43,29 @@ const DIGEST: [u8; 32] = [
 fn accepted(alloc: Global, moment: Moment) -> Option<Entry>
     ensures { IfSome result HasCounts }
 {
-    let sender = address(alloc, b"a@b")?;
-    let message = text8(alloc, b"Salve")?;
-    let entry = Entry::Accepted {
-        moment,
-        sender,
-        message,
-    };
-    Some(entry)
+    match address(alloc, b"a@b") {
+        Some(sender) => Some(Entry::Accepted {
+            moment,
+            sender,
+            message: text8(alloc, b"Salve"),
+        }),
+        None => None,
+    }
 }
 
 fn not_accepted(alloc: Global, moment: Moment) -> Option<Entry>
     ensures { IfSome result HasCounts }
 {
-    let sender = address(alloc, b"a@b")?;
-    let path = path_of_two(alloc)?;
-    let message = text8(alloc, &[0, 255])?;
-    let entry = Entry::NotAccepted {
-        moment,
-        sender,
-        cause: Cause::Virus,
-        path: Items::of(path),
-        message,
-    };
-    Some(entry)
+    match (address(alloc, b"a@b"), path_of_two(alloc)) {
+        (Some(sender), Some(path)) => Some(Entry::NotAccepted {
+            moment,
+            sender,
+            cause: Cause::Virus,
+            path: Items::of(path),
+            message: text8(alloc, &[0, 255]),
+        }),
+        _ => None,
+    }
 }
 
 fn took(alloc: Global, moment: Moment) -> Option<Entry>
@@ -74,13 +75,11 @@ fn took(alloc: Global, moment: Moment) -> Option<Entry>
         provider: 1,
         number: 2,
     };
-    let message = text8(alloc, b"")?;
-    let entry = Entry::Took {
+    Some(Entry::Took {
         moment,
         id,
-        message,
-    };
-    Some(entry)
+        message: text8(alloc, b""),
+    })
 }
 
 fn decided(alloc: Global, moment: Moment) -> Option<Entry>
@@ -90,15 +89,15 @@ fn decided(alloc: Global, moment: Moment) -> Option<Entry>
         provider: 4_294_967_295,
         number: 999_999,
     };
-    let recipient = address(alloc, b"bob@beta.example")?;
-    let decision = Decision::Refused(Refusal::MailboxFull);
-    let entry = Entry::Decided {
-        moment,
-        id,
-        recipient,
-        decision,
-    };
-    Some(entry)
+    match address(alloc, b"bob@beta.example") {
+        Some(recipient) => Some(Entry::Decided {
+            moment,
+            id,
+            recipient,
+            decision: Decision::Refused(Refusal::MailboxFull),
+        }),
+        None => None,
+    }
 }
 
 fn charged() -> Option<Entry>
@@ -109,29 +108,28 @@ fn charged() -> Option<Entry>
         provider: 1,
         number: 2,
     };
-    let entry = Entry::Charged { moment, id, by: 3 };
-    Some(entry)
+    Some(Entry::Charged { moment, id, by: 3 })
 }
 
 fn learned(alloc: Global, moment: Moment) -> Option<Entry>
     ensures { IfSome result HasCounts }
 {
+    let decided = Moment::new(0)?;
     let id = MsgId {
         provider: 0,
         number: 0,
     };
-    let recipient = address(alloc, b"a@b")?;
-    let decided = Moment::new(0)?;
-    let message = text8(alloc, b"Salve")?;
-    let entry = Entry::Learned {
-        moment,
-        id,
-        recipient,
-        decision: Decision::Placed,
-        decided,
-        message,
-    };
-    Some(entry)
+    match address(alloc, b"a@b") {
+        Some(recipient) => Some(Entry::Learned {
+            moment,
+            id,
+            recipient,
+            decision: Decision::Placed,
+            decided,
+            message: text8(alloc, b"Salve"),
+        }),
+        None => None,
+    }
 }
 
 fn acked(alloc: Global, moment: Moment) -> Option<Entry>
@@ -141,36 +139,37 @@ fn acked(alloc: Global, moment: Moment) -> Option<Entry>
         provider: 1,
         number: 2,
     };
-    let recipient = address(alloc, b"a@b")?;
-    let entry = Entry::Acked {
-        moment,
-        id,
-        recipient,
-    };
-    Some(entry)
+    match address(alloc, b"a@b") {
+        Some(recipient) => Some(Entry::Acked {
+            moment,
+            id,
+            recipient,
+        }),
+        None => None,
+    }
 }
 
-fn anomaly(alloc: Global, moment: Moment) -> Option<Entry>
-    ensures { IfSome result HasCounts }
+fn anomaly(alloc: Global, moment: Moment) -> Entry
+    ensures { HasCounts result }
 {
-    let accounts = Items::of(Vec::new(alloc));
-    let message = text8(alloc, &[0, 255])?;
-    let entry = Entry::Anomaly {
+    Entry::Anomaly {
         moment,
-        accounts,
-        message,
-    };
-    Some(entry)
+        accounts: Items::of(Vec::new(alloc)),
+        message: text8(alloc, &[0, 255]),
+    }
 }
 
-fn text8(alloc: Global, bytes: &[u8]) -> Option<Text8>
-    ensures { IfSome result (λ text. length text < 2 ^ 32) }
+/// At most five bytes. Where memory is wanting there are none.
+fn text8(alloc: Global, bytes: &[u8]) -> Text8
+    ensures { length result < 2 ^ 32 }
 {
     if bytes.len() > 5 {
-        return None;
+        return Text8::of(Vec::new(alloc));
     }
-    let bytes = Vec::from_slice(alloc, bytes).ok()?;
-    Some(Text8::of(bytes))
+    match Vec::from_slice(alloc, bytes) {
+        Ok(bytes) => Text8::of(bytes),
+        Err(_) => Text8::of(Vec::new(alloc)),
+    }
 }
 
 fn address(alloc: Global, bytes: &[u8]) -> Option<Address> {
@@ -179,10 +178,10 @@ fn address(alloc: Global, bytes: &[u8]) -> Option<Address> {
 
 /// `bob@beta.example`, and behind it `a@b`.
 fn path_of_two(alloc: Global) -> Option<Vec<Address>>
-    ensures { IfSome result (λ path. length path.items < 2 ^ 32) }
+    ensures { IfSome result (λ path. vec_len path ≡ 2) }
 {
-    let mut path = Vec::new(alloc);
-    path.push(address(alloc, b"bob@beta.example")?).ok()?;
-    path.push(address(alloc, b"a@b")?).ok()?;
-    Some(path)
+    match (address(alloc, b"bob@beta.example"), address(alloc, b"a@b")) {
+        (Some(first), Some(second)) => vec![in alloc; first, second].ok(),
+        _ => None,
+    }
 }

@@ -4,7 +4,7 @@ use pec_types::{Address, Frame};
 use std::alloc::Global;
 
 /// Texts that are no frames, each with its fault.
-const FAULTS: [(&[u8], FrameFault); 9] = [
+static FAULTS: [(&[u8], FrameFault); 9] = [
     (b"", FrameFault::NoPath),
     (b"per: bob@beta.example\r\nx", FrameFault::NoPath),
     // A line feed alone ends no path.
@@ -27,18 +27,11 @@ fn faults_stand_at_their_places(rt: HostRuntime) {
 }
 
 fn fault_of(alloc: Global, frame: &[u8]) -> Option<FrameFault> {
-    match read(alloc, frame) {
-        Ok(_) => None,
-        Err(fault) => Some(fault),
-    }
-}
-
-fn read(alloc: Global, frame: &[u8]) -> Result<(Vec<Address>, usize), FrameFault> {
-    read_frame(alloc, frame)
+    read_frame(alloc, frame).err()
 }
 
 /// The frame of docs/formats.md: its path has one address, and its message begins at 23. Capitals are read as small letters.
-const PATHS: [(&[u8], &[u8], usize); 2] = [
+static PATHS: [(&[u8], &[u8], usize); 2] = [
     (
         b"Per: bob@beta.example\r\nFrom: x@y.example\r\n\r\nciao",
         b"bob@beta.example",
@@ -56,7 +49,7 @@ fn a_path_is_read_in_lower_case(rt: HostRuntime) {
 
 /// Whether the frame has a path of this address alone, and its message begins there.
 fn has_path(alloc: Global, frame: &[u8], address: &[u8], place: usize) -> bool {
-    match read(alloc, frame) {
+    match read_frame(alloc, frame) {
         Ok((path, begin)) => begin == place && is_one(&path, address),
         Err(_) => false,
     }
@@ -72,9 +65,13 @@ fn is_one(path: &[Address], wanted: &[u8]) -> bool {
 #[test]
 fn a_frame_is_made_and_read_again(rt: HostRuntime) {
     assert!(rt; is_made_and_read(rt.alloc()));
-    // The line takes 41 bytes.
-    assert!(rt; made_of(rt.alloc(), FRAME_LIMIT - 41) == Some(Ok(())));
-    assert!(rt; made_of(rt.alloc(), FRAME_LIMIT - 40) == Some(Err(FrameMade::TooLong)));
+}
+
+// The line takes 41 bytes.
+#[test]
+fn a_frame_is_made_up_to_the_limit(rt: HostRuntime) {
+    assert!(rt; has_fault(rt.alloc(), FRAME_LIMIT - 41, None));
+    assert!(rt; has_fault(rt.alloc(), FRAME_LIMIT - 40, Some(FrameMade::TooLong)));
 }
 
 fn is_made_and_read(alloc: Global) -> bool {
@@ -93,28 +90,34 @@ fn is_frame_to(alloc: Global, frame: &Frame, path: &[Address]) -> bool {
 }
 
 fn is_read_to(alloc: Global, frame: &[u8], path: &[Address]) -> bool {
-    match read(alloc, frame) {
+    match read_frame(alloc, frame) {
         Ok((read, begin)) => begin == 41 && read.as_slice() == path,
         Err(_) => false,
     }
 }
 
-/// Whether a frame of two addresses and so many bytes is made; none where memory is wanting for them.
-fn made_of(alloc: Global, bytes: usize) -> Option<Result<(), FrameMade>> {
-    let path = path_of_two(alloc)?;
-    let message = vec![in alloc; b'x'; bytes].ok()?;
-    Some(made(alloc, &path, &message))
-}
-
-fn made(alloc: Global, path: &[Address; 2], message: &[u8]) -> Result<(), FrameMade> {
-    match frame_of(alloc, path, message) {
-        Ok(_) => Ok(()),
-        Err(fault) => Err(fault),
+/// Whether a frame of two addresses and so many bytes isn't made for this, or is made where there is no fault.
+fn has_fault(alloc: Global, bytes: usize, fault: Option<FrameMade>) -> bool {
+    match (path_of_two(alloc), vec![in alloc; b'x'; bytes]) {
+        (Some(path), Ok(message)) => made(alloc, &path, &message) == fault,
+        _ => false,
     }
 }
 
+fn made(alloc: Global, path: &[Address; 2], message: &[u8]) -> Option<FrameMade> {
+    frame_of(alloc, path, message).err()
+}
+
 fn path_of_two(alloc: Global) -> Option<[Address; 2]> {
-    let bob = Address::read(alloc, b"bob@beta.example").ok()?;
-    let eva = Address::read(alloc, b"eva@gamma.example").ok()?;
-    Some([bob, eva])
+    match (
+        address(alloc, b"bob@beta.example"),
+        address(alloc, b"eva@gamma.example"),
+    ) {
+        (Some(bob), Some(eva)) => Some([bob, eva]),
+        _ => None,
+    }
+}
+
+fn address(alloc: Global, text: &[u8]) -> Option<Address> {
+    Address::read(alloc, text).ok()
 }

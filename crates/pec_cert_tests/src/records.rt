@@ -1,12 +1,13 @@
 //! Entries and their bytes, which were written out by hand.
 use crate::entries::encoded;
 use crate::shown::shown;
+use crate::texts::{is_text, put};
 use pec_records::{Entry, EntryFault, decode};
 use pec_types::Address;
-use std::alloc::{AllocError, Global};
+use std::alloc::Global;
 
 // Each kind of entry, by its tag: its bytes written out by hand, field by field, and what they say.
-const ENTRIES: [(&str, &str); 10] = [
+static ENTRIES: [(&str, &str); 10] = [
     (
         "00 00000007 000102030405060708090a0b0c0d0e0f101112131415161718191a1b1c1d1e1f",
         "start 7 000102030405060708090a0b0c0d0e0f101112131415161718191a1b1c1d1e1f",
@@ -46,66 +47,46 @@ const ENTRIES: [(&str, &str); 10] = [
     ),
 ];
 
+/// The table, by a function without a clause: the proofs of the tests are spared its texts.
+fn entries() -> &'static [(&'static str, &'static str)] {
+    &ENTRIES
+}
+
 #[test]
 fn each_kind_of_entry_is_its_bytes(rt: HostRuntime) {
-    for tag in 0..10 {
-        assert!(rt; is_its_bytes(rt.alloc(), tag), "{tag}");
+    for (tag, (digits, said)) in entries().iter().enumerate() {
+        assert!(rt; is_its_bytes(rt.alloc(), tag, digits, said), "{tag}");
     }
 }
 
-/// Whether the entry of a tag has the bytes of its row, and these are read as what it says.
-fn is_its_bytes(alloc: Global, tag: usize) -> bool {
-    let Some((digits, said)) = ENTRIES.get(tag) else {
-        return false;
-    };
-    match bytes_of(alloc, digits) {
-        Some(bytes) => is_written(alloc, tag, &bytes) && says(alloc, &bytes, said),
-        None => false,
-    }
+/// Whether the entry of a tag has these bytes, and they are read as what it says.
+fn is_its_bytes(alloc: Global, tag: usize, digits: &str, said: &str) -> bool {
+    let bytes = bytes_of(alloc, digits);
+    is_text(encoded(alloc, tag), &bytes) && says(alloc, &bytes, said)
 }
 
-fn is_written(alloc: Global, tag: usize, wanted: &[u8]) -> bool {
-    match encoded(alloc, tag) {
-        Some(bytes) => bytes.as_slice() == wanted,
-        None => false,
-    }
-}
-
+/// Whether this is what the entry of these bytes says.
 fn says(alloc: Global, bytes: &[u8], said: &str) -> bool {
-    match text_of(alloc, bytes) {
-        Some(text) => text.as_str() == said,
-        None => false,
+    match decode(alloc, bytes) {
+        Ok(entry) => shown(alloc, &entry).as_slice() == said.as_bytes(),
+        Err(_) => false,
     }
-}
-
-/// What the entry of these bytes says.
-fn text_of(alloc: Global, bytes: &[u8]) -> Option<String> {
-    match read(alloc, bytes) {
-        Ok(entry) => shown(alloc, &entry),
-        Err(_) => None,
-    }
-}
-
-fn read(alloc: Global, bytes: &[u8]) -> Result<Entry, EntryFault> {
-    decode(alloc, bytes)
 }
 
 fn fault_of(alloc: Global, bytes: &[u8]) -> Option<EntryFault> {
-    read(alloc, bytes).err()
+    decode(alloc, bytes).err()
 }
 
 #[test]
 fn what_is_cut_off_ends_too_early(rt: HostRuntime) {
-    for (digits, said) in &ENTRIES {
+    for (digits, said) in entries() {
         assert!(rt; ends_too_early(rt.alloc(), digits), "{said}");
     }
 }
 
 fn ends_too_early(alloc: Global, digits: &str) -> bool {
-    match bytes_of(alloc, digits) {
-        Some(bytes) => has_no_front(alloc, &bytes),
-        None => false,
-    }
+    let bytes = bytes_of(alloc, digits);
+    !bytes.is_empty() && has_no_front(alloc, &bytes)
 }
 
 /// Whether the bytes end too early wherever they are cut off.
@@ -119,7 +100,7 @@ fn has_no_front(alloc: Global, bytes: &[u8]) -> bool {
 }
 
 // Bytes that are no entry, and the place of the first with which no entry goes on.
-const FAULTS: [(&str, usize); 33] = [
+static FAULTS: [(&str, usize); 33] = [
     ("0a", 0), // there are ten tags, from 0
     ("ff", 0),
     ("08 000000006593d090 00", 9), // bytes behind the end
@@ -172,34 +153,30 @@ fn faults_stand_at_the_first_wrong_byte(rt: HostRuntime) {
 }
 
 fn has_fault_at(alloc: Global, digits: &str, place: usize) -> bool {
-    match bytes_of(alloc, digits) {
-        Some(bytes) => fault_of(alloc, &bytes) == Some(EntryFault::Syntax(place)),
-        None => false,
-    }
+    let bytes = bytes_of(alloc, digits);
+    fault_of(alloc, &bytes) == Some(EntryFault::Syntax(place))
 }
 
 // A path of 1,001 addresses, and an address of 254 bytes.
 #[test]
 fn long_lists_and_addresses_are_read(rt: HostRuntime) {
-    assert!(rt; is_long_read(rt.alloc()));
+    assert!(rt; is_long_list(rt.alloc(), &long_bytes(rt.alloc())));
 }
 
-fn is_long_read(alloc: Global) -> bool {
-    match long_bytes(alloc) {
-        Ok(bytes) => is_long_list(alloc, &bytes),
+fn is_long_list(alloc: Global, bytes: &[u8]) -> bool {
+    match decode(alloc, bytes) {
+        Ok(entry) => is_long(&entry),
         Err(_) => false,
     }
 }
 
-fn is_long_list(alloc: Global, bytes: &[u8]) -> bool {
-    match read(alloc, bytes) {
-        Ok(
-            Entry::Anomaly {
-                accounts,
-                message,
-                ..
-            },
-        ) => are_long(accounts.as_slice()) && message.bytes() == b"!".as_slice(),
+fn is_long(entry: &Entry) -> bool {
+    match entry {
+        Entry::Anomaly {
+            accounts,
+            message,
+            ..
+        } => are_long(accounts.as_slice()) && message.bytes() == b"!".as_slice(),
         _ => false,
     }
 }
@@ -211,23 +188,29 @@ fn are_long(accounts: &[Address]) -> bool {
     }
 }
 
-fn long_bytes(alloc: Global) -> Result<Vec<u8>, AllocError> {
-    let mut bytes = Vec::from_slice(alloc, b"\x09\0\0\0\0\x65\x93\xd0\x90\0\0\x03\xe9")?;
-    put_accounts(&mut bytes)?;
-    Ok(bytes)
-}
-
-fn put_accounts(bytes: &mut Vec<u8>) -> Result<(), AllocError> {
+fn long_bytes(alloc: Global) -> Vec<u8> {
+    let mut bytes = Vec::new(alloc);
+    put(&mut bytes, b"\x09\0\0\0\0\x65\x93\xd0\x90\0\0\x03\xe9");
     for _ in 0..1000 {
-        bytes.extend_from_slice(b"\x00\x03a@b")?;
+        put(&mut bytes, b"\x00\x03a@b");
     }
-    bytes.extend_from_slice(b"\x00\xfe")?;
-    bytes.extend_from_slice(&[b'a'; 252])?;
-    bytes.extend_from_slice(b"@b\x00\x00\x00\x01!")
+    put(&mut bytes, b"\x00\xfe");
+    put(&mut bytes, &[b'a'; 252]);
+    put(&mut bytes, b"@b\x00\x00\x00\x01!");
+    bytes
 }
 
-/// The bytes that hexadecimal digits stand for, blanks left out.
-fn bytes_of(alloc: Global, digits: &str) -> Option<Vec<u8>> {
-    let text = digits.replace(alloc, " ", "").ok()?;
-    hex::decode(alloc, text.as_bytes()).ok()
+/// The bytes that hexadecimal digits stand for, blanks left out; none where they are no digits.
+fn bytes_of(alloc: Global, digits: &str) -> Vec<u8> {
+    match digits.replace(alloc, " ", "") {
+        Ok(text) => decoded(alloc, text.as_bytes()),
+        Err(_) => Vec::new(alloc),
+    }
+}
+
+fn decoded(alloc: Global, digits: &[u8]) -> Vec<u8> {
+    match hex::decode(alloc, digits) {
+        Ok(bytes) => bytes,
+        Err(_) => Vec::new(alloc),
+    }
 }

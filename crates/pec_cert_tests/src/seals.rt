@@ -1,13 +1,15 @@
-ghost use Rattle.std.specs.Prelude.{◌≡◌, All, IfSome, vec_len, [], ◌∷◌};
+//! Seals of providers, and the tags in them.
+ghost use Rattle.std.specs.Prelude.{◌≡◌, IfSome, [], ◌∷◌, codes};
 ghost use Rattle.pec_seal.specs.Hmac.{hmac_seals, IsKey};
 
+use crate::texts::is_text;
 use pec_seal::{HmacSealer, SealFault, Sealer, Text8, opened, seal};
 use pec_types::Text;
-use std::alloc::{AllocError, Global};
+use std::alloc::Global;
 
 /// Keys, texts and their tags: of RFC 4231, part 4, the test cases whose keys have at most the 64 bytes of a block, and
 /// a key of a whole block, by another program.
-const TAGS: [(&[u8], &[u8], &str); 5] = [
+static TAGS: [(&[u8], &[u8], &str); 5] = [
     // test case 1: a key of 20 bytes
     (
         &[0x0b; 20],
@@ -58,18 +60,10 @@ fn is_tag(alloc: Global, key: &[u8], text: &[u8], wanted: &str) -> bool {
 }
 
 fn is_hexadecimal(alloc: Global, bytes: &[u8], wanted: &str) -> bool {
-    match hexadecimal(alloc, bytes) {
+    match hex::encode(alloc, bytes) {
         Ok(text) => text.as_str() == wanted,
         Err(_) => false,
     }
-}
-
-fn hexadecimal(alloc: Global, bytes: &[u8]) -> Result<String, AllocError> {
-    let mut text = String::new(alloc);
-    for byte in bytes {
-        write!(text, "{byte:02x}")?;
-    }
-    Ok(text)
 }
 
 /// One provider of this name, with this key.
@@ -77,16 +71,45 @@ fn sealer_of(alloc: Global, name: &[u8], key: &[u8]) -> Option<HmacSealer>
     requires { IsKey key.now }
     ensures { IfSome result (λ sealer. ⟦<HmacSealer as Sealer>⟧.seals sealer ≡ hmac_seals (name.now ∷ []) (key.now ∷ [])) }
 {
-    let name = Text::new(alloc, name).ok()?;
-    let names = vec![in alloc; name].ok()?;
-    let key = Vec::from_slice(alloc, key).ok()?;
-    let keys = vec![in alloc; Text8::of(key)].ok()?;
-    HmacSealer::new(alloc, names, keys).ok()
+    match (name_of(alloc, name), key_of(alloc, key)) {
+        (Some(name), Some(key)) => sealer_with(alloc, name, key),
+        _ => None,
+    }
+}
+
+fn sealer_with(alloc: Global, name: Text, key: Text8) -> Option<HmacSealer>
+    requires { IsKey key }
+    ensures { IfSome result (λ sealer. ⟦<HmacSealer as Sealer>⟧.seals sealer ≡ hmac_seals (name ∷ []) (key ∷ [])) }
+{
+    match (vec![in alloc; name], vec![in alloc; key]) {
+        (Ok(names), Ok(keys)) => HmacSealer::new(alloc, names, keys).ok(),
+        _ => None,
+    }
+}
+
+fn name_of(alloc: Global, bytes: &[u8]) -> Option<Text>
+    ensures { IfSome result (λ name. name ≡ bytes.now) }
+{
+    Text::new(alloc, bytes).ok()
+}
+
+fn key_of(alloc: Global, bytes: &[u8]) -> Option<Text8>
+    ensures { IfSome result (λ key. key ≡ bytes.now) }
+{
+    match Vec::from_slice(alloc, bytes) {
+        Ok(bytes) => Some(Text8::of(bytes)),
+        Err(_) => None,
+    }
 }
 
 /// The text of test case 2 under its tag, which another program wrote in base64.
 const KNOWN: &[u8] =
     b"X-Sigillo: alfa; W9zBRr9gdU5qBCQmCJV1x1oAPwidJzmDnexYuWTsOEM=\r\nwhat do ya want for nothing?";
+
+/// The text, by a function without a clause: the proofs of others are spared it.
+fn known() -> &'static [u8] {
+    KNOWN
+}
 
 #[test]
 fn a_seal_is_one_line_before_the_text(rt: HostRuntime) {
@@ -95,14 +118,12 @@ fn a_seal_is_one_line_before_the_text(rt: HostRuntime) {
 
 fn seals_as_known(alloc: Global) -> bool {
     match sealer_of(alloc, b"alfa", b"Jefe") {
-        Some(sealer) => is_known(sealed(alloc, &sealer, 0, b"what do ya want for nothing?")),
-        None => false,
-    }
-}
-
-fn is_known(sealed: Option<Vec<u8>>) -> bool {
-    match sealed {
-        Some(text) => text.as_slice() == KNOWN,
+        Some(sealer) => {
+            is_text(
+                sealed(alloc, &sealer, 0, b"what do ya want for nothing?"),
+                known(),
+            )
+        }
         None => false,
     }
 }
@@ -116,7 +137,7 @@ fn sealed<S: Sealer>(alloc: Global, sealer: &S, provider: u32, bytes: &[u8]) -> 
 }
 
 /// What is no seal of `alfa` under the key of [`KNOWN`], each beside its fault.
-const FAULTS: [(&[u8], SealFault); 9] = [
+static FAULTS: [(&[u8], SealFault); 9] = [
     // another last byte
     (
         b"X-Sigillo: alfa; W9zBRr9gdU5qBCQmCJV1x1oAPwidJzmDnexYuWTsOEM=\r\nwhat do ya want for nothing!",
@@ -179,7 +200,7 @@ fn seals_and_opens<S: Sealer>(alloc: Global, sealer: &S, provider: u32, bytes: &
 }
 
 /// A name, and a text that is sealed under it.
-const SEALED: [(&[u8], &[u8]); 7] = [
+static SEALED: [(&[u8], &[u8]); 7] = [
     (b"alfa", b""), // nothing to seal
     (b"alfa", KNOWN), // what is sealed already
     (b"alfa", b"\r\n"), // a line end in front
@@ -210,7 +231,7 @@ fn each_provider_has_its_own_name_and_key(rt: HostRuntime) {
 
 fn has_two_providers(alloc: Global) -> bool {
     match two_providers(alloc) {
-        Some(sealer) => are_two(&sealer) && seals_and_opens(alloc, &sealer, 1, KNOWN),
+        Some(sealer) => are_two(&sealer) && seals_and_opens(alloc, &sealer, 1, known()),
         None => false,
     }
 }
@@ -219,21 +240,30 @@ fn are_two<S: Sealer>(sealer: &S) -> bool {
     sealer.number(b"beta") == Some(1)
         && sealer.number(b"gamma").is_none()
         && sealer.name(2).is_none()
-        && opened(sealer, KNOWN) == Ok((0, b"what do ya want for nothing?".as_slice()))
+        && opened(sealer, known()) == Ok((0, b"what do ya want for nothing?".as_slice()))
 }
 
 fn two_providers(alloc: Global) -> Option<HmacSealer> {
-    let mut names = Vec::new(alloc);
-    names.push(Text::new(alloc, b"alfa").ok()?).ok()?;
-    names.push(Text::new(alloc, b"beta").ok()?).ok()?;
-    let keys = two_keys(alloc)?;
-    HmacSealer::new(alloc, names, keys).ok()
+    match (two_names(alloc), two_keys(alloc)) {
+        (Some(names), Some(keys)) => HmacSealer::new(alloc, names, keys).ok(),
+        _ => None,
+    }
+}
+
+fn two_names(alloc: Global) -> Option<Vec<Text>>
+    ensures { IfSome result (λ names. names.items ≡ codes "alfa" ∷ codes "beta" ∷ []) }
+{
+    match (name_of(alloc, b"alfa"), name_of(alloc, b"beta")) {
+        (Some(first), Some(second)) => vec![in alloc; first, second].ok(),
+        _ => None,
+    }
 }
 
 fn two_keys(alloc: Global) -> Option<Vec<Text8>>
-    ensures { IfSome result (λ keys. (vec_len keys ≡ 2) × All IsKey keys.items) }
+    ensures { IfSome result (λ keys. keys.items ≡ codes "Jefe" ∷ codes "k" ∷ []) }
 {
-    let first = Vec::from_slice(alloc, b"Jefe").ok()?;
-    let second = Vec::from_slice(alloc, b"k").ok()?;
-    vec![in alloc; Text8::of(first), Text8::of(second)].ok()
+    match (key_of(alloc, b"Jefe"), key_of(alloc, b"k")) {
+        (Some(first), Some(second)) => vec![in alloc; first, second].ok(),
+        _ => None,
+    }
 }

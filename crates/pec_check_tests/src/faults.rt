@@ -2,12 +2,11 @@
 //! apply. That another provider had to seal a letter comes after all of them.
 
 use crate::houses::House;
-use crate::letters::{Saved, letter_of};
+use crate::letters::{Saved, letter_of, replaced};
 use pec_check::CheckFault;
 use pec_types::Disputed::{Identifier, Moment, Recipient, Sealer, Sender, Wish};
 use pec_types::LetterFault::{self, Body, Cert, Disagree, Head, NotThis, Seal};
 use std::alloc::Global;
-use std::test::Fail;
 
 /// A fault with what is changed in a letter: everywhere that stands in the place of this.
 type Row = (LetterFault, &'static str, &'static str);
@@ -97,102 +96,100 @@ static BOTH: [(Saved, Row); 2] = [
     ),
 ];
 
-/// The tables, by functions without a clause.
-fn delivered() -> &'static [Row] {
-    &DELIVERED
-}
-
-fn enveloped() -> &'static [Row] {
-    &ENVELOPED
-}
-
-fn both() -> &'static [(Saved, Row)] {
-    &BOTH
-}
-
 #[test]
-fn the_first_row_that_applies_to_a_delivery_is_its_fault(rt: HostRuntime) -> Result<(), Fail> {
-    for place in 0..delivered().len() {
+fn the_first_row_that_applies_to_a_delivery_is_its_fault(rt: HostRuntime) {
+    for place in 0..DELIVERED.len() {
         assert!(rt;
-            is_fault_at(rt.alloc(), &DELIVERY, delivered(), place)?,
+            is_fault_at(rt.alloc(), &DELIVERY, &DELIVERED, place),
             "row {place}"
         );
     }
-    Ok(())
 }
 
 #[test]
-fn the_first_row_that_applies_to_an_envelope_is_its_fault(rt: HostRuntime) -> Result<(), Fail> {
-    for place in 0..enveloped().len() {
+fn the_first_row_that_applies_to_an_envelope_is_its_fault(rt: HostRuntime) {
+    for place in 0..ENVELOPED.len() {
         assert!(rt;
-            is_fault_at(rt.alloc(), &ENVELOPE, enveloped(), place)?,
+            is_fault_at(rt.alloc(), &ENVELOPE, &ENVELOPED, place),
             "row {place}"
         );
     }
-    Ok(())
 }
 
 #[test]
-fn a_letter_that_says_both_is_judged_as_an_envelope(rt: HostRuntime) -> Result<(), Fail> {
-    for (saved, row) in both() {
-        assert!(rt; is_fault_at(rt.alloc(), saved, &[*row], 0)?, "{}", saved.0);
+fn a_letter_that_says_both_is_judged_as_an_envelope(rt: HostRuntime) {
+    for (saved, row) in &BOTH {
+        assert!(rt; is_fault_at(rt.alloc(), saved, &[*row], 0), "{}", saved.0);
     }
-    Ok(())
 }
 
 #[test]
-fn a_changed_byte_and_a_text_that_nobody_sealed_open_not(rt: HostRuntime) -> Result<(), Fail> {
-    assert!(rt; opens_not(rt.alloc(), &ENVELOPE)?);
-    assert!(rt; opens_not(rt.alloc(), &DELIVERY)?);
-    Ok(())
+fn a_changed_byte_and_a_text_that_nobody_sealed_open_not(rt: HostRuntime) {
+    for saved in &[ENVELOPE, DELIVERY] {
+        assert!(rt; opens_not(rt.alloc(), saved));
+    }
 }
 
 /// Whether the row of this place is the fault of the letter to which it applies, also where a later one applies too.
-fn is_fault_at(alloc: Global, saved: &Saved, rows: &[Row], place: usize) -> Result<bool, Fail> {
-    let Some((row, later)) = parted(rows, place) else {
-        return Ok(false);
-    };
-    let letter = letter_of(alloc, saved)?;
-    let text = letter.replace(alloc, row.1, row.2)?;
-    if !has_fault(alloc, saved.1, text.as_str(), row.0)? {
-        return Ok(false);
+fn is_fault_at(alloc: Global, saved: &Saved, rows: &[Row], place: usize) -> bool {
+    match (House::new(alloc), rows.get(place..)) {
+        (Some(house), Some([row, later @ ..])) => is_first(alloc, &house, saved, row, later),
+        _ => false,
     }
+}
+
+fn is_first(alloc: Global, house: &House, saved: &Saved, row: &Row, later: &[Row]) -> bool {
+    let letter = letter_of(alloc, saved);
+    let text = replaced(alloc, letter.as_str(), row.1, row.2);
+    has_fault(alloc, house, saved.1, text.as_str(), row.0)
+        && keeps_fault(alloc, house, saved.1, text.as_str(), row.0, later)
+}
+
+/// Whether a text has the fault also where a later row applies to it.
+fn keeps_fault(
+    alloc: Global,
+    house: &House,
+    by: u32,
+    text: &str,
+    fault: LetterFault,
+    later: &[Row],
+) -> bool {
     for (_, from, to) in later {
-        let text = text.replace(alloc, *from, *to)?;
-        if !has_fault(alloc, saved.1, text.as_str(), row.0)? {
-            return Ok(false);
+        let text = replaced(alloc, text, from, to);
+        if !has_fault(alloc, house, by, text.as_str(), fault) {
+            return false;
         }
     }
-    Ok(true)
+    true
 }
 
-/// The row at a place, and those behind it.
-fn parted(rows: &[Row], place: usize) -> Option<(&Row, &[Row])> {
-    match rows.get(place..) {
-        Some([row, later @ ..]) => Some((row, later)),
-        _ => None,
-    }
-}
-
-fn has_fault(alloc: Global, by: u32, text: &str, fault: LetterFault) -> Result<bool, Fail> {
-    let house = House::new(alloc)?;
-    let sealed = house.sealed(alloc, by, text)?;
-    Ok(is_refused(alloc, &house, &sealed, fault))
+fn has_fault(alloc: Global, house: &House, by: u32, text: &str, fault: LetterFault) -> bool {
+    let sealed = house.sealed(alloc, by, text);
+    is_refused(alloc, house, &sealed, fault)
 }
 
 fn is_refused(alloc: Global, house: &House, text: &[u8], fault: LetterFault) -> bool {
     house.check(alloc, text).err() == Some(CheckFault::Letter(fault))
 }
 
+fn opens_not(alloc: Global, saved: &Saved) -> bool {
+    match House::new(alloc) {
+        Some(house) => opens_not_at(alloc, &house, saved),
+        None => false,
+    }
+}
+
 /// Whether a letter isn't opened where its last byte is another, and without its seal.
-fn opens_not(alloc: Global, saved: &Saved) -> Result<bool, Fail> {
-    let house = House::new(alloc)?;
-    let letter = letter_of(alloc, saved)?;
-    let mut text = house.sealed(alloc, saved.1, letter.as_str())?;
+fn opens_not_at(alloc: Global, house: &House, saved: &Saved) -> bool {
+    let letter = letter_of(alloc, saved);
+    let text = changed_at_end(house.sealed(alloc, saved.1, letter.as_str()));
+    is_refused(alloc, house, &text, Seal)
+        && is_refused(alloc, house, letter.as_str().as_bytes(), Seal)
+}
+
+/// A text with a carriage return as its last byte.
+fn changed_at_end(mut text: Vec<u8>) -> Vec<u8> {
     text.pop();
-    text.push(b'\r')?;
-    Ok(
-        is_refused(alloc, &house, &text, Seal)
-            && is_refused(alloc, &house, letter.as_str().as_bytes(), Seal),
-    )
+    let _ = text.push(b'\r');
+    text
 }

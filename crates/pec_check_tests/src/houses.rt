@@ -7,7 +7,6 @@ use pec_seal::{HmacSealer, Sealer, seal};
 use pec_trade::sealer_of;
 use pec_trial::two;
 use std::alloc::Global;
-use std::test::Fail;
 
 /// A directory, and the sealer of its providers.
 pub(crate) struct House {
@@ -25,19 +24,30 @@ impl Drop for House {
 }
 
 impl House {
-    /// The house of `alfa` and `beta`.
-    pub(crate) fn new(alloc: Global) -> Result<House, Fail> {
-        let directory = Directory::read(alloc, two())?;
-        let sealer = sealer_of(alloc, &directory)?;
-        Ok(House { directory, sealer })
+    /// The house of `alfa` and `beta`; none where memory is wanting.
+    pub(crate) fn new(alloc: Global) -> Option<House> {
+        match Directory::read(alloc, two()) {
+            Ok(directory) => House::sealing(alloc, directory),
+            Err(_) => None,
+        }
     }
 
-    /// The text that a provider sealed.
-    pub(crate) fn sealed(&self, alloc: Global, by: u32, text: &str) -> Result<Vec<u8>, Fail> {
-        if self.sealer.name(by).is_none() {
-            return Err("no such provider".into());
+    fn sealing(alloc: Global, directory: Directory) -> Option<House> {
+        match sealer_of(alloc, &directory) {
+            Ok(sealer) => Some(House { directory, sealer }),
+            Err(_) => None,
         }
-        Ok(seal(alloc, &self.sealer, by, text.as_bytes())?)
+    }
+
+    /// The text that a provider sealed; no byte where there is no such provider.
+    pub(crate) fn sealed(&self, alloc: Global, by: u32, text: &str) -> Vec<u8> {
+        if self.sealer.name(by).is_none() {
+            return Vec::new(alloc);
+        }
+        match seal(alloc, &self.sealer, by, text.as_bytes()) {
+            Ok(text) => text,
+            Err(_) => Vec::new(alloc),
+        }
     }
 
     /// What a saved text is judged as.
@@ -45,14 +55,20 @@ impl House {
         check(alloc, &self.sealer, &self.directory, text)
     }
 
-    /// What a letter by its name is judged as.
-    pub(crate) fn check_letter(
+    /// What a text that a provider seals is judged as.
+    pub(crate) fn check_sealed(
         &self,
         alloc: Global,
-        saved: &Saved,
-    ) -> Result<Result<Report, CheckFault>, Fail> {
-        let letter = letter_of(alloc, saved)?;
-        let text = self.sealed(alloc, saved.1, letter.as_str())?;
-        Ok(self.check(alloc, &text))
+        by: u32,
+        text: &str,
+    ) -> Result<Report, CheckFault> {
+        let sealed = self.sealed(alloc, by, text);
+        self.check(alloc, &sealed)
+    }
+
+    /// What a letter by its name is judged as.
+    pub(crate) fn check_letter(&self, alloc: Global, saved: &Saved) -> Result<Report, CheckFault> {
+        let letter = letter_of(alloc, saved);
+        self.check_sealed(alloc, saved.1, letter.as_str())
     }
 }

@@ -2,7 +2,6 @@
 //! here and with CRLF where they are used; words in capitals stand for those of a letter.
 
 use std::alloc::Global;
-use std::test::Fail;
 
 /// An envelope, accepted at 1704186060.
 const ENVELOPE: &str = r#"X-Trasporto: posta-certificata
@@ -134,45 +133,48 @@ static WORDINGS: [Wording; 9] = [
     ("acknowledgement", ACKNOWLEDGEMENT, ["", ""], "", ""),
 ];
 
-/// The table, by a function without a clause: the proofs of the tests are spared its texts.
-fn wordings() -> &'static [Wording] {
-    &WORDINGS
-}
-
-fn certificate() -> &'static str {
-    CERTIFICATE
-}
-
 /// A letter by its name: who seals it, and the recipient whom it names.
 pub(crate) type Saved = (&'static str, u32, &'static str);
 
-/// The text of a letter, which certifies the provider that seals it as its issuer.
-pub(crate) fn letter_of(alloc: Global, saved: &Saved) -> Result<String, Fail> {
-    for wording in wordings() {
+/// The text of a letter, which certifies the provider that seals it as its issuer; none where there is no such letter.
+pub(crate) fn letter_of(alloc: Global, saved: &Saved) -> String {
+    for wording in &WORDINGS {
         if wording.0 == saved.0 {
             return worded(alloc, wording, saved);
         }
     }
-    Err("no such letter".into())
+    String::new(alloc)
 }
 
-fn worded(alloc: Global, wording: &Wording, saved: &Saved) -> Result<String, Fail> {
+fn worded(alloc: Global, wording: &Wording, saved: &Saved) -> String {
     let issuer = if saved.1 == 0 { "alfa" } else { "beta" };
-    let text = wording.1.replace(alloc, "CERTIFICATE", certificate())?;
-    let text = text.replace(alloc, "WORD", wording.2[0])?;
-    let text = text.replace(alloc, "ERROR", wording.2[1])?;
-    let text = text.replace(alloc, "FIELD", wording.3)?;
-    let text = text.replace(alloc, "DETAILS", wording.4)?;
-    let text = text.replace(alloc, "ISSUER", issuer)?;
-    let text = text.replace(alloc, "RECIPIENT", saved.2)?;
-    Ok(text.replace(alloc, "\n", "\r\n")?)
+    let text = replaced(alloc, wording.1, "CERTIFICATE", CERTIFICATE);
+    let text = replaced(alloc, text.as_str(), "WORD", wording.2[0]);
+    let text = replaced(alloc, text.as_str(), "ERROR", wording.2[1]);
+    let text = replaced(alloc, text.as_str(), "FIELD", wording.3);
+    let text = replaced(alloc, text.as_str(), "DETAILS", wording.4);
+    let text = replaced(alloc, text.as_str(), "ISSUER", issuer);
+    let text = replaced(alloc, text.as_str(), "RECIPIENT", saved.2);
+    replaced(alloc, text.as_str(), "\n", "\r\n")
+}
+
+/// A text with other words for some. Where memory is wanting there is none, and it isn't what has to come.
+pub(crate) fn replaced(alloc: Global, text: &str, words: &str, instead: &str) -> String {
+    match text.replace(alloc, words, instead) {
+        Ok(text) => text,
+        Err(_) => String::new(alloc),
+    }
 }
 
 /// The certification text in a letter; nothing where there is none.
 pub(crate) fn certified(letter: &str) -> &str {
-    let Some((_, behind)) = letter.split_once("name=\"daticert.xml\"\r\n\r\n") else {
-        return "";
-    };
+    match letter.split_once("name=\"daticert.xml\"\r\n\r\n") {
+        Some((_, behind)) => before_the_end(behind),
+        None => "",
+    }
+}
+
+fn before_the_end(behind: &str) -> &str {
     match behind.split_once("\r\n--=_pec_0--") {
         Some((text, _)) => text,
         None => "",

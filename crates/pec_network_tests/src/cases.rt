@@ -3,7 +3,7 @@
 use crate::net::{Outcome, played};
 use pec_network::Form;
 use pec_outside::MemDepot;
-use std::alloc::{AllocError, Global};
+use std::alloc::Global;
 use std::test::Fail;
 
 /// A script over a new network, where the named calls of disks fail, each by its provider's number and its own. A crash
@@ -28,40 +28,38 @@ pub(crate) fn first_wrong_of(alloc: Global, cases: &[Case]) -> Result<Option<Str
 }
 
 fn wrong_in(alloc: Global, case: &Case) -> Result<Option<String>, Fail> {
-    let depot = depot_failing(alloc, case.failing, case.kept)?;
-    let played = played(alloc, Form::Make, depot, case.script)?;
-    wrong_line(played)
+    let depot = depot_failing(alloc, case.failing, case.kept);
+    wrong_line(played(alloc, Form::Make, depot, case.script)?)
 }
 
 /// The first wrong line of a script whose network began.
 pub(crate) fn wrong_line(played: Outcome) -> Result<Option<String>, Fail> {
     let (fault, wrong, _) = played.parts();
     if fault.is_some() {
-        return Err("it doesn't begin".into());
+        Err("it doesn't begin".into())
+    } else {
+        Ok(wrong)
     }
-    Ok(wrong)
 }
 
-/// A depot of two empty disks, where these calls fail, each by its provider's number and its own.
-pub(crate) fn depot_failing(
-    alloc: Global,
-    failing: &[(u32, u64)],
-    kept: &[u64],
-) -> Result<MemDepot, AllocError> {
+/// A depot of two empty disks, where these calls fail, each by its provider's number and its own. Where memory is
+/// wanting fewer do, and what comes isn't what has to.
+pub(crate) fn depot_failing(alloc: Global, failing: &[(u32, u64)], kept: &[u64]) -> MemDepot {
     let mut disks = Vec::new(alloc);
     for provider in 0..2u32 {
-        disks.push(calls_of(alloc, failing, provider)?)?;
+        let _ = disks.push(calls_of(alloc, failing, provider));
     }
-    Ok(MemDepot::new(alloc, disks, Vec::from_slice(alloc, kept)?))
+    let kept = Vec::from_slice(alloc, kept).unwrap_or(Vec::new(alloc));
+    MemDepot::new(alloc, disks, kept)
 }
 
 /// The failing calls of one provider's disk.
-fn calls_of(alloc: Global, failing: &[(u32, u64)], provider: u32) -> Result<Vec<u64>, AllocError> {
+fn calls_of(alloc: Global, failing: &[(u32, u64)], provider: u32) -> Vec<u64> {
     let mut calls = Vec::new(alloc);
     for (whose, call) in failing {
         if *whose == provider {
-            calls.push(*call)?;
+            let _ = calls.push(*call);
         }
     }
-    Ok(calls)
+    calls
 }

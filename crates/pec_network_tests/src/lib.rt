@@ -5,8 +5,6 @@
 #[cfg(test)]
 mod beginning;
 #[cfg(test)]
-mod calls;
-#[cfg(test)]
 mod cases;
 #[cfg(test)]
 mod crashes;

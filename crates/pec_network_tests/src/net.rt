@@ -1,32 +1,28 @@
 //! A network of two providers over disks in memory, and the depot of its disks: it answers lines of words.
 
-ghost use Rattle.std.specs.Prelude.{◌≡◌, ◌<◌, ◌≤◌, length, IfOk};
-ghost use Rattle.pec_directory.specs.Directory.{providers_of};
-ghost use Rattle.pec_letters.specs.Fitting.{Fits};
+ghost use Rattle.std.specs.Prelude.{◌<◌, length, IfOk};
 
-use crate::calls::{crash, restart, round, submit, tick};
 use crate::words::{link_word, restart_word};
 use pec_directory::Directory;
 use pec_link::LinkFault;
 use pec_network::{Form, Network, StartFault};
 use pec_outside::{MemDepot, MemDisk};
-use pec_seal::{HmacSealer, Sealer};
+use pec_screen::NoScreens;
+use pec_seal::HmacSealer;
 use pec_trade::sealer_of;
 use pec_trial::{
-    Answers, account_at, add_number, first_wrong, moment_of, number, small, submission_of, text_of,
-    told, told_all, told_item, told_turns, told_word, two, word,
+    Answers, account_at, first_wrong, moment_of, number, small, submission_of, text_of, told,
+    told_all, told_item, told_turns, told_word, two, word,
 };
 use pec_types::{Frame, Text8};
 use std::alloc::Global;
 use std::test::Fail;
 
-/// A network of at least two providers.
+/// A network of the directory of the tests.
 struct Net {
     alloc: Global,
     network: Network<MemDisk, HmacSealer>,
     depot: MemDepot,
-    ghost fits: { Fits (⟦<HmacSealer as Sealer>⟧.seals network.sealer) (providers_of network.kept) },
-    ghost two: { 2 ≤ length network.kept },
 }
 
 impl Drop for Net {
@@ -73,37 +69,10 @@ impl Outcome {
 pub(crate) fn played(
     alloc: Global,
     form: Form,
-    depot: MemDepot,
-    script: &str,
-) -> Result<Outcome, Fail> {
-    let directory = directory(alloc)?;
-    let sealer = sealer_of(alloc, &directory)?;
-    begun(alloc, form, directory, sealer, depot, script)
-}
-
-/// The directory of the tests.
-fn directory(alloc: Global) -> Result<Directory, Fail>
-    ensures { IfOk result (λ directory. 2 ≤ length directory) }
-{
-    let directory = Directory::read(alloc, two())?;
-    if directory.count() < 2 {
-        return Err("too few providers".into());
-    }
-    Ok(directory)
-}
-
-fn begun(
-    alloc: Global,
-    form: Form,
-    directory: Directory,
-    sealer: HmacSealer,
     mut depot: MemDepot,
     script: &str,
-) -> Result<Outcome, Fail>
-    requires fits { Fits (⟦<HmacSealer as Sealer>⟧.seals sealer) (providers_of directory) }
-    requires two { 2 ≤ length directory }
-{
-    match of_form(alloc, form, directory, sealer, &mut depot) {
+) -> Result<Outcome, Fail> {
+    match begun(alloc, form, &mut depot) {
         Ok(network) => within(
             Net {
                 alloc,
@@ -120,17 +89,25 @@ fn begun(
     }
 }
 
-/// A network whose journals are made, or opened.
-fn of_form(
+/// A network of the directory of the tests, whose journals are made, or opened.
+pub(crate) fn begun(
+    alloc: Global,
+    form: Form,
+    depot: &mut MemDepot,
+) -> Result<Network<MemDisk, HmacSealer>, StartFault> {
+    match Directory::read(alloc, two()) {
+        Ok(directory) => begun_in(alloc, form, directory, depot),
+        Err(_) => Err(StartFault::NoMemory),
+    }
+}
+
+fn begun_in(
     alloc: Global,
     form: Form,
     directory: Directory,
-    sealer: HmacSealer,
     depot: &mut MemDepot,
-) -> Result<Network<MemDisk, HmacSealer>, StartFault>
-    requires { Fits (⟦<HmacSealer as Sealer>⟧.seals sealer) (providers_of directory) }
-    ensures { IfOk result (λ network. (network.kept ≡ directory) × (network.sealer ≡ sealer)) }
-{
+) -> Result<Network<MemDisk, HmacSealer>, StartFault> {
+    let sealer = sealer_of(alloc, &directory)?;
     match form {
         Form::Make => Network::create(alloc, directory, sealer, depot),
         Form::Open => Network::resume(alloc, directory, sealer, depot),
@@ -138,23 +115,14 @@ fn of_form(
 }
 
 fn within(mut net: Net, script: &str) -> Result<Outcome, Fail> {
-    let wrong = first_wrong(net.alloc, &mut net, script)?;
-    Ok(Outcome {
-        fault: None,
-        wrong,
-        depot: net.closed(),
-    })
-}
-
-/// A provider's number: 0 or 1.
-fn who(line: &str, place: usize) -> Result<u32, Fail>
-    ensures { IfOk result (λ number. number < 2) }
-{
-    let number = small(line, place)?;
-    if number > 1 {
-        return Err("no such provider".into());
+    match first_wrong(net.alloc, &mut net, script) {
+        Ok(wrong) => Ok(Outcome {
+            fault: None,
+            wrong,
+            depot: net.closed(),
+        }),
+        Err(fail) => Err(fail),
     }
-    Ok(number)
 }
 
 /// A link, and a place on it.
@@ -163,16 +131,6 @@ struct Spot {
     from: u32,
     to: u32,
     place: usize,
-}
-
-/// `VERB FROM TO PLACE`
-fn spot_of(line: &str) -> Result<Spot, Fail>
-    ensures { IfOk result (λ spot. (spot.from < 2) × (spot.to < 2)) }
-{
-    let from = who(line, 1)?;
-    let to = who(line, 2)?;
-    let place = number(line, 3)? as usize;
-    Ok(Spot { from, to, place })
 }
 
 /// A verb of a line.
@@ -191,6 +149,7 @@ enum Verb {
     Mailbox,
     Show,
     Entries,
+    Unknown,
 }
 
 const VERBS: [(&str, Verb); 13] = [
@@ -209,19 +168,20 @@ const VERBS: [(&str, Verb); 13] = [
     ("entries", Verb::Entries),
 ];
 
-fn verb_of(word: &str) -> Result<Verb, Fail> {
+fn verb_of(word: &str) -> Verb {
+    let mut found = Verb::Unknown;
     for (name, verb) in &VERBS {
         if *name == word {
-            return Ok(*verb);
+            found = *verb;
         }
     }
-    Err("no such verb".into())
+    found
 }
 
 /// A line is a verb and the words that it has below.
 impl Answers for Net {
     fn answer(&mut self, call: &str) -> Result<Vec<u8>, Fail> {
-        match verb_of(word(call, 0))? {
+        match verb_of(word(call, 0)) {
             Verb::Submit => self.submit(call),
             Verb::Tick => self.tick(call),
             Verb::Round => self.round(call),
@@ -235,6 +195,7 @@ impl Answers for Net {
             Verb::Mailbox => self.mailbox(call),
             Verb::Show => self.show(call),
             Verb::Entries => self.entries(call),
+            Verb::Unknown => Err("no such verb".into()),
         }
     }
 }
@@ -251,39 +212,71 @@ impl Net {
         depot
     }
 
+    /// The number of one of its providers, at a place of a line.
+    fn who(&self, line: &str, place: usize) -> Result<u32, Fail>
+        ensures { IfOk result (λ number. number < length self.now.network.kept) }
+    {
+        let number = small(line, place)?;
+        if number < self.network.directory().count() {
+            Ok(number)
+        } else {
+            Err("no such provider".into())
+        }
+    }
+
+    /// `VERB FROM TO PLACE`
+    fn spot(&self, line: &str) -> Result<Spot, Fail>
+        ensures { IfOk result (λ spot. (spot.from < length self.now.network.kept)
+            × (spot.to < length self.now.network.kept)) }
+    {
+        let from = self.who(line, 1)?;
+        let to = self.who(line, 2)?;
+        let place = number(line, 3)? as usize;
+        Ok(Spot { from, to, place })
+    }
+
     /// `submit PROVIDER MOMENT SENDER PATH MESSAGE`
     fn submit(&mut self, line: &str) -> Result<Vec<u8>, Fail> {
-        let provider = who(line, 1)?;
+        let provider = self.who(line, 1)?;
         let asked = submission_of(self.alloc, line)?;
-        let answer = submit(self.alloc, &mut self.network, provider, &asked);
+        let mut none = NoScreens;
+        let answer = self.network.submit(
+            self.alloc,
+            provider,
+            asked.moment,
+            &asked.sender,
+            &asked.path,
+            &asked.message,
+            &mut none,
+        );
         told(self.alloc, answer)
     }
 
     /// `tick PROVIDER MOMENT`
     fn tick(&mut self, line: &str) -> Result<Vec<u8>, Fail> {
-        let provider = who(line, 1)?;
+        let provider = self.who(line, 1)?;
         let moment = moment_of(line, 2)?;
-        let answer = tick(self.alloc, &mut self.network, provider, moment);
+        let answer = self.network.tick(self.alloc, provider, moment);
         told_all(self.alloc, answer, b"marks")
     }
 
     /// `round MOMENT`
     fn round(&mut self, line: &str) -> Result<Vec<u8>, Fail> {
         let moment = moment_of(line, 1)?;
-        let answer = round(self.alloc, &mut self.network, moment);
+        let answer = self.network.round(self.alloc, moment);
         told_turns(self.alloc, answer)
     }
 
     /// `lose FROM TO PLACE`
     fn lose(&mut self, line: &str) -> Result<Vec<u8>, Fail> {
-        let spot = spot_of(line)?;
+        let spot = self.spot(line)?;
         let answer = self.network.lose(spot.from, spot.to, spot.place);
         told_word(self.alloc, link_word(answer))
     }
 
     /// `repeat FROM TO PLACE`
     fn repeat(&mut self, line: &str) -> Result<Vec<u8>, Fail> {
-        let spot = spot_of(line)?;
+        let spot = self.spot(line)?;
         let answer = self
             .network
             .repeat(self.alloc, spot.from, spot.to, spot.place);
@@ -292,42 +285,39 @@ impl Net {
 
     /// `swap FROM TO PLACE`
     fn swap(&mut self, line: &str) -> Result<Vec<u8>, Fail> {
-        let spot = spot_of(line)?;
+        let spot = self.spot(line)?;
         let answer = self.network.swap(spot.from, spot.to, spot.place);
         told_word(self.alloc, link_word(answer))
     }
 
     /// `inject FROM TO TEXT TIMES`: what the last of so many times came to.
     fn inject(&mut self, line: &str) -> Result<Vec<u8>, Fail> {
-        let from = who(line, 1)?;
-        let to = who(line, 2)?;
         let times = number(line, 4)?;
         let mut answer = Ok(());
         for _ in 0..times {
-            let text = text_of(self.alloc, word(line, 3))?;
-            answer = self.injected(from, to, Frame::of(Text8::of(text)));
+            answer = self.injected(line)?;
         }
         told_word(self.alloc, link_word(answer))
     }
 
-    fn injected(&mut self, from: u32, to: u32, frame: Frame) -> Result<(), LinkFault>
-        requires from { from < 2 }
-        requires to { to < 2 }
-    {
-        self.network.inject(from, to, frame)
+    fn injected(&mut self, line: &str) -> Result<Result<(), LinkFault>, Fail> {
+        let from = self.who(line, 1)?;
+        let to = self.who(line, 2)?;
+        let text = text_of(self.alloc, word(line, 3)).unwrap_or(Vec::new(self.alloc));
+        Ok(self.network.inject(from, to, Frame::of(Text8::of(text))))
     }
 
     /// `crash PROVIDER`
     fn crash(&mut self, line: &str) -> Result<Vec<u8>, Fail> {
-        let provider = who(line, 1)?;
-        crash(&mut self.network, provider, &mut self.depot);
+        let provider = self.who(line, 1)?;
+        self.network.crash(provider, &mut self.depot);
         told_word(self.alloc, b"crashed")
     }
 
     /// `restart PROVIDER`: how many entries it has.
     fn restart(&mut self, line: &str) -> Result<Vec<u8>, Fail> {
-        let provider = who(line, 1)?;
-        match restart(self.alloc, &mut self.network, provider) {
+        let provider = self.who(line, 1)?;
+        match self.network.restart(self.alloc, provider) {
             Ok(entries) => told_number(self.alloc, entries),
             Err(fault) => told_word(self.alloc, restart_word(fault)),
         }
@@ -349,22 +339,20 @@ impl Net {
 
     /// `show ACCOUNT PLACE`
     fn show(&self, line: &str) -> Result<Vec<u8>, Fail> {
-        let account = account_at(self.alloc, line, 1)?;
         let place = small(line, 2)?;
+        let account = account_at(self.alloc, line, 1)?;
         let answer = self.network.show(self.alloc, &account, place);
         told_item(self.alloc, answer)
     }
 
     /// `entries PROVIDER`
     fn entries(&self, line: &str) -> Result<Vec<u8>, Fail> {
-        let provider = who(line, 1)?;
-        let entries = self.network.entries(provider);
-        told_number(self.alloc, entries)
+        let provider = self.who(line, 1)?;
+        told_number(self.alloc, self.network.entries(provider))
     }
 }
 
 fn told_number(alloc: Global, number: u64) -> Result<Vec<u8>, Fail> {
-    let mut words = Vec::new(alloc);
-    add_number(alloc, &mut words, number)?;
-    Ok(words)
+    let digits = number.to_string(alloc).unwrap_or(String::new(alloc));
+    told_word(alloc, digits.as_bytes())
 }

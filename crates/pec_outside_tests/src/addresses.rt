@@ -1,9 +1,10 @@
 //! Addresses: which texts are none, and what one keeps.
+use crate::texts::joined;
 use pec_types::{Address, AddressFault};
-use std::alloc::{AllocError, Global};
+use std::alloc::Global;
 
 // Texts, and the fault of each; none where it is an address.
-const TEXTS: [(&[u8], Option<AddressFault>); 16] = [
+static TEXTS: [(&[u8], Option<AddressFault>); 16] = [
     (b"", Some(AddressFault::Empty)),
     (b"a", Some(AddressFault::NoAt)),
     (b"@", Some(AddressFault::BadLocal(0))),
@@ -51,20 +52,24 @@ fn capitals_become_small_letters(rt: HostRuntime) {
 /// Whether the text is read as this address at alfa.example, and so is its copy.
 fn is_read_as(alloc: Global, text: &[u8], wanted: &[u8]) -> bool {
     match Address::read(alloc, text) {
-        Ok(read) => match read.copy(alloc) {
-            Ok(copied) => {
-                read.bytes() == wanted
-                    && copied.bytes() == wanted
-                    && copied.domain() == b"alfa.example".as_slice()
-            }
-            Err(_) => false,
-        },
+        Ok(read) => read.bytes() == wanted && is_copied_as(alloc, &read, wanted),
         Err(_) => false,
     }
 }
 
+fn is_copied_as(alloc: Global, read: &Address, wanted: &[u8]) -> bool {
+    match read.copy(alloc) {
+        Ok(copied) => is_at_alfa(&copied, wanted),
+        Err(_) => false,
+    }
+}
+
+fn is_at_alfa(address: &Address, wanted: &[u8]) -> bool {
+    address.bytes() == wanted && address.domain() == b"alfa.example".as_slice()
+}
+
 // What stands behind 252 letters, and the fault of that text.
-const ENDS: [(&[u8], Option<AddressFault>); 2] = [
+static ENDS: [(&[u8], Option<AddressFault>); 2] = [
     (b"@b", None),
     (b"@bb", Some(AddressFault::TooLong)),
 ];
@@ -77,14 +82,6 @@ fn an_address_has_at_most_254_bytes(rt: HostRuntime) {
 }
 
 fn has_long_fault(alloc: Global, end: &[u8], fault: Option<AddressFault>) -> bool {
-    match long_text(alloc, end) {
-        Ok(text) => fault_of(alloc, &text) == fault,
-        Err(_) => false,
-    }
-}
-
-fn long_text(alloc: Global, end: &[u8]) -> Result<Vec<u8>, AllocError> {
-    let mut text = Vec::from_slice(alloc, &[b'a'; 252])?;
-    text.extend_from_slice(end)?;
-    Ok(text)
+    let text = joined(alloc, &[&[b'a'; 252], end]);
+    fault_of(alloc, &text) == fault
 }

@@ -1,7 +1,8 @@
 //! Entries that are made, appended, refused and opened again, on disks that fail at one of their calls.
-ghost use Rattle.pec_records.specs.Entry.{IsWithinLimits};
+ghost use Rattle.pec_records.specs.Entry.{IsShort, IsWithinLimits};
 
-use pec_chronicle::{AppendFault, Chronicle, CreateFault, OpenFault};
+use crate::texts::calls;
+use pec_chronicle::{AppendFault, Chronicle, CreateFault, OpenFault, Unopened};
 use pec_outside::{Disk, MemDepot, MemDisk};
 use pec_records::Entry;
 use pec_types::{Address, Moment, Text8};
@@ -23,7 +24,7 @@ struct Cut {
     with: u64,
 }
 
-const CUTS: [Cut; 5] = [
+static CUTS: [Cut; 5] = [
     Cut {
         call: 7,
         fault: Some(AppendFault::DiskFault),
@@ -64,32 +65,28 @@ fn an_entry_is_there_or_not_after_each_crash(rt: HostRuntime) {
 }
 
 fn has_entries_after(alloc: Global, cut: &Cut) -> bool {
-    entries_after(alloc, cut, 0) == Some(cut.without)
-        && entries_after(alloc, cut, NEVER) == Some(cut.with)
+    leaves(alloc, cut, 0, cut.without) && leaves(alloc, cut, NEVER, cut.with)
 }
 
-/// How many entries are there after the append of a row, a crash that keeps so many pending bytes, and a restart.
-fn entries_after(alloc: Global, cut: &Cut, kept: u64) -> Option<u64> {
-    let kept = vec![in alloc; kept].ok()?;
-    let chronicle = appended(alloc, cut)?;
-    entries_left(alloc, chronicle, kept)
-}
-
-fn entries_left(alloc: Global, chronicle: Chronicle<MemDisk>, kept: Vec<u64>) -> Option<u64> {
-    let mut depot = MemDepot::new(alloc, Vec::new(alloc), kept);
-    match chronicle.crash(&mut depot, 0).restart(alloc) {
-        Ok((chronicle, _, _)) => Some(chronicle.entries()),
-        Err(_) => None,
+/// Whether so many entries are there after the append of a row, a crash that keeps so many pending bytes, and a restart.
+fn leaves(alloc: Global, cut: &Cut, kept: u64, entries: u64) -> bool {
+    match made(alloc, cut.call) {
+        Ok(mut chronicle) => {
+            if has_appended(alloc, &mut chronicle, cut.fault) {
+                are_left(alloc, chronicle, kept, entries)
+            } else {
+                false
+            }
+        }
+        Err(_) => false,
     }
 }
 
-/// The entries to which a second was appended, with the answer of the row.
-fn appended(alloc: Global, cut: &Cut) -> Option<Chronicle<MemDisk>> {
-    let mut chronicle = made(alloc, cut.call).ok()?;
-    if append_tick(alloc, &mut chronicle) == Some(cut.fault) {
-        Some(chronicle)
-    } else {
-        None
+fn are_left(alloc: Global, chronicle: Chronicle<MemDisk>, kept: u64, entries: u64) -> bool {
+    let mut depot = MemDepot::new(alloc, Vec::new(alloc), calls(alloc, &[kept]));
+    match chronicle.crash(&mut depot, 0).restart(alloc) {
+        Ok((chronicle, _, _)) => chronicle.entries() == entries,
+        Err(_) => false,
     }
 }
 
@@ -98,14 +95,18 @@ fn a_fault_of_the_disk_makes_no_journal(rt: HostRuntime) {
     for call in 0..7 {
         assert!(rt; fails_to_make(rt.alloc(), call), "call {call}");
     }
-    assert!(rt; made(rt.alloc(), 7).is_ok());
+    assert!(rt; is_made(rt.alloc(), 7));
 }
 
 fn fails_to_make(alloc: Global, call: u64) -> bool {
     match made(alloc, call) {
-        Err(Some(CreateFault::DiskFault)) => true,
-        _ => false,
+        Ok(_) => false,
+        Err(fault) => fault == CreateFault::DiskFault,
     }
+}
+
+fn is_made(alloc: Global, call: u64) -> bool {
+    made(alloc, call).is_ok()
 }
 
 /// Bytes over which no entries are opened.
@@ -116,7 +117,7 @@ struct File {
     entries: usize,
 }
 
-const FILES: [File; 5] = [
+static FILES: [File; 5] = [
     File {
         bytes: b"",
         fault: OpenFault::NotAJournal(0),
@@ -154,23 +155,21 @@ fn bytes_that_are_no_entries_are_refused(rt: HostRuntime) {
 
 /// Whether no entries are opened over these bytes, for the fault and behind the entries of the row.
 fn is_refused(alloc: Global, file: &File) -> bool {
-    match disk_of(alloc, file.bytes) {
-        Some(disk) => match Chronicle::reopen(alloc, disk) {
-            Ok(_) => false,
-            Err(unopened) => {
-                unopened.fault == file.fault && unopened.entries.len() == file.entries
-            }
-        },
-        None => false,
+    match Chronicle::reopen(alloc, disk_of(alloc, file.bytes)) {
+        Ok(_) => false,
+        Err(unopened) => is_told(&unopened, file),
     }
 }
 
-fn disk_of(alloc: Global, bytes: &[u8]) -> Option<MemDisk> {
+fn is_told(unopened: &Unopened<MemDisk>, file: &File) -> bool {
+    unopened.fault == file.fault && unopened.entries.len() == file.entries
+}
+
+/// A disk of these bytes; an empty one where memory is wanting.
+fn disk_of(alloc: Global, bytes: &[u8]) -> MemDisk {
     let mut disk = MemDisk::new(alloc, Vec::new(alloc));
-    match disk.write_at(0, bytes) {
-        Ok(()) => Some(disk),
-        Err(_) => None,
-    }
+    let _ = disk.write_at(0, bytes);
+    disk
 }
 
 #[test]
@@ -179,18 +178,11 @@ fn an_entry_lends_its_bytes_and_its_message(rt: HostRuntime) {
 }
 
 fn lends_an_acceptance(alloc: Global) -> bool {
-    match with_acceptance(alloc) {
-        Some(chronicle) => has_an_acceptance(&chronicle),
-        None => false,
-    }
-}
-
-fn with_acceptance(alloc: Global) -> Option<Chronicle<MemDisk>> {
-    let mut chronicle = made(alloc, NEVER).ok()?;
-    if append_acceptance(alloc, &mut chronicle) == Some(None) {
-        Some(chronicle)
-    } else {
-        None
+    match made(alloc, NEVER) {
+        Ok(mut chronicle) => {
+            has_appended_acceptance(alloc, &mut chronicle) && has_an_acceptance(&chronicle)
+        }
+        Err(_) => false,
     }
 }
 
@@ -219,54 +211,64 @@ fn size(found: Option<&[u8]>) -> usize {
     }
 }
 
-/// Entries on an empty disk that fails at this call, with a Start; or the fault, none where memory is wanting.
-fn made(alloc: Global, call: u64) -> Result<Chronicle<MemDisk>, Option<CreateFault>> {
-    let Ok(failing) = vec![in alloc; call] else {
-        return Err(None);
-    };
+/// Entries on an empty disk that fails at this call, with a Start; or the fault.
+fn made(alloc: Global, call: u64) -> Result<Chronicle<MemDisk>, CreateFault> {
+    let disk = MemDisk::new(alloc, calls(alloc, &[call]));
     let start = Entry::Start {
         provider: 0,
         digest: [7; 32],
     };
-    match Chronicle::create(alloc, MemDisk::new(alloc, failing), &start) {
+    match Chronicle::create(alloc, disk, &start) {
         Ok(chronicle) => Ok(chronicle),
-        Err((fault, _)) => Err(Some(fault)),
+        Err((fault, _)) => Err(fault),
     }
 }
 
-/// The fault for which the next entry is not appended, if there is one; none at all where memory is wanting.
-fn append_tick<D: Disk>(
+/// Whether the next entry isn't appended for this fault; where none is wanted, whether it is.
+fn has_appended<D: Disk>(
     alloc: Global,
     chronicle: &mut Chronicle<D>,
-) -> Option<Option<AppendFault>> {
-    let moment = Moment::new(5)?;
-    append(alloc, chronicle, &Entry::Ticked { moment })
+    fault: Option<AppendFault>,
+) -> bool {
+    match Moment::new(5) {
+        Some(moment) => is_appended(alloc, chronicle, &Entry::Ticked { moment }, fault),
+        None => false,
+    }
 }
 
-fn append_acceptance<D: Disk>(
-    alloc: Global,
-    chronicle: &mut Chronicle<D>,
-) -> Option<Option<AppendFault>> {
-    let moment = Moment::new(5)?;
-    let sender = Address::read(alloc, b"anna@alfa.example").ok()?;
-    let message = Vec::from_slice(alloc, b"ciao").ok()?;
-    let entry = Entry::Accepted {
-        moment,
-        sender,
-        message: Text8::of(message),
-    };
-    append(alloc, chronicle, &entry)
+fn has_appended_acceptance<D: Disk>(alloc: Global, chronicle: &mut Chronicle<D>) -> bool {
+    match (Moment::new(5), Address::read(alloc, b"anna@alfa.example")) {
+        (Some(moment), Ok(sender)) => {
+            let entry = Entry::Accepted {
+                moment,
+                sender,
+                message: ciao(alloc),
+            };
+            is_appended(alloc, chronicle, &entry, None)
+        }
+        _ => false,
+    }
 }
 
-fn append<D: Disk>(
+fn ciao(alloc: Global) -> Text8
+    ensures { IsShort result }
+{
+    match Vec::from_slice(alloc, b"ciao") {
+        Ok(bytes) => Text8::of(bytes),
+        Err(_) => Text8::of(Vec::new(alloc)),
+    }
+}
+
+fn is_appended<D: Disk>(
     alloc: Global,
     chronicle: &mut Chronicle<D>,
     entry: &Entry,
-) -> Option<Option<AppendFault>>
+    fault: Option<AppendFault>,
+) -> bool
     requires { IsWithinLimits entry.now }
 {
     match chronicle.reserve(alloc, entry) {
-        Ok(encoded) => Some(chronicle.append(encoded).err()),
-        Err(_) => None,
+        Ok(encoded) => chronicle.append(encoded).err() == fault,
+        Err(_) => false,
     }
 }

@@ -1,7 +1,8 @@
 //! Clocks in memory: their moments, and calls that fail.
+use crate::texts::{calls, put, put_number};
 use pec_outside::{Failed, MemTicks, Ticks};
 use pec_types::Moment;
-use std::alloc::{AllocError, Global};
+use std::alloc::Global;
 
 /// The number of a call that isn't made.
 const NEVER: u64 = u64::MAX;
@@ -9,7 +10,7 @@ const NEVER: u64 = u64::MAX;
 /// How many moments a clock has, of 10, 20, 30 in order, the call that fails, and what five calls answer.
 type Row = (u64, u64, &'static str);
 
-const ROWS: [Row; 6] = [
+static ROWS: [Row; 6] = [
     (1, NEVER, "10 10 10 10 10 "),
     (2, NEVER, "10 20 20 20 20 "),
     (3, NEVER, "10 20 30 30 30 "),
@@ -27,38 +28,39 @@ fn a_clock_answers_its_moments_and_then_the_last_again(rt: HostRuntime) {
 }
 
 fn goes_so(alloc: Global, row: &Row) -> bool {
-    match told(alloc, row.0, row.1) {
-        Ok(text) => text.as_str() == row.2,
-        Err(_) => false,
+    match clock_of(alloc, row.0, row.1) {
+        Some(mut ticks) => said(alloc, &mut ticks).as_slice() == row.2.as_bytes(),
+        None => false,
     }
 }
 
-fn told(alloc: Global, count: u64, failing: u64) -> Result<String, AllocError> {
+/// A clock of so many moments, of which a call fails; none where memory is wanting.
+fn clock_of(alloc: Global, count: u64, failing: u64) -> Option<MemTicks> {
     let mut moments = Vec::new(alloc);
     for number in 1..=count.min(3) {
-        if let Some(moment) = Moment::new(10 * number) {
-            moments.push(moment)?;
-        }
+        add_moment(&mut moments, 10 * number);
     }
     if moments.is_empty() {
-        return Err(AllocError);
+        return None;
     }
-    let mut ticks = MemTicks::new(alloc, moments, Vec::from_slice(alloc, &[failing])?);
-    said(alloc, &mut ticks)
+    Some(MemTicks::new(alloc, moments, calls(alloc, &[failing])))
+}
+
+fn add_moment(moments: &mut Vec<Moment>, seconds: u64) {
+    if let Some(moment) = Moment::new(seconds) {
+        let _ = moments.push(moment);
+    }
 }
 
 /// What five calls of a clock answer, through the bound alone.
-fn said<T: Ticks>(alloc: Global, ticks: &mut T) -> Result<String, AllocError> {
-    let mut text = String::new(alloc);
+fn said<T: Ticks>(alloc: Global, ticks: &mut T) -> Vec<u8> {
+    let mut text = Vec::new(alloc);
     for _ in 0..5 {
         match ticks.now() {
-            Ok(moment) => {
-                let digits = moment.seconds().to_string(alloc)?;
-                text.push_str(&digits)?;
-            }
-            Err(Failed) => text.push_str("-")?,
+            Ok(moment) => put_number(alloc, &mut text, moment.seconds()),
+            Err(Failed) => put(&mut text, b"-"),
         }
-        text.push_str(" ")?;
+        put(&mut text, b" ");
     }
-    Ok(text)
+    text
 }

@@ -1,9 +1,10 @@
 //! Disks and depots in memory: what is read of what was written, calls that fail, and crashes.
+use crate::texts::calls;
 use pec_outside::{Depot, Disk, Failed, MemDepot, MemDisk};
 use std::alloc::Global;
 
 // Where a piece is written, the piece, and what the disk holds then.
-const WRITES: [(u64, &[u8], &[u8]); 5] = [
+static WRITES: [(u64, &[u8], &[u8]); 5] = [
     (0, b"abc", b"abc"),
     (1, b"XY", b"aXY"), // within
     (2, b"zzz", b"aXzzz"), // over the end
@@ -12,7 +13,7 @@ const WRITES: [(u64, &[u8], &[u8]); 5] = [
 ];
 
 // Where four bytes are read, one row after another, how many there are, and the room then.
-const READS: [(u64, usize, &[u8]); 4] = [
+static READS: [(u64, usize, &[u8]); 4] = [
     (0, 4, b"aXzz"),
     (4, 2, b"z!zz"),
     (6, 0, b"z!zz"),
@@ -75,15 +76,14 @@ fn each_call_of_a_disk_can_fail(rt: HostRuntime) {
 }
 
 fn fails_once(alloc: Global, number: u64) -> bool {
-    match Vec::from_slice(alloc, &[number]) {
-        Ok(failing) => {
-            let mut disk = MemDisk::new(alloc, failing);
-            fails_at(&mut disk, number)
-                && disk.calls() == 4
-                && disk.size() == Ok(if number == 0 { 0 } else { 3 })
-        }
-        Err(_) => false,
-    }
+    let mut disk = MemDisk::new(alloc, calls(alloc, &[number]));
+    fails_at(&mut disk, number) && disk.calls() == 4 && has_size(&mut disk, number)
+}
+
+/// Whether the disk holds the three bytes, unless their write failed.
+fn has_size<D: Disk>(disk: &mut D, number: u64) -> bool {
+    let size = if number == 0 { 0 } else { 3 };
+    disk.size() == Ok(size)
 }
 
 fn fails_at<D: Disk>(disk: &mut D, number: u64) -> bool {
@@ -96,7 +96,7 @@ fn fails_at<D: Disk>(disk: &mut D, number: u64) -> bool {
 
 // `abcdef` is durable. Then XY is written at 1, a write at 4 fails, and Z is written at 6: pending are the places 1, 2, 4
 // and 6.
-const CRASHES: [(u64, &[u8]); 6] = [
+static CRASHES: [(u64, &[u8]); 6] = [
     (0, b"a\xff\xffd\xfff\xff"),
     (1, b"aX\xffd\xfff\xff"),
     (2, b"aXYd\xfff\xff"),
@@ -114,18 +114,15 @@ fn a_crash_keeps_the_first_pending_bytes(rt: HostRuntime) {
 
 /// Whether a crash that keeps so many pending bytes leaves this.
 fn keeps_first(alloc: Global, kept: u64, wanted: &[u8]) -> bool {
-    match depot_keeping(alloc, kept) {
-        Some(mut depot) => is_left_by_crashes(&mut depot, wanted),
-        None => false,
-    }
+    let mut depot = depot_keeping(alloc, kept);
+    is_left_by_crashes(&mut depot, wanted)
 }
 
 /// A depot whose first disk fails at its call 3, and whose first crash keeps so many pending bytes.
-fn depot_keeping(alloc: Global, kept: u64) -> Option<MemDepot> {
-    let calls = Vec::from_slice(alloc, &[3]).ok()?;
-    let failing = vec![in alloc; calls].ok()?;
-    let kept = Vec::from_slice(alloc, &[kept]).ok()?;
-    Some(MemDepot::new(alloc, failing, kept))
+fn depot_keeping(alloc: Global, kept: u64) -> MemDepot {
+    let mut failing = Vec::new(alloc);
+    let _ = failing.push(calls(alloc, &[3]));
+    MemDepot::new(alloc, failing, calls(alloc, &[kept]))
 }
 
 fn is_left_by_crashes<D: Disk + Drop, P: Depot<D = D>>(depot: &mut P, wanted: &[u8]) -> bool {

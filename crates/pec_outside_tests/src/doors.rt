@@ -1,6 +1,7 @@
 //! Doors in memory: connections that come in, those that fail, and the replies that stay.
+use crate::texts::{calls, joined, put};
 use pec_outside::{Door, Failed, MemDoor, Sink, Source, write_all};
-use std::alloc::{AllocError, Global};
+use std::alloc::Global;
 
 /// The number of a call that isn't made.
 const NEVER: u64 = u64::MAX;
@@ -18,7 +19,7 @@ struct Row {
     replies: &'static str,
 }
 
-const ROWS: [Row; 10] = [
+static ROWS: [Row; 10] = [
     Row {
         accept: NEVER,
         broken: (0, NEVER),
@@ -93,62 +94,62 @@ fn a_door_gives_its_requests_and_keeps_the_replies(rt: HostRuntime) {
 }
 
 fn goes_so(alloc: Global, row: &Row) -> bool {
-    match door_of(alloc, row.accept, row.broken) {
-        Ok(mut door) => says(alloc, &mut door, row.said) && has_replies(alloc, &door, row.replies),
-        Err(_) => false,
-    }
+    let mut door = door_of(alloc, row.accept, row.broken);
+    said_of(alloc, &mut door).as_slice() == row.said.as_bytes()
+        && has_replies(alloc, &door, row.replies)
 }
 
-/// Whether four connections say this.
-fn says<R: Door>(alloc: Global, door: &mut R, wanted: &str) -> bool {
-    match said_of(alloc, door) {
-        Ok(said) => said.as_slice() == wanted.as_bytes(),
-        Err(_) => false,
-    }
-}
-
-fn said_of<R: Door>(alloc: Global, door: &mut R) -> Result<Vec<u8>, AllocError> {
+/// What four connections say.
+fn said_of<R: Door>(alloc: Global, door: &mut R) -> Vec<u8> {
     let mut said = Vec::new(alloc);
     for _ in 0..4 {
-        serve_next(door, &mut said)?;
+        serve_next(door, &mut said);
     }
-    Ok(said)
+    said
 }
 
 fn has_replies(alloc: Global, door: &MemDoor, wanted: &str) -> bool {
-    match replies_of(alloc, door) {
-        Ok(replies) => replies.as_slice() == wanted.as_bytes(),
-        Err(_) => false,
-    }
+    replies_of(alloc, door).as_slice() == wanted.as_bytes()
 }
 
-fn door_of(alloc: Global, accept: u64, broken: (usize, u64)) -> Result<MemDoor, AllocError> {
+fn door_of(alloc: Global, accept: u64, broken: (usize, u64)) -> MemDoor {
+    let requests = requests(alloc);
+    let lists = lists(alloc, broken.0, broken.1);
+    MemDoor::new(alloc, requests, calls(alloc, &[accept]), lists)
+}
+
+fn requests(alloc: Global) -> Vec<Vec<u8>> {
     let mut requests = Vec::new(alloc);
-    requests.push(Vec::from_slice(alloc, b"uno")?)?;
-    requests.push(Vec::from_slice(alloc, b"secondo")?)?;
-    requests.push(Vec::from_slice(alloc, b"tre")?)?;
-    let mut lists = Vec::new(alloc);
-    for _ in 0..broken.0 {
-        lists.push(Vec::new(alloc))?;
+    for request in ["uno", "secondo", "tre"] {
+        let _ = requests.push(joined(alloc, &[request.as_bytes()]));
     }
-    lists.push(Vec::from_slice(alloc, &[broken.1])?)?;
-    Ok(MemDoor::new(alloc, requests, Vec::from_slice(alloc, &[accept])?, lists))
+    requests
+}
+
+/// The calls that fail of connections up to the one that is broken.
+fn lists(alloc: Global, broken: usize, call: u64) -> Vec<Vec<u64>> {
+    let mut lists = Vec::new(alloc);
+    for _ in 0..broken {
+        let _ = lists.push(Vec::new(alloc));
+    }
+    let _ = lists.push(calls(alloc, &[call]));
+    lists
 }
 
 /// Accepts a connection, talks to it and closes it, through the bound alone.
-fn serve_next<R: Door>(door: &mut R, said: &mut Vec<u8>) -> Result<(), AllocError> {
+fn serve_next<R: Door>(door: &mut R, said: &mut Vec<u8>) {
     match door.accept() {
         Ok(mut connection) => {
-            let sign = match talk(&mut connection, said) {
-                Ok(()) => b'.',
-                Err(Failed) => b'!',
-            };
+            let has_talked = talk(&mut connection, said).is_ok();
             door.close(connection);
-            said.push(sign)?;
+            put(said, sign(has_talked));
         }
-        Err(Failed) => said.push(b'-')?,
+        Err(Failed) => put(said, b"-"),
     }
-    Ok(())
+}
+
+fn sign(has_talked: bool) -> &'static [u8] {
+    if has_talked { b"." } else { b"!" }
 }
 
 /// Reads all that a connection has, and answers it.
@@ -167,16 +168,16 @@ fn talk<C: Source + Sink>(connection: &mut C, said: &mut Vec<u8>) -> Result<(), 
     write_all(connection, b"k")
 }
 
-fn replies_of(alloc: Global, door: &MemDoor) -> Result<Vec<u8>, AllocError> {
+fn replies_of(alloc: Global, door: &MemDoor) -> Vec<u8> {
     let mut text = Vec::new(alloc);
     for (place, reply) in door.replies().iter().enumerate() {
-        text.extend_from_slice(reply.bytes())?;
+        put(&mut text, reply.bytes());
         if door.raised().get(place) == Some(&true) {
-            text.push(b'!')?;
+            put(&mut text, b"!");
         }
-        text.push(b',')?;
+        put(&mut text, b",");
     }
-    Ok(text)
+    text
 }
 
 // Two connections are out at once: replies stand in the order of closing.
@@ -186,24 +187,22 @@ fn connections_are_closed_in_any_order(rt: HostRuntime) {
 }
 
 fn keeps_the_order_of_closing(alloc: Global) -> bool {
-    match door_of(alloc, NEVER, (0, NEVER)) {
-        Ok(mut door) => closes_the_second_first(&mut door) && has_replies(alloc, &door, "two,one,"),
-        Err(_) => false,
-    }
+    let mut door = door_of(alloc, NEVER, (0, NEVER));
+    closes_the_second_first(&mut door) && has_replies(alloc, &door, "two,one,")
 }
 
 fn closes_the_second_first<C: Source + Sink + Drop, R: Door<C = C>>(door: &mut R) -> bool {
-    match door.accept() {
-        Ok(mut first) => match door.accept() {
-            Ok(mut second) => {
-                let is_written = write_all(&mut second, b"two").is_ok()
-                    && write_all(&mut first, b"one").is_ok();
-                door.close(second);
-                door.close(first);
-                is_written
-            }
-            Err(_) => false,
-        },
-        Err(_) => false,
+    match (door.accept(), door.accept()) {
+        (Ok(mut first), Ok(mut second)) => {
+            let is_written = are_answered(&mut first, &mut second);
+            door.close(second);
+            door.close(first);
+            is_written
+        }
+        _ => false,
     }
+}
+
+fn are_answered<C: Sink>(first: &mut C, second: &mut C) -> bool {
+    write_all(second, b"two").is_ok() && write_all(first, b"one").is_ok()
 }

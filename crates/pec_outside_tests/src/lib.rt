@@ -1,4 +1,5 @@
-//! Tests of `pec_types`, `pec_index`, `pec_link`, `pec_outside` and `pec_chronicle` over their public calls.
+//! Tests of `pec_types`, `pec_index`, `pec_link`, `pec_outside`, `pec_journal`, `pec_files`, `pec_chronicle` and `pec_http`
+//! over their public calls.
 #![tactic(auto)]
 
 #[cfg(test)]
@@ -12,7 +13,13 @@ mod disks;
 #[cfg(test)]
 mod doors;
 #[cfg(test)]
+mod files;
+#[cfg(test)]
+mod http;
+#[cfg(test)]
 mod indexes;
+#[cfg(test)]
+mod kept;
 #[cfg(test)]
 mod links;
 #[cfg(test)]

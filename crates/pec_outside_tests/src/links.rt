@@ -1,7 +1,9 @@
 //! Links: the frames that wait, and what befalls them.
-use pec_link::{Link, LinkFault};
+ghost use Rattle.pec_link.specs.Ends.{ArePair};
+
+use pec_link::{Link, LinkFault, Putter, Taker, new_link, waiting};
 use pec_types::{Frame, Text8};
-use std::alloc::{AllocError, Global};
+use std::alloc::Global;
 
 #[test]
 fn frames_come_in_their_order_and_the_sixty_fifth_comes_back(rt: HostRuntime) {
@@ -28,10 +30,7 @@ fn is_filled(alloc: Global, link: &mut Link) -> bool {
 }
 
 fn is_put(alloc: Global, link: &mut Link, byte: u8) -> bool {
-    match frame_of(alloc, byte) {
-        Ok(frame) => link.put(frame).is_ok(),
-        Err(_) => false,
-    }
+    link.put(frame_of(alloc, byte)).is_ok()
 }
 
 fn is_full(alloc: Global, link: &mut Link) -> bool {
@@ -41,18 +40,20 @@ fn is_full(alloc: Global, link: &mut Link) -> bool {
 }
 
 fn comes_back(alloc: Global, link: &mut Link) -> bool {
-    match frame_of(alloc, 64) {
-        Ok(frame) => match link.put(frame) {
-            Ok(()) => false,
-            Err(back) => back.bytes() == b"@".as_slice(),
-        },
-        Err(_) => false,
+    match link.put(frame_of(alloc, 64)) {
+        Ok(()) => false,
+        Err(back) => back.bytes() == b"@".as_slice(),
     }
 }
 
 /// Takes the frames of the bytes 0 to 63, and none behind them.
 fn drains_in_order(link: &mut Link) -> bool {
-    for byte in 0..64 {
+    drains_from(link, 0)
+}
+
+/// Takes the frames of the bytes from this one to 63, and none behind them.
+fn drains_from(link: &mut Link, first: u8) -> bool {
+    for byte in first..64 {
         if !is_taken(link, byte) {
             return false;
         }
@@ -112,8 +113,55 @@ fn are_taken(link: &mut Link, bytes: &[u8]) -> bool {
     link.take().is_none()
 }
 
+#[test]
+fn a_full_ring_is_turned(rt: HostRuntime) {
+    assert!(rt; turns_when_full(rt.alloc()));
+}
+
+/// Of the frames 0 to 63 the first is lost, the next repeated, the last two exchanged, and the repeated one lost again.
+fn turns_when_full(alloc: Global) -> bool {
+    match Link::new(alloc) {
+        Ok(mut link) => {
+            is_filled(alloc, &mut link) && is_turned(alloc, &mut link) && drains_from(&mut link, 1)
+        }
+        Err(_) => false,
+    }
+}
+
+fn is_turned(alloc: Global, link: &mut Link) -> bool {
+    link.lose(0) == Ok(())
+        && link.repeat(alloc, 0) == Ok(())
+        && link.swap(62) == Ok(())
+        && link.lose(62) == Ok(())
+}
+
+#[test]
+fn a_frame_is_taken_once_both_ends_were_together(rt: HostRuntime) {
+    assert!(rt; is_seen_in_time(rt.alloc()));
+}
+
+fn is_seen_in_time(alloc: Global) -> bool {
+    match new_link(alloc) {
+        Ok((mut putter, mut taker)) => {
+            putter.put(frame_of(alloc, 7)).is_ok() && is_seen_by(&mut putter, &mut taker)
+        }
+        Err(_) => false,
+    }
+}
+
+/// Whether one frame waits that the taker doesn't know, until both ends are together.
+fn is_seen_by(putter: &mut Putter, taker: &mut Taker) -> bool
+    requires { ArePair putter.old taker.old }
+{
+    taker.take().is_none()
+        && waiting(putter, taker) == 1
+        && taker.take().is_some()
+        && taker.take().is_none()
+}
+
 /// The frame of one byte.
-fn frame_of(alloc: Global, byte: u8) -> Result<Frame, AllocError> {
-    let bytes = Vec::from_slice(alloc, &[byte])?;
-    Ok(Frame::of(Text8::of(bytes)))
+fn frame_of(alloc: Global, byte: u8) -> Frame {
+    let mut bytes = Vec::new(alloc);
+    let _ = bytes.push(byte);
+    Frame::of(Text8::of(bytes))
 }

@@ -1,6 +1,7 @@
 //! Sources and sinks in memory: pieces of any length, and calls that fail.
+use crate::texts::{calls, joined};
 use pec_outside::{Failed, MemSink, MemSource, Sink, Source, write_all};
-use std::alloc::{AllocError, Global};
+use std::alloc::Global;
 
 const TEXT: &[u8] = b"accepted pec.0000000@alfa.example";
 
@@ -12,10 +13,9 @@ fn pieces_of_any_length_give_the_whole_text(rt: HostRuntime) {
 }
 
 fn is_copied(alloc: Global, piece: usize) -> bool {
-    match both(alloc, piece, &[], &[]) {
-        Ok((mut input, mut out)) => copies_all(&mut input, &mut out),
-        Err(_) => false,
-    }
+    let mut input = input_of(alloc, piece, &[]);
+    let mut out = output_of(alloc, &[]);
+    copies_all(&mut input, &mut out)
 }
 
 /// Whether a copy gives the rest of the text.
@@ -32,12 +32,9 @@ fn each_read_can_fail_once(rt: HostRuntime) {
 }
 
 fn fails_at_read(alloc: Global, number: u64) -> bool {
-    match both(alloc, 3, &[number], &[]) {
-        Ok((mut input, mut out)) => {
-            stops_behind(&mut input, &mut out, number) && copies_all(&mut input, &mut out)
-        }
-        Err(_) => false,
-    }
+    let mut input = input_of(alloc, 3, &[number]);
+    let mut out = output_of(alloc, &[]);
+    stops_behind(&mut input, &mut out, number) && copies_all(&mut input, &mut out)
 }
 
 /// Whether a copy fails behind so many pieces of three bytes.
@@ -56,12 +53,9 @@ fn each_write_can_fail_once(rt: HostRuntime) {
 }
 
 fn fails_at_write(alloc: Global, number: u64) -> bool {
-    match both(alloc, 3, &[], &[number]) {
-        Ok((mut input, mut out)) => {
-            stops_behind(&mut input, &mut out, number) && is_completed(&mut out)
-        }
-        Err(_) => false,
-    }
+    let mut input = input_of(alloc, 3, &[]);
+    let mut out = output_of(alloc, &[number]);
+    stops_behind(&mut input, &mut out, number) && is_completed(&mut out)
 }
 
 /// Whether the text is there once its rest is written.
@@ -72,17 +66,19 @@ fn is_completed(out: &mut MemSink) -> bool {
     }
 }
 
-/// A source of the text in pieces of so many bytes, which fails at these reads, and a sink that fails at these writes.
-fn both(
-    alloc: Global,
-    piece: usize,
-    reads: &[u64],
-    writes: &[u64],
-) -> Result<(MemSource, MemSink), AllocError> {
-    let bytes = Vec::from_slice(alloc, TEXT)?;
-    let input = MemSource::new(alloc, bytes, piece.max(1), Vec::from_slice(alloc, reads)?);
-    let out = MemSink::new(alloc, Vec::from_slice(alloc, writes)?);
-    Ok((input, out))
+/// A source of the text in pieces of so many bytes, which fails at these reads.
+fn input_of(alloc: Global, piece: usize, reads: &[u64]) -> MemSource {
+    MemSource::new(
+        alloc,
+        joined(alloc, &[TEXT]),
+        piece.max(1),
+        calls(alloc, reads),
+    )
+}
+
+/// A sink that fails at these writes.
+fn output_of(alloc: Global, writes: &[u64]) -> MemSink {
+    MemSink::new(alloc, calls(alloc, writes))
 }
 
 // Copies what the source still has, through the bounds alone.

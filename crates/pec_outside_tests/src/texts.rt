@@ -1,50 +1,31 @@
-//! Texts, moments and lists.
-use pec_types::{Items, Moment, Text, Text8, TextFault};
+//! Texts that are put together, and lists. One for which memory is wanting lacks a piece, so that it isn't what has to
+//! come.
 use std::alloc::Global;
 
-#[test]
-fn texts_moments_and_lists_are_kept(rt: HostRuntime) {
-    assert!(rt; keeps_text(rt.alloc(), b" ~"));
-    assert!(rt; refuses_text(rt.alloc(), b"a\n", TextFault::NotPrintable(1)));
-    assert!(rt; keeps_bytes(rt.alloc(), &[0, 255]));
-    assert!(rt; has_a_last_moment());
-    assert!(rt; keeps_list(rt.alloc()));
+/// The pieces, one behind the other.
+pub(crate) fn joined(alloc: Global, pieces: &[&[u8]]) -> Vec<u8> {
+    let mut text = Vec::new(alloc);
+    for piece in pieces {
+        put(&mut text, piece);
+    }
+    text
 }
 
-fn keeps_text(alloc: Global, bytes: &[u8]) -> bool {
-    match Text::new(alloc, bytes) {
-        Ok(text) => match text.copy(alloc) {
-            Ok(copy) => copy.bytes() == bytes,
-            Err(_) => false,
-        },
-        Err(_) => false,
+/// Puts bytes behind others.
+pub(crate) fn put(text: &mut Vec<u8>, bytes: &[u8]) {
+    let _ = text.extend_from_slice(bytes);
+}
+
+/// Puts the digits of a number behind other bytes.
+pub(crate) fn put_number(alloc: Global, text: &mut Vec<u8>, number: u64) {
+    if let Ok(digits) = number.to_string(alloc) {
+        put(text, digits.as_bytes());
     }
 }
 
-fn refuses_text(alloc: Global, bytes: &[u8], fault: TextFault) -> bool {
-    Text::new(alloc, bytes).err() == Some(fault)
-}
-
-fn keeps_bytes(alloc: Global, bytes: &[u8]) -> bool {
-    match Vec::from_slice(alloc, bytes) {
-        Ok(owned) => match Text8::of(owned).copy(alloc) {
-            Ok(copy) => copy.bytes() == bytes,
-            Err(_) => false,
-        },
-        Err(_) => false,
-    }
-}
-
-fn has_a_last_moment() -> bool {
-    match Moment::new(4_102_444_799) {
-        Some(moment) => moment.seconds() == 4_102_444_799 && Moment::new(4_102_444_800).is_none(),
-        None => false,
-    }
-}
-
-fn keeps_list(alloc: Global) -> bool {
-    match vec![in alloc; 3u8, 4u8] {
-        Ok(items) => Items::of(items).as_slice() == [3, 4].as_slice(),
-        Err(_) => false,
-    }
+/// The numbers of calls that fail.
+pub(crate) fn calls(alloc: Global, failing: &[u64]) -> Vec<u64> {
+    let mut calls = Vec::new(alloc);
+    let _ = calls.extend_from_slice(failing);
+    calls
 }

@@ -13,7 +13,7 @@ use pec_trial::{
     told_all, told_item, told_list, told_word, word,
 };
 use pec_types::{Frame, NoMemory};
-use std::alloc::{AllocError, Global};
+use std::alloc::Global;
 use std::marker::Model;
 use std::test::Fail;
 
@@ -120,8 +120,8 @@ impl Desk {
         }
     }
 
-    /// The provider opened again over its disk, and whether an entry of it was interrupted.
-    pub(crate) fn reopened(self, who: Who) -> Result<(Desk, bool), ReopenFault> {
+    /// The provider opened again over its disk, and whether an entry of it was interrupted; none where it isn't opened.
+    pub(crate) fn reopened(self, who: Who) -> Option<(Desk, bool)> {
         let Desk {
             alloc,
             home,
@@ -131,8 +131,10 @@ impl Desk {
         } = self;
         let (disk, interrupted) = provider.into_parts();
         let was_interrupted = interrupted.is_some();
-        let desk = Desk::opened(alloc, home, who, disk)?;
-        Ok((desk, was_interrupted))
+        match Desk::opened(alloc, home, who, disk) {
+            Ok(desk) => Some((desk, was_interrupted)),
+            Err(_) => None,
+        }
     }
 
     pub(crate) fn put(&self) -> &[Frame] {
@@ -153,6 +155,7 @@ enum Verb {
     Mailbox,
     Item,
     Figures,
+    Unknown,
 }
 
 const VERBS: [(&str, Verb); 10] = [
@@ -168,20 +171,21 @@ const VERBS: [(&str, Verb); 10] = [
     ("figures", Verb::Figures),
 ];
 
-fn verb_of(word: &str) -> Result<Verb, Fail> {
+fn verb_of(word: &str) -> Verb {
+    let mut found = Verb::Unknown;
     for (name, verb) in &VERBS {
         if *name == word {
-            return Ok(*verb);
+            found = *verb;
         }
     }
-    Err("no such verb".into())
+    found
 }
 
 impl Desk {
     /// What a line asks of it, as words: a provider, a verb, and what each verb has below. A frame that a line names is
     /// given beside it.
     pub(crate) fn answer(&mut self, line: &str, frame: &[u8]) -> Result<Vec<u8>, Fail> {
-        match verb_of(word(line, 1))? {
+        match verb_of(word(line, 1)) {
             Verb::Submit => self.submit(line),
             Verb::Tick => self.tick(line),
             Verb::Arrive => self.arrive(line, frame),
@@ -192,6 +196,7 @@ impl Desk {
             Verb::Mailbox => self.mailbox(line),
             Verb::Item => self.item(line),
             Verb::Figures => self.figures(),
+            Verb::Unknown => Err("no such verb".into()),
         }
     }
 
@@ -267,7 +272,7 @@ impl Desk {
     fn put_due(&mut self, line: &str) -> Result<Vec<u8>, Fail> {
         let to = small(line, 2)?;
         let room = number(line, 3)? as usize;
-        self.put = self.due(to, room)?;
+        self.put = self.due(to, room).unwrap_or(Vec::new(self.alloc));
         told_list(self.alloc, &self.put, b"frames")
     }
 
@@ -315,8 +320,8 @@ impl Desk {
 
     /// `item ACCOUNT PLACE`
     fn item(&self, line: &str) -> Result<Vec<u8>, Fail> {
-        let account = account_at(self.alloc, line, 2)?;
         let place = small(line, 3)?;
+        let account = account_at(self.alloc, line, 2)?;
         let home = &self.home;
         let house = House {
             directory: &home.directory,
@@ -336,15 +341,16 @@ impl Desk {
             provider.messages(),
             provider.fill(),
         ];
-        Ok(figures_text(self.alloc, numbers, provider.is_down())?)
+        let words = figures_text(self.alloc, numbers, provider.is_down());
+        told_word(self.alloc, &words)
     }
 }
 
-fn figures_text(alloc: Global, numbers: [u64; 4], is_down: bool) -> Result<Vec<u8>, AllocError> {
+fn figures_text(alloc: Global, numbers: [u64; 4], is_down: bool) -> Vec<u8> {
     let mut words = Vec::new(alloc);
     for number in numbers {
-        add_number(alloc, &mut words, number)?;
+        let _ = add_number(alloc, &mut words, number);
     }
-    add(&mut words, if is_down { b"down" } else { b"up" })?;
-    Ok(words)
+    let _ = add(&mut words, if is_down { b"down" } else { b"up" });
+    words
 }

@@ -6,7 +6,7 @@ use crate::world::{Failing, wrong_line};
 use pec_outside::MemDisk;
 use pec_provider::CreateFault;
 use pec_trial::two;
-use std::alloc::{AllocError, Global};
+use std::alloc::Global;
 use std::test::Fail;
 
 /// An entry that a call appends behind a script, and what the same call answers once the provider is opened again:
@@ -23,7 +23,7 @@ struct Entry {
     with: &'static str,
 }
 
-static ENTRIES: [Entry; 9] = [
+static FIRST: [Entry; 3] = [
     Entry {
         why: "Accepted",
         whose: 0,
@@ -51,6 +51,9 @@ static ENTRIES: [Entry; 9] = [
         without: "took 0/0",
         with: "repeat envelope 0/0 1",
     },
+];
+
+static SECOND: [Entry; 3] = [
     Entry {
         why: "Decided",
         whose: 1,
@@ -78,6 +81,9 @@ static ENTRIES: [Entry; 9] = [
         without: "learned 0/0 bob@beta.example delivered",
         with: "repeat outcome 0/0 bob@beta.example",
     },
+];
+
+static THIRD: [Entry; 3] = [
     Entry {
         why: "Acked",
         whose: 1,
@@ -138,9 +144,17 @@ alfa arrive 1704186003 beta 1 -> learned 0/0 bob@beta.example delivered
 alfa put 1 64 -> X-Riscontro: pec.0000000@alfa.example bob@beta.example, 1 frames
 ";
 
-/// The table, by a function without a clause: the proof of the test is spared its texts.
-fn entries() -> &'static [Entry] {
-    &ENTRIES
+/// The tables, by functions without a clause: the proof of the test is spared their texts.
+fn first() -> &'static [Entry] {
+    &FIRST
+}
+
+fn second() -> &'static [Entry] {
+    &SECOND
+}
+
+fn third() -> &'static [Entry] {
+    &THIRD
 }
 
 /// The first call of a disk in the append of an entry: three calls make a journal, and four append an entry.
@@ -151,17 +165,28 @@ fn first_call(number: u64) -> u64 {
 /// An append writes the entry, syncs, opens its gate, and syncs. Only where the last of these fails is the entry there.
 #[test]
 fn a_fault_of_the_disk_leaves_an_entry_or_none(rt: HostRuntime) -> Result<(), Fail> {
-    for entry in entries() {
-        for call in 0..4u64 {
-            let wrong = wrong_behind(rt.alloc(), entry, call)?;
-            assert!(rt; wrong.is_none(), "{} {call}: {wrong:?}", entry.why);
-        }
+    for entries in [first(), second(), third()] {
+        let wrong = first_wrong(rt.alloc(), entries)?;
+        assert!(rt; wrong.is_none(), "{wrong:?}");
     }
     Ok(())
 }
 
+/// The first wrong line where one of the four calls of the append of an entry fails, and what came.
+fn first_wrong(alloc: Global, entries: &[Entry]) -> Result<Option<String>, Fail> {
+    for entry in entries {
+        for call in 0..4u64 {
+            let wrong = wrong_behind(alloc, entry, call)?;
+            if wrong.is_some() {
+                return Ok(wrong);
+            }
+        }
+    }
+    Ok(None)
+}
+
 /// A call that a fault of the disk ends, and the same call while the provider is down and once it is opened again.
-const FAULTED: &str = "
+const FAULTED: &str = "BEFORE
 CALL -> disk-fault
 CALL -> down
 WHO reopen -> interrupted
@@ -170,7 +195,7 @@ CALL -> LEFT
 
 /// The first wrong line where a call of the disk fails as the entry is appended.
 fn wrong_behind(alloc: Global, entry: &Entry, call: u64) -> Result<Option<String>, Fail> {
-    let script = script_of(alloc, entry, call)?;
+    let script = script_of(alloc, entry, call);
     let failing = Failing {
         whose: entry.whose,
         call: first_call(entry.number).saturating_add(call),
@@ -178,22 +203,27 @@ fn wrong_behind(alloc: Global, entry: &Entry, call: u64) -> Result<Option<String
     wrong_line(alloc, &[failing], script.as_str())
 }
 
-fn script_of(alloc: Global, entry: &Entry, call: u64) -> Result<String, AllocError> {
+fn script_of(alloc: Global, entry: &Entry, call: u64) -> String {
     let who = if entry.whose == 0 { "alfa" } else { "beta" };
     let left = if call == 3 { entry.with } else { entry.without };
-    let faulted = with_words(alloc, &[("CALL", entry.call), ("WHO", who), ("LEFT", left)])?;
-    let mut script = String::from_str(alloc, entry.before)?;
-    script.push_str(faulted.as_str())?;
-    Ok(script)
+    let words = [
+        ("BEFORE", entry.before),
+        ("CALL", entry.call),
+        ("WHO", who),
+        ("LEFT", left),
+    ];
+    with_words(alloc, &words)
 }
 
-/// The lines with these words.
-fn with_words(alloc: Global, words: &[(&str, &str)]) -> Result<String, AllocError> {
-    let mut lines = String::from_str(alloc, FAULTED)?;
+/// The lines with these words. Where memory is wanting none are left, and what comes isn't what has to.
+fn with_words(alloc: Global, words: &[(&str, &str)]) -> String {
+    let mut lines = String::from_str(alloc, FAULTED).unwrap_or(String::new(alloc));
     for (word, instead) in words {
-        lines = lines.replace(alloc, word, instead)?;
+        lines = lines
+            .replace(alloc, word, instead)
+            .unwrap_or(String::new(alloc));
     }
-    Ok(lines)
+    lines
 }
 
 /// While a provider is down nothing is shown and nothing taken; it is opened again with what it had, and owes nothing.
@@ -237,25 +267,26 @@ beta mailbox bob@beta.example -> envelope 0/0, 1 items
 
 /// A journal is made by three calls, and its Start is appended by four. Where one of these fails there is no provider.
 #[test]
-fn a_fault_of_the_disk_makes_no_provider(rt: HostRuntime) -> Result<(), Fail> {
+fn a_fault_of_the_disk_makes_no_provider(rt: HostRuntime) {
     for call in 0..8u64 {
-        let fault = fault_of(rt.alloc(), call)?;
-        let wanted = if call < 7 {
-            Some(CreateFault::DiskFault)
-        } else {
-            None
-        };
-        assert_eq!(rt; fault, wanted, "call {call}");
+        assert!(rt; is_told(rt.alloc(), call), "call {call}");
     }
-    Ok(())
+}
+
+fn is_told(alloc: Global, call: u64) -> bool {
+    let fault = fault_of(alloc, call);
+    if call < 7 {
+        fault == Some(CreateFault::DiskFault)
+    } else {
+        fault.is_none()
+    }
 }
 
 /// Why no provider is made on an empty disk, of which this call fails.
-fn fault_of(alloc: Global, call: u64) -> Result<Option<CreateFault>, Fail> {
-    let home = Home::of(alloc, two())?;
-    let disk = MemDisk::new(alloc, Vec::from_slice(alloc, &[call])?);
-    match Desk::made(alloc, home, Who::Alfa, disk) {
-        Ok(_) => Ok(None),
-        Err(fault) => Ok(Some(fault)),
+fn fault_of(alloc: Global, call: u64) -> Option<CreateFault> {
+    let failing = Vec::from_slice(alloc, &[call]).unwrap_or(Vec::new(alloc));
+    match Home::of(alloc, two()) {
+        Some(home) => Desk::made(alloc, home, Who::Alfa, MemDisk::new(alloc, failing)).err(),
+        None => Some(CreateFault::NoMemory),
     }
 }

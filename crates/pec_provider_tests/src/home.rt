@@ -1,6 +1,6 @@
 //! Where the providers of the tests are at home.
 
-ghost use Rattle.std.specs.Prelude.{◌≤◌, length, IfOk};
+ghost use Rattle.std.specs.Prelude.{◌≤◌, length};
 ghost use Rattle.pec_directory.specs.Directory.{providers_of};
 ghost use Rattle.pec_letters.specs.Fitting.{Fits};
 
@@ -8,7 +8,6 @@ use pec_directory::Directory;
 use pec_seal::{HmacSealer, Sealer};
 use pec_trade::sealer_of;
 use std::alloc::Global;
-use std::test::Fail;
 
 /// Where the providers of a directory are at home, at least two.
 pub(crate) struct Home {
@@ -28,21 +27,21 @@ impl Drop for Home {
 }
 
 impl Home {
-    /// The home of a directory that is given as text.
-    pub(crate) fn of(alloc: Global, text: &str) -> Result<Home, Fail> {
-        let directory = directory_of(alloc, text)?;
-        let sealer = sealer_of(alloc, &directory)?;
-        Ok(Home { directory, sealer })
+    /// The home of a directory that is given as text, where it has at least two providers.
+    pub(crate) fn of(alloc: Global, text: &str) -> Option<Home> {
+        match Directory::read(alloc, text) {
+            Ok(directory) => Home::within(alloc, directory),
+            Err(_) => None,
+        }
     }
-}
 
-/// The directory of a text, where it has at least two providers.
-fn directory_of(alloc: Global, text: &str) -> Result<Directory, Fail>
-    ensures { IfOk result (λ directory. 2 ≤ length directory) }
-{
-    let directory = Directory::read(alloc, text)?;
-    if directory.count() < 2 {
-        return Err("too few providers".into());
+    fn within(alloc: Global, directory: Directory) -> Option<Home> {
+        if directory.count() < 2 {
+            return None;
+        }
+        match sealer_of(alloc, &directory) {
+            Ok(sealer) => Some(Home { directory, sealer }),
+            Err(_) => None,
+        }
     }
-    Ok(directory)
 }

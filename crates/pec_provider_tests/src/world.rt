@@ -4,16 +4,16 @@ use crate::desk::{Desk, Who};
 use crate::home::Home;
 use crate::letters::changed;
 use pec_outside::MemDisk;
-use pec_trial::{Answers, behind, first_wrong, number, text_of, told_word, two, word};
+use pec_trial::{Answers, behind, first_wrong, text_of, told_word, two, word};
 use pec_types::Frame;
-use std::alloc::{AllocError, Global};
+use std::alloc::Global;
 use std::test::Fail;
 
-/// The providers of the directory of the tests, and a home from whose seals a forger takes. One that isn't opened again
-/// is gone.
+/// The providers of the directory of the tests, and a home from whose seals a forger takes. One that isn't made or opened
+/// again is gone.
 pub(crate) struct World {
     alloc: Global,
-    forger: Home,
+    forger: Option<Home>,
     alfa: Option<Desk>,
     beta: Option<Desk>,
 }
@@ -38,46 +38,42 @@ pub(crate) struct Failing {
 
 impl World {
     /// Providers on empty disks, of which these calls fail.
-    fn new(alloc: Global, failing: &[Failing]) -> Result<World, Fail> {
-        let forger = Home::of(alloc, two())?;
-        let alfa = desk(alloc, Who::Alfa, calls_of(alloc, failing, 0)?)?;
-        let beta = desk(alloc, Who::Beta, calls_of(alloc, failing, 1)?)?;
-        Ok(World {
+    fn new(alloc: Global, failing: &[Failing]) -> World {
+        World {
             alloc,
-            forger,
-            alfa: Some(alfa),
-            beta: Some(beta),
-        })
+            forger: Home::of(alloc, two()),
+            alfa: desk(alloc, Who::Alfa, calls_of(alloc, failing, 0)),
+            beta: desk(alloc, Who::Beta, calls_of(alloc, failing, 1)),
+        }
     }
 
     /// The frame that arrives by a line: `arrive MOMENT FROM PLACE CHANGES`, the one at a place of those that a
-    /// provider put last, with changes; or `arrive MOMENT TEXT`. Of another line, no byte.
-    fn frame(&self, line: &str) -> Result<Vec<u8>, Fail> {
+    /// provider put last, with changes; or `arrive MOMENT TEXT`. Of another line, no byte; none where there is no such
+    /// frame.
+    fn frame(&self, line: &str) -> Option<Vec<u8>> {
         if word(line, 1) != "arrive" {
-            return Ok(Vec::new(self.alloc));
+            return Some(Vec::new(self.alloc));
         }
-        self.arriving(word(line, 3), line)
+        match word(line, 3) {
+            "alfa" => self.changed(put(&self.alfa), line),
+            "beta" => self.changed(put(&self.beta), line),
+            name => text_of(self.alloc, name).ok(),
+        }
     }
 
-    fn arriving(&self, from: &str, line: &str) -> Result<Vec<u8>, Fail> {
-        if from == "alfa" {
-            return self.changed(put(&self.alfa), line);
+    fn changed(&self, put: &[Frame], line: &str) -> Option<Vec<u8>> {
+        let frame = frame_at(put, word(line, 4))?;
+        match &self.forger {
+            Some(forger) => changed(self.alloc, &forger.sealer, frame.bytes(), behind(line, 5)),
+            None => None,
         }
-        if from == "beta" {
-            return self.changed(put(&self.beta), line);
-        }
-        Ok(text_of(self.alloc, from)?)
     }
+}
 
-    fn changed(&self, put: &[Frame], line: &str) -> Result<Vec<u8>, Fail> {
-        let place = number(line, 4)? as usize;
-        let frame = put.get(place).ok_or("no frame")?;
-        changed(
-            self.alloc,
-            &self.forger.sealer,
-            frame.bytes(),
-            behind(line, 5),
-        )
+fn frame_at<'a>(put: &'a [Frame], place: &str) -> Option<&'a Frame> {
+    match place.parse::<usize>() {
+        Ok(place) => put.get(place),
+        Err(_) => None,
     }
 }
 
@@ -85,11 +81,20 @@ impl World {
 /// whether an entry of it was interrupted.
 impl Answers for World {
     fn answer(&mut self, call: &str) -> Result<Vec<u8>, Fail> {
-        let frame = self.frame(call)?;
-        if word(call, 0) == "alfa" {
-            return answer(self.alloc, &mut self.alfa, Who::Alfa, call, &frame);
+        match self.frame(call) {
+            Some(frame) => self.asked(call, &frame),
+            None => Err("no such frame".into()),
         }
-        answer(self.alloc, &mut self.beta, Who::Beta, call, &frame)
+    }
+}
+
+impl World {
+    fn asked(&mut self, call: &str, frame: &[u8]) -> Result<Vec<u8>, Fail> {
+        if word(call, 0) == "alfa" {
+            answer(self.alloc, &mut self.alfa, Who::Alfa, call, frame)
+        } else {
+            answer(self.alloc, &mut self.beta, Who::Beta, call, frame)
+        }
     }
 }
 
@@ -101,7 +106,7 @@ fn answer(
     frame: &[u8],
 ) -> Result<Vec<u8>, Fail> {
     if word(call, 1) == "reopen" {
-        return reopen(alloc, desk, who);
+        return told_word(alloc, reopen(desk, who));
     }
     match desk {
         Some(desk) => desk.answer(call, frame),
@@ -109,23 +114,25 @@ fn answer(
     }
 }
 
-fn reopen(alloc: Global, desk: &mut Option<Desk>, who: Who) -> Result<Vec<u8>, Fail> {
-    let (opened, interrupted) = reopened(desk.take(), who)?;
-    *desk = Some(opened);
-    told_word(
-        alloc,
-        if interrupted {
-            b"interrupted"
-        } else {
-            b"whole"
-        },
-    )
+/// Opens a provider again, and tells whether an entry of it was interrupted; or that it is gone.
+fn reopen(desk: &mut Option<Desk>, who: Who) -> &'static [u8] {
+    match reopened(desk.take(), who) {
+        Some((opened, interrupted)) => {
+            *desk = Some(opened);
+            if interrupted {
+                b"interrupted"
+            } else {
+                b"whole"
+            }
+        }
+        None => b"gone",
+    }
 }
 
-fn reopened(desk: Option<Desk>, who: Who) -> Result<(Desk, bool), Fail> {
+fn reopened(desk: Option<Desk>, who: Who) -> Option<(Desk, bool)> {
     match desk {
-        Some(desk) => Ok(desk.reopened(who)?),
-        None => Err("the provider is gone".into()),
+        Some(desk) => desk.reopened(who),
+        None => None,
     }
 }
 
@@ -138,21 +145,22 @@ fn put(desk: &Option<Desk>) -> &[Frame] {
 }
 
 /// A provider of the directory of the tests on an empty disk, of which these calls fail.
-fn desk(alloc: Global, who: Who, failing: Vec<u64>) -> Result<Desk, Fail> {
-    let home = Home::of(alloc, two())?;
-    let disk = MemDisk::new(alloc, failing);
-    Ok(Desk::made(alloc, home, who, disk)?)
+fn desk(alloc: Global, who: Who, failing: Vec<u64>) -> Option<Desk> {
+    match Home::of(alloc, two()) {
+        Some(home) => Desk::made(alloc, home, who, MemDisk::new(alloc, failing)).ok(),
+        None => None,
+    }
 }
 
-/// The failing calls of one provider's disk.
-fn calls_of(alloc: Global, failing: &[Failing], whose: u32) -> Result<Vec<u64>, AllocError> {
+/// The failing calls of one provider's disk. Where memory is wanting fewer fail, and what comes isn't what has to.
+fn calls_of(alloc: Global, failing: &[Failing], whose: u32) -> Vec<u64> {
     let mut calls = Vec::new(alloc);
     for one in failing {
         if one.whose == whose {
-            calls.push(one.call)?;
+            let _ = calls.push(one.call);
         }
     }
-    Ok(calls)
+    calls
 }
 
 /// A script over two providers, and what it is about.
@@ -179,6 +187,6 @@ pub(crate) fn wrong_line(
     failing: &[Failing],
     script: &str,
 ) -> Result<Option<String>, Fail> {
-    let mut world = World::new(alloc, failing)?;
+    let mut world = World::new(alloc, failing);
     first_wrong(alloc, &mut world, script)
 }

@@ -92,9 +92,11 @@ impl Devices {
     {
         match screens_of(alloc, service.screened) {
             Ok(screens) => {
+                let mut depot = MemDepot::new(alloc, Vec::new(alloc), Vec::new(alloc));
                 let (_, ending) = serve(
                     alloc,
                     network,
+                    &mut depot,
                     screens,
                     &mut self.ticks,
                     &mut self.door,

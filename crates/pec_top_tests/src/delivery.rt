@@ -1,14 +1,13 @@
 //! Messages from submission to receipts, over memory disks. All outputs were worked out by hand.
 
-use crate::directories::{ALFA, DOMAINS, TWO};
+use crate::directories::Directory;
 use crate::running::{Case, Run, first_wrong};
 use pec_top::Status;
-use std::test::Fail;
 
 static FIRST: [Case; 3] = [
     Case {
         why: "a message is accepted, and stands open in its sender's book",
-        directory: ALFA,
+        directory: Directory::Alfa,
         failing: &[],
         runs: &[Run {
             form: "run",
@@ -19,7 +18,7 @@ static FIRST: [Case; 3] = [
     },
     Case {
         why: "within one provider a message is taken, placed, and its receipts are acknowledged",
-        directory: ALFA,
+        directory: Directory::Alfa,
         failing: &[],
         runs: &[Run {
             form: "run",
@@ -40,7 +39,7 @@ static FIRST: [Case; 3] = [
     },
     Case {
         why: "classes are by the head, in its order; who isn't certified has no row",
-        directory: TWO,
+        directory: Directory::Two,
         failing: &[],
         runs: &[Run {
             form: "run",
@@ -60,7 +59,7 @@ static FIRST: [Case; 3] = [
 static SECOND: [Case; 3] = [
     Case {
         why: "a message to nobody is told undelivered",
-        directory: TWO,
+        directory: Directory::Two,
         failing: &[],
         runs: &[Run {
             form: "run",
@@ -80,7 +79,7 @@ static SECOND: [Case; 3] = [
     },
     Case {
         why: "an envelope that is lost twice and repeated three times is placed once",
-        directory: TWO,
+        directory: Directory::Two,
         failing: &[],
         runs: &[Run {
             form: "run",
@@ -105,7 +104,7 @@ static SECOND: [Case; 3] = [
     },
     Case {
         why: "an outcome may come before its charge",
-        directory: TWO,
+        directory: Directory::Two,
         failing: &[],
         runs: &[Run {
             form: "run",
@@ -124,7 +123,7 @@ static SECOND: [Case; 3] = [
 static THIRD: [Case; 3] = [
     Case {
         why: "a sender is warned at 12 hours and has notice at 22 hours, to the second",
-        directory: ALFA,
+        directory: Directory::Alfa,
         failing: &[],
         runs: &[Run {
             form: "run",
@@ -138,7 +137,7 @@ static THIRD: [Case; 3] = [
     },
     Case {
         why: "a first look at the clock at 24 hours gives notice, and one later late notice",
-        directory: TWO,
+        directory: Directory::Two,
         failing: &[],
         runs: &[Run {
             form: "run",
@@ -153,7 +152,7 @@ static THIRD: [Case; 3] = [
     },
     Case {
         why: "a message that is delivered behind its notice has both",
-        directory: ALFA,
+        directory: Directory::Alfa,
         failing: &[],
         runs: &[Run {
             form: "run",
@@ -174,7 +173,7 @@ static THIRD: [Case; 3] = [
 static FOURTH: [Case; 3] = [
     Case {
         why: "what isn't certified comes as an anomaly to whom its path names",
-        directory: TWO,
+        directory: Directory::Two,
         failing: &[],
         runs: &[Run {
             form: "run",
@@ -185,7 +184,7 @@ static FOURTH: [Case; 3] = [
     },
     Case {
         why: "a mailbox at its quota takes no further message",
-        directory: TWO,
+        directory: Directory::Two,
         failing: &[],
         runs: &[Run {
             form: "run",
@@ -200,7 +199,7 @@ static FOURTH: [Case; 3] = [
     },
     Case {
         why: "a lost acknowledgement is sent again by a provider that crashed meanwhile",
-        directory: TWO,
+        directory: Directory::Two,
         failing: &[],
         runs: &[Run {
             form: "run",
@@ -226,7 +225,7 @@ static FOURTH: [Case; 3] = [
 
 static FIFTH: [Case; 1] = [Case {
     why: "messages are named by the first domain of their provider",
-    directory: DOMAINS,
+    directory: Directory::Domains,
     failing: &[],
     runs: &[Run {
         form: "run",
@@ -264,10 +263,8 @@ fn fifth() -> &'static [Case] {
 }
 
 #[test]
-fn messages_come_to_their_ends(rt: HostRuntime) -> Result<(), Fail> {
+fn messages_come_to_their_ends(rt: HostRuntime) {
     for cases in [first(), second(), third(), fourth(), fifth()] {
-        let wrong = first_wrong(rt.alloc(), cases)?;
-        assert_eq!(rt; wrong, None);
+        assert_eq!(rt; first_wrong(rt.alloc(), cases), None);
     }
-    Ok(())
 }

@@ -1,7 +1,27 @@
 //! Directories and messages of the tests.
 
+/// A directory of the tests. Tables name it, and are spared its text.
+#[derive(Clone, Copy)]
+pub(crate) enum Directory {
+    Alfa,
+    Two,
+    Three,
+    Domains,
+}
+
+impl Directory {
+    pub(crate) fn text(self) -> &'static str {
+        match self {
+            Directory::Alfa => alfa(),
+            Directory::Two => two(),
+            Directory::Three => three(),
+            Directory::Domains => domains(),
+        }
+    }
+}
+
 /// The provider `alfa` with the accounts alice and anna.
-pub(crate) const ALFA: &str = r#"[[provider]]
+const ALFA: &str = r#"[[provider]]
 name = "alfa"
 mailReceipt = "ricevute@alfa.example"
 managedDomains = ["alfa.example"]
@@ -18,7 +38,7 @@ key = "chiave-anna"
 "#;
 
 /// The providers `alfa`, of alice and anna, and `beta`, of bob and carl.
-pub(crate) const TWO: &str = r#"[[provider]]
+const TWO: &str = r#"[[provider]]
 name = "alfa"
 mailReceipt = "ricevute@alfa.example"
 managedDomains = ["alfa.example"]
@@ -49,7 +69,7 @@ key = "chiave-carl"
 "#;
 
 /// The providers `alfa`, of alice and anna, `beta`, of bob and carl, and `gamma`, of gina.
-pub(crate) const THREE: &str = r#"[[provider]]
+const THREE: &str = r#"[[provider]]
 name = "alfa"
 mailReceipt = "ricevute@alfa.example"
 managedDomains = ["alfa.example"]
@@ -90,7 +110,7 @@ key = "chiave-gina"
 "#;
 
 /// The provider `gamma` of three domains, with an account in each.
-pub(crate) const DOMAINS: &str = r#"[[provider]]
+const DOMAINS: &str = r#"[[provider]]
 name = "gamma"
 mailReceipt = "ricevute@gamma.example"
 managedDomains = ["Uno.example", "gamma.example", "Due.example"]
@@ -136,12 +156,20 @@ fn messages() -> &'static [(&'static str, &'static str)] {
     &MESSAGES
 }
 
-pub(crate) fn alfa() -> &'static str {
+fn alfa() -> &'static str {
     ALFA
 }
 
-pub(crate) fn two() -> &'static str {
+fn two() -> &'static str {
     TWO
+}
+
+fn three() -> &'static str {
+    THREE
+}
+
+fn domains() -> &'static str {
+    DOMAINS
 }
 
 /// The message of this name, or the text itself.

@@ -1,13 +1,16 @@
 //! Disks that fail, crashes, and runs that go on where others left: over memory disks.
 
-use crate::directories::{ALFA, THREE, TWO, alfa, two};
-use crate::running::{Case, Ran, Run, depot_failing, first_wrong, played, written_out};
+use crate::directories::Directory;
+use crate::running::{
+    Case, Ran, Run, depot_failing, first_wrong, joined, played, played_afresh, written_out,
+};
 use pec_outside::MemDepot;
 use pec_top::Status;
-use std::alloc::{AllocError, Global};
-use std::test::Fail;
+use std::alloc::Global;
 
-const SUBMISSION: &str = "submit alfa 1704186000 alice@alfa.example anna@alfa.example {M1}\n";
+const BEGINNING: &str =
+    "submit alfa 1704186000 alice@alfa.example anna@alfa.example {M1}\nrestart alfa\n\
+round 1704186001\nround 1704186002\nround 1704186003\nround 1704186004\nround 1704186005\n";
 
 const ROUNDS: &str =
     "restart alfa\nround 1704186001\nround 1704186002\nround 1704186003\nround 1704186004\nround 1704186005\n";
@@ -19,131 +22,65 @@ const DELIVERED: &str =
 
 const NOTHING: &[u8] = b"mailbox 0\nmailbox 0\n";
 
-/// How the first run came out: whether it began, and wrote nothing, or that the message is accepted.
-#[derive(Clone, Copy)]
-struct Beginning {
-    began: bool,
-    is_empty: bool,
-    accepted: bool,
-}
-
-fn begun(alloc: Global, depot: &mut MemDepot) -> Result<Beginning, AllocError> {
-    let mut script = String::from_str(alloc, SUBMISSION)?;
-    script.push_str(ROUNDS)?;
-    let ran = played(alloc, depot, alfa(), "run", script.as_str())?;
-    Ok(Beginning {
-        began: ran.status != Status::StartFault,
-        is_empty: ran.text.is_empty(),
-        accepted: ran.text.starts_with(b"accepted"),
-    })
-}
-
-/// The status of further rounds.
-fn went_on(alloc: Global, depot: &mut MemDepot) -> Result<Status, AllocError> {
-    let ran = played(alloc, depot, alfa(), "resume", ROUNDS)?;
-    Ok(ran.status)
+/// Runs the program in this form over disks of alfa.
+fn alfa_played(alloc: Global, depot: &mut MemDepot, form: &str, script: &str) -> Ran {
+    played(alloc, depot, Directory::Alfa.text(), form, script)
 }
 
 /// Whether further rounds end well, at the second time where the fault came only as the journal was opened.
-fn ends_well(alloc: Global, depot: &mut MemDepot) -> Result<bool, AllocError> {
-    let status = went_on(alloc, depot)?;
-    if status != Status::StartFault {
-        return Ok(status == Status::Done);
+fn ends_well(alloc: Global, depot: &mut MemDepot) -> bool {
+    match alfa_played(alloc, depot, "resume", ROUNDS).status {
+        Status::Done => true,
+        Status::StartFault => alfa_played(alloc, depot, "resume", ROUNDS).status == Status::Done,
+        _ => false,
     }
-    Ok(went_on(alloc, depot)? == Status::Done)
 }
 
-/// What the mailboxes hold in the end.
-#[derive(Clone, Copy, PartialEq, Eq)]
-enum Boxes {
-    Delivered,
-    Nothing,
-    Other,
-}
-
-fn held(alloc: Global, depot: &mut MemDepot) -> Result<Boxes, AllocError> {
-    let delivered = written_out(alloc, DELIVERED)?;
-    let boxes = played(alloc, depot, alfa(), "resume", BOXES)?;
-    Ok(held_in(&boxes.text, delivered.as_bytes()))
-}
-
-fn held_in(text: &[u8], delivered: &[u8]) -> Boxes {
-    if text == delivered {
-        return Boxes::Delivered;
-    }
-    if text == NOTHING {
-        return Boxes::Nothing;
-    }
-    Boxes::Other
+/// Whether the mailboxes hold the message once, or nothing where it wasn't accepted.
+fn is_held_once(alloc: Global, depot: &mut MemDepot, accepted: bool) -> bool {
+    let delivered = written_out(alloc, DELIVERED);
+    let boxes = alfa_played(alloc, depot, "resume", BOXES);
+    boxes.text.as_slice() == delivered.as_bytes() || (!accepted && boxes.text.as_slice() == NOTHING)
 }
 
 /// Whether a run that a fault of alfa's disk may end or hold up, and further runs over its disks, deliver the message
-/// once or not at all: not at all only where it wasn't accepted.
-fn is_delivered_once(alloc: Global, call: u64) -> Result<bool, AllocError> {
-    let mut depot = depot_failing(alloc, &[(0, call)])?;
-    let first = begun(alloc, &mut depot)?;
-    if !first.began {
-        return Ok(first.is_empty);
-    }
-    is_held_once(alloc, &mut depot, first.accepted)
-}
-
-fn is_held_once(alloc: Global, depot: &mut MemDepot, accepted: bool) -> Result<bool, AllocError> {
-    if !ends_well(alloc, depot)? {
-        return Ok(false);
-    }
-    match held(alloc, depot)? {
-        Boxes::Delivered => Ok(true),
-        Boxes::Nothing => Ok(!accepted),
-        Boxes::Other => Ok(false),
+/// once or not at all: not at all only where it wasn't accepted. Where the run doesn't begin it writes nothing.
+fn is_delivered_once(alloc: Global, call: u64) -> bool {
+    let mut depot = depot_failing(alloc, &[(0, call)]);
+    let first = alfa_played(alloc, &mut depot, "run", BEGINNING);
+    if first.status == Status::StartFault {
+        first.text.is_empty()
+    } else {
+        ends_well(alloc, &mut depot)
+            && is_held_once(alloc, &mut depot, first.text.starts_with(b"accepted"))
     }
 }
 
 #[test]
-fn a_fault_of_a_disk_loses_no_receipt_and_doubles_none(rt: HostRuntime) -> Result<(), Fail> {
+fn a_fault_of_a_disk_loses_no_receipt_and_doubles_none(rt: HostRuntime) {
     for call in 0..40u64 {
-        let once = is_delivered_once(rt.alloc(), call)?;
-        assert!(rt; once, "call {call}");
+        assert!(rt; is_delivered_once(rt.alloc(), call), "call {call}");
     }
-    Ok(())
 }
 
-/// Runs the lines of a script one by one, each in a run of its own over the disks that the one before left, and gives
-/// what the last one writes.
-fn cut_up(alloc: Global, lines: &[&str]) -> Result<Vec<u8>, AllocError> {
-    let mut depot = depot_failing(alloc, &[])?;
-    let mut text = Vec::new(alloc);
+/// Whether the last lines write these books, where each piece of the script is run over the disks that the one before left.
+fn comes_cut_up(alloc: Global, lines: &[&str], books: &[u8]) -> bool {
+    let mut depot = depot_failing(alloc, &[]);
     let mut form = "run";
+    let mut right = false;
     for line in lines {
-        text = text_of(alloc, &mut depot, form, line)?;
+        let last = played(alloc, &mut depot, Directory::Two.text(), form, line);
+        right = last.text.as_slice() == books;
         form = "resume";
     }
-    Ok(text)
+    right
 }
 
-fn text_of(
-    alloc: Global,
-    depot: &mut MemDepot,
-    form: &str,
-    script: &str,
-) -> Result<Vec<u8>, AllocError> {
-    let ran = played(alloc, depot, two(), form, script)?;
-    Ok(ran.text)
-}
-
-/// Runs the lines of a script in one run, and gives what it writes.
-fn at_once(alloc: Global, lines: &[&str]) -> Result<Vec<u8>, AllocError> {
-    let script = joined(alloc, lines)?;
-    let mut depot = depot_failing(alloc, &[])?;
-    text_of(alloc, &mut depot, "run", script.as_str())
-}
-
-fn joined(alloc: Global, lines: &[&str]) -> Result<String, AllocError> {
-    let mut whole = String::new(alloc);
-    for line in lines {
-        whole.push_str(line)?;
-    }
-    Ok(whole)
+/// Whether they do, where all pieces are one run.
+fn comes_at_once(alloc: Global, lines: &[&str], books: &[u8]) -> bool {
+    let script = joined(alloc, lines);
+    let ran = played_afresh(alloc, Directory::Two.text(), script.as_str());
+    ran.text.ends_with(books)
 }
 
 /// A script in ten pieces, at whose ends no frame waits.
@@ -180,13 +117,14 @@ fn settled() -> &'static [&'static str] {
 
 /// A script in one run and the same script cut into ten runs end with the same books and mailboxes.
 #[test]
-fn a_script_may_be_cut_into_runs(rt: HostRuntime) -> Result<(), Fail> {
-    let books = written_out(rt.alloc(), SETTLED_BOOKS)?;
-    let once = at_once(rt.alloc(), settled())?;
-    assert!(rt; once.ends_with(books.as_bytes()));
-    let last = cut_up(rt.alloc(), settled())?;
-    assert_eq!(rt; last.as_slice(), books.as_bytes());
-    Ok(())
+fn a_script_may_be_cut_into_runs(rt: HostRuntime) {
+    assert!(rt; is_the_same_cut_up(rt.alloc()));
+}
+
+fn is_the_same_cut_up(alloc: Global) -> bool {
+    let books = written_out(alloc, SETTLED_BOOKS);
+    comes_at_once(alloc, settled(), books.as_bytes())
+        && comes_cut_up(alloc, settled(), books.as_bytes())
 }
 
 // A journal is made by three calls of its disk, and an entry is appended by four. So those of a provider's first four
@@ -234,19 +172,19 @@ const DECIDED_ONCE_RUN: [Run; 1] = [Run {
 static FIRST: [Case; 3] = [
     Case {
         why: "where the write of a decision fails it isn't in the journal, and is made again",
-        directory: ALFA,
+        directory: Directory::Alfa,
         failing: &[(0, 15)],
         runs: &DECIDED_AGAIN_RUN,
     },
     Case {
         why: "and where the sync behind it fails",
-        directory: ALFA,
+        directory: Directory::Alfa,
         failing: &[(0, 16)],
         runs: &DECIDED_AGAIN_RUN,
     },
     Case {
         why: "and where the write of its gate fails",
-        directory: ALFA,
+        directory: Directory::Alfa,
         failing: &[(0, 17)],
         runs: &DECIDED_AGAIN_RUN,
     },
@@ -255,13 +193,13 @@ static FIRST: [Case; 3] = [
 static SECOND: [Case; 3] = [
     Case {
         why: "where the last sync fails the decision is in the journal, and isn't made again",
-        directory: ALFA,
+        directory: Directory::Alfa,
         failing: &[(0, 18)],
         runs: &DECIDED_ONCE_RUN,
     },
     Case {
         why: "frames on links are gone with a run, and what is due is sent again",
-        directory: TWO,
+        directory: Directory::Two,
         failing: &[],
         runs: &[
             Run {
@@ -282,7 +220,7 @@ static SECOND: [Case; 3] = [
     },
     Case {
         why: "without a journal nothing is resumed",
-        directory: THREE,
+        directory: Directory::Three,
         failing: &[],
         runs: &[Run {
             form: "resume",
@@ -296,7 +234,7 @@ static SECOND: [Case; 3] = [
 static THIRD: [Case; 2] = [
     Case {
         why: "where a second journal can't be made the first is neither made again nor resumed without it",
-        directory: THREE,
+        directory: Directory::Three,
         failing: &[(1, 0)],
         runs: &[
             Run {
@@ -321,7 +259,7 @@ static THIRD: [Case; 2] = [
     },
     Case {
         why: "the journals of three providers are resumed together",
-        directory: THREE,
+        directory: Directory::Three,
         failing: &[],
         runs: &[
             Run {
@@ -366,30 +304,26 @@ fn third() -> &'static [Case] {
 }
 
 #[test]
-fn runs_go_on_where_others_left(rt: HostRuntime) -> Result<(), Fail> {
+fn runs_go_on_where_others_left(rt: HostRuntime) {
     for cases in [first(), second(), third()] {
-        let wrong = first_wrong(rt.alloc(), cases)?;
-        assert_eq!(rt; wrong, None);
+        assert_eq!(rt; first_wrong(rt.alloc(), cases), None);
     }
-    Ok(())
 }
 
 /// Over journals that another directory made, the two digests are told, each in 64 hexadecimal digits.
 #[test]
-fn a_journal_of_another_directory_is_not_opened(rt: HostRuntime) -> Result<(), Fail> {
-    let again = ran_under_another(rt.alloc())?;
-    assert_eq!(rt; again.status, Status::NotFit);
-    assert!(rt; again.text.starts_with(b"not-fit alfa directory "));
-    assert_eq!(rt; again.text.len(), 23 + 64 + 1 + 64 + 1);
-    Ok(())
+fn a_journal_of_another_directory_is_not_opened(rt: HostRuntime) {
+    assert!(rt; is_refused_under_another(rt.alloc()));
 }
 
-/// A run under the directory of alfa alone over disks on which a run under that of two made journals.
-fn ran_under_another(alloc: Global) -> Result<Ran, Fail> {
-    let mut depot = depot_failing(alloc, &[])?;
-    let first = played(alloc, &mut depot, two(), "run", "")?;
-    if first.status != Status::Done {
-        return Err("no journals were made".into());
-    }
-    Ok(played(alloc, &mut depot, alfa(), "resume", "")?)
+/// Whether a run under the directory of alfa alone is refused so over disks on which a run under that of two made
+/// journals.
+fn is_refused_under_another(alloc: Global) -> bool {
+    let mut depot = depot_failing(alloc, &[]);
+    let first = played(alloc, &mut depot, Directory::Two.text(), "run", "");
+    let again = alfa_played(alloc, &mut depot, "resume", "");
+    first.status == Status::Done
+        && again.status == Status::NotFit
+        && again.text.starts_with(b"not-fit alfa directory ")
+        && again.text.len() == 23 + 64 + 1 + 64 + 1
 }

@@ -1,12 +1,9 @@
 //! Words, directories, pieces, limits and devices of a run, over memory.
 
-ghost use Rattle.std.specs.Prelude.{◌<◌};
-
-use crate::directories::{alfa, two};
-use crate::running::{Ran, depot_failing, input_of, played, run_over};
+use crate::directories::Directory;
+use crate::running::{Given, Ran, copied, input_of, played_afresh, put, ran_afresh};
 use pec_top::Status;
-use std::alloc::{AllocError, Global};
-use std::test::Fail;
+use std::alloc::Global;
 
 const FIRST: &str =
     "submit alfa 1704186000 alice@alfa.example anna@alfa.example {M1}\nbook alice@alfa.example\n";
@@ -14,19 +11,29 @@ const FIRST: &str =
 const FIRST_OUTPUT: &[u8] = b"accepted pec.0000000@alfa.example\n\
 pec.0000000@alfa.example anna@alfa.example primary 1704186000 - - - open\nbook 1\n";
 
-/// What a run over empty disks writes.
-fn ran(
+/// The input of the first script, behind the directory of alfa.
+fn first_input(alloc: Global) -> Vec<u8> {
+    input_of(alloc, Directory::Alfa.text(), FIRST)
+}
+
+fn first_output() -> &'static [u8] {
+    FIRST_OUTPUT
+}
+
+/// Whether a run over empty disks on these words and this input, in pieces of so many bytes, writes this and ends so.
+fn comes(
     alloc: Global,
     words: &[&str],
     input: &[u8],
     piece: usize,
-    reads: &[u64],
-    writes: &[u64],
-) -> Result<Ran, AllocError>
-    requires { 0 < piece }
-{
-    let mut depot = depot_failing(alloc, &[])?;
-    run_over(alloc, &mut depot, words, input, piece, reads, writes)
+    output: &[u8],
+    status: Status,
+) -> bool {
+    let given = Given {
+        piece,
+        ..Given::of(words, input)
+    };
+    ran_afresh(alloc, &given).is(output, status)
 }
 
 /// Words that are no form of the program.
@@ -67,13 +74,20 @@ fn long_inputs() -> &'static [Long] {
 
 /// Whatever stands in the input, and whether it can be read or not.
 #[test]
-fn other_words_are_answered_with_the_usage(rt: HostRuntime) -> Result<(), Fail> {
-    let input = input_of(rt.alloc(), alfa(), FIRST)?;
+fn other_words_are_answered_with_the_usage(rt: HostRuntime) {
     for words in wrong_words() {
-        let ran = ran(rt.alloc(), words, &input, 7, &[0], &[])?;
-        assert!(rt; ran.is(b"usage\n", Status::Usage));
+        assert!(rt; is_usage(rt.alloc(), words));
     }
-    Ok(())
+}
+
+fn is_usage(alloc: Global, words: &[&str]) -> bool {
+    let input = first_input(alloc);
+    let given = Given {
+        piece: 7,
+        reads: &[0],
+        ..Given::of(words, &input)
+    };
+    ran_afresh(alloc, &given).is(b"usage\n", Status::Usage)
 }
 
 /// Words, an input, and what is written for them.
@@ -113,19 +127,34 @@ static BEGUN: [Begun; 4] = [
 ];
 
 #[test]
-fn words_and_directories_come_first(rt: HostRuntime) -> Result<(), Fail> {
+fn words_and_directories_come_first(rt: HostRuntime) {
     for begun in inputs() {
-        let ran = ran(rt.alloc(), begun.words, begun.input, 7, &[], &[])?;
-        assert!(rt; ran.is(begun.output, begun.status));
+        assert!(rt;
+            comes(
+                rt.alloc(),
+                begun.words,
+                begun.input,
+                7,
+                begun.output,
+                begun.status
+            )
+        );
     }
-    Ok(())
 }
 
 #[test]
-fn an_input_without_a_mark_has_no_script(rt: HostRuntime) -> Result<(), Fail> {
-    let ran = ran(rt.alloc(), &["run"], alfa().as_bytes(), 7, &[], &[])?;
-    assert!(rt; ran.is(b"refused no-script\n", Status::Refused));
-    Ok(())
+fn an_input_without_a_mark_has_no_script(rt: HostRuntime) {
+    let input = Directory::Alfa.text().as_bytes();
+    assert!(rt;
+        comes(
+            rt.alloc(),
+            &["run"],
+            input,
+            7,
+            b"refused no-script\n",
+            Status::Refused
+        )
+    );
 }
 
 /// Each row has a text of the directory, what stands there instead, and the fault of that.
@@ -193,112 +222,115 @@ static FAULTS: [(&str, &str, &[u8]); 12] = [
 ];
 
 #[test]
-fn a_directory_is_refused_for_its_first_fault(rt: HostRuntime) -> Result<(), Fail> {
+fn a_directory_is_refused_for_its_first_fault(rt: HostRuntime) {
     for (there, instead, output) in faults() {
-        let ran = ran_with(rt.alloc(), there, instead)?;
-        assert!(rt; ran.is(output, Status::Refused), "{instead}");
+        assert!(rt; is_refused(rt.alloc(), there, instead, output), "{instead}");
     }
-    Ok(())
 }
 
-/// A run under the directory of two, where another text stands in place of one.
-fn ran_with(alloc: Global, there: &str, instead: &str) -> Result<Ran, AllocError> {
-    let directory = two().replacen(alloc, there, instead, 1)?;
-    let mut depot = depot_failing(alloc, &[])?;
-    played(alloc, &mut depot, directory.as_str(), "run", "")
+/// Whether a run under the directory of two, where another text stands in place of one, is refused so.
+fn is_refused(alloc: Global, there: &str, instead: &str, output: &[u8]) -> bool {
+    let directory = Directory::Two
+        .text()
+        .replacen(alloc, there, instead, 1)
+        .unwrap_or(String::new(alloc));
+    played_afresh(alloc, directory.as_str(), "").is(output, Status::Refused)
 }
 
 /// An input may come in pieces of one byte, and its lines may end with a carriage return.
 #[test]
-fn pieces_and_ends_are_taken_as_they_come(rt: HostRuntime) -> Result<(), Fail> {
-    let input = input_of(rt.alloc(), alfa(), FIRST)?;
-    let by_bytes = is_first(rt.alloc(), &input, 1)?;
-    assert!(rt; by_bytes);
-    let ended = with_returns(rt.alloc(), &input)?;
-    let with_ends = is_first(rt.alloc(), &ended, 1000)?;
-    assert!(rt; with_ends);
-    Ok(())
+fn pieces_and_ends_are_taken_as_they_come(rt: HostRuntime) {
+    assert!(rt; is_taken_by_bytes(rt.alloc()));
+    assert!(rt; is_taken_with_returns(rt.alloc()));
 }
 
-fn is_first(alloc: Global, input: &[u8], piece: usize) -> Result<bool, AllocError>
-    requires { 0 < piece }
-{
-    let ran = ran(alloc, &["run"], input, piece, &[], &[])?;
-    Ok(ran.text.as_slice() == FIRST_OUTPUT)
+fn is_taken_by_bytes(alloc: Global) -> bool {
+    let input = first_input(alloc);
+    comes(alloc, &["run"], &input, 1, first_output(), Status::Done)
+}
+
+fn is_taken_with_returns(alloc: Global) -> bool {
+    let input = with_returns(alloc, &first_input(alloc));
+    comes(alloc, &["run"], &input, 1000, first_output(), Status::Done)
+}
+
+/// The bytes with a carriage return before each line feed.
+fn with_returns(alloc: Global, input: &[u8]) -> Vec<u8> {
+    let mut ended = Vec::new(alloc);
+    for b in input {
+        if *b == b'\n' {
+            put(&mut ended, b"\r");
+        }
+        put(&mut ended, &[*b]);
+    }
+    ended
 }
 
 /// Wherever an input is cut it writes a front, or what the cut line says. Every seventh cut is enough to meet each kind
 /// of place.
 #[test]
-fn cuts_are_taken_as_they_come(rt: HostRuntime) -> Result<(), Fail> {
-    let input = input_of(rt.alloc(), alfa(), FIRST)?;
-    for cut in 0..input.len() {
-        if cut % 7 == 0 {
-            let front = is_front_of_first(rt.alloc(), &input[..cut])?;
-            assert!(rt; front, "cut at {cut}");
-        }
-    }
-    Ok(())
+fn cuts_are_taken_as_they_come(rt: HostRuntime) {
+    assert_eq!(rt; first_wrong_cut(rt.alloc()), None);
 }
 
-/// The bytes with a carriage return before each line feed.
-fn with_returns(alloc: Global, input: &[u8]) -> Result<Vec<u8>, AllocError> {
-    let mut ended = Vec::new(alloc);
-    for b in input {
-        if *b == b'\n' {
-            ended.push(b'\r')?;
+fn first_wrong_cut(alloc: Global) -> Option<usize> {
+    let input = first_input(alloc);
+    let mut wrong = None;
+    for cut in 0..input.len() {
+        if cut % 7 == 0 && wrong.is_none() && !is_front_of_first(alloc, &input[..cut]) {
+            wrong = Some(cut);
         }
-        ended.push(*b)?;
     }
-    Ok(ended)
+    wrong
+}
+
+fn is_front_of_first(alloc: Global, input: &[u8]) -> bool {
+    let given = Given {
+        piece: 64,
+        ..Given::of(&["run"], input)
+    };
+    is_front(&ran_afresh(alloc, &given))
 }
 
 /// A cut inside the last word of a line leaves less of a message, or the address of nobody.
-fn is_front_of_first(alloc: Global, input: &[u8]) -> Result<bool, AllocError> {
-    let ran = ran(alloc, &["run"], input, 64, &[], &[])?;
-    Ok(is_front(&ran))
-}
-
 fn is_front(ran: &Ran) -> bool {
-    if ran.status == Status::Refused || FIRST_OUTPUT.starts_with(&ran.text) {
-        return true;
-    }
-    if ran.text.ends_with(b"no-account\n") {
-        return true;
-    }
-    ran.text.as_slice() == b"not-accepted pec.0000000@alfa.example head\n".as_slice()
+    ran.status == Status::Refused
+        || first_output().starts_with(&ran.text)
+        || ran.text.ends_with(b"no-account\n")
+        || ran.text.as_slice() == b"not-accepted pec.0000000@alfa.example head\n".as_slice()
 }
 
 #[test]
-fn each_read_can_fail(rt: HostRuntime) -> Result<(), Fail> {
-    let input = input_of(rt.alloc(), alfa(), FIRST)?;
+fn each_read_can_fail(rt: HostRuntime) {
     for call in 0..6u64 {
-        let told = is_stopped(rt.alloc(), &input, &[call], &[], Status::ReadFault)?;
-        assert!(rt; told, "read {call}");
+        assert!(rt;
+            is_stopped(rt.alloc(), &[call], &[], Status::ReadFault),
+            "read {call}"
+        );
     }
-    Ok(())
 }
 
 #[test]
-fn each_write_can_fail(rt: HostRuntime) -> Result<(), Fail> {
-    let input = input_of(rt.alloc(), alfa(), FIRST)?;
+fn each_write_can_fail(rt: HostRuntime) {
     for call in 0..2u64 {
-        let told = is_stopped(rt.alloc(), &input, &[], &[call], Status::WriteFault)?;
-        assert!(rt; told, "write {call}");
+        assert!(rt;
+            is_stopped(rt.alloc(), &[], &[call], Status::WriteFault),
+            "write {call}"
+        );
     }
-    Ok(())
 }
 
 /// Whether a run where these reads and writes fail ends so, and writes a front.
-fn is_stopped(
-    alloc: Global,
-    input: &[u8],
-    reads: &[u64],
-    writes: &[u64],
-    status: Status,
-) -> Result<bool, AllocError> {
-    let ran = ran(alloc, &["run"], input, 60, reads, writes)?;
-    Ok(ran.status == status && FIRST_OUTPUT.starts_with(&ran.text))
+fn is_stopped(alloc: Global, reads: &[u64], writes: &[u64], status: Status) -> bool {
+    let input = first_input(alloc);
+    let given = Given {
+        piece: 60,
+        reads,
+        writes,
+        ..Given::of(&["run"], &input)
+    };
+    let ran = ran_afresh(alloc, &given);
+    ran.status == status && first_output().starts_with(&ran.text)
 }
 
 /// So many times a byte between two texts, and what is written for that.
@@ -363,28 +395,26 @@ static LONG: [Long; 6] = [
     },
 ];
 
-/// The bytes of a long input: behind `%%` stands the directory of alfa and the mark.
-fn long_input(alloc: Global, long: &Long) -> Result<Vec<u8>, AllocError> {
-    let mut input = front_of(alloc, long.front)?;
-    let middle = vec![in alloc; long.byte; long.count]?;
-    input.extend_from_slice(&middle)?;
-    input.extend_from_slice(long.back)?;
-    Ok(input)
+/// Whether an input so long comes as it says: behind `%%` stand the directory of alfa and the mark.
+fn is_limited(alloc: Global, long: &Long) -> bool {
+    let mut input = front_of(alloc, long.front);
+    let middle = vec![in alloc; long.byte; long.count].unwrap_or(Vec::new(alloc));
+    put(&mut input, &middle);
+    put(&mut input, long.back);
+    comes(alloc, &["run"], &input, 1_000_000, long.output, long.status)
 }
 
-fn front_of(alloc: Global, front: &str) -> Result<Vec<u8>, AllocError> {
+fn front_of(alloc: Global, front: &str) -> Vec<u8> {
     if front == "%%" {
-        return input_of(alloc, alfa(), "");
+        input_of(alloc, Directory::Alfa.text(), "")
+    } else {
+        copied(alloc, front.as_bytes())
     }
-    Vec::from_slice(alloc, front.as_bytes())
 }
 
 #[test]
-fn the_limits_of_an_input_are_kept(rt: HostRuntime) -> Result<(), Fail> {
+fn the_limits_of_an_input_are_kept(rt: HostRuntime) {
     for long in long_inputs() {
-        let input = long_input(rt.alloc(), long)?;
-        let ran = ran(rt.alloc(), &["run"], &input, 1_000_000, &[], &[])?;
-        assert!(rt; ran.is(long.output, long.status));
+        assert!(rt; is_limited(rt.alloc(), long));
     }
-    Ok(())
 }

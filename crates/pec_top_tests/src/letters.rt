@@ -1,6 +1,36 @@
 //! Texts of letters by the formats, without their seal lines, as another program composed them from the formats alone.
 //! Lines end with a line feed here and with CRLF in the letters; words in capitals stand for those of a row.
 
+/// A letter whose text is compared as a whole. Tables name it, and are spared its text.
+#[derive(Clone, Copy)]
+pub(crate) enum Letter {
+    Receipt,
+    Envelope,
+    Anomaly,
+}
+
+impl Letter {
+    pub(crate) fn text(self) -> &'static str {
+        match self {
+            Letter::Receipt => receipt(),
+            Letter::Envelope => envelope(),
+            Letter::Anomaly => anomaly(),
+        }
+    }
+}
+
+fn receipt() -> &'static str {
+    RECEIPT
+}
+
+fn envelope() -> &'static str {
+    ENVELOPE
+}
+
+fn anomaly() -> &'static str {
+    ANOMALY
+}
+
 /// The words that a row doesn't give itself.
 static USUAL: [(&str, &str); 7] = [
     ("WISH", ""),
@@ -18,7 +48,7 @@ pub(crate) fn usual() -> &'static [(&'static str, &'static str)] {
 }
 
 /// A receipt or notice to alice of a message of hers.
-pub(crate) const RECEIPT: &str = r#"X-Ricevuta: KIND
+const RECEIPT: &str = r#"X-Ricevuta: KIND
 WISHMessage-ID: <NAME@PROVIDER.example>
 X-Riferimento-Message-ID: <pec.0000000@alfa.example>
 Date: DATE HOUR +0100
@@ -76,7 +106,7 @@ Salve
 "#;
 
 /// The envelope of a message of alice to bob.
-pub(crate) const ENVELOPE: &str = r#"X-Trasporto: posta-certificata
+const ENVELOPE: &str = r#"X-Trasporto: posta-certificata
 X-TipoRicevuta: completa
 Message-ID: <pec.0000000@alfa.example>
 Date: Tue, 02 Jan 2024 10:00:00 +0100
@@ -122,7 +152,7 @@ Content-Disposition: attachment; filename="daticert.xml"
 "#;
 
 /// What beta makes of a message that is no certified mail, as its journal's entry 1.
-pub(crate) const ANOMALY: &str = r#"X-Trasporto: errore
+const ANOMALY: &str = r#"X-Trasporto: errore
 Message-ID: <ano.1@beta.example>
 Date: Tue, 02 Jan 2024 10:00:01 +0100
 From: posta-certificata@beta.example

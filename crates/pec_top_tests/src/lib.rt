@@ -14,6 +14,8 @@ mod input;
 #[cfg(test)]
 mod items;
 #[cfg(test)]
+mod ldif;
+#[cfg(test)]
 mod letters;
 #[cfg(test)]
 mod refusals;

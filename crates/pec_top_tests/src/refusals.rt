@@ -1,17 +1,16 @@
 //! Commands and lines that are refused, and journals that aren't taken. All outputs were worked out by hand.
 
-use crate::directories::{ALFA, TWO, two};
-use crate::running::{Case, Ran, Run, depot_failing, first_wrong, played, written_out};
+use crate::directories::Directory;
+use crate::running::{Case, Run, first_wrong, joined, played_afresh};
 use pec_top::Status;
-use std::alloc::{AllocError, Global};
-use std::test::Fail;
+use std::alloc::Global;
 
 const ROW: &str = "submit alfa 1704186000 alice@alfa.example anna@alfa.example {M1}\n";
 
 static FIRST: [Case; 3] = [
     Case {
         why: "a message that breaks a row of the table of admission isn't accepted",
-        directory: TWO,
+        directory: Directory::Two,
         failing: &[],
         runs: &[Run {
             form: "run",
@@ -26,7 +25,7 @@ static FIRST: [Case; 3] = [
     },
     Case {
         why: "of an account that is none, a provider that is down and a clock that is behind, the first is told",
-        directory: TWO,
+        directory: Directory::Two,
         failing: &[],
         runs: &[Run {
             form: "run",
@@ -44,7 +43,7 @@ static FIRST: [Case; 3] = [
     },
     Case {
         why: "a provider whose clock is ahead takes and sends nothing in a round, and the others do",
-        directory: TWO,
+        directory: Directory::Two,
         failing: &[],
         runs: &[Run {
             form: "run",
@@ -61,7 +60,7 @@ static FIRST: [Case; 3] = [
 static SECOND: [Case; 3] = [
     Case {
         why: "where no frame waits none is lost, repeated or swapped; and who is up isn't restarted",
-        directory: TWO,
+        directory: Directory::Two,
         failing: &[],
         runs: &[Run {
             form: "run",
@@ -73,7 +72,7 @@ static SECOND: [Case; 3] = [
     },
     Case {
         why: "a journal isn't made on a disk that holds one, and is opened again",
-        directory: ALFA,
+        directory: Directory::Alfa,
         failing: &[],
         runs: &[
             Run {
@@ -98,7 +97,7 @@ static SECOND: [Case; 3] = [
     },
     Case {
         why: "an empty disk isn't resumed",
-        directory: TWO,
+        directory: Directory::Two,
         failing: &[],
         runs: &[Run {
             form: "resume",
@@ -112,7 +111,7 @@ static SECOND: [Case; 3] = [
 static THIRD: [Case; 2] = [
     Case {
         why: "a line is refused for its first fault, behind the lines before it",
-        directory: TWO,
+        directory: Directory::Two,
         failing: &[],
         runs: &[Run {
             form: "run",
@@ -123,7 +122,7 @@ static THIRD: [Case; 2] = [
     },
     Case {
         why: "what needs no disk is refused before the disk is asked, and who is down says no more",
-        directory: TWO,
+        directory: Directory::Two,
         failing: &[(0, 11), (0, 12)],
         runs: &[Run {
             form: "run",
@@ -172,108 +171,74 @@ fn lines() -> &'static [(&'static str, &'static str)] {
 }
 
 #[test]
-fn what_is_refused_is_told_by_its_first_cause(rt: HostRuntime) -> Result<(), Fail> {
+fn what_is_refused_is_told_by_its_first_cause(rt: HostRuntime) {
     for cases in [first(), second(), third()] {
-        let wrong = first_wrong(rt.alloc(), cases)?;
-        assert_eq!(rt; wrong, None);
+        assert_eq!(rt; first_wrong(rt.alloc(), cases), None);
     }
-    Ok(())
 }
 
 #[test]
-fn a_line_that_says_no_command_ends_the_run(rt: HostRuntime) -> Result<(), Fail> {
+fn a_line_that_says_no_command_ends_the_run(rt: HostRuntime) {
     for (line, fault) in lines() {
-        let refused = is_refused_for(rt.alloc(), line, fault)?;
-        assert!(rt; refused, "{line}");
+        assert!(rt; is_refused_for(rt.alloc(), line, fault), "{line}");
     }
-    Ok(())
 }
 
 /// Whether a script of this line is refused for this fault, and ends there.
-fn is_refused_for(alloc: Global, line: &str, fault: &str) -> Result<bool, AllocError> {
-    let script = joined(alloc, &[line, "\nbook alice@alfa.example\n"])?;
-    let output = joined(alloc, &["refused line 1 ", fault, "\n"])?;
-    let mut depot = depot_failing(alloc, &[])?;
-    let ran = played(alloc, &mut depot, two(), "run", script.as_str())?;
-    Ok(ran.is(output.as_bytes(), Status::Refused))
-}
-
-fn joined(alloc: Global, texts: &[&str]) -> Result<String, AllocError> {
-    let mut whole = String::new(alloc);
-    for text in texts {
-        whole.push_str(text)?;
-    }
-    Ok(whole)
-}
-
-/// A message of 69 bytes of head and so many of body, to bob and carl.
-fn submission_of(alloc: Global, body: u32) -> Result<String, AllocError> {
-    let mut line = String::from_str(
-        alloc,
-        "submit alfa 1704186000 alice@alfa.example bob@beta.example,carl@beta.example \
-         {From: alice@alfa.example|To: bob@beta.example, carl@beta.example||",
-    )?;
-    for _ in 0..body {
-        line.push('x')?;
-    }
-    line.push_str("}\n")?;
-    Ok(line)
+fn is_refused_for(alloc: Global, line: &str, fault: &str) -> bool {
+    let script = joined(alloc, &[line, "\nbook alice@alfa.example\n"]);
+    let output = joined(alloc, &["refused line 1 ", fault, "\n"]);
+    let ran = played_afresh(alloc, Directory::Two.text(), script.as_str());
+    ran.is(output.as_bytes(), Status::Refused)
 }
 
 /// Where the limit is 1000, a message of 500 bytes may go to two recipients, and one of 501 bytes may not.
 #[test]
-fn a_message_counts_once_for_each_recipient(rt: HostRuntime) -> Result<(), Fail> {
-    let ran = ran_with_limit(rt.alloc())?;
-    let output = written_out(rt.alloc(), "accepted I0\nnot-accepted I1 size\n")?;
-    assert_eq!(rt; ran.text.as_slice(), output.as_bytes());
-    Ok(())
+fn a_message_counts_once_for_each_recipient(rt: HostRuntime) {
+    assert!(rt; is_limited(rt.alloc()));
 }
 
-fn ran_with_limit(alloc: Global) -> Result<Ran, AllocError> {
-    let limit = "name = \"alfa\"\nlimit = 1000";
-    let directory = two().replacen(alloc, "name = \"alfa\"", limit, 1)?;
-    let script = two_submissions(alloc)?;
-    let mut depot = depot_failing(alloc, &[])?;
-    played(
-        alloc,
-        &mut depot,
-        directory.as_str(),
-        "run",
-        script.as_str(),
-    )
+fn is_limited(alloc: Global) -> bool {
+    let directory = Directory::Two
+        .text()
+        .replacen(alloc, "name = \"alfa\"", "name = \"alfa\"\nlimit = 1000", 1)
+        .unwrap_or(String::new(alloc));
+    let smaller = submission_of(alloc, 431);
+    let larger = submission_of(alloc, 432);
+    let script = joined(alloc, &[smaller.as_str(), larger.as_str()]);
+    let ran = played_afresh(alloc, directory.as_str(), script.as_str());
+    ran.writes(alloc, "accepted I0\nnot-accepted I1 size\n", Status::Done)
 }
 
-/// A message of 500 bytes, and one of 501.
-fn two_submissions(alloc: Global) -> Result<String, AllocError> {
-    let mut script = submission_of(alloc, 431)?;
-    let larger = submission_of(alloc, 432)?;
-    script.push_str(larger.as_str())?;
-    Ok(script)
+/// A message of 69 bytes of head and so many of body, to bob and carl.
+fn submission_of(alloc: Global, body: u32) -> String {
+    let front = "submit alfa 1704186000 alice@alfa.example bob@beta.example,carl@beta.example \
+         {From: alice@alfa.example|To: bob@beta.example, carl@beta.example||";
+    let body = many(alloc, "x", body);
+    joined(alloc, &[front, body.as_str(), "}\n"])
+}
+
+/// A text so many times.
+fn many(alloc: Global, text: &str, times: u32) -> String {
+    let mut whole = String::new(alloc);
+    for _ in 0..times {
+        let _ = whole.push_str(text);
+    }
+    whole
 }
 
 /// A link holds 64 frames, and the next is refused.
 #[test]
-fn a_full_link_takes_no_frame(rt: HostRuntime) -> Result<(), Fail> {
-    let full = is_full(rt.alloc())?;
-    assert!(rt; full);
-    Ok(())
+fn a_full_link_takes_no_frame(rt: HostRuntime) {
+    assert!(rt; is_full(rt.alloc()));
 }
 
-fn is_full(alloc: Global) -> Result<bool, AllocError> {
+fn is_full(alloc: Global) -> bool {
     let more = "inject alfa beta {F1}\nrepeat alfa beta 0\nrepeat alfa beta 64\n";
-    let script = many(alloc, "inject alfa beta {F1}\n", more)?;
-    let output = many(alloc, "injected\n", "link-full\nlink-full\nno-frame\n")?;
-    let mut depot = depot_failing(alloc, &[])?;
-    let ran = played(alloc, &mut depot, two(), "run", script.as_str())?;
-    Ok(ran.is(output.as_bytes(), Status::Done))
-}
-
-/// A line 64 times, and others behind.
-fn many(alloc: Global, line: &str, behind: &str) -> Result<String, AllocError> {
-    let mut text = String::new(alloc);
-    for _ in 0..64 {
-        text.push_str(line)?;
-    }
-    text.push_str(behind)?;
-    Ok(text)
+    let first = many(alloc, "inject alfa beta {F1}\n", 64);
+    let script = joined(alloc, &[first.as_str(), more]);
+    let first = many(alloc, "injected\n", 64);
+    let output = joined(alloc, &[first.as_str(), "link-full\nlink-full\nno-frame\n"]);
+    let ran = played_afresh(alloc, Directory::Two.text(), script.as_str());
+    ran.is(output.as_bytes(), Status::Done)
 }

@@ -1,16 +1,15 @@
-//! Cases: runs of the program, one after another over the disks of one depot, and what each has to write.
+//! Cases: runs of the program, one after another over the disks of one depot, and what each has to write. Where memory is
+//! wanting a text lacks a piece, and what comes isn't what has to.
 
-ghost use Rattle.std.specs.Prelude.{◌<◌};
-
-use crate::directories::message;
+use crate::directories::{Directory, message};
 use base64::engine::general_purpose::STANDARD;
 use pec_outside::{
     Depot, Door, MemDepot, MemDoor, MemSink, MemSource, MemTicks, Sink, Source, Ticks,
 };
-use pec_screen::{Judge, NoScreens};
+use pec_screen::Screens;
 use pec_top::{Status, run_pec};
 use pec_types::Moment;
-use std::alloc::{AllocError, Global};
+use std::alloc::Global;
 
 /// One run: its form, its script, what it has to write, and its status. In a script `{..}` holds a message or its name,
 /// and its base64 is written; in an output `I0` to `I2` are the first messages of alfa, `J0` is beta's, `K0` gamma's.
@@ -26,77 +25,83 @@ pub(crate) struct Run {
 #[derive(Clone, Copy)]
 pub(crate) struct Case {
     pub(crate) why: &'static str,
-    pub(crate) directory: &'static str,
+    pub(crate) directory: Directory,
     pub(crate) failing: &'static [(u32, u64)],
     pub(crate) runs: &'static [Run],
 }
 
 /// What the first case is about that doesn't come as it says.
-pub(crate) fn first_wrong(
-    alloc: Global,
-    cases: &[Case],
-) -> Result<Option<&'static str>, AllocError> {
+pub(crate) fn first_wrong(alloc: Global, cases: &[Case]) -> Option<&'static str> {
     for case in cases {
-        if !comes(alloc, case)? {
-            return Ok(Some(case.why));
+        if !comes(alloc, case) {
+            return Some(case.why);
         }
     }
-    Ok(None)
+    None
 }
 
-fn comes(alloc: Global, case: &Case) -> Result<bool, AllocError> {
-    let mut depot = depot_failing(alloc, case.failing)?;
+fn comes(alloc: Global, case: &Case) -> bool {
+    let mut depot = depot_failing(alloc, case.failing);
+    let mut right = true;
     for run in case.runs {
-        if !runs(alloc, &mut depot, case.directory, run)? {
-            return Ok(false);
-        }
+        right = runs(alloc, &mut depot, case.directory, run) && right;
     }
-    Ok(true)
+    right
 }
 
 /// Whether a run writes what it has to, and ends with its status.
-fn runs(
-    alloc: Global,
-    depot: &mut MemDepot,
-    directory: &str,
-    run: &Run,
-) -> Result<bool, AllocError> {
-    let wanted = written_out(alloc, run.output)?;
-    let ran = played(alloc, depot, directory, run.form, run.script)?;
-    Ok(ran.is(wanted.as_bytes(), run.status))
-}
-
-/// A depot of three empty disks, where these calls fail, each by its provider's number and its own.
-pub(crate) fn depot_failing(alloc: Global, failing: &[(u32, u64)]) -> Result<MemDepot, AllocError> {
-    let mut disks = Vec::new(alloc);
-    for provider in 0..3u32 {
-        disks.push(calls_of(alloc, failing, provider)?)?;
-    }
-    Ok(MemDepot::new(alloc, disks, Vec::new(alloc)))
-}
-
-/// The failing calls of one provider's disk.
-fn calls_of(alloc: Global, failing: &[(u32, u64)], provider: u32) -> Result<Vec<u64>, AllocError> {
-    let mut calls = Vec::new(alloc);
-    for (whose, call) in failing {
-        if *whose == provider {
-            calls.push(*call)?;
-        }
-    }
-    Ok(calls)
+fn runs(alloc: Global, depot: &mut MemDepot, directory: Directory, run: &Run) -> bool {
+    let ran = played(alloc, depot, directory.text(), run.form, run.script);
+    ran.writes(alloc, run.output, run.status)
 }
 
 /// What a run wrote, and its status.
-#[derive(Drop)]
 pub(crate) struct Ran {
     pub(crate) text: Vec<u8>,
     pub(crate) status: Status,
+}
+
+impl Drop for Ran {
+    fn drop(self) {
+        let Ran { text: _, status: _ } = self;
+    }
 }
 
 impl Ran {
     /// Whether it wrote this and ended so.
     pub(crate) fn is(&self, text: &[u8], status: Status) -> bool {
         self.status == status && self.text.as_slice() == text
+    }
+
+    /// Whether it wrote this output, in which messages have their short names, and ended so.
+    pub(crate) fn writes(&self, alloc: Global, output: &str, status: Status) -> bool {
+        self.is(written_out(alloc, output).as_bytes(), status)
+    }
+}
+
+/// What a run is given beside its disks and its door: its words, its input, which comes in pieces of so many bytes, and
+/// the numbers of the reads, writes and looks at the clock that fail.
+#[derive(Clone, Copy)]
+pub(crate) struct Given<'a> {
+    pub(crate) words: &'a [&'a str],
+    pub(crate) input: &'a [u8],
+    pub(crate) piece: usize,
+    pub(crate) reads: &'a [u64],
+    pub(crate) writes: &'a [u64],
+    pub(crate) clock: &'a [u64],
+}
+
+impl<'a> Given<'a> {
+    /// Words and an input, where nothing fails.
+    pub(crate) fn of(words: &'a [&'a str], input: &'a [u8]) -> Given<'a> {
+        Given {
+            words,
+            input,
+            piece: 1000,
+            reads: &[],
+            writes: &[],
+            clock: &[],
+        }
     }
 }
 
@@ -107,109 +112,85 @@ pub(crate) fn played(
     directory: &str,
     form: &str,
     script: &str,
-) -> Result<Ran, AllocError> {
-    let input = input_of(alloc, directory, script)?;
-    run_over(alloc, depot, &[form], &input, 1000, &[], &[])
+) -> Ran {
+    let input = input_of(alloc, directory, script);
+    ran_over(alloc, depot, &Given::of(&[form], &input))
 }
 
-/// The input of a script behind a directory.
-pub(crate) fn input_of(
-    alloc: Global,
-    directory: &str,
-    script: &str,
-) -> Result<Vec<u8>, AllocError> {
-    let lines = script_of(alloc, script)?;
-    let mut input = Vec::from_slice(alloc, directory.as_bytes())?;
-    input.extend_from_slice(b"%%\n")?;
-    input.extend_from_slice(&lines)?;
-    Ok(input)
+/// Runs the program in the form `run`, over empty disks, on a script behind a directory.
+pub(crate) fn played_afresh(alloc: Global, directory: &str, script: &str) -> Ran {
+    let mut depot = depot_failing(alloc, &[]);
+    played(alloc, &mut depot, directory, "run", script)
 }
 
-/// Runs the program over a depot on these words and this input, given in pieces, where the named reads and writes fail.
-pub(crate) fn run_over(
-    alloc: Global,
-    depot: &mut MemDepot,
-    words: &[&str],
-    input: &[u8],
-    piece: usize,
-    reads: &[u64],
-    writes: &[u64],
-) -> Result<Ran, AllocError>
-    requires { 0 < piece }
-{
-    let none: Vec<NoScreens> = Vec::new(alloc);
-    run_under(alloc, depot, words, input, piece, reads, writes, none)
+/// Runs the program over a depot, without screens and connections.
+pub(crate) fn ran_over(alloc: Global, depot: &mut MemDepot, given: &Given<'_>) -> Ran {
+    ran_under(alloc, depot, given, Vec::new(alloc))
 }
 
-/// The same with screens, a list for each provider.
-pub(crate) fn run_under<J: Judge>(
+/// The same over empty disks.
+pub(crate) fn ran_afresh(alloc: Global, given: &Given<'_>) -> Ran {
+    let mut depot = depot_failing(alloc, &[]);
+    ran_over(alloc, &mut depot, given)
+}
+
+/// Runs the program over a depot, with screens, a list for each provider.
+pub(crate) fn ran_under(
     alloc: Global,
     depot: &mut MemDepot,
-    words: &[&str],
-    input: &[u8],
-    piece: usize,
-    reads: &[u64],
-    writes: &[u64],
-    screens: Vec<J>,
-) -> Result<Ran, AllocError>
-    requires { 0 < piece }
-{
-    let mut ticks = clock(alloc, &[])?;
+    given: &Given<'_>,
+    screens: Vec<Screens>,
+) -> Ran {
     let mut door = MemDoor::new(alloc, Vec::new(alloc), Vec::new(alloc), Vec::new(alloc));
-    let given = strings(alloc, words)?;
-    let mut source = source_of(alloc, input, piece, reads)?;
-    let mut sink = MemSink::new(alloc, Vec::from_slice(alloc, writes)?);
+    ran_at(alloc, depot, &mut door, given, screens)
+}
+
+/// Runs the program over a depot and at a door, by a clock that stands still.
+pub(crate) fn ran_at(
+    alloc: Global,
+    depot: &mut MemDepot,
+    door: &mut MemDoor,
+    given: &Given<'_>,
+    screens: Vec<Screens>,
+) -> Ran {
+    match clock(alloc, given.clock) {
+        Some(ticks) => ran_by(alloc, depot, door, ticks, given, screens),
+        None => Ran {
+            text: Vec::new(alloc),
+            status: Status::NoMemory,
+        },
+    }
+}
+
+fn ran_by(
+    alloc: Global,
+    depot: &mut MemDepot,
+    door: &mut MemDoor,
+    mut ticks: MemTicks,
+    given: &Given<'_>,
+    screens: Vec<Screens>,
+) -> Ran {
+    let words = strings(alloc, given.words);
+    let mut source = source_of(alloc, given);
+    let mut sink = MemSink::new(alloc, numbers(alloc, given.writes));
     let status = status_of(
         alloc,
-        &given,
+        &words,
         &mut source,
         &mut sink,
         depot,
         &mut ticks,
-        &mut door,
+        door,
         screens,
     );
-    outcome(alloc, &sink, status)
+    Ran {
+        text: copied(alloc, sink.bytes()),
+        status,
+    }
 }
 
-/// A clock that stands still, where these calls fail.
-pub(crate) fn clock(alloc: Global, failing: &[u64]) -> Result<MemTicks, AllocError> {
-    let Some(moment) = Moment::new(1_704_186_000) else {
-        return Err(AllocError);
-    };
-    let moments = vec![in alloc; moment]?;
-    Ok(MemTicks::new(alloc, moments, Vec::from_slice(alloc, failing)?))
-}
-
-/// Runs the program on these words and a directory, with a clock and a door, where the named writes fail.
-pub(crate) fn run_serving(
-    alloc: Global,
-    depot: &mut MemDepot,
-    ticks: &mut MemTicks,
-    door: &mut MemDoor,
-    words: &[&str],
-    directory: &str,
-    writes: &[u64],
-) -> Result<Ran, AllocError> {
-    let given = strings(alloc, words)?;
-    let mut source = source_of(alloc, directory.as_bytes(), 1000, &[])?;
-    let mut sink = MemSink::new(alloc, Vec::from_slice(alloc, writes)?);
-    let none: Vec<NoScreens> = Vec::new(alloc);
-    let status = status_of(
-        alloc,
-        &given,
-        &mut source,
-        &mut sink,
-        depot,
-        ticks,
-        door,
-        none,
-    );
-    outcome(alloc, &sink, status)
-}
-
-/// The one call of the program.
-fn status_of<S: Source, W: Sink, P: Depot, T: Ticks, R: Door, J: Judge>(
+/// The one call of the program, by a function without a clause: the proofs of others are spared its own.
+fn status_of<S: Source, W: Sink, P: Depot, T: Ticks, R: Door>(
     alloc: Global,
     words: &[String],
     source: &mut S,
@@ -217,66 +198,127 @@ fn status_of<S: Source, W: Sink, P: Depot, T: Ticks, R: Door, J: Judge>(
     depot: &mut P,
     ticks: &mut T,
     door: &mut R,
-    screens: Vec<J>,
+    screens: Vec<Screens>,
 ) -> Status {
     run_pec(alloc, words, source, sink, depot, ticks, door, screens)
 }
 
-fn outcome(alloc: Global, sink: &MemSink, status: Status) -> Result<Ran, AllocError> {
-    let text = Vec::from_slice(alloc, sink.bytes())?;
-    Ok(Ran { text, status })
+/// A depot of three empty disks, where these calls fail, each by its provider's number and its own.
+pub(crate) fn depot_failing(alloc: Global, failing: &[(u32, u64)]) -> MemDepot {
+    let mut disks = Vec::new(alloc);
+    for provider in 0..3u32 {
+        let _ = disks.push(calls_of(alloc, failing, provider));
+    }
+    MemDepot::new(alloc, disks, Vec::new(alloc))
 }
 
-fn strings(alloc: Global, words: &[&str]) -> Result<Vec<String>, AllocError> {
+/// The failing calls of one provider's disk.
+fn calls_of(alloc: Global, failing: &[(u32, u64)], provider: u32) -> Vec<u64> {
+    let mut calls = Vec::new(alloc);
+    for (whose, call) in failing {
+        if *whose == provider {
+            let _ = calls.push(*call);
+        }
+    }
+    calls
+}
+
+/// A clock that stands still, where these calls fail.
+fn clock(alloc: Global, failing: &[u64]) -> Option<MemTicks> {
+    let moment = Moment::new(1_704_186_000)?;
+    let moments = Vec::from_slice(alloc, &[moment]).ok()?;
+    Some(MemTicks::new(alloc, moments, numbers(alloc, failing)))
+}
+
+fn source_of(alloc: Global, given: &Given<'_>) -> MemSource {
+    MemSource::new(
+        alloc,
+        copied(alloc, given.input),
+        given.piece.max(1),
+        numbers(alloc, given.reads),
+    )
+}
+
+fn strings(alloc: Global, words: &[&str]) -> Vec<String> {
     let mut strings = Vec::new(alloc);
     for word in words {
-        strings.push(String::from_str(alloc, word)?)?;
+        let _ = strings.push(string(alloc, word));
     }
-    Ok(strings)
+    strings
 }
 
-fn source_of(
-    alloc: Global,
-    input: &[u8],
-    piece: usize,
-    reads: &[u64],
-) -> Result<MemSource, AllocError>
-    requires { 0 < piece }
-{
-    let bytes = Vec::from_slice(alloc, input)?;
-    let reads = Vec::from_slice(alloc, reads)?;
-    Ok(MemSource::new(alloc, bytes, piece, reads))
+fn string(alloc: Global, text: &str) -> String {
+    let mut string = String::new(alloc);
+    let _ = string.push_str(text);
+    string
 }
 
-/// A script where `{..}` holds a message or its name: its base64 is written, with CRLF for each `|`.
-fn script_of(alloc: Global, text: &str) -> Result<Vec<u8>, AllocError> {
-    let mut script = Vec::new(alloc);
-    for part in text.split('{') {
-        add_part(alloc, &mut script, part)?;
+/// Texts, one behind another.
+pub(crate) fn joined(alloc: Global, texts: &[&str]) -> String {
+    let mut whole = String::new(alloc);
+    for text in texts {
+        let _ = whole.push_str(text);
     }
-    Ok(script)
+    whole
 }
 
-fn add_part(alloc: Global, script: &mut Vec<u8>, part: &str) -> Result<(), AllocError> {
+pub(crate) fn copied(alloc: Global, bytes: &[u8]) -> Vec<u8> {
+    let mut copy = Vec::new(alloc);
+    put(&mut copy, bytes);
+    copy
+}
+
+pub(crate) fn numbers(alloc: Global, given: &[u64]) -> Vec<u64> {
+    let mut numbers = Vec::new(alloc);
+    let _ = numbers.extend_from_slice(given);
+    numbers
+}
+
+/// Adds bytes.
+pub(crate) fn put(bytes: &mut Vec<u8>, more: &[u8]) {
+    let _ = bytes.extend_from_slice(more);
+}
+
+/// The input of a script behind a directory.
+pub(crate) fn input_of(alloc: Global, directory: &str, script: &str) -> Vec<u8> {
+    let mut input = copied(alloc, directory.as_bytes());
+    put(&mut input, b"%%\n");
+    for part in script.split('{') {
+        add_part(alloc, &mut input, part);
+    }
+    input
+}
+
+/// Adds a part of a script: what stands before `}` is a message or its name, and its base64 is written.
+fn add_part(alloc: Global, script: &mut Vec<u8>, part: &str) {
     match part.split_once('}') {
         Some((inside, after)) => {
-            add_message(alloc, script, inside)?;
-            script.extend_from_slice(after.as_bytes())
+            add_message(alloc, script, inside);
+            put(script, after.as_bytes());
         }
-        None => script.extend_from_slice(part.as_bytes()),
+        None => put(script, part.as_bytes()),
     }
 }
 
-fn add_message(alloc: Global, script: &mut Vec<u8>, inside: &str) -> Result<(), AllocError> {
-    let bytes = lines_of(alloc, message(inside))?;
-    let encoded = STANDARD.encode(alloc, &bytes)?;
-    script.extend_from_slice(encoded.as_bytes())
+fn add_message(alloc: Global, script: &mut Vec<u8>, inside: &str) {
+    let lines = lines_of(alloc, message(inside));
+    let encoded = in_base64(alloc, lines.as_bytes());
+    put(script, encoded.as_bytes());
 }
 
-/// The bytes of a message, whose lines end at `|`.
-pub(crate) fn lines_of(alloc: Global, text: &str) -> Result<Vec<u8>, AllocError> {
-    let lines = text.replace(alloc, "|", "\r\n")?;
-    Vec::from_slice(alloc, lines.as_bytes())
+pub(crate) fn in_base64(alloc: Global, bytes: &[u8]) -> String {
+    STANDARD.encode(alloc, bytes).unwrap_or(String::new(alloc))
+}
+
+/// A text whose lines end at `|`, with its ends of lines.
+pub(crate) fn lines_of(alloc: Global, text: &str) -> String {
+    replaced(alloc, text, "|", "\r\n")
+}
+
+/// A text with a word made another wherever it stands.
+pub(crate) fn replaced(alloc: Global, text: &str, word: &str, instead: &str) -> String {
+    text.replace(alloc, word, instead)
+        .unwrap_or(String::new(alloc))
 }
 
 /// Messages by their short names in outputs.
@@ -294,19 +336,15 @@ fn names() -> &'static [(&'static str, &'static str)] {
 }
 
 /// An output with the names of messages written out.
-pub(crate) fn written_out(alloc: Global, output: &str) -> Result<String, AllocError> {
+pub(crate) fn written_out(alloc: Global, output: &str) -> String {
     with_words(alloc, output, names())
 }
 
 /// A text with the first of each pair made the second, in the order of the pairs.
-pub(crate) fn with_words(
-    alloc: Global,
-    text: &str,
-    words: &[(&str, &str)],
-) -> Result<String, AllocError> {
-    let mut written = String::from_str(alloc, text)?;
+pub(crate) fn with_words(alloc: Global, text: &str, words: &[(&str, &str)]) -> String {
+    let mut written = string(alloc, text);
     for (word, instead) in words {
-        written = written.replace(alloc, word, instead)?;
+        written = replaced(alloc, written.as_str(), word, instead);
     }
-    Ok(written)
+    written
 }

@@ -1,11 +1,12 @@
 //! Runs that serve connections. Worked out by hand. In requests and replies lines end at `|`, and each ends at `^`.
 
-use crate::directories::{ALFA, TWO};
-use crate::running::{Ran, clock, depot_failing, lines_of, played, run_serving, written_out};
+use crate::directories::Directory;
+use crate::running::{
+    Given, Ran, copied, depot_failing, lines_of, numbers, played, put, ran_at, written_out,
+};
 use pec_outside::{Depot, Disk, MemDepot, MemDoor};
 use pec_top::Status;
-use std::alloc::{AllocError, Global};
-use std::test::Fail;
+use std::alloc::Global;
 
 const RUN: &str = "submit alfa 1704186000 alice@alfa.example anna@alfa.example {M1}\n";
 
@@ -16,6 +17,10 @@ const HAND_IN: &str = "POST /mail/alice@alfa.example/submit HTTP/1.1|x-key: chia
 const ACCEPTED: &str =
     "HTTP/1.1 201 Created|content-type: text/plain|content-length: 34|connection: close||\
      accepted I0\n^";
+
+fn hand_in() -> &'static str {
+    HAND_IN
+}
 
 /// What comes in over the connections, what each is answered, and what has to be written.
 type Row = (&'static str, &'static str, &'static str);
@@ -56,58 +61,84 @@ static OPENED: [Row; 2] = [
     ),
 ];
 
+/// The tables, by functions without a clause: the proof of the test is spared their texts.
+fn fresh() -> &'static [Row] {
+    &FRESH
+}
+
+fn opened() -> &'static [Row] {
+    &OPENED
+}
+
 #[test]
-fn connections_are_served(rt: HostRuntime) -> Result<(), Fail> {
-    for row in FRESH {
-        let ran = answered(rt.alloc(), "", row)?;
-        assert!(rt; ran, "{}", row.2);
+fn connections_are_served(rt: HostRuntime) {
+    for row in fresh() {
+        assert!(rt; is_answered(rt.alloc(), "", row), "{}", row.2);
     }
-    for row in OPENED {
-        let ran = answered(rt.alloc(), RUN, row)?;
-        assert!(rt; ran, "{}", row.2);
+    for row in opened() {
+        assert!(rt; is_answered(rt.alloc(), RUN, row), "{}", row.2);
     }
-    Ok(())
 }
 
 /// Whether the connections of a row come as it says, on the disks of this script.
-fn answered(alloc: Global, script: &str, row: Row) -> Result<bool, AllocError> {
-    let mut depot = depot_failing(alloc, &[])?;
-    if !script.is_empty() {
-        played(alloc, &mut depot, ALFA, "run", script)?;
-    }
-    let mut door = door(alloc, row.0, &[])?;
-    let words = if row.0.len() > HAND_IN.len() {
-        "serve 2"
+fn is_answered(alloc: Global, script: &str, row: &Row) -> bool {
+    let mut depot = depot_failing(alloc, &[]);
+    lay(alloc, &mut depot, script);
+    let mut door = door(alloc, row.0, &[]);
+    let count = if row.0.len() > hand_in().len() {
+        "2"
     } else {
-        "serve 1"
+        "1"
     };
-    let ran = served(alloc, &mut depot, &mut door, words, ALFA)?;
-    let text = written_out(alloc, row.2)?;
-    Ok(ran.is(text.as_bytes(), Status::Done) && replied(alloc, &door, row.1)?)
+    let ran = served(
+        alloc,
+        &mut depot,
+        &mut door,
+        &["serve", count],
+        Directory::Alfa.text(),
+    );
+    ran.writes(alloc, row.2, Status::Done) && is_replied(alloc, &door, row.1)
+}
+
+/// Plays a script, and leaves its journals; none where it is empty.
+fn lay(alloc: Global, depot: &mut MemDepot, script: &str) {
+    if !script.is_empty() {
+        played(alloc, depot, Directory::Alfa.text(), "run", script);
+    }
 }
 
 /// Words, and how a run on them ends without a connection.
-static WORDS: [(&str, &str, Status); 7] = [
-    ("serve 0", "usage\n", Status::Usage),
-    ("serve 01", "usage\n", Status::Usage),
-    ("serve 1000001", "usage\n", Status::Usage),
-    ("serve x", "usage\n", Status::Usage),
-    ("serve 1 1", "usage\n", Status::Usage),
-    ("serve", "usage\n", Status::Usage),
+static WORDS: [(&[&str], &str, Status); 7] = [
+    (&["serve", "0"], "usage\n", Status::Usage),
+    (&["serve", "01"], "usage\n", Status::Usage),
+    (&["serve", "1000001"], "usage\n", Status::Usage),
+    (&["serve", "x"], "usage\n", Status::Usage),
+    (&["serve", "1", "1"], "usage\n", Status::Usage),
+    (&["serve"], "usage\n", Status::Usage),
     // A line that parts a script is a part of a directory.
-    ("serve 1", "refused directory not-toml\n", Status::Refused),
+    (
+        &["serve", "1"],
+        "refused directory not-toml\n",
+        Status::Refused,
+    ),
 ];
 
+fn words() -> &'static [(&'static [&'static str], &'static str, Status)] {
+    &WORDS
+}
+
 #[test]
-fn words_and_directories_are_refused(rt: HostRuntime) -> Result<(), Fail> {
-    for (words, output, status) in WORDS {
-        let mut depot = depot_failing(rt.alloc(), &[])?;
-        let mut door = door(rt.alloc(), HAND_IN, &[])?;
-        let ran = served(rt.alloc(), &mut depot, &mut door, words, "%%\n")?;
-        assert!(rt; ran.is(output.as_bytes(), status), "at {words}");
-        assert!(rt; door.replies().is_empty(), "at {words}");
+fn words_and_directories_are_refused(rt: HostRuntime) {
+    for (words, output, status) in words() {
+        assert!(rt; is_refused(rt.alloc(), words, output, *status));
     }
-    Ok(())
+}
+
+fn is_refused(alloc: Global, words: &[&str], output: &str, status: Status) -> bool {
+    let mut depot = depot_failing(alloc, &[]);
+    let mut door = door(alloc, hand_in(), &[]);
+    let ran = served(alloc, &mut depot, &mut door, words, "%%\n");
+    ran.is(output.as_bytes(), status) && door.replies().is_empty()
 }
 
 /// A disk on which something else stands, and how the run ends.
@@ -118,30 +149,40 @@ static STRANGE: [(u32, &str, Status); 2] = [
 ];
 
 #[test]
-fn disks_are_refused(rt: HostRuntime) -> Result<(), Fail> {
-    for (provider, output, status) in STRANGE {
-        let mut depot = depot_failing(rt.alloc(), &[])?;
-        put_strange(&mut depot, provider)?;
-        let mut door = door(rt.alloc(), HAND_IN, &[])?;
-        let ran = served(rt.alloc(), &mut depot, &mut door, "serve 1", TWO)?;
-        assert!(rt; ran.is(output.as_bytes(), status), "at {provider}");
+fn disks_are_refused(rt: HostRuntime) {
+    for (provider, output, status) in &STRANGE {
+        assert!(rt;
+            is_strange(rt.alloc(), *provider, output, *status),
+            "at {provider}"
+        );
     }
-    Ok(())
 }
 
-fn put_strange(depot: &mut MemDepot, provider: u32) -> Result<(), AllocError> {
-    if provider >= 16 {
-        return Err(AllocError);
+fn is_strange(alloc: Global, provider: u32, output: &str, status: Status) -> bool {
+    let mut depot = depot_failing(alloc, &[]);
+    let mut door = door(alloc, hand_in(), &[]);
+    put_strange(&mut depot, provider)
+        && served(
+            alloc,
+            &mut depot,
+            &mut door,
+            &["serve", "1"],
+            Directory::Two.text(),
+        )
+        .is(output.as_bytes(), status)
+}
+
+/// Puts something else on the disk of one of the first providers, and answers whether it could.
+fn put_strange(depot: &mut MemDepot, provider: u32) -> bool {
+    let provider = provider.min(2);
+    match depot.disk(provider) {
+        Ok(mut disk) => {
+            let wrote = disk.write_at(0, b"PECJRN2\n");
+            depot.keep(provider, disk);
+            wrote.is_ok()
+        }
+        Err(_) => false,
     }
-    let Ok(mut disk) = depot.disk(provider) else {
-        return Err(AllocError);
-    };
-    let wrote = disk.write_at(0, b"PECJRN2\n");
-    depot.keep(provider, disk);
-    if wrote.is_err() {
-        return Err(AllocError);
-    }
-    Ok(())
 }
 
 /// A device whose first call fails, or that of the journal behind the look at the disk; the replies, and the status.
@@ -153,15 +194,31 @@ static FAULTS: [(&str, &str, Status); 5] = [
     ("output", ACCEPTED, Status::WriteFault),
 ];
 
+fn faults() -> &'static [(&'static str, &'static str, Status)] {
+    &FAULTS
+}
+
 #[test]
-fn a_device_that_fails_ends_the_service(rt: HostRuntime) -> Result<(), Fail> {
-    for (device, replies, status) in FAULTS {
-        let mut door = door(rt.alloc(), HAND_IN, failing(device, "door"))?;
-        let ran = broken(rt.alloc(), &mut door, device)?;
-        assert!(rt; ran.is(b"", status), "at {device}");
-        assert!(rt; replied(rt.alloc(), &door, replies)?, "at {device}");
+fn a_device_that_fails_ends_the_service(rt: HostRuntime) {
+    for (device, replies, status) in faults() {
+        assert!(rt;
+            is_ended(rt.alloc(), device, replies, *status),
+            "at {device}"
+        );
     }
-    Ok(())
+}
+
+/// Whether a service where this device is broken gives these replies, writes nothing and ends so.
+fn is_ended(alloc: Global, device: &str, replies: &str, status: Status) -> bool {
+    let mut depot = depot_failing(alloc, failing_disk(device));
+    let mut door = door(alloc, hand_in(), failing(device, "door"));
+    let given = Given {
+        clock: failing(device, "clock"),
+        writes: failing(device, "output"),
+        ..Given::of(&["serve", "1"], Directory::Alfa.text().as_bytes())
+    };
+    let ran = ran_at(alloc, &mut depot, &mut door, &given, Vec::new(alloc));
+    ran.is(b"", status) && is_replied(alloc, &door, replies)
 }
 
 /// The calls of a device that fail where this one is broken.
@@ -169,36 +226,28 @@ fn failing(broken: &str, device: &str) -> &'static [u64] {
     if broken == device { &[0] } else { &[] }
 }
 
-fn broken(alloc: Global, door: &mut MemDoor, device: &str) -> Result<Ran, AllocError> {
-    let calls: &[(u32, u64)] = match device {
+/// The calls of disks that fail where this device is broken.
+fn failing_disk(broken: &str) -> &'static [(u32, u64)] {
+    match broken {
         "disk" => &[(0, 0)],
         "journal" => &[(0, 2)],
         _ => &[],
-    };
-    let mut depot = depot_failing(alloc, calls)?;
-    let mut ticks = clock(alloc, failing(device, "clock"))?;
-    let words = ["serve", "1"];
-    run_serving(
-        alloc,
-        &mut depot,
-        &mut ticks,
-        door,
-        &words,
-        ALFA,
-        failing(device, "output"),
-    )
+    }
 }
 
 /// A door at which these requests come in, where these calls fail.
-fn door(alloc: Global, requests: &str, failing: &[u64]) -> Result<MemDoor, AllocError> {
+fn door(alloc: Global, requests: &str, failing: &[u64]) -> MemDoor {
     let mut texts = Vec::new(alloc);
     for request in requests.split('^') {
         if !request.is_empty() {
-            texts.push(lines_of(alloc, request)?)?;
+            let _ = texts.push(bytes_of(alloc, request));
         }
     }
-    let failing = Vec::from_slice(alloc, failing)?;
-    Ok(MemDoor::new(alloc, texts, failing, Vec::new(alloc)))
+    MemDoor::new(alloc, texts, numbers(alloc, failing), Vec::new(alloc))
+}
+
+fn bytes_of(alloc: Global, request: &str) -> Vec<u8> {
+    copied(alloc, lines_of(alloc, request).as_bytes())
 }
 
 /// Runs words over a directory, with a clock that stands still.
@@ -206,25 +255,21 @@ fn served(
     alloc: Global,
     depot: &mut MemDepot,
     door: &mut MemDoor,
-    words: &str,
+    words: &[&str],
     directory: &str,
-) -> Result<Ran, AllocError> {
-    let mut ticks = clock(alloc, &[])?;
-    let mut parts = Vec::new(alloc);
-    for word in words.split(' ') {
-        parts.push(word)?;
-    }
-    run_serving(alloc, depot, &mut ticks, door, &parts, directory, &[])
+) -> Ran {
+    let given = Given::of(words, directory.as_bytes());
+    ran_at(alloc, depot, door, &given, Vec::new(alloc))
 }
 
 /// Whether a door has these replies.
-fn replied(alloc: Global, door: &MemDoor, wanted: &str) -> Result<bool, AllocError> {
-    let wanted = written_out(alloc, wanted)?;
-    let wanted = lines_of(alloc, &wanted)?;
+fn is_replied(alloc: Global, door: &MemDoor, wanted: &str) -> bool {
+    let wanted = written_out(alloc, wanted);
+    let wanted = lines_of(alloc, wanted.as_str());
     let mut all = Vec::new(alloc);
     for reply in door.replies() {
-        all.extend_from_slice(reply.bytes())?;
-        all.push(b'^')?;
+        put(&mut all, reply.bytes());
+        put(&mut all, b"^");
     }
-    Ok(all.as_slice() == wanted.as_slice())
+    all.as_slice() == wanted.as_bytes()
 }

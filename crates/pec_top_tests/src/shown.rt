@@ -1,19 +1,18 @@
 //! What `show` gives of each kind of item, decoded and compared with the text of the formats under its seal.
 
-use crate::directories::two;
+use crate::directories::Directory;
 use crate::items::{holds, last_item};
-use crate::letters::{ANOMALY, ENVELOPE, ORIGINAL, RECEIPT, usual};
-use crate::running::{depot_failing, played, with_words};
-use std::alloc::{AllocError, Global};
-use std::test::Fail;
+use crate::letters::{Letter, ORIGINAL, usual};
+use crate::running::{joined, played_afresh, replaced, with_words};
+use std::alloc::Global;
 
-/// A script whose last line shows an item, the item's seal line, its text, and the words that stand in the text.
+/// A script whose last line shows an item, the item's seal line, what letter it is, and the words that stand in its text.
 #[derive(Clone, Copy)]
 struct Item {
     why: &'static str,
     script: &'static str,
     seal: &'static str,
-    text: &'static str,
+    letter: Letter,
     words: &'static [(&'static str, &'static str)],
 }
 
@@ -24,21 +23,21 @@ static FIRST: [Item; 3] = [
         script: "submit alfa 1704186000 alice@alfa.example bob@beta.example {M2}\n\
                  round 1704186001\nround 1704186002\nshow bob@beta.example 0\n",
         seal: "X-Sigillo: alfa; NJ0PYbU5UzEUvDwHddnSLn5D4CNd61ANA3tWXbpLwSI=",
-        text: ENVELOPE,
+        letter: Letter::Envelope,
         words: &[("ORIGINAL", ORIGINAL)],
     },
     Item {
         why: "an anomaly has the message of the frame",
         script: "inject alfa beta {F1}\nround 1704186001\nshow bob@beta.example 0\n",
         seal: "X-Sigillo: beta; kqWeg0k15+Hh7sZhtnjpbY0j2BCCM3tVseaLSlX9WfA=",
-        text: ANOMALY,
+        letter: Letter::Anomaly,
         words: &[],
     },
     Item {
         why: "an acceptance is of the moment of submission",
         script: "submit alfa 1704186000 alice@alfa.example bob@beta.example {M2}\nshow alice@alfa.example 0\n",
         seal: "X-Sigillo: alfa; S8B+YZsCk/X+/qDJZbcXBGcy/YDmJ9Sn+VW47Q0XQaI=",
-        text: RECEIPT,
+        letter: Letter::Receipt,
         words: &[
             ("KIND", "accettazione"),
             ("NAME", "acc.0.0000000"),
@@ -57,7 +56,7 @@ static SECOND: [Item; 3] = [
                  {From: alice@alfa.example|To: bob@beta.example|Bcc: carl@beta.example|Subject: Ciao||Salve|}\n\
                  show alice@alfa.example 0\n",
         seal: "X-Sigillo: alfa; NiY3JjqYyruDCojMWcdrmt0TNdFe0LcoK+X2QIFFKbE=",
-        text: RECEIPT,
+        letter: Letter::Receipt,
         words: &[
             ("KIND", "non-accettazione"),
             ("NAME", "nac.0.0000000"),
@@ -72,7 +71,7 @@ static SECOND: [Item; 3] = [
         script: "submit alfa 1704186000 alice@alfa.example bob@beta.example {M2}\n\
                  round 1704186001\nround 1704186002\nround 1704186003\nshow alice@alfa.example 1\n",
         seal: "X-Sigillo: beta; 6Nx7N7IWJfCKxflEu9yE+OWM6yeBb5qXXEwDkJjlKXE=",
-        text: RECEIPT,
+        letter: Letter::Receipt,
         words: &[
             ("KIND", "avvenuta-consegna"),
             ("WISH", "X-TipoRicevuta: completa\n"),
@@ -95,7 +94,7 @@ static SECOND: [Item; 3] = [
                  {From: alice@alfa.example|To: nobody@beta.example|Subject: Ciao||Salve|}\n\
                  round 1704186001\nround 1704186002\nround 1704186003\nshow alice@alfa.example 1\n",
         seal: "X-Sigillo: beta; RixvkZxNVqBp6lcpDJXpi3W9Jawywuj0/fHnN9lQdk0=",
-        text: RECEIPT,
+        letter: Letter::Receipt,
         words: &[
             ("KIND", "errore-consegna"),
             ("NAME", "err.0.0000000.0"),
@@ -122,7 +121,7 @@ static THIRD: [Item; 3] = [
         script: "submit alfa 1704186000 alice@alfa.example bob@beta.example {M2}\n\
                  tick alfa 1704229200\nshow alice@alfa.example 1\n",
         seal: "X-Sigillo: alfa; VJbH8CFDZIX5VTAp42k2bQV1RoqHf7Sjjitv7Ijl1mA=",
-        text: RECEIPT,
+        letter: Letter::Receipt,
         words: &[
             ("KIND", "preavviso-errore-consegna"),
             ("NAME", "pre.0.0000000.0"),
@@ -147,7 +146,7 @@ static THIRD: [Item; 3] = [
         script: "submit alfa 1704186000 alice@alfa.example bob@beta.example {M2}\n\
                  tick alfa 1704265200\nshow alice@alfa.example 1\n",
         seal: "X-Sigillo: alfa; RRWcJ/hmG12nvqLAO9U1Lf4u0Sdm5e0/Hhu/ZdCQZqs=",
-        text: RECEIPT,
+        letter: Letter::Receipt,
         words: &[
             ("KIND", "preavviso-errore-consegna"),
             ("NAME", "man.0.0000000.0"),
@@ -174,7 +173,7 @@ static THIRD: [Item; 3] = [
         script: "submit alfa 1704186000 alice@alfa.example bob@beta.example {M2}\n\
                  tick alfa 1704272401\nshow alice@alfa.example 1\n",
         seal: "X-Sigillo: alfa; LZvG9ZHNmL5m4mW3SxFb/Ito4laY1253JBzM7icnKt0=",
-        text: RECEIPT,
+        letter: Letter::Receipt,
         words: &[
             ("KIND", "preavviso-errore-consegna"),
             ("NAME", "man.0.0000000.0"),
@@ -290,61 +289,49 @@ fn holdings() -> &'static [Holding] {
 }
 
 #[test]
-fn each_kind_of_item_is_shown_as_the_formats_have_it(rt: HostRuntime) -> Result<(), Fail> {
+fn each_kind_of_item_is_shown_as_the_formats_have_it(rt: HostRuntime) {
     for items in [first(), second(), third()] {
-        let wrong = first_wrong(rt.alloc(), items)?;
-        assert_eq!(rt; wrong, None);
+        assert_eq!(rt; first_wrong(rt.alloc(), items), None);
     }
-    Ok(())
 }
 
 #[test]
-fn receipts_hold_what_was_wished(rt: HostRuntime) -> Result<(), Fail> {
+fn receipts_hold_what_was_wished(rt: HostRuntime) {
     for holding in holdings() {
-        let held = is_held(rt.alloc(), holding)?;
-        assert_eq!(rt; held, holding.is_there, "{}", holding.why);
+        assert!(rt; is_held(rt.alloc(), holding), "{}", holding.why);
     }
-    Ok(())
 }
 
 /// What the first item is about that isn't shown as it has to be.
-fn first_wrong(alloc: Global, items: &[Item]) -> Result<Option<&'static str>, Fail> {
+fn first_wrong(alloc: Global, items: &[Item]) -> Option<&'static str> {
     for item in items {
-        if !is_shown(alloc, item)? {
-            return Ok(Some(item.why));
+        if !is_shown(alloc, item) {
+            return Some(item.why);
         }
     }
-    Ok(None)
+    None
 }
 
-fn is_shown(alloc: Global, item: &Item) -> Result<bool, Fail> {
-    let shown = shown(alloc, item.script)?;
-    let wanted = letter(alloc, item)?;
-    Ok(shown.as_slice() == wanted.as_bytes())
+fn is_shown(alloc: Global, item: &Item) -> bool {
+    let text = text_of(alloc, item);
+    let letter = joined(alloc, &[item.seal, "\n", text.as_str()]);
+    let letter = replaced(alloc, letter.as_str(), "\n", "\r\n");
+    shown(alloc, item.script).as_slice() == letter.as_bytes()
 }
 
 /// The text of an item under its seal line.
-fn letter(alloc: Global, item: &Item) -> Result<String, AllocError> {
-    let text = text_of(alloc, item)?;
-    let mut letter = String::from_str(alloc, item.seal)?;
-    letter.push('\n')?;
-    letter.push_str(text.as_str())?;
-    letter.replace(alloc, "\n", "\r\n")
-}
-
-fn text_of(alloc: Global, item: &Item) -> Result<String, AllocError> {
-    let text = with_words(alloc, item.text, item.words)?;
+fn text_of(alloc: Global, item: &Item) -> String {
+    let text = with_words(alloc, item.letter.text(), item.words);
     with_words(alloc, text.as_str(), usual())
 }
 
-fn is_held(alloc: Global, holding: &Holding) -> Result<bool, Fail> {
-    let shown = shown(alloc, holding.script)?;
-    holds(alloc, &shown, holding.piece)
+fn is_held(alloc: Global, holding: &Holding) -> bool {
+    let shown = shown(alloc, holding.script);
+    holds(alloc, &shown, holding.piece, holding.is_there)
 }
 
 /// The bytes of the item that the last line of a script shows.
-fn shown(alloc: Global, script: &str) -> Result<Vec<u8>, Fail> {
-    let mut depot = depot_failing(alloc, &[])?;
-    let ran = played(alloc, &mut depot, two(), "run", script)?;
+fn shown(alloc: Global, script: &str) -> Vec<u8> {
+    let ran = played_afresh(alloc, Directory::Two.text(), script);
     last_item(alloc, &ran.text)
 }

@@ -1,0 +1,393 @@
+//! Heads: where they end, what is found in them, and how they are written.
+use crate::texts::{is_value, joined, put};
+use pec_heads::{Head, HeadFault, ListFault, end_head, put_addresses, put_field};
+use pec_types::{Address, AddressFault, Class, Facts, Recipient, Text, Wish};
+use std::alloc::Global;
+
+static ENDS: [(&str, Result<usize, HeadFault>); 18] = [
+    ("A: b\r\n c\n\nx", Ok(10)), // folded; both line ends
+    ("A: b\r\n", Err(HeadFault::NoEnd)), // a field, no empty line
+    ("", Err(HeadFault::NoEnd)), // no line at all
+    ("\r", Err(HeadFault::NoEnd)), // a last piece without LF is no line
+    ("\n", Ok(1)), // no field
+    ("\r\nA: b\n\n", Ok(2)), // the first empty line ends it
+    ("A: b\nC: d", Err(HeadFault::NoEnd)), // the last piece isn't read
+    ("A: b\n\x01", Err(HeadFault::NoEnd)), // nor is a control byte in it
+    (" A: b\n\n", Err(HeadFault::BadName(0))), // a first line goes on with nothing
+    ("\tb\n\n", Err(HeadFault::BadName(0))), // also without a colon
+    ("A : b\n\n", Err(HeadFault::BadName(0))), // a space in a name
+    ("A: b\n: c\n\n", Err(HeadFault::BadName(5))), // an empty name
+    ("A: b\nB\n\n", Err(HeadFault::NoColon(5))), // no colon
+    ("A: b\rc\n\n", Err(HeadFault::BareControl(4))), // CR inside a line
+    ("A: b\r\r\n\n", Err(HeadFault::BareControl(4))), // one CR belongs to the end
+    ("A: b\nabc\x7f\n\n", Err(HeadFault::BareControl(8))), // before the missing colon
+    ("A: b\n \n\n", Ok(8)), // a blank line goes on
+    ("A:\n\n", Ok(4)), // an empty value
+];
+
+#[test]
+fn a_head_ends_at_its_empty_line_or_has_the_fault_of_its_first_wrong_line(rt: HostRuntime) {
+    for (text, wanted) in &ENDS {
+        assert!(rt;
+            place_behind(rt.alloc(), text.as_bytes()) == *wanted,
+            "{text}"
+        );
+    }
+}
+
+/// The place behind the head, or the fault.
+fn place_behind(alloc: Global, text: &[u8]) -> Result<usize, HeadFault> {
+    match Head::read(alloc, text) {
+        Ok((_, place)) => Ok(place),
+        Err(fault) => Err(fault),
+    }
+}
+
+static LENGTHS: [(usize, &str, Result<usize, HeadFault>); 5] = [
+    (998, "\n", Ok(1000)),
+    (998, "\r\n", Ok(1001)), // CRLF isn't counted
+    (999, "\n", Err(HeadFault::LineTooLong(0))),
+    (999, "\r\n", Err(HeadFault::LineTooLong(0))),
+    (999, "\x01\n", Err(HeadFault::LineTooLong(0))), // before its control byte
+];
+
+#[test]
+fn a_line_has_at_most_998_bytes_without_its_end(rt: HostRuntime) {
+    for (bytes, end, wanted) in &LENGTHS {
+        assert!(rt; ends_so(rt.alloc(), *bytes, end, *wanted), "{bytes}");
+    }
+}
+
+/// Whether the head of a line of so many bytes, with this end, ends there or has this fault.
+fn ends_so(alloc: Global, bytes: usize, end: &str, wanted: Result<usize, HeadFault>) -> bool {
+    let text = long_line(alloc, bytes, end);
+    place_behind(alloc, &text) == wanted
+}
+
+/// A line of so many bytes, with this end, and an empty one.
+fn long_line(alloc: Global, bytes: usize, end: &str) -> Vec<u8> {
+    let mut text = Vec::new(alloc);
+    put(&mut text, b"A:");
+    let _ = text.resize(bytes, b'x');
+    put(&mut text, end.as_bytes());
+    put(&mut text, b"\n");
+    text
+}
+
+const FOLDED: &[u8] =
+    b"Subject: \xc3\xa8\r\n b\r\n\tc \r\nTO:x\nto:\t y\nA:\n x\nC: \n\t\na: w\n\tv\nc:\n\n";
+
+static VALUES: [(&str, usize, &[u8]); 7] = [
+    ("sUBJECT", 0, b"\xc3\xa8 b\tc"), // each continuation keeps its blank
+    ("To", 0, b"x"),
+    ("To", 1, b"y"), // trimmed of a tab
+    ("A", 0, b"x"), // nothing in the first line
+    ("A", 1, b"w\tv"),
+    ("C", 0, b""), // blanks alone, in two lines
+    ("C", 1, b""),
+];
+
+#[test]
+fn values_are_found_by_name_in_any_case_and_unfolded(rt: HostRuntime) {
+    assert!(rt; finds_values(rt.alloc()));
+}
+
+fn finds_values(alloc: Global) -> bool {
+    match head_of(alloc, FOLDED) {
+        Some(head) => has_values(&head, &VALUES) && tells_fields(&head),
+        None => false,
+    }
+}
+
+fn has_values(head: &Head, rows: &[(&str, usize, &[u8])]) -> bool {
+    for (name, i, wanted) in rows {
+        if !is_value(head.value(name.as_bytes(), *i), wanted) {
+            return false;
+        }
+    }
+    true
+}
+
+fn tells_fields(head: &Head) -> bool {
+    head.count(b"To") == 2
+        && is_value(head.field(b"tO"), b"x")
+        && head.value(b"To", 2).is_none()
+        && head.field(b"Subjec").is_none()
+        && head.is_filled(b"a")
+        && !head.is_filled(b"c")
+        && !head.is_filled(b"D")
+}
+
+static LISTS: [(&str, &str); 7] = [
+    ("\"Rossi, Mario\" <m@a.it>, b@a.it,", "m@a.it b@a.it "), // a quoted comma; a blank entry
+    ("a@b\nTo: C@D", "a@b c@d "), // two fields; lower case
+    ("\"a\\\",b\" <a@b>", "a@b "), // a backslash takes the quote with it
+    ("<a@b>", "a@b "), // an empty phrase
+    ("x \"y\"z < a@b\t> ", "a@b "), // blanks inside the angles
+    ("a@b,,c@d", "a@b c@d "),
+    ("a@b, a@b", "a@b a@b "), // repeats stay
+];
+
+#[test]
+fn a_list_is_its_entries_outside_quotes(rt: HostRuntime) {
+    for (value, wanted) in &LISTS {
+        assert!(rt; lists(rt.alloc(), value, wanted), "{value}");
+    }
+}
+
+/// Whether the field `To` with this value has these addresses, each with a space.
+fn lists(alloc: Global, value: &str, wanted: &str) -> bool {
+    match head_to(alloc, value) {
+        Some(head) => are_addresses(alloc, &head, wanted),
+        None => false,
+    }
+}
+
+fn are_addresses(alloc: Global, head: &Head, wanted: &str) -> bool {
+    match head.addresses(alloc, b"to") {
+        Ok(addresses) => listed(alloc, &addresses).as_slice() == wanted.as_bytes(),
+        Err(_) => false,
+    }
+}
+
+fn listed(alloc: Global, addresses: &[Address]) -> Vec<u8> {
+    let mut text = Vec::new(alloc);
+    for address in addresses {
+        put(&mut text, address.bytes());
+        put(&mut text, b" ");
+    }
+    text
+}
+
+/// A head of the field `To` with this value.
+fn head_to(alloc: Global, value: &str) -> Option<Head> {
+    let text = joined(alloc, &[b"To:", value.as_bytes(), b"\n\n"]);
+    head_of(alloc, &text)
+}
+
+pub(crate) fn head_of(alloc: Global, text: &[u8]) -> Option<Head> {
+    match Head::read(alloc, text) {
+        Ok((head, _)) => Some(head),
+        Err(_) => None,
+    }
+}
+
+static WRONG_LISTS: [(&str, ListFault); 13] = [
+    (
+        "a@b (x)",
+        ListFault::BadAddress(0, AddressFault::BadDomain(3)),
+    ), // no comments
+    (
+        "a@b,  c@",
+        ListFault::BadAddress(6, AddressFault::BadDomain(2)),
+    ), // from its first ink
+    ("a b", ListFault::BadAddress(0, AddressFault::NoAt)),
+    ("a@b,  <c@d> x", ListFault::Syntax(4)), // from behind the comma
+    ("\"x\" a@b", ListFault::Syntax(0)), // a quote, no angles
+    ("<a@b", ListFault::Syntax(0)),
+    ("x:y <a@b>", ListFault::Syntax(0)), // a colon in a phrase
+    ("Rossi <a@b@c>", ListFault::Syntax(0)), // no address inside
+    ("\"x\\", ListFault::Syntax(0)), // the quote isn't closed
+    ("a@b, \"x <c@d>, e@f", ListFault::Syntax(4)), // and takes the comma with it
+    ("a@b\nTo: \"x\nTo: y\" z", ListFault::Syntax(4)), // over the joined fields
+    (" , ,", ListFault::Empty),
+    ("", ListFault::Empty),
+];
+
+#[test]
+fn a_wrong_list_has_the_fault_of_its_first_wrong_entry(rt: HostRuntime) {
+    for (value, fault) in &WRONG_LISTS {
+        assert!(rt; list_fault(rt.alloc(), value) == Some(*fault), "{value}");
+    }
+}
+
+fn list_fault(alloc: Global, value: &str) -> Option<ListFault> {
+    match head_to(alloc, value) {
+        Some(head) => head.addresses(alloc, b"to").err(),
+        None => None,
+    }
+}
+
+const FULL: &[u8] =
+    b"From: Anna <A@b>\nTo: c@d, e@f\nTo: C@D\nCc: g@h, e@f, g@h\nX-TipoRicevuta: BREVE\nSubject: \t\xe8\tx \nMessage-ID: <1>\nReply-To: \x80\n\n";
+
+const BARE: &[u8] = b"From: a@b\nTo: c@d\nX-TipoRicevuta: nessuna\nSubject:\nReply-To: \n\n";
+
+#[test]
+fn facts_are_what_the_first_fields_say(rt: HostRuntime) {
+    assert!(rt; are_full_facts(rt.alloc()));
+}
+
+fn are_full_facts(alloc: Global) -> bool {
+    match facts_of(alloc, FULL) {
+        Some(facts) => says_all(&facts) && has_recipients(alloc, &facts, b"c@d+e@f+g@h "),
+        None => false,
+    }
+}
+
+fn says_all(facts: &Facts) -> bool {
+    facts.sender.bytes() == b"a@b".as_slice()
+        && facts.wish == Wish::Brief
+        && is_said(&facts.subject, b"? x")
+        && is_said(&facts.reference, b"<1>")
+        && facts.reply.bytes() == b"?".as_slice()
+}
+
+fn is_said(found: &Option<Text>, wanted: &[u8]) -> bool {
+    match found {
+        Some(text) => text.bytes() == wanted,
+        None => false,
+    }
+}
+
+/// Whether these are the recipients, each with a plus where it is primary and a space otherwise.
+fn has_recipients(alloc: Global, facts: &Facts, wanted: &[u8]) -> bool {
+    shown(alloc, facts.recipients.as_slice()).as_slice() == wanted
+}
+
+fn shown(alloc: Global, recipients: &[Recipient]) -> Vec<u8> {
+    let mut text = Vec::new(alloc);
+    for recipient in recipients {
+        put(&mut text, recipient.address.bytes());
+        put(&mut text, sign(recipient.class));
+    }
+    text
+}
+
+fn sign(class: Class) -> &'static [u8] {
+    match class {
+        Class::Primary => b"+",
+        Class::Copy => b" ",
+    }
+}
+
+fn facts_of(alloc: Global, text: &[u8]) -> Option<Facts> {
+    match head_of(alloc, text) {
+        Some(head) => facts_in(alloc, &head),
+        None => None,
+    }
+}
+
+fn facts_in(alloc: Global, head: &Head) -> Option<Facts> {
+    match head.facts(alloc) {
+        Ok(facts) => facts,
+        Err(_) => None,
+    }
+}
+
+#[test]
+fn what_a_head_leaves_out_is_absent_or_the_sender(rt: HostRuntime) {
+    assert!(rt; are_bare_facts(rt.alloc()));
+}
+
+fn are_bare_facts(alloc: Global) -> bool {
+    match facts_of(alloc, BARE) {
+        Some(facts) => {
+            facts.wish == Wish::Full
+                && facts.subject.is_none()
+                && facts.reference.is_none()
+                && facts.reply.bytes() == b"a@b".as_slice()
+        }
+        None => false,
+    }
+}
+
+static NO_FACTS: [(&str, &str); 6] = [
+    ("To: c@d\n\n", "no From"),
+    ("From: a@b\n\n", "no To"),
+    ("From: a@b, a@b\nTo: c@d\n\n", "two addresses in From"),
+    ("From: a@b\nFrom: a@b\nTo: c@d\n\n", "two From fields"),
+    ("From: a@b\nTo: ,\n\n", "a To without an address"),
+    ("From: a@b\nTo: c@d\nCc:\n\n", "a Cc without an address"),
+];
+
+#[test]
+fn a_head_without_one_sender_or_with_a_wrong_list_has_no_facts(rt: HostRuntime) {
+    for (text, reason) in &NO_FACTS {
+        assert!(rt; has_no_facts(rt.alloc(), text.as_bytes()), "{reason}");
+    }
+}
+
+/// Whether the text is a head, and has no facts.
+fn has_no_facts(alloc: Global, text: &[u8]) -> bool {
+    match head_of(alloc, text) {
+        Some(head) => tells_no_facts(alloc, &head),
+        None => false,
+    }
+}
+
+fn tells_no_facts(alloc: Global, head: &Head) -> bool {
+    match head.facts(alloc) {
+        Ok(facts) => facts.is_none(),
+        Err(_) => false,
+    }
+}
+
+/// A head that is written field by field, and one byte behind it.
+const WHOLE: &[u8] =
+    b"From: a@b\r\nTo: anna@alfa.example,\r\n bob@beta.example,\r\n anna@alfa.example\r\nCc: bob@beta.example\r\nBcc: \r\nSubject: POSTA CERTIFICATA: \r\n\r\nx";
+
+static WRITTEN: [(&str, &str); 5] = [
+    ("From", "a@b"),
+    (
+        "To",
+        "anna@alfa.example, bob@beta.example, anna@alfa.example",
+    ), // unfolded
+    ("Cc", "bob@beta.example"),
+    ("Bcc", ""),
+    ("Subject", "POSTA CERTIFICATA:"), // the blank at the end is cut off
+];
+
+/// The text, by a function without a clause: the proofs of others are spared it.
+fn whole() -> &'static [u8] {
+    WHOLE
+}
+
+#[test]
+fn a_written_head_has_crlf_at_each_line_and_is_read_as_it_was_written(rt: HostRuntime) {
+    assert!(rt; is_written(rt.alloc(), whole()));
+    assert!(rt; has_fields(rt.alloc(), whole()));
+}
+
+fn is_written(alloc: Global, wanted: &[u8]) -> bool {
+    match (
+        address(alloc, b"Anna@alfa.example"),
+        address(alloc, b"bob@beta.example"),
+    ) {
+        (Some(first), Some(second)) => written(alloc, &first, &second).as_slice() == wanted,
+        _ => false,
+    }
+}
+
+fn address(alloc: Global, text: &[u8]) -> Option<Address> {
+    Address::read(alloc, text).ok()
+}
+
+/// Whether the text is a head with the fields that were written and one byte behind it.
+fn has_fields(alloc: Global, text: &[u8]) -> bool {
+    match Head::read(alloc, text) {
+        Ok((head, place)) => text.len() == place.saturating_add(1) && are_fields(&head, &WRITTEN),
+        Err(_) => false,
+    }
+}
+
+fn are_fields(head: &Head, rows: &[(&str, &str)]) -> bool {
+    for (name, wanted) in rows {
+        if !is_value(head.field(name.as_bytes()), wanted.as_bytes()) {
+            return false;
+        }
+    }
+    true
+}
+
+fn written(alloc: Global, first: &Address, second: &Address) -> Vec<u8> {
+    let mut text = Vec::new(alloc);
+    let _ = put_field(&mut text, b"From", b"a@b");
+    let _ = put_addresses(&mut text, b"To", &[first, second, first]);
+    let _ = put_addresses(&mut text, b"Cc", &[second]);
+    let _ = put_addresses(&mut text, b"Bcc", &[]);
+    let _ = put_field(&mut text, b"Subject", b"POSTA CERTIFICATA: ");
+    let _ = end_head(&mut text);
+    put(&mut text, b"x");
+    text
+}

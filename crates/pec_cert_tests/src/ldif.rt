@@ -1,0 +1,4 @@
+//! Directories in LDIF.
+mod cut;
+mod faults;
+mod same;

@@ -1,0 +1,166 @@
+//! Bodies that have parts.
+use crate::heads::head_of;
+use crate::texts::{is_value, joined, put, put_number};
+use pec_bodies::{Part, Parts};
+use pec_heads::Head;
+use std::alloc::Global;
+
+/// A head with this `Content-Type`.
+pub(crate) fn head_with(alloc: Global, value: &[u8]) -> Option<Head> {
+    let text = joined(alloc, &[b"Content-Type: ", value, b"\n\n"]);
+    head_of(alloc, &text)
+}
+
+static BODIES: [(&str, &str); 8] = [
+    // line ends of one byte
+    ("--b\n\na\n--b--\n", "4:\na|"),
+    // of two bytes; the closing delimiter is the last piece
+    (
+        "--b\r\n\r\na\r\n--b\r\nA: b\r\n\r\n\r\n--b--",
+        "5:\r\na|15:A: b\r\n\r\n|",
+    ),
+    // blanks behind a delimiter; what stands before the first one and behind the closing one is passed over
+    ("x--b\n--b--\n--b \t\n\na\r\n--b-- \nrest\n--b\n", "17:\na|"),
+    // of the line ends before a delimiter the last one alone is none of the part
+    ("--b\n\n\n\n--b--", "4:\n\n|"),
+    // delimiters of other boundaries
+    (
+        "--b\n\n--b-x\n\na\n--b-x--\n--bc\n--b--",
+        "4:\n--b-x\n\na\n--b-x--\n--bc|",
+    ),
+    // a blank in front of the dashes
+    ("--b\n\na\n --b\n--b--", "4:\na\n --b|"),
+    // blanks behind the last piece
+    ("--b\n\na\n--b-- \t", "4:\na|"),
+    // three parts, of which two are an empty head alone
+    ("--b\n\n\n--b\n\n\n--b\n\nx\n--b--", "4:\n|10:\n|16:\nx|"),
+];
+
+#[test]
+fn a_part_stands_between_delimiters_without_the_line_end_before_the_second(rt: HostRuntime) {
+    for (body, wanted) in &BODIES {
+        assert!(rt;
+            has_parts(rt.alloc(), body.as_bytes(), wanted.as_bytes()),
+            "{body}"
+        );
+    }
+}
+
+fn has_parts(alloc: Global, body: &[u8], wanted: &[u8]) -> bool {
+    match head_with(alloc, b"Multipart/x; boundary=b") {
+        Some(head) => are_read(alloc, &head, body, wanted),
+        None => false,
+    }
+}
+
+fn are_read(alloc: Global, head: &Head, body: &[u8], wanted: &[u8]) -> bool {
+    match Parts::read(alloc, head, body) {
+        Ok(parts) => shown(alloc, &parts).as_slice() == wanted,
+        Err(_) => false,
+    }
+}
+
+/// Each part of a body as `PLACE:BYTES|`.
+fn shown(alloc: Global, parts: &Parts<'_>) -> Vec<u8> {
+    let mut text = Vec::new(alloc);
+    for i in 0..parts.count() {
+        put_part(alloc, &mut text, parts.part(i));
+    }
+    text
+}
+
+fn put_part(alloc: Global, text: &mut Vec<u8>, part: Option<Part<'_>>) {
+    if let Some(part) = part {
+        put_number(alloc, text, part.start as u64);
+        put(text, b":");
+        put(text, part.whole);
+        put(text, b"|");
+    }
+}
+
+/// A client's message with two attachments, of which the second has no name.
+const MESSAGE: &[u8] =
+    b"From: Alice <alice@alfa.example>\r\nTo: \"Bob, Ufficio\" <bob@beta.example>\r\n\
+    Subject: =?utf-8?q?Perch=C3=A9?=\r\nMessage-ID: <c1@client.example>\r\nX-TipoRicevuta: breve\r\nMIME-Version: 1.0\r\n\
+    Content-Type: multipart/mixed; boundary=XYZ\r\n\r\n";
+
+const BODY: &[u8] = b"--XYZ\r\nContent-Type: text/plain\r\n\r\nBuongiorno\r\n\
+    --XYZ\r\nContent-Type: text/plain; name=\"nota.txt\"\r\nContent-Disposition: attachment; filename=\"nota.txt\"\r\n\r\n\
+    The quick brown fox jumps over the lazy dog\r\n\
+    --XYZ\r\nContent-Type: application/octet-stream\r\nContent-Disposition: attachment\r\n\r\nabc\r\n--XYZ--\r\n";
+
+/// The text, by a function without a clause: the proofs of others are spared it.
+fn body() -> &'static [u8] {
+    BODY
+}
+
+// The body of each part, and its disposition.
+static PARTS: [(&str, Option<&str>); 3] = [
+    ("Buongiorno", None),
+    (
+        "The quick brown fox jumps over the lazy dog",
+        Some("attachment; filename=\"nota.txt\""),
+    ),
+    ("abc", Some("attachment")),
+];
+
+#[test]
+fn each_part_has_its_head_and_its_body(rt: HostRuntime) {
+    assert!(rt; has_heads_and_bodies(rt.alloc()));
+}
+
+fn has_heads_and_bodies(alloc: Global) -> bool {
+    match head_of(alloc, MESSAGE) {
+        Some(head) => has_rows(alloc, &head),
+        None => false,
+    }
+}
+
+fn has_rows(alloc: Global, head: &Head) -> bool {
+    match Parts::read(alloc, head, body()) {
+        Ok(parts) => parts.count() == 3 && are_parts(&parts, &PARTS) && ends_behind(&parts, 3),
+        Err(_) => false,
+    }
+}
+
+fn ends_behind(parts: &Parts<'_>, count: usize) -> bool {
+    parts.part(count).is_none() && parts.head(count).is_none()
+}
+
+fn are_parts(parts: &Parts<'_>, rows: &[(&str, Option<&str>)]) -> bool {
+    for (i, (text, disposition)) in rows.iter().enumerate() {
+        if !is_body(parts.part(i), text) || !has_disposition(parts.head(i), *disposition) {
+            return false;
+        }
+    }
+    true
+}
+
+/// Whether the part has this text, and stands at its place.
+fn is_body(part: Option<Part<'_>>, text: &str) -> bool {
+    match part {
+        Some(part) => part.body == text.as_bytes() && stands_at(part.start, part.whole),
+        None => false,
+    }
+}
+
+fn stands_at(start: usize, whole: &[u8]) -> bool {
+    match body().get(start..) {
+        Some(rest) => rest.starts_with(whole),
+        None => false,
+    }
+}
+
+fn has_disposition(head: Option<&Head>, wanted: Option<&str>) -> bool {
+    match head {
+        Some(head) => is_disposition(head.field(b"Content-Disposition"), wanted),
+        None => false,
+    }
+}
+
+fn is_disposition(found: Option<&[u8]>, wanted: Option<&str>) -> bool {
+    match wanted {
+        Some(text) => is_value(found, text.as_bytes()),
+        None => found.is_none(),
+    }
+}

@@ -1,0 +1,39 @@
+//! Texts that are put together. One for which memory is wanting lacks a piece, so that it isn't what has to come.
+use std::alloc::Global;
+
+/// The pieces, one behind the other.
+pub(crate) fn joined(alloc: Global, pieces: &[&[u8]]) -> Vec<u8> {
+    let mut text = Vec::new(alloc);
+    for piece in pieces {
+        put(&mut text, piece);
+    }
+    text
+}
+
+/// Puts bytes behind others.
+pub(crate) fn put(text: &mut Vec<u8>, bytes: &[u8]) {
+    let _ = text.extend_from_slice(bytes);
+}
+
+/// Puts the digits of a number behind other bytes.
+pub(crate) fn put_number(alloc: Global, text: &mut Vec<u8>, number: u64) {
+    if let Ok(digits) = number.to_string(alloc) {
+        put(text, digits.as_bytes());
+    }
+}
+
+/// Whether there is a text, and it is this one.
+pub(crate) fn is_text(found: Option<Vec<u8>>, wanted: &[u8]) -> bool {
+    match found {
+        Some(text) => text.as_slice() == wanted,
+        None => false,
+    }
+}
+
+/// Whether there are bytes, and they are these.
+pub(crate) fn is_value(found: Option<&[u8]>, wanted: &[u8]) -> bool {
+    match found {
+        Some(value) => value == wanted,
+        None => false,
+    }
+}

@@ -1,0 +1,186 @@
+//! Heads at their bounds, what is read of a connection, and connections that fail.
+use super::desk::Mood;
+use super::serving::{Exchange, NEVER, answers, serve};
+use crate::texts::{joined, put};
+use pec_http::Served;
+use std::alloc::Global;
+
+const REQUEST: &[u8] = b"GET /mail/anna@alfa.example/book HTTP/1.1\r\nx-key: chiave\r\n\r\n";
+
+/// A request for a book whose head has so many bytes.
+fn head_of(alloc: Global, bytes: usize) -> Vec<u8> {
+    let mut request = joined(alloc, &[FRONT, b"x: "]);
+    let _ = request.resize(bytes.saturating_sub(4), b'x');
+    put(&mut request, b"\r\n\r\n");
+    request
+}
+
+/// A request that begins so, with two lines, and has so many behind the first.
+fn head_with(alloc: Global, front: &[u8], lines: u32) -> Vec<u8> {
+    let mut request = joined(alloc, &[front]);
+    for _ in 1..lines {
+        put(&mut request, b"x:\r\n");
+    }
+    put(&mut request, b"\r\n");
+    request
+}
+
+// How many bytes a head has, and the status of the answer.
+const SIZES: [(usize, u16); 4] = [(65_535, 200), (65_536, 200), (65_537, 431), (70_000, 431)];
+
+#[test]
+fn a_head_has_at_most_65536_bytes(rt: HostRuntime) {
+    for (bytes, status) in &SIZES {
+        assert!(rt; has_size_answered(rt.alloc(), *bytes, *status), "{bytes}");
+    }
+}
+
+fn has_size_answered(alloc: Global, bytes: usize, status: u16) -> bool {
+    let request = head_of(alloc, bytes);
+    request.len() == bytes && answers(alloc, &request, 1000, status, 0)
+}
+
+/// A request for a book, and what is no request.
+const FRONT: &[u8] = b"GET /mail/anna@alfa.example/book HTTP/1.1\r\nx-key: chiave\r\n";
+
+const NO_FRONT: &[u8] = b"GET /nowhere\r\nx-key\r\n";
+
+// What a head begins with, how many lines it has behind its first, and the status of the answer.
+static LINES: [(&[u8], u32, u16); 6] = [
+    (FRONT, 63, 200),
+    (FRONT, 64, 200),
+    (FRONT, 65, 431),
+    (FRONT, 1000, 431),
+    // of what is no head too many lines are found before that
+    (NO_FRONT, 64, 400),
+    (NO_FRONT, 65, 431),
+];
+
+#[test]
+fn a_head_has_at_most_64_lines(rt: HostRuntime) {
+    for (front, lines, status) in &LINES {
+        assert!(rt;
+            has_count_answered(rt.alloc(), front, *lines, *status),
+            "{lines}"
+        );
+    }
+}
+
+fn has_count_answered(alloc: Global, front: &[u8], lines: u32, status: u16) -> bool {
+    let request = head_with(alloc, front, lines);
+    answers(alloc, &request, 4096, status, 0)
+}
+
+// 65,536 bytes without an end are too many, and one byte fewer is a head that is cut: whatever they say.
+#[test]
+fn bytes_without_an_end_are_too_many(rt: HostRuntime) {
+    assert!(rt; has_endless_answered(rt.alloc(), 65_535, 400));
+    assert!(rt; has_endless_answered(rt.alloc(), 65_536, 431));
+}
+
+fn has_endless_answered(alloc: Global, count: usize, status: u16) -> bool {
+    let mut bytes = Vec::new(alloc);
+    let _ = bytes.resize(count, b'x');
+    bytes.len() == count && answers(alloc, &bytes, 4096, status, 0)
+}
+
+// Where bytes come one by one, those of a second request stay unread.
+#[test]
+fn a_second_request_is_not_read(rt: HostRuntime) {
+    assert!(rt; reads_one(rt.alloc()));
+}
+
+fn reads_one(alloc: Global) -> bool {
+    let both = joined(alloc, &[REQUEST, REQUEST]);
+    has_read(alloc, &both, REQUEST.len())
+}
+
+/// Whether the request is answered when so many bytes of the input were read.
+fn has_read(alloc: Global, input: &[u8], bytes: usize) -> bool {
+    let exchange = serve(alloc, Mood::Accepts, input, 1, NEVER);
+    exchange.served == Served::Answered(200) && exchange.wire.at == bytes
+}
+
+const SUBMISSION: &[u8] =
+    b"POST /mail/anna@alfa.example/submit HTTP/1.1\r\nx-key: chiave\r\nx-path: bob@beta.example\r\n\
+     content-length: 5\r\n\r\nSalve";
+
+// Each call of the connection fails in turn: a read is told as such and nothing is asked of the desk, and after a write
+// a front of the answer stands.
+#[test]
+fn each_call_of_a_connection_can_fail(rt: HostRuntime) {
+    assert!(rt; answers(rt.alloc(), SUBMISSION, 16, 201, 1));
+    assert!(rt; first_untold_fault(rt.alloc()).is_none());
+}
+
+/// The first call whose failure isn't told truly; none where each one's is.
+fn first_untold_fault(alloc: Global) -> Option<u64> {
+    let calm = serve(alloc, Mood::Accepts, SUBMISSION, 16, NEVER);
+    first_untold_of(alloc, &calm)
+}
+
+fn first_untold_of(alloc: Global, calm: &Exchange) -> Option<u64> {
+    for number in 0..calm.wire.calls {
+        if !has_fault_told(alloc, calm, number) {
+            return Some(number);
+        }
+    }
+    None
+}
+
+fn has_fault_told(alloc: Global, calm: &Exchange, number: u64) -> bool {
+    let failed = serve(alloc, Mood::Accepts, SUBMISSION, 16, number);
+    is_front_of(calm, &failed)
+}
+
+/// Whether one call failed, and what was written and asked is told truly.
+fn is_front_of(calm: &Exchange, failed: &Exchange) -> bool {
+    let asked = match failed.served {
+        Served::ReadFault => 0,
+        Served::WriteFault => 1,
+        Served::Answered(_) => return false,
+    };
+    failed.wire.faults == 1
+        && failed.desk.submissions == asked
+        && failed.wire.written.len() < calm.wire.written.len()
+        && calm.wire.written.starts_with(&failed.wire.written)
+}
+
+/// The bytes that random requests are made of.
+const LETTERS: &[u8; 32] = b"GETPOSTmail/anna@alf.exbook \r\n:1";
+
+// Random bytes are answered, and nothing is asked of the desk.
+#[test]
+fn a_thousand_random_requests_are_answered(rt: HostRuntime) {
+    assert!(rt; first_random_wrong(rt.alloc(), 1000).is_none());
+}
+
+/// The number of the first of so many random requests that isn't refused; none where each is.
+fn first_random_wrong(alloc: Global, count: u32) -> Option<u32> {
+    let mut state = 1_704_186_000;
+    for number in 0..count {
+        if !is_random_refused(alloc, &mut state) {
+            return Some(number);
+        }
+    }
+    None
+}
+
+fn is_random_refused(alloc: Global, state: &mut u64) -> bool {
+    let request = random(alloc, state);
+    answers(alloc, &request, 64, 400, 0)
+}
+
+/// The next of the random requests, of 255 bytes at most (xorshift of 64 bits).
+fn random(alloc: Global, state: &mut u64) -> Vec<u8> {
+    let mut bytes = Vec::new(alloc);
+    let count = *state % 256;
+    for _ in 0..count {
+        *state ^= *state << 13;
+        *state ^= *state >> 7;
+        *state ^= *state << 17;
+        let _ = bytes.push(LETTERS[(*state % 32) as usize]);
+    }
+    *state = state.wrapping_add(1);
+    bytes
+}
