@@ -1,3 +1,4 @@
 pub mod EntryLemmas
+pub mod MakingLemmas
 pub mod ReadingLemmas
 pub mod StepLemmas

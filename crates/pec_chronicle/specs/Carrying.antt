@@ -1,12 +1,13 @@
 -- How entries over a disk go on from call to call: `GoesOn`, and `CarriesOn`, which says it of the list, of the disk,
 -- and of every moment at which a crash may come. Both are free of any trade: `May` says which entry may follow a list.
 -- This project's profile.
-use Rattle.std.specs.Prelude.{◌≡◌, Bool, List, [], ◌∷◌, ◌++◌, Option}
+use Rattle.std.specs.Prelude.{◌≡◌, ℕ, Bool, List, [], ◌∷◌, ◌++◌, Option}
 use Rattle.pec_outside.specs.DiskModel.{Sight, LeavesOnly}
 use Rattle.pec_types.specs.Bytes.{Bytes}
 use Rattle.pec_records.specs.declared.entries.Entry.{Entry}
 use Rattle.pec_ledger.specs.Along.{AllAlong}
-use Rattle.pec_ledger.specs.Network.{chosen}
+use Rattle.pec_ledger.specs.Network.{FollowsState, Site, chosen}
+use Rattle.pec_ledger.specs.Trade.{Trade}
 use Rattle.pec_chronicle.specs.Chronicle.{ChronicleState, IsJournalOf, Stands}
 
 -- which entry may follow a list of entries
@@ -39,6 +40,11 @@ pub record GoesOn (May : Following) (old : List Entry) (interrupted : Option Ent
 -- bytes that are the journal of a list that goes on from this one
 abbrev pub IsImage : Following → List Entry → Option Entry → Bytes → Type 0
 IsImage May old interrupted bytes = (list : List Entry) × GoesOn May old interrupted list × IsJournalOf list bytes
+
+-- bytes that are the journal of a list that follows a provider's in a state of a network
+abbrev pub FollowsSo : Trade → List Site → ℕ → Bytes → Type 0
+FollowsSo trade state provider bytes =
+    (list : List Entry) × FollowsState trade state provider list × IsJournalOf list bytes
 
 -- From the old value to the new one: the entries go on, whichever choice of the interrupted one; what is kept stands on
 -- the disk again; and at any moment between them a crash leaves the journal of entries that go on from the old ones.

@@ -1,9 +1,9 @@
 -- A provider's entries over its disk as contracts see them. The headlines are `IsJournalOf`, which bytes are the
 -- journal of entries, and `Stands`: what is on the disk, now and after a crash. This project's profile.
-use Rattle.std.specs.Prelude.{◌≡◌, ℕ, ◌<◌, ◌≤◌, Bool, false, true, List, ◌∷◌, ◌++◌, length, map, Option}
+use Rattle.std.specs.Prelude.{◌≡◌, ℕ, ◌+◌, ◌<◌, ◌≤◌, Bool, false, true, List, ◌∷◌, ◌++◌, length, map, Option}
 use Rattle.std.specs.List.{All}
 use Rattle.pec_outside.specs.DiskModel.{Sight}
-use Rattle.pec_journal.specs.JournalFile.{IsFile}
+use Rattle.pec_journal.specs.JournalFile.{IsFile, framing, header}
 use Rattle.pec_journal.specs.JournalState.{Keeps}
 use Rattle.pec_types.specs.Bytes.{Bytes}
 use Rattle.pec_records.specs.declared.entries.Entry.{Entry}
@@ -23,6 +23,10 @@ pub record ChronicleState (D : Type 0) : Type 0 where
 pub record IsJournalOf (entries : List Entry) (bytes : Bytes) : Type 0 where
   pub file : IsFile (map entry_text entries) bytes
   pub written : All CanBeWritten entries
+
+-- How many bytes the journal of one entry has, with the closed gate behind it.
+abbrev pub made_size : Entry → ℕ
+made_size start = length header + framing + length (entry_text start) + 1
 
 -- While it is up the disk holds the journal of its entries, and a crash leaves nothing else. Whenever it is, a crash
 -- leaves the journal of the entries, or of these and the interrupted one.

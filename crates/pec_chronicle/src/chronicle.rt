@@ -1,7 +1,7 @@
 ghost use Rattle.std.specs.Prelude.{◌≡◌, ◌≢◌, ◌+◌, ◌-◌, ◌<◌, ◌≤◌, ◌↔◌, true, false, ◌∷◌, [], length, None, Some, IsErrOf, IfOk, OnOk, IfErr, vec_len, vec_capacity};
 ghost use Rattle.std.specs.Option.{option_map};
 ghost use Rattle.std.specs.Prelude.{slice_get};
-ghost use Rattle.pec_outside.specs.DiskModel.{Rests};
+ghost use Rattle.pec_outside.specs.DiskModel.{GrowsTo, Rests};
 ghost use Rattle.pec_outside.specs.Flow.{HasRisen};
 ghost use Rattle.pec_journal.specs.JournalFile.{framing, header};
 ghost use Rattle.pec_journal.specs.JournalState.{Keeps};
@@ -9,7 +9,7 @@ ghost use Rattle.pec_journal.specs.declared.journal.TheConstants.{JOURNAL_LIMIT}
 ghost use Rattle.pec_records.specs.Entry.{IsWithinLimits, entry_text};
 ghost use Rattle.pec_ledger.specs.Ledger.{body_at};
 ghost use Rattle.pec_chronicle.specs.Carrying.{CarriesOn, NothingMay, ThisMay, with_entry};
-ghost use Rattle.pec_chronicle.specs.Chronicle.{HasRoom, Stands, past_of};
+ghost use Rattle.pec_chronicle.specs.Chronicle.{HasRoom, Stands, made_size, past_of};
 ghost use Rattle.pec_chronicle.specs.Fields.{disk_in, end_in, spare_in, IsChronicle};
 ghost use Rattle.pec_chronicle.specs.declared.faults.AppendFault.TheVariants as append;
 ghost use Rattle.pec_chronicle.specs.declared.faults.CreateFault.TheVariants as create;
@@ -173,7 +173,8 @@ impl<D> Chronicle<D> {
 
 impl<D: Disk> Chronicle<D> {
     /// Makes the journal on an empty disk, with this entry. A crash during the call may leave a disk that holds bytes
-    /// and is no journal. With a fault the disk comes back; one that was empty may hold bytes then.
+    /// and is no journal, but no more of them than that journal has, or than it may have left before. With a fault the
+    /// disk comes back; one that was empty may hold bytes then, no more than these.
     pub fn create(alloc: Global, disk: D, start: &Entry) -> Result<Chronicle<D>, (CreateFault, D)>
         requires { IsWithinLimits start.now }
         ensures created { IfOk result (λ made. (made.entries ≡ start.now ∷ []) × (made.interrupted ≡ None)
@@ -188,11 +189,18 @@ impl<D: Disk> Chronicle<D> {
         ensures as_it_was { D.tells → length (D.sight disk).seen ≢ 0 →
             IfErr result (λ fault. Rests (D.sight disk) (D.sight fault.1)) }
 
+        // At any moment of the call a crash leaves no more bytes than the journal has, or than one before the call.
+        ensures any_moment { D.tells →
+            IfOk result (λ made. GrowsTo (made_size start.now) (D.sight disk) (D.sight made.disk)) }
+        ensures any_moment_err { D.tells →
+            IfErr result (λ fault. GrowsTo (made_size start.now) (D.sight disk) (D.sight fault.1)) }
+
         ensures disk_fault { IfErr result (λ fault. fault.0 ≡ create.DiskFault →
             HasRisen (D.faults disk) (D.faults fault.1)) }
         ensures later { IfOk result (λ made. D.faults disk ≤ D.faults made.disk) }
         ensures later_err { IfErr result (λ fault. D.faults disk ≤ D.faults fault.1) }
     {
+        a_disk_is_so::<D>();
         match Journal::create(disk) {
             Ok(journal) => Chronicle::begin(alloc, journal, start),
             Err((pec_journal::CreateFault::NotEmpty, disk)) => Err((CreateFault::NotEmpty, disk)),
@@ -213,6 +221,10 @@ impl<D: Disk> Chronicle<D> {
         ensures ended { IfOk result (λ made. made.end ≡ length header + framing + length (entry_text start.now)) }
         ensures stands { D.tells → Keeps (D.sight journal.disk) [] journal.end →
             IfOk result (λ made. Stands D.sight made) }
+        ensures any_moment { D.tells → length header < length (D.sight journal.disk).seen →
+            IfOk result (λ made. GrowsTo (made_size start.now) (D.sight journal.disk) (D.sight made.disk)) }
+        ensures any_moment_err { D.tells → length header < length (D.sight journal.disk).seen →
+            IfErr result (λ fault. GrowsTo (made_size start.now) (D.sight journal.disk) (D.sight fault.1)) }
         ensures not_empty { IfErr result (λ fault. fault.0 ≢ create.NotEmpty) }
         ensures disk_fault { IfErr result (λ fault. fault.0 ≡ create.DiskFault →
             HasRisen (D.faults journal.disk) (D.faults fault.1)) }
@@ -236,11 +248,14 @@ impl<D: Disk> Chronicle<D> {
             × (self.new.interrupted ≡ None) × (self.new.down ≡ false)) }
         ensures ended { OnOk result (self.new.end ≡ length header + framing + length (entry_text start.now)) }
         ensures stands { D.tells → Stands D.sight self.old → Stands D.sight self.new }
+        ensures any_moment { D.tells → length header < length (D.sight self.old.disk).seen →
+            GrowsTo (made_size start.now) (D.sight self.old.disk) (D.sight self.new.disk) }
         ensures not_empty { IsErrOf result create.NotEmpty → ⊥ }
         ensures disk_fault { IsErrOf result create.DiskFault →
             HasRisen (D.faults self.old.disk) (D.faults self.new.disk) }
         ensures later { D.faults self.old.disk ≤ D.faults self.new.disk }
     {
+        a_disk_is_so::<D>();
         let encoded = match self.reserve(alloc, start) {
             Ok(encoded) => encoded,
             Err(NoMemory) => return Err(CreateFault::NoMemory),
@@ -277,6 +292,9 @@ impl<D: Disk> Chronicle<D> {
         // A crash at any moment of the call leaves the journal of the entries, or of these and the new one. After Ok it
         // leaves the new one too.
         ensures carries { D.tells → CarriesOn D.sight (ThisMay self.old.entries entry) self.old self.new }
+        ensures grows { D.tells → self.old.down ≡ false → self.old.end < length (D.sight self.old.disk).seen →
+            GrowsTo (self.old.end + framing + length (entry_text entry) + 1)
+            (D.sight self.old.disk) (D.sight self.new.disk) }
         ensures ok { OnOk result (self.new ≡ record self.old {
           entries = with_entry self.old.entries entry;
           disk = self.new.disk;

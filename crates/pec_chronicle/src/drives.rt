@@ -1,5 +1,5 @@
 ghost use Rattle.std.specs.Prelude.{◌≡◌, ℕ, ◌+◌, ◌<◌, ◌≤◌, ◌↔◌, List, ◌∷◌, [], ◌++◌, length, IsErrOf, OnOk};
-ghost use Rattle.pec_outside.specs.DiskModel.{LeavesOnly};
+ghost use Rattle.pec_outside.specs.DiskModel.{GrowsTo, LeavesOnly};
 ghost use Rattle.pec_outside.specs.Flow.{HasRisen};
 ghost use Rattle.pec_journal.specs.JournalFile.{IsBeforeOrAfter, framing};
 ghost use Rattle.pec_journal.specs.JournalState.{Keeps};
@@ -64,6 +64,9 @@ impl<D: Disk> Drive<D> {
         ensures any_moment { D.tells → (entries : List (List ℕ)) →
             Keeps (D.sight (disk_in self.old)) entries (end_in self.old) →
             LeavesOnly (D.sight (disk_in self.old)) (D.sight (disk_in self.new)) (IsBeforeOrAfter entries bytes.now) }
+        ensures grows { D.tells → end_in self.old < length (D.sight (disk_in self.old)).seen →
+            GrowsTo (end_in self.old + framing + length bytes.now + 1)
+            (D.sight (disk_in self.old)) (D.sight (disk_in self.new)) }
         ensures ok { D.tells → (entries : List (List ℕ)) →
             Keeps (D.sight (disk_in self.old)) entries (end_in self.old) →
             OnOk result (Keeps (D.sight (disk_in self.new)) (entries ++ bytes.now ∷ []) (end_in self.new)) }

@@ -1,6 +1,6 @@
 ghost use Rattle.std.specs.Prelude.{◌≡◌, ◌≢◌, ℕ, ◌+◌, ◌<◌, ◌≤◌, ◌^◌, ◌↔◌, Bool, true, false, List, [], ◌∷◌, ◌++◌, length, take, drop, IsErrOf, IfOk, OnOk, IfErr, OnErr};
 ghost use Rattle.pec_outside.specs.Flow.{HasRisen};
-ghost use Rattle.pec_outside.specs.DiskModel.{LeavesOnly, Only, Rests, Torn, written};
+ghost use Rattle.pec_outside.specs.DiskModel.{GrowsTo, LeavesOnly, Only, Rests, Torn, written};
 ghost use Rattle.pec_journal.specs.JournalFile.{IsFile, IsBeforeOrAfter, IsShort, StandsAt, appended, framed, framing, open_gate, closed_gate, header};
 ghost use Rattle.pec_journal.specs.JournalState.{JournalState, Keeps};
 ghost use Rattle.pec_journal.specs.declared.faults.AppendFault.TheVariants as append;
@@ -99,7 +99,8 @@ impl<D> Journal<D> {
 
 impl<D: Disk> Journal<D> {
     /// A journal with no entry on an empty disk. It takes no memory. A crash during the call may leave a disk that holds
-    /// bytes and is no journal. With a fault the disk comes back.
+    /// bytes and is no journal, but no more of them than the journal has, or than it may have left before. With a fault
+    /// the disk comes back.
     pub fn create(mut disk: D) -> Result<Journal<D>, (CreateFault, D)>
         ensures created { D.tells → IfOk result (λ journal. Keeps (D.sight journal.disk) [] journal.end) }
         ensures bytes { D.tells → IfOk result (λ journal. (D.sight journal.disk).seen ≡ header ++ closed_gate ∷ []) }
@@ -111,6 +112,10 @@ impl<D: Disk> Journal<D> {
             (length (D.sight disk).seen ≢ 0) × Rests (D.sight disk) (D.sight fault.1)) }
         ensures as_it_was { D.tells → length (D.sight disk).seen ≢ 0 → IfErr result (λ fault.
             Rests (D.sight disk) (D.sight fault.1)) }
+
+        // At any moment of the call a crash leaves no more bytes than header and gate, or than one before the call.
+        ensures any_moment { D.tells → IfOk result (λ journal. GrowsTo (length header + 1) (D.sight disk) (D.sight journal.disk)) }
+        ensures any_moment_err { D.tells → IfErr result (λ fault. GrowsTo (length header + 1) (D.sight disk) (D.sight fault.1)) }
 
         ensures disk_fault { IfErr result (λ fault. fault.0 ≡ create.DiskFault → HasRisen (D.faults disk) (D.faults fault.1)) }
         ensures later { IfOk result (λ journal. D.faults disk ≤ D.faults journal.disk) }
@@ -135,6 +140,8 @@ impl<D: Disk> Journal<D> {
         // A crash at any moment of the call leaves the entries before it, or these and the new one.
         ensures any_moment { D.tells → (entries : List (List ℕ)) → Keeps (D.sight self.old.disk) entries self.old.end →
             LeavesOnly (D.sight self.old.disk) (D.sight self.new.disk) (IsBeforeOrAfter entries bytes.now) }
+        ensures grows { D.tells → self.old.end < length (D.sight self.old.disk).seen →
+            GrowsTo (self.old.end + framing + length bytes.now + 1) (D.sight self.old.disk) (D.sight self.new.disk) }
 
         // After Ok a crash leaves the new one, too.
         ensures ok { D.tells → (entries : List (List ℕ)) → Keeps (D.sight self.old.disk) entries self.old.end →
@@ -208,6 +215,8 @@ fn put_entry<D: Disk>(disk: &mut D, end: u64, piece: &[u8]) -> Result<(), Failed
     requires { end + 1 < 2 ^ 64 }
     ensures any_moment { D.tells → (entries : List (List ℕ)) (entry : List ℕ) → Keeps (D.sight disk.old) entries end → IsShort entry →
         piece.now ≡ framed entry ++ closed_gate ∷ [] → LeavesOnly (D.sight disk.old) (D.sight disk.new) (IsBeforeOrAfter entries entry) }
+    ensures grows { D.tells → end < length (D.sight disk.old).seen →
+        GrowsTo (end + 1 + length piece.now) (D.sight disk.old) (D.sight disk.new) }
     ensures ok { D.tells → (entries : List (List ℕ)) (entry : List ℕ) → Keeps (D.sight disk.old) entries end → IsShort entry →
         piece.now ≡ framed entry ++ closed_gate ∷ [] →
         OnOk result (Keeps (D.sight disk.new) (entries ++ entry ∷ []) (end + framing + length entry)) }
@@ -225,6 +234,8 @@ fn put_entry<D: Disk>(disk: &mut D, end: u64, piece: &[u8]) -> Result<(), Failed
 fn open_at<D: Disk>(disk: &mut D, end: u64) -> Result<(), Failed>
     ensures any_moment { D.tells → end ≤ length (D.sight disk.old).seen → Only (D.sight disk.old).seen (D.sight disk.old).may_leave →
         LeavesOnly (D.sight disk.old) (D.sight disk.new) (Torn end 1 (D.sight disk.old).seen) }
+    ensures grows { D.tells → end ≤ length (D.sight disk.old).seen →
+        GrowsTo (end + 1) (D.sight disk.old) (D.sight disk.new) }
     ensures written { D.tells → end ≤ length (D.sight disk.old).seen →
         OnOk result ((D.sight disk.new).seen ≡ written (D.sight disk.old).seen end (open_gate ∷ [])) }
     ensures durable { D.tells → end ≤ length (D.sight disk.old).seen →

@@ -1,5 +1,6 @@
 -- The disk model: what a disk reads as, and what a crash leaves of it now and since an earlier moment.
--- The headlines are `Torn` (a write), `Only` (after a sync) and `LeavesOnly` (a whole call). This project's profile.
+-- The headlines are `Torn` (a write), `Only` (after a sync), and `LeavesOnly` and `GrowsTo` (a whole call). This project's
+-- profile.
 use Rattle.std.specs.Prelude.{◌≡◌, ◌⊎◌, ℕ, ◌+◌, ◌≤◌, max, List, ◌++◌, length, take, drop}
 
 -- A disk as contracts see it. The words below speak of two sights of a disk, one before and one after, and never of
@@ -49,6 +50,15 @@ pub record LeavesOnly (old new : Sight) (Kind : List ℕ → Type 0) : Type 0 wh
   pub each : (image : List ℕ) → new.left_since old.moment image → Kind image
   -- the same for a longer time that ends with this one
   pub before : (t : ℕ) (image : List ℕ) → t ≤ old.moment → new.left_since t image → old.left_since t image ⊎ Kind image
+
+-- bytes that are no longer than this
+abbrev pub IsAtMost : ℕ → List ℕ → Type 0
+IsAtMost most bytes = length bytes ≤ most
+
+-- Where no image was longer than so many bytes or more, none is at any moment from the old sight to the new one.
+abbrev pub GrowsTo : ℕ → Sight → Sight → Type 0
+GrowsTo size old new = (most : ℕ) → size ≤ most → ((image : List ℕ) → old.may_leave image → IsAtMost most image)
+    → LeavesOnly old new (IsAtMost most)
 
 -- Calls that write nothing, one after another: a crash at any moment of them leaves what one before them would have left.
 pub record Stays (old new : Sight) : Type 0 where

@@ -1,6 +1,6 @@
 -- How what a crash may have left goes on from call to call: the crates above compose their clauses by these lemmas.
-use Rattle.std.proofs.Common.{inl, inr, ⊎_elim, ℕ, List, ◌∙◌, refl, arith}
-use Rattle.pec_outside.specs.DiskModel.{Sight, Elapses, Rests, Stays, LeavesOnly}
+use Rattle.std.proofs.Common.{inl, inr, ⊎_elim, ℕ, ◌≤◌, List, ◌∙◌, refl, arith}
+use Rattle.pec_outside.specs.DiskModel.{Sight, Elapses, Rests, Stays, LeavesOnly, GrowsTo, IsAtMost}
 
 -- before the first call
 pub started : (old : Sight) (Kind : List ℕ → Type 0) → ((image : List ℕ) → old.left_since old.moment image → Kind image)
@@ -51,3 +51,28 @@ stays_and old mid new first second = record {
   crash = λ image now. first.crash image (second.crash image now);
   moments = and_then old mid new old.may_leave first.moments (weaker mid new mid.may_leave old.may_leave second.moments first.crash);
 }
+
+-- ---- how long images grow
+
+module _ (size : ℕ) (old : Sight) (only_now : (image : List ℕ) → old.left_since old.moment image → old.may_leave image) where
+  -- before the first call
+  pub grows : GrowsTo size old old
+  grows most room within = started old (IsAtMost most) (λ image left. within image (only_now image left))
+
+  -- a call that writes nothing
+  pub grows_at_rest : (new : Sight) → Rests old new → GrowsTo size old new
+  grows_at_rest new rests most room within =
+      goes_on old old new (IsAtMost most) (grows most room within) rests.time (λ image left. within image (rests.crash image left))
+
+-- what grows to a size grows to no more than a greater one
+pub grows_less : (size more : ℕ) → size ≤ more → (old new : Sight) → GrowsTo size old new → GrowsTo more old new
+grows_less size more less old new so_far most room = so_far most (omega (arith, less, room))
+
+-- one stretch of calls behind another, which grows no further
+pub grows_and_then : (first second size : ℕ) → first ≤ size → second ≤ size → (old mid new : Sight)
+    → ((t : ℕ) (image : List ℕ) → t ≤ mid.moment → mid.may_leave image → mid.left_since t image)
+    → GrowsTo first old mid → GrowsTo second mid new → GrowsTo size old new
+grows_and_then first second size one other old mid new counts_now before behind most room within =
+    let mine = before most (omega (arith, one, room)) within in
+    and_then old mid new (IsAtMost most) mine
+    (behind most (omega (arith, other, room)) (λ image left. mine.each image (counts_now old.moment image mine.later left)))

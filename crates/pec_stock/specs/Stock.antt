@@ -2,8 +2,10 @@
 -- project's profile.
 use Rattle.std.specs.Prelude.{◌≡◌, ℕ, ◌<◌, Bool, false, List, ◌++◌, None}
 use Rattle.pec_types.specs.declared.moments.TheConstants.{END_OF_TIME}
-use Rattle.pec_directory.specs.Directory.{Kept}
+use Rattle.pec_directory.specs.Canonical.{digest_of}
+use Rattle.pec_directory.specs.Directory.{Kept, providers_of}
 use Rattle.pec_records.specs.declared.entries.Entry.{Entry}
+use Rattle.pec_records.specs.declared.entries.Entry.TheVariants as entries
 use Rattle.pec_ledger.specs.Ledger.{Begins}
 use Rattle.pec_ledger.specs.Network.{chosen}
 use Rattle.pec_ledger.specs.OfDirectory.{IsOf}
@@ -11,7 +13,7 @@ use Rattle.pec_ledger.specs.Steps.{half}
 use Rattle.pec_ledger.specs.Trade.{Trade}
 use Rattle.pec_shelf.specs.Prepared.{AreSteps}
 use Rattle.pec_shelf.specs.Seen.{IsFor, Seen}
-use Rattle.pec_chronicle.specs.Chronicle.{ChronicleState}
+use Rattle.pec_chronicle.specs.Chronicle.{ChronicleState, made_size}
 
 -- The half of a shelf is what these entries of its provider come to, in every world of the directory.
 pub record Holds (kept : List Kept) (shelf : Seen) (list : List Entry) : Type 0 where
@@ -32,3 +34,7 @@ pub record Agree {D : Type 0} (kept : List Kept) (chronicle : ChronicleState D) 
   pub whole : chronicle.down ≡ false → chronicle.interrupted ≡ None
   pub own : (trade : Trade) → IsOf kept trade → (choice : Bool)
       → IsOwn trade shelf.me (chronicle.entries ++ chosen choice chronicle.interrupted)
+
+-- how many bytes the journal of a provider of this directory has as it is made, with its Start alone
+abbrev pub size_made : List Kept → ℕ → ℕ
+size_made kept me = made_size (entries.Start me (digest_of (providers_of kept)))

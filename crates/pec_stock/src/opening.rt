@@ -1,5 +1,5 @@
 ghost use Rattle.std.specs.Prelude.{◌≡◌, ◌≢◌, ℕ, ◌≤◌, List, [], ◌∷◌, false, length, map, None, IfOk, OnOk, IfErr};
-ghost use Rattle.pec_outside.specs.DiskModel.{Rests, Stays};
+ghost use Rattle.pec_outside.specs.DiskModel.{GrowsTo, Rests, Stays};
 ghost use Rattle.pec_outside.specs.Flow.{HasRisen};
 ghost use Rattle.pec_directory.specs.Canonical.{digest_of};
 ghost use Rattle.pec_directory.specs.Directory.{providers_of};
@@ -13,7 +13,7 @@ ghost use Rattle.pec_ledger.specs.Trade.{Trade};
 ghost use Rattle.pec_chronicle.specs.Chronicle.{IsJournalOf, Stands};
 ghost use Rattle.pec_chronicle.specs.declared.faults.CreateFault.TheVariants as create;
 ghost use Rattle.pec_stock.specs.Opening.{CutOff, IsHere, IsOutside, IsUnfit, NotOwn, WhyNot};
-ghost use Rattle.pec_stock.specs.Stock.{Agree, Holds, IsOwn};
+ghost use Rattle.pec_stock.specs.Stock.{Agree, Holds, IsOwn, size_made};
 ghost use Rattle.pec_stock.specs.declared.faults.ReopenFault.TheVariants as reopen;
 
 use crate::faults::ReopenFault;
@@ -27,7 +27,8 @@ use pec_types::NoMemory;
 use std::alloc::Global;
 
 /// The stock of a provider on an empty disk: its journal is made, with its Start. A crash during the call may leave a disk
-/// that holds bytes and is no journal. With a fault the disk comes back; one that was empty may hold bytes then.
+/// that holds bytes and is no journal, but no more of them than that journal has, or than it may have left before. With a
+/// fault the disk comes back; one that was empty may hold bytes then, no more than these.
 pub fn begin<D: Disk>(
     alloc: Global,
     directory: &Directory,
@@ -44,6 +45,12 @@ pub fn begin<D: Disk>(
     ensures not_empty { D.tells → IfErr result (λ fault. fault.0 ≡ create.NotEmpty →
         (length (D.sight disk).seen ≢ 0) × Rests (D.sight disk) (D.sight fault.1)) }
     ensures as_it_was { D.tells → length (D.sight disk).seen ≢ 0 → IfErr result (λ fault. Rests (D.sight disk) (D.sight fault.1)) }
+
+    // At any moment of the call a crash leaves no more bytes than the journal has, or than one before the call.
+    ensures any_moment { D.tells → IfOk result (λ made.
+        GrowsTo (size_made directory.now me) (D.sight disk) (D.sight made.0.disk)) }
+    ensures any_moment_err { D.tells → IfErr result (λ fault.
+        GrowsTo (size_made directory.now me) (D.sight disk) (D.sight fault.1)) }
     ensures disk_fault { IfErr result (λ fault. fault.0 ≡ create.DiskFault → HasRisen (D.faults disk) (D.faults fault.1)) }
     ensures later { IfOk result (λ made. D.faults disk ≤ D.faults made.0.disk) }
     ensures later_err { IfErr result (λ fault. D.faults disk ≤ D.faults fault.1) }

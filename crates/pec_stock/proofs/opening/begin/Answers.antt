@@ -1,4 +1,7 @@
 use Rattle.std.proofs.Common.{subst, sym, ℕ, ◌∷◌, [], ◌∙◌}
+use Rattle.pec_outside.specs.DiskModel.{GrowsTo}
+use Rattle.pec_records.specs.declared.entries.Entry.{Entry}
+use Rattle.pec_chronicle.specs.Chronicle.{made_size}
 use Rattle.pec_stock.specs.Stock.{IsOwn}
 use Rattle.pec_stock.proofs.BeginningLemmas.{agree_with, end_begun}
 use Rattle.pec_stock.proofs.opening.begin.Goals as goal
@@ -13,3 +16,15 @@ returns-in-Ok-create-clause-agree g c =
           made.created.0 made.created.1
           (made.ended ∙ end_begun c.args.directory.now c.in-Ok.shelf c.in-Ok.start some.0 some.1 c.in-Ok.ensures.holds),
     )
+
+pub returns-in-Ok-create-clause-any_moment : goal.returns-in-Ok-create-clause-any_moment
+returns-in-Ok-create-clause-any_moment g c tells =
+    let sight = g.D.Disk.sight in
+    subst (λ (start : Entry). GrowsTo (made_size start) (sight c.args.disk) (sight c.in-Ok-create.chronicle.disk))
+    c.in-Ok.ensures.start (c.in-Ok-create.ensures.any_moment tells)
+
+pub returns-in-Ok-clause-any_moment_err : goal.returns-in-Ok-clause-any_moment_err
+returns-in-Ok-clause-any_moment_err g c tells =
+    let sight = g.D.Disk.sight in
+    subst (λ (start : Entry). GrowsTo (made_size start) (sight c.args.disk) (sight c.in-Err-create.fault.1))
+    c.in-Ok.ensures.start (c.in-Err-create.ensures.any_moment_err tells)

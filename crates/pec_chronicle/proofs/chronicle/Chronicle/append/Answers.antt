@@ -15,3 +15,11 @@ returns-in-Err-DiskFault-clause-carries g c tells =
     rw (← c.self.view_is) (carries_interrupted g.D.Disk.sight _ _ c.args.entry c.self.invariant.past.written c.bytes.ensures.can
     (λ texts keeps. rw c.bytes.ensures.text at (c.append.ensures.any_moment tells texts keeps))
     c.if-self.false refl refl refl (c.a_disk_is_so.ensures.counts tells (disk_in c.append.new.self)))
+
+pub returns-in-Ok-clause-grows : goal.returns-in-Ok-clause-grows
+returns-in-Ok-clause-grows g c tells up within =
+    rw (← c.self.view_is) (rw c.bytes.ensures.text at (c.append.ensures.grows tells (rw (← c.self.view_is) at within)))
+
+pub returns-in-Err-DiskFault-clause-grows : goal.returns-in-Err-DiskFault-clause-grows
+returns-in-Err-DiskFault-clause-grows g c tells up within =
+    rw (← c.self.view_is) (rw c.bytes.ensures.text at (c.append.ensures.grows tells (rw (← c.self.view_is) at within)))
