@@ -1,5 +1,6 @@
 ghost use Rattle.std.specs.Prelude.{◌≡◌, ◌+◌, ◌<◌, ◌≤◌, ◌↔◌, [], ◌∷◌, ◌++◌, length, IsNone, OnOk, IfOk, OnErr, IfErr};
 ghost use Rattle.std.specs.Option.{option_to_list};
+ghost use Rattle.pec_link.specs.Ends.{ArePair, AreSettled, waiting_on};
 ghost use Rattle.pec_link.specs.Links.{repeated, swapped, without};
 ghost use Rattle.pec_link.specs.declared.ends.TheConstants.{MOST_FRAMES};
 ghost use Rattle.pec_link.specs.declared.faults.LinkFault.TheVariants as faults;
@@ -38,6 +39,28 @@ impl Link {
     {
         let (putter, taker) = new_link(alloc)?;
         Ok(Link { putter, taker })
+    }
+
+    /// The link of these two ends. It takes no memory.
+    pub fn of(mut putter: Putter, mut taker: Taker) -> Link
+        requires { ArePair putter taker }
+        ensures { result ≡ waiting_on putter taker }
+    {
+        waiting(&mut putter, &mut taker);
+        Link { putter, taker }
+    }
+
+    /// Its two ends, which may go to two threads. Each knows all of the other. It takes no memory.
+    pub fn into_ends(self) -> (Putter, Taker)
+        ensures settled { AreSettled result.0 result.1 }
+        ensures waiting { result.1.waiting ≡ self }
+    {
+        let Link {
+            mut putter,
+            mut taker,
+        } = self;
+        waiting(&mut putter, &mut taker);
+        (putter, taker)
     }
 
     /// Puts a frame behind those that wait, or hands it back. It takes no memory.

@@ -19,7 +19,7 @@ use Rattle.pec_network.specs.Starting.{AllRun}
 use Rattle.pec_network.specs.declared.faults.StartFault.TheVariants as faults
 use Rattle.pec_network.specs.declared.opening.Form.{Form}
 use Rattle.pec_network.specs.declared.opening.Form.TheVariants as forms
-use Rattle.pec_network.proofs.StartLemmas.{back_again, begun_moved}
+use Rattle.pec_network.proofs.StartLemmas.{IsNow, back_again, begun_moved}
 
 -- ---- one provider more
 
@@ -162,14 +162,14 @@ module _ {D : Type 0} where
 
 module _ {D : Type 0} (tells reads : Type 0) (sight : D → Sight) (kept : List Kept) (form : Form) where
   -- nothing was asked for
-  pub nothing_begun : (home : ℕ → Option D) → IsLawful (providers_of kept)
+  pub nothing_begun : (home : ℕ → Option D) → IsLawful (providers_of kept) → (reads → (disk : D) → IsNow (sight disk))
       → IsRefused tells reads sight kept form home home faults.NoMemory
-  nothing_begun home lawful = record {
+  nothing_begun home lawful only = record {
     providers = [];
     count = let some = lawful.some in let same = length-map kept (λ (k : Kept). k.provider) in omega arith;
     begun = λ number other l. absurd (omega arith);
     about = about_nothing form 0;
     home = λ told number other l. absurd (omega arith);
-    next = λ told was is. back_again tells reads sight kept form 0 faults.NoMemory was (home 0) is tt;
+    next = λ told was is. back_again tells reads sight kept form 0 faults.NoMemory was (home 0) is tt (λ r. only r was);
     behind = λ told number l. refl;
   }

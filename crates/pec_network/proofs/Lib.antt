@@ -9,6 +9,7 @@ pub mod HomeLemmas
 pub mod KeepLemmas
 pub mod LinkLemmas
 pub mod LinkingLemmas
+pub mod MomentLemmas
 pub mod PassLemmas
 pub mod ProviderLemmas
 pub mod RoundLemmas
@@ -16,4 +17,5 @@ pub mod ShowLemmas
 pub mod SiteLemmas
 pub mod StartLemmas
 pub mod StepLemmas
+pub mod SummingLemmas
 pub mod TurnLemmas

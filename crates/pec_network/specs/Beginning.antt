@@ -4,7 +4,7 @@
 use Rattle.std.specs.Prelude.{◌≡◌, ◌⊎◌, ℕ, ◌<◌, ◌≤◌, true, List, [], ◌∷◌, length, map, replicate, slice_index_or}
 use Rattle.std.specs.Prelude.{Option, Some, None}
 use Rattle.pec_types.specs.Bytes.{Bytes}
-use Rattle.pec_outside.specs.DiskModel.{Sight}
+use Rattle.pec_outside.specs.DiskModel.{GrowsTo, Sight, Stays}
 use Rattle.pec_outside.specs.Flow.{HasRisen}
 use Rattle.pec_directory.specs.Canonical.{digest_of}
 use Rattle.pec_directory.specs.Directory.{Kept, providers_of}
@@ -15,8 +15,7 @@ use Rattle.pec_ledger.specs.OfDirectory.{IsOf}
 use Rattle.pec_ledger.specs.Trade.{Trade}
 use Rattle.pec_chronicle.specs.Chronicle.{IsJournalOf, Stands}
 use Rattle.pec_stock.specs.Opening.{IsUnfit}
-use Rattle.pec_stock.specs.Stock.{IsOwn}
-use Rattle.pec_stock.specs.Unchanged.{IsUnchanged}
+use Rattle.pec_stock.specs.Stock.{IsOwn, size_made}
 use Rattle.pec_stock.specs.declared.faults.ReopenFault.{ReopenFault}
 use Rattle.pec_stock.specs.declared.faults.ReopenFault.TheVariants as reopen
 use Rattle.pec_provider.specs.Provider.{ProviderState, desk_of, fresh}
@@ -53,6 +52,12 @@ abbrev pub IsHeld : Form → List Entry → Bytes → Type 0
 IsHeld forms.Make journal bytes = bytes ≡ []
 IsHeld forms.Open journal bytes = IsJournalOf journal bytes
 
+-- What the disk goes through. While a journal is opened nothing is written; while one is made, no image is longer at any
+-- moment than that journal, or than one was before.
+abbrev pub IsOpenedFrom : Form → List Kept → ℕ → Sight → Sight → Type 0
+IsOpenedFrom forms.Make kept me old new = GrowsTo (size_made kept me) old new
+IsOpenedFrom forms.Open kept me old new = Stays old new
+
 -- ---- refusals
 
 -- why a journal isn't opened, as the provider says it
@@ -80,15 +85,15 @@ Says kept me bytes (faults.NotEmpty number) = 0 < length bytes
 Says kept me bytes (faults.NotFit number why) = IsNotOwn kept me bytes why
 Says kept me bytes _ = Unit {0}
 
--- Nothing was written on a disk that held a byte: a journal that was there survives.
+-- Nothing was written on a disk that held a byte: a journal that was there survives, at every moment.
 abbrev pub IsUnwritten : Sight → Sight → Type 0
-IsUnwritten old new = 0 < length old.seen → IsUnchanged old new
+IsUnwritten old new = 0 < length old.seen → Stays old new
 
--- The disk that came to nothing is unchanged; but for an empty one on which a journal was being made.
+-- On the disk that came to nothing nothing was written; but on an empty one, on which a journal was being made.
 abbrev pub IsLeft : Form → StartFault → Sight → Sight → Type 0
 IsLeft forms.Make (faults.DiskFault number) old new = IsUnwritten old new
 IsLeft forms.Make faults.NoMemory old new = IsUnwritten old new
-IsLeft _ _ old new = IsUnchanged old new
+IsLeft _ _ old new = Stays old new
 
 -- A fault of a disk is told only where the depot's count of faults rose, or that of the disk as it last stood at home.
 abbrev pub BlamesDisk : (old new : ℕ) → (last left : ℕ → ℕ) → StartFault → Type 0
@@ -110,6 +115,8 @@ module _ {D : Type 0} (tells reads : Type 0) (sight : D → Sight) (kept : List 
     pub desk : desk_of provider ≡ fresh provider.chronicle.entries
     pub journal : IsHad form kept me provider.chronicle.entries
     pub held : tells → reads → (was : D) → home ≡ Some was → IsHeld form provider.chronicle.entries (sight was).seen
+    pub moments : tells → reads → (was : D) → home ≡ Some was
+        → IsOpenedFrom form kept me (sight was) (sight provider.chronicle.disk)
     pub stands : reads → Stands sight provider.chronicle
 
   -- So have providers, which are numbered from 0 on.
@@ -123,6 +130,7 @@ module _ {D : Type 0} (tells reads : Type 0) (sight : D → Sight) (kept : List 
     pub now : D
     pub is : home ≡ Some now
     pub left : reads → IsLeft form fault (sight was) (sight now)
+    pub moments : reads → IsOpenedFrom form kept me (sight was) (sight now)
     pub says : reads → Says kept me (sight was).seen fault
 
   -- The network doesn't begin: some providers had begun, whose disks are at home again, and the next one's came to

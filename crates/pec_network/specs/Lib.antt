@@ -9,4 +9,5 @@ pub mod Playing
 pub mod Restarting
 pub mod Rounds
 pub mod Starting
+pub mod Summing
 pub mod Turning

@@ -1,13 +1,18 @@
-ghost use Rattle.std.specs.Prelude.{◌≡◌, ℕ, ◌<◌, ◌≤◌, List, [], length, slice_index_or};
+ghost use Rattle.std.specs.Prelude.{◌≡◌, ℕ, ◌<◌, ◌≤◌, List, [], length, slice_get, slice_index_or, Some};
 ghost use Rattle.pec_types.specs.Bytes.{Bytes};
 ghost use Rattle.pec_outside.specs.Depots.{depot_places};
+ghost use Rattle.pec_outside.specs.DiskModel.{LeavesOnly};
 ghost use Rattle.pec_records.specs.declared.entries.Entry.{Entry};
-ghost use Rattle.pec_ledger.specs.Ledger.{Fit};
+ghost use Rattle.pec_ledger.specs.Ledger.{Fit, Journals};
 ghost use Rattle.pec_ledger.specs.Network.{FollowsState, Site, Sound, interrupted_at, journal_at, journals_in, journals_of};
 ghost use Rattle.pec_ledger.specs.Trade.{Trade};
-ghost use Rattle.pec_chronicle.specs.Carrying.{CarriesOn, IsImage, NothingMay};
-ghost use Rattle.pec_chronicle.specs.Chronicle.{ChronicleState, IsJournalOf};
+ghost use Rattle.pec_chronicle.specs.Carrying.{CarriesOn, FollowsSo, IsImage, NothingMay};
+ghost use Rattle.pec_chronicle.specs.Chronicle.{ChronicleState, Stands};
+ghost use Rattle.pec_posts.specs.Arrivals.{Waiting};
 ghost use Rattle.pec_provider.specs.Following.{MayFollow};
+ghost use Rattle.pec_provider.specs.Provider.{ProviderState};
+ghost use Rattle.pec_network.specs.Carrying.{AllCarryOn};
+ghost use Rattle.pec_network.specs.Network.{sites_of};
 ghost use Rattle.pec_network.specs.Rounds.{FramesAreGenuine};
 
 use pec_directory::Directory;
@@ -17,6 +22,12 @@ use pec_provider::what_follows_goes_on;
 /// What isn't touched carries on.
 pub(crate) fn what_rests_carries_on<D: Disk>()
     ensures { D.tells → (state : ChronicleState D) → CarriesOn D.sight NothingMay state state }
+{}
+
+/// As long as nothing is done on a disk, there is no other moment of it than this one.
+pub(crate) fn a_disk_is_now<D: Disk>()
+    ensures { D.tells → (disk : D) (image : Bytes) → (D.sight disk).left_since (D.sight disk).moment image
+        → (D.sight disk).may_leave image }
 {}
 
 /// A depot has a place for each provider of a directory.
@@ -31,9 +42,31 @@ pub fn images_follow()
     ensures { (trade : Trade) (state : List Site) (number : ℕ) (bytes : Bytes)
         → IsImage (MayFollow trade (journals_of state) number) (journal_at state number) (interrupted_at state number)
         bytes
-        → (list : List Entry) × FollowsState trade state number list × IsJournalOf list bytes }
+        → FollowsSo trade state number bytes }
 {
     what_follows_goes_on();
+}
+
+/// What a call leaves of a provider, where all carry on with entries that may follow in the ledger of the state before it:
+/// what is kept and stood on the disk stands there again, and at any moment of the call a crash leaves of the disk the
+/// journal of a list that follows that state. Providers that aren't touched carry on. The ledger sees the entries that are
+/// kept of each.
+pub fn a_call_leaves_what_follows<D: Disk>()
+    ensures follows { (trade : Trade) (old new : List (ProviderState D)) (waiting : List Waiting)
+        → AllCarryOn D.sight trade (journals_of (sites_of old waiting)) old new
+        → (number : ℕ) (was now : ProviderState D)
+        → slice_get old number ≡ Some was → slice_get new number ≡ Some now → Stands D.sight was.chronicle
+        → Stands D.sight now.chronicle × LeavesOnly (D.sight was.chronicle.disk) (D.sight now.chronicle.disk)
+        (FollowsSo trade (sites_of old waiting) number) }
+    ensures rests { D.tells → (trade : Trade) (journals : Journals) (providers : List (ProviderState D))
+        → AllCarryOn D.sight trade journals providers providers }
+    ensures seen { (providers : List (ProviderState D)) (waiting : List Waiting) (number : ℕ) (one : ProviderState D)
+        → slice_get providers number ≡ Some one
+        → (journal_at (sites_of providers waiting) number ≡ one.chronicle.entries)
+        × (interrupted_at (sites_of providers waiting) number ≡ one.chronicle.interrupted) }
+{
+    what_follows_goes_on();
+    what_rests_carries_on::<D>();
 }
 
 /// Whatever crashes leave of the providers' disks fits together: of a state that is Sound, take for each provider any

@@ -15,10 +15,12 @@ mod rounds;
 mod showing;
 mod starting;
 mod steps;
+mod summing;
 mod turns;
 
 pub use faults::{NotFit, RestartFault, StartFault};
 pub use keeping::a_network_keeps_its_promises;
 pub use network::Network;
 pub use opening::Form;
+pub use pec_provider::Summary;
 pub use turns::{Taken, take_turn};

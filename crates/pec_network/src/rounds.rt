@@ -17,13 +17,19 @@ use pec_provider::{House, Provider};
 use pec_seal::Sealer;
 use pec_types::{Frame, Items, Moment, NoMemory, Turn};
 use std::alloc::Global;
+use std::thread::Threads;
 
-impl<D: Disk, S: Sealer> Network<D, S> {
+impl<D: Disk + Send, S: Sealer + Sync> Network<D, S> {
     /// A round at a moment: each provider has its turn, in the order of the directory, from the state as the round
     /// began, and then what they put is delivered. The answer is what is told of each turn. Where a journal is full, a
     /// disk fails, a provider is down or the clock is behind its journal, that turn tells how it ended, and the others
     /// go on. Where memory runs out nothing is delivered, and each provider has the entries of a front of its turn.
-    pub fn round(&mut self, alloc: Global, moment: Moment) -> Result<Vec<Turn>, NoMemory>
+    pub fn round<X: Threads + Sync>(
+        &mut self,
+        _rt: &X,
+        alloc: Global,
+        moment: Moment,
+    ) -> Result<Vec<Turn>, NoMemory>
 
         // It is played as the command, with the luck that its turns tell.
         ensures plays { IfOk result (λ turns. IsRound (world_of S.seals self.old) moment

@@ -4,4 +4,5 @@ pub mod Following
 pub mod Looking
 pub mod Playing
 pub mod Provider
+pub mod Summing
 pub mod Working

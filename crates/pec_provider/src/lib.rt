@@ -9,10 +9,12 @@ mod laws;
 mod opening;
 mod provider;
 mod showing;
+mod summing;
 mod turns;
 
 pub use laws::what_follows_goes_on;
 pub use pec_chronicle::CreateFault;
+pub use pec_shelf::Summary;
 pub use pec_stock::ReopenFault;
 pub use pec_trade::{House, a_house_is_a_trade};
 pub use pec_types::{Event, Mark, ProviderFault, Submitted};

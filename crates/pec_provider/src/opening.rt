@@ -1,6 +1,6 @@
 ghost use Rattle.std.specs.Prelude.{◌≡◌, ◌≢◌, ℕ, ◌<◌, ◌≤◌, Bool, List, [], ◌∷◌, ◌++◌, length, IfOk, OnOk, IfErr};
 ghost use Rattle.pec_outside.specs.Depots.{Alike, depot_places};
-ghost use Rattle.pec_outside.specs.DiskModel.{Only, Rests, Stays};
+ghost use Rattle.pec_outside.specs.DiskModel.{GrowsTo, Only, Rests, Stays};
 ghost use Rattle.pec_outside.specs.Flow.{HasRisen};
 ghost use Rattle.pec_directory.specs.Canonical.{digest_of};
 ghost use Rattle.pec_directory.specs.Directory.{Kept, providers_of};
@@ -14,7 +14,7 @@ ghost use Rattle.pec_chronicle.specs.Chronicle.{IsJournalOf, Stands};
 ghost use Rattle.pec_chronicle.specs.declared.faults.CreateFault.TheVariants as create;
 ghost use Rattle.pec_stock.specs.Opening.{IsOutside, IsUnfit};
 ghost use Rattle.pec_seal.specs.Seals.{Seals};
-ghost use Rattle.pec_stock.specs.Stock.{Agree, IsOwn};
+ghost use Rattle.pec_stock.specs.Stock.{Agree, IsOwn, size_made};
 ghost use Rattle.pec_stock.specs.declared.faults.ReopenFault.TheVariants as reopen;
 ghost use Rattle.pec_provider.specs.Provider.{Runs, RunsIn, desk_of, fresh, stopped};
 
@@ -30,7 +30,8 @@ use std::alloc::Global;
 
 impl<D: Disk> Provider<D> {
     /// A provider on an empty disk: its journal is made, with its Start. A crash during the call may leave a disk that
-    /// holds bytes and is no journal. With a fault the disk comes back; one that was empty may hold bytes then.
+    /// holds bytes and is no journal, but no more of them than that journal has, or than it may have left before. With
+    /// a fault the disk comes back; one that was empty may hold bytes then, no more than these.
     pub fn create<S: Sealer>(
         alloc: Global,
         house: &House<'_, S>,
@@ -48,6 +49,12 @@ impl<D: Disk> Provider<D> {
             (length (D.sight disk).seen ≢ 0) × Rests (D.sight disk) (D.sight fault.1)) }
         ensures as_it_was { D.tells → length (D.sight disk).seen ≢ 0
             → IfErr result (λ fault. Rests (D.sight disk) (D.sight fault.1)) }
+
+        // At any moment of the call a crash leaves no more bytes than the journal has, or than one before the call.
+        ensures any_moment { D.tells → IfOk result (λ provider.
+            GrowsTo (size_made house.now.directory.now house.now.me) (D.sight disk) (D.sight provider.chronicle.disk)) }
+        ensures any_moment_err { D.tells → IfErr result (λ fault.
+            GrowsTo (size_made house.now.directory.now house.now.me) (D.sight disk) (D.sight fault.1)) }
         ensures disk_fault { IfErr result (λ fault. fault.0 ≡ create.DiskFault
             → HasRisen (D.faults disk) (D.faults fault.1)) }
         ensures later { IfOk result (λ provider. D.faults disk ≤ D.faults provider.chronicle.disk) }

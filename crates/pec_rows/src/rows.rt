@@ -1,4 +1,4 @@
-ghost use Rattle.std.specs.Prelude.{◌≡◌, ◌≤◌, ◌↔◌, [], ◌++◌, length, IsNone};
+ghost use Rattle.std.specs.Prelude.{◌≡◌, ◌<◌, ◌≤◌, ◌↔◌, [], ◌∷◌, ◌++◌, length, IsNone};
 ghost use Rattle.std.specs.Option.{option_to_list};
 ghost use Rattle.pec_plays.specs.Turns.{frames_in, without_first};
 ghost use Rattle.pec_rows.specs.Rows.{ArePut, CanPut, knowns, waits};
@@ -45,6 +45,14 @@ impl Putters {
         Putters { ends }
     }
 
+    /// The end of the first link, which the row then lacks. It takes no memory.
+    pub fn take_first(&mut self) -> Putter
+        requires { 0 < length self.old }
+        ensures { self.old ≡ result ∷ self.new }
+    {
+        self.ends.remove(0)
+    }
+
     /// Puts frames, a list for each provider by number, behind all that was put on the links to them. It takes no memory, and
     /// copies no frame.
     pub fn put_all(&mut self, mut out: Vec<Items<Frame>>)
@@ -66,6 +74,13 @@ impl Takers {
         Takers { ends }
     }
 
+    /// The list of its ends. It takes no memory.
+    pub fn into_ends(self) -> Vec<Taker>
+        ensures { result.items ≡ self }
+    {
+        self.ends
+    }
+
     /// Takes the frame that is next, from the first provider from which one is known to wait; none exactly where none is. It
     /// takes no memory.
     pub fn take(&mut self) -> Option<Frame>
@@ -73,7 +88,7 @@ impl Takers {
         ensures left { waits self.new ≡ without_first 1 (waits self.old) }
         ensures none { IsNone result ↔ (frames_in (waits self.old) ≡ []) }
         ensures kept { knowns self.new ≡ knowns self.old }
-        ensures links { length self.new ≡ length self.old }
+        ensures links { length (waits self.new) ≡ length (waits self.old) }
     {
         next_frame(self.ends.as_mut_slice())
     }

@@ -10,6 +10,7 @@ pub mod PairLemmas
 pub mod SizeLemmas
 pub mod StepLemmas
 pub mod StillLemmas
+pub mod SummaryLemmas
 pub mod TradeLemmas
 pub mod UndecidedLemmas
 pub mod WaitingLemmas

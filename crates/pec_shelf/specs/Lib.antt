@@ -10,6 +10,8 @@ pub mod Seen
 pub mod Settled
 pub mod Sides
 pub mod Still
+pub mod Summaries
+pub mod SummariesReading
 pub mod Tallies
 pub mod Undecided
 pub mod Waiting

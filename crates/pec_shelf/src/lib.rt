@@ -28,6 +28,7 @@ mod shelf;
 mod sizes;
 mod still;
 mod submissions;
+mod summing;
 mod undecided;
 mod waiting;
 
@@ -40,3 +41,4 @@ pub use preparing::moment_of;
 pub use ready::Ready;
 pub use rows::{ChargeRow, FateRow, KnownRow, MessageRow, Placed, PostedRow, TakenRow};
 pub use shelf::Shelf;
+pub use summing::Summary;

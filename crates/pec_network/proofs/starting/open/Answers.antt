@@ -4,7 +4,7 @@ use Rattle.pec_network.proofs.starting.open.Goals as goal
 pub returns-in-Ok-clause-begun : goal.returns-in-Ok-clause-begun
 returns-in-Ok-clause-begun g c =
     opened_so g.D.Disk.tells g.D.Disk.tells g.D.Disk.sight c.args.house.now.directory.now c.args.house.now.me c.args.disk c.in-Ok.provider
-    c.in-Ok.ensures.runs c.in-Ok.ensures.up c.in-Ok.ensures.opened
+    c.in-Ok.ensures.runs c.in-Ok.ensures.up c.in-Ok.ensures.opened c.in-Ok.ensures.stays
 
 pub returns-in-Err-clause-about : goal.returns-in-Err-clause-about
 returns-in-Err-clause-about g c = rw c.unopened.ensures (unopened_about c.args.house.now.me c.in-Err.fault)

@@ -1,0 +1,168 @@
+-- What is counted row by row is the summary of the ledger, where the homes that are kept are the trade's.
+use Rattle.std.proofs.Common.{◌≡◌, ℕ, ◌+◌, ◌≤◌, Bool, true, false, cond, List, [], ◌∷◌, ◌++◌, length, map, drop, refl, sym, ap, ◌∙◌, arith, Option, Some, None, is_some, slice_get}
+use Rattle.std.specs.List.{cons_option, filter, filter_map}
+use Rattle.std.specs.Option.{option_map}
+use Rattle.std.proofs.Math.ListN.{drop_of_length-le}
+use Rattle.std.proofs.lemmas.List.{length-append}
+use Rattle.std.proofs.lemmas.Option.{get_or_from_slice_get, slice_get_within}
+use Rattle.pec_types.specs.Message.{Id}
+use Rattle.pec_types.specs.declared.messages.Facts.{Facts}
+use Rattle.pec_types.specs.declared.messages.Recipient.{Recipient}
+use Rattle.pec_ledger.specs.Along.{times}
+use Rattle.pec_ledger.specs.Half.{Half, Message}
+use Rattle.pec_ledger.specs.Lookups.{accepted_of}
+use Rattle.pec_ledger.specs.Pairs.{Pair, id_of, pair_of}
+use Rattle.pec_ledger.specs.Trade.{Trade}
+use Rattle.pec_shelf.specs.Seen.{certified_at, certified_by, certified_in, certified_of}
+use Rattle.pec_shelf.specs.Sides.{Kept, certified_of_rows, messages_of}
+use Rattle.pec_shelf.specs.Summaries.{all_pairs, is_accepted, is_delivered, is_noticed, is_turned_away, is_unknown, nothing_yet, pairs_from, pairs_of, summary_of}
+use Rattle.pec_shelf.specs.SummariesReading.{more_if, with_accepted, with_message, with_messages, with_pair, with_pairs}
+use Rattle.pec_shelf.specs.declared.certified.Certified.{Certified}
+use Rattle.pec_shelf.specs.declared.summing.Summary.{Summary}
+use Rattle.pec_shelf.proofs.LoopLemmas.{drop_at}
+
+same_heads : {X : Type 0} (x y : X) (xs ys : List X) → x ∷ xs ≡ y ∷ ys → (x ≡ y) × (xs ≡ ys)
+same_heads x y xs ys e = (cc, cc)
+
+-- ---- counts
+
+abbrev five : ℕ → ℕ → ℕ → ℕ → ℕ → Summary
+five a d r u n = record { accepted = a; delivered = d; refused = r; unknown = u; noticed = n }
+
+same_five : (a b d e r s u v n m : ℕ) → a ≡ b → d ≡ e → r ≡ s → u ≡ v → n ≡ m → five a d r u n ≡ five b e s v m
+same_five a b d e r s u v n m ab de rs uv nm =
+    ap (λ x. five x d r u n) ab
+    ∙ (ap (λ x. five b x r u n) de ∙ (ap (λ x. five b e x u n) rs ∙ (ap (λ x. five b e s x n) uv ∙ ap (λ x. five b e s v x) nm)))
+
+counted_more : {X : Type 0} (test : X → Bool) (n : ℕ) (x : X) (xs : List X) → more_if n (test x) + times test xs ≡ n + times test (x ∷ xs)
+counted_more {X} test n x xs = by (test x)
+  where
+    by : (b : Bool) → cond b (n + 1) n + length (filter test xs) ≡ n + length (cond b (x ∷ filter test xs) (filter test xs))
+    by true = omega arith
+    by false = refl
+
+counted_both : {X : Type 0} (test : X → Bool) (xs ys : List X) → times test (xs ++ ys) ≡ times test xs + times test ys
+counted_both test [] ys = omega arith
+counted_both {X} test (x ∷ xs) ys = by (test x) (counted_both test xs ys)
+  where
+    by : (b : Bool) → times test (xs ++ ys) ≡ times test xs + times test ys
+        → length (cond b (x ∷ filter test (xs ++ ys)) (filter test (xs ++ ys)))
+        ≡ length (cond b (x ∷ filter test xs) (filter test xs)) + length (filter test ys)
+    by true e = omega (arith, e)
+    by false e = e
+
+-- a summary with these pairs
+abbrev with_all : Half → Summary → List Pair → Summary
+with_all half s pairs = five s.accepted (s.delivered + times (is_delivered half) pairs) (s.refused + times (is_turned_away half) pairs)
+    (s.unknown + times (is_unknown half) pairs) (s.noticed + times (is_noticed half) pairs)
+
+-- the pairs of these recipients
+abbrev pairs_in : Id → List Certified → List Pair
+pairs_in id certified = map (λ (one : Certified). pair_of id one.address) certified
+
+zero_more : (n : ℕ) → n ≡ n + 0
+zero_more n = omega arith
+
+pairs_counted : (half : Half) (id : Id) (s : Summary) (certified : List Certified)
+    → with_pairs half id s certified ≡ with_all half s (pairs_in id certified)
+pairs_counted half id s [] =
+    same_five s.accepted s.accepted s.delivered _ s.refused _ s.unknown _ s.noticed _ refl (zero_more s.delivered) (zero_more s.refused)
+    (zero_more s.unknown) (zero_more s.noticed)
+pairs_counted half id s (one ∷ others) =
+    let pair = pair_of id one.address in
+    let rest = pairs_in id others in
+    pairs_counted half id (with_pair half s pair) others
+    ∙ same_five s.accepted s.accepted _ _ _ _ _ _ _ _ refl
+    (counted_more (is_delivered half) s.delivered pair rest) (counted_more (is_turned_away half) s.refused pair rest)
+    (counted_more (is_unknown half) s.unknown pair rest) (counted_more (is_noticed half) s.noticed pair rest)
+
+-- the pairs of rows, numbered from here on
+abbrev pairs_rows : ℕ → ℕ → List Kept → List Pair
+pairs_rows me number [] = []
+pairs_rows me number (row ∷ rows) = pairs_in (id_of me number) row.certified ++ pairs_rows me (number + 1) rows
+
+-- a summary with these rows
+abbrev with_rows : ℕ → Half → Summary → ℕ → List Kept → Summary
+with_rows me half s number rows =
+    with_all half (record s { accepted = s.accepted + times is_accepted (messages_of rows) }) (pairs_rows me number rows)
+
+further : {X : Type 0} (test : X → Bool) (n : ℕ) (xs ys : List X) → (n + times test xs) + times test ys ≡ n + times test (xs ++ ys)
+further test n xs ys = omega (arith, counted_both test xs ys)
+
+rows_counted : (me : ℕ) (half : Half) (s : Summary) (number : ℕ) (rows : List Kept)
+    → with_messages me half s number rows ≡ with_rows me half s number rows
+rows_counted me half s number [] =
+    same_five s.accepted _ s.delivered _ s.refused _ s.unknown _ s.noticed _ (zero_more s.accepted) (zero_more s.delivered)
+    (zero_more s.refused) (zero_more s.unknown) (zero_more s.noticed)
+rows_counted me half s number (row ∷ rows) =
+    let id = id_of me number in
+    let here = pairs_in id row.certified in
+    let rest = pairs_rows me (number + 1) rows in
+    ap (λ t. with_messages me half t (number + 1) rows) (pairs_counted half id (with_accepted s row) row.certified)
+    ∙ (rows_counted me half (with_all half (with_accepted s row) here) (number + 1) rows
+    ∙ same_five _ _ _ _ _ _ _ _ _ _ (counted_more is_accepted s.accepted row.message (messages_of rows))
+    (further (is_delivered half) s.delivered here rest) (further (is_turned_away half) s.refused here rest)
+    (further (is_unknown half) s.unknown here rest) (further (is_noticed half) s.noticed here rest))
+
+-- ---- the pairs are the ledger's
+
+pairs_step : (id : Id) (r : Recipient) (xs : List Certified) (ys : List Recipient)
+    → pairs_in id xs ≡ map (λ (recipient : Recipient). pair_of id recipient.address) ys → (home : Option ℕ)
+    → pairs_in id (cons_option (option_map (certified_at r) home) xs)
+    ≡ map (λ (recipient : Recipient). pair_of id recipient.address) (cond (is_some home) (r ∷ ys) ys)
+pairs_step id r xs ys more None = more
+pairs_step id r xs ys more (Some home) = ap (λ pairs. pair_of id r.address ∷ pairs) more
+
+pairs_certified : (trade : Trade) (id : Id) (rs : List Recipient)
+    → pairs_in id (filter_map (certified_of trade) rs)
+    ≡ map (λ (recipient : Recipient). pair_of id recipient.address) (filter (λ (recipient : Recipient). is_some (trade.home recipient.address)) rs)
+pairs_certified trade id [] = refl
+pairs_certified trade id (r ∷ rs) = pairs_step id r _ _ (pairs_certified trade id rs) (trade.home r.address)
+
+pairs_message : (trade : Trade) (id : Id) (message : Message) (facts : Option Facts) → message.facts ≡ facts
+    → pairs_in id (certified_in trade facts) ≡ pairs_of trade id (accepted_of message)
+pairs_message trade id message None e = rw e refl
+pairs_message trade id message (Some facts) e = rw e (pairs_certified trade id facts.recipients)
+
+pairs_are : (trade : Trade) (me number : ℕ) (rows : List Kept) → certified_of_rows rows ≡ map (certified_by trade) (messages_of rows)
+    → pairs_rows me number rows ≡ pairs_from trade me number (messages_of rows)
+pairs_are trade me number [] e = refl
+pairs_are trade me number (row ∷ rows) e =
+    let parts = same_heads _ _ _ _ e in
+    ap (λ certified. pairs_in (id_of me number) certified ++ pairs_rows me (number + 1) rows) parts.0
+    ∙ (ap (λ pairs. pairs ++ pairs_rows me (number + 1) rows) (pairs_message trade (id_of me number) row.message row.message.facts refl)
+    ∙ ap (λ pairs. pairs_of trade (id_of me number) (accepted_of row.message) ++ pairs) (pairs_are trade me (number + 1) rows parts.1))
+
+pub summary_is : (trade : Trade) (me : ℕ) (half : Half) (rows : List Kept) → messages_of rows ≡ half.messages
+    → certified_of_rows rows ≡ map (certified_by trade) half.messages
+    → with_messages me half nothing_yet 0 rows ≡ summary_of trade me half
+summary_is trade me half rows messages certified =
+    let pairs : pairs_rows me 0 rows ≡ all_pairs trade me half =
+    pairs_are trade me 0 rows (certified ∙ ap (map (certified_by trade)) (sym messages)) ∙ ap (pairs_from trade me 0) messages in
+    rows_counted me half nothing_yet 0 rows
+    ∙ same_five _ _ _ _ _ _ _ _ _ _ (from_zero is_accepted (messages_of rows) half.messages messages)
+    (from_zero (is_delivered half) (pairs_rows me 0 rows) (all_pairs trade me half) pairs)
+    (from_zero (is_turned_away half) (pairs_rows me 0 rows) (all_pairs trade me half) pairs)
+    (from_zero (is_unknown half) (pairs_rows me 0 rows) (all_pairs trade me half) pairs)
+    (from_zero (is_noticed half) (pairs_rows me 0 rows) (all_pairs trade me half) pairs)
+  where
+    from_zero : {X : Type 0} (test : X → Bool) (xs ys : List X) → xs ≡ ys → 0 + times test xs ≡ times test ys
+    from_zero test xs ys e = let none : 0 + times test xs ≡ times test xs = omega arith in none ∙ ap (times test) e
+
+-- ---- loops
+
+-- a row more
+pub message_more : (me : ℕ) (half : Half) (rows : List Kept) (n : ℕ) (row : Kept) (old new whole : Summary)
+    → Some row ≡ slice_get rows n → new ≡ with_message half (id_of me n) old row
+    → with_messages me half old n (drop n rows) ≡ whole → with_messages me half new (n + 1) (drop (n + 1) rows) ≡ whole
+message_more me half rows n row old new whole there is before =
+    let rest = drop (n + 1) rows in
+    let left : drop n rows ≡ row ∷ rest =
+    drop_at rows n row (slice_get_within rows n row (sym there)) (sym (get_or_from_slice_get rows n row row (sym there))) in
+    ap (λ s. with_messages me half s (n + 1) rest) is ∙ (sym (ap (with_messages me half old n) left) ∙ before)
+
+-- behind the last row
+pub messages_done : (me : ℕ) (half : Half) (rows : List Kept) (n : ℕ) (summary whole : Summary) → length rows ≤ n
+    → with_messages me half summary n (drop n rows) ≡ whole → summary ≡ whole
+messages_done me half rows n summary whole past before =
+    sym (ap (with_messages me half summary n) (drop_of_length-le rows past)) ∙ before

@@ -1,0 +1,195 @@
+ghost use Rattle.std.specs.Prelude.{◌≡◌, ◌+◌, ◌<◌, ◌≤◌, length, is_some, IfOk};
+ghost use Rattle.std.specs.Option.{option_map};
+ghost use Rattle.pec_types.specs.declared.messages.TheConstants.{MESSAGES};
+ghost use Rattle.pec_ledger.specs.Pairs.{pair_of};
+ghost use Rattle.pec_ledger.specs.Trade.{Trade};
+ghost use Rattle.pec_shelf.specs.Seen.{IsFor};
+ghost use Rattle.pec_shelf.specs.Summaries.{decision_on, is_noticed, is_placed, is_refused, nothing_yet, plus, summary_of};
+ghost use Rattle.pec_shelf.specs.SummariesReading.{more_if, with_accepted, with_message, with_messages, with_pair, with_pairs};
+
+use crate::certified::Certified;
+use crate::outbox::Outbox;
+use crate::rows::MessageRow;
+use crate::shelf::Shelf;
+use pec_types::{Address, Decision, MsgId, NoMemory};
+
+/// What has become of messages, in numbers: how many were accepted, and how many of their pairs, each a message and a
+/// certified recipient, are known to be placed, are known to be refused, aren't known, and had a notice, in time or late.
+#[derive(Clone, Copy, Debug, PartialEq, Eq)]
+pub struct Summary {
+    pub accepted: u64,
+    pub delivered: u64,
+    pub refused: u64,
+    pub unknown: u64,
+    pub noticed: u64,
+}
+
+impl Summary {
+    /// Of no message.
+    pub fn new() -> Summary
+        ensures { result ≡ nothing_yet }
+    {
+        Summary {
+            accepted: 0,
+            delivered: 0,
+            refused: 0,
+            unknown: 0,
+            noticed: 0,
+        }
+    }
+
+    /// Two summaries in one, as long as 64 bits tell its numbers: no memory holds so many rows.
+    pub fn plus(self, other: Summary) -> Result<Summary, NoMemory>
+        ensures { IfOk result (λ sum. sum ≡ plus self other) }
+    {
+        Ok(Summary {
+            accepted: sum(self.accepted, other.accepted)?,
+            delivered: sum(self.delivered, other.delivered)?,
+            refused: sum(self.refused, other.refused)?,
+            unknown: sum(self.unknown, other.unknown)?,
+            noticed: sum(self.noticed, other.noticed)?,
+        })
+    }
+}
+
+fn sum(count: u64, other: u64) -> Result<u64, NoMemory>
+    ensures { IfOk result (λ sum. sum ≡ count + other) }
+{
+    match count.checked_add(other) {
+        Some(sum) => Ok(sum),
+        None => Err(NoMemory),
+    }
+}
+
+/// One more, where that counts.
+fn more_if(count: u64, counts: bool) -> Result<u64, NoMemory>
+    ensures { IfOk result (λ new. new ≡ more_if count counts) }
+{
+    if !counts {
+        return Ok(count);
+    }
+    sum(count, 1)
+}
+
+impl Shelf {
+    /// What has become of this provider's messages, in numbers, as long as 64 bits tell these: no memory holds so many
+    /// rows.
+    pub fn summary(&self) -> Result<Summary, NoMemory>
+        ensures { (trade : Trade) → IsFor trade self.now
+            → IfOk result (λ summary. summary ≡ summary_of trade self.now.me self.now.half) }
+    {
+        let summary = summary_of(self, self.me(), self.sent())?;
+        Ok(summary)
+    }
+}
+
+/// The summary of all messages on the sender's side of this shelf.
+fn summary_of(shelf: &Shelf, me: u32, outbox: &Outbox) -> Result<Summary, NoMemory>
+    requires { length outbox.now.messages ≤ MESSAGES }
+    ensures { IfOk result (λ summary. summary ≡ with_messages me shelf.now.half nothing_yet 0 outbox.now.messages) }
+{
+    let mut summary = Summary::new();
+    for number in 0..outbox.messages().len() {
+        let Some(row) = outbox.message(number) else {
+            return Ok(summary);
+        };
+        let id = MsgId {
+            provider: me,
+            number,
+        };
+        summary = with_message(shelf, summary, id, row)?;
+    }
+    Ok(summary)
+}
+
+/// With a message and its pairs.
+fn with_message(
+    shelf: &Shelf,
+    summary: Summary,
+    id: MsgId,
+    row: &MessageRow,
+) -> Result<Summary, NoMemory>
+    ensures { IfOk result (λ new. new ≡ with_message shelf.now.half id summary row.now) }
+{
+    let summary = with_accepted(summary, row)?;
+    with_pairs(shelf, summary, id, row.certified())
+}
+
+/// With the message itself.
+fn with_accepted(summary: Summary, row: &MessageRow) -> Result<Summary, NoMemory>
+    ensures { IfOk result (λ new. new ≡ with_accepted summary row.now) }
+{
+    let accepted = more_if(summary.accepted, row.facts().is_some())?;
+    Ok(Summary {
+        accepted,
+        ..summary
+    })
+}
+
+/// With the pairs of these recipients of a message.
+fn with_pairs(
+    shelf: &Shelf,
+    mut summary: Summary,
+    id: MsgId,
+    recipients: &[Certified],
+) -> Result<Summary, NoMemory>
+    ensures { IfOk result (λ new. new ≡ with_pairs shelf.now.half id summary recipients.now) }
+{
+    for recipient in recipients {
+        summary = with_pair(shelf, summary, id, &recipient.address)?;
+    }
+    Ok(summary)
+}
+
+/// With one pair.
+fn with_pair(
+    shelf: &Shelf,
+    summary: Summary,
+    id: MsgId,
+    recipient: &Address,
+) -> Result<Summary, NoMemory>
+    ensures { IfOk result (λ new. new ≡ with_pair shelf.now.half summary (pair_of id recipient.now)) }
+{
+    let decision = decision_on(shelf, id, recipient);
+    let noticed = is_noticed(shelf, id, recipient);
+    Ok(Summary {
+        accepted: summary.accepted,
+        delivered: more_if(summary.delivered, is_placed(decision))?,
+        refused: more_if(summary.refused, is_refused(decision))?,
+        unknown: more_if(summary.unknown, decision.is_none())?,
+        noticed: more_if(summary.noticed, noticed)?,
+    })
+}
+
+/// What was decided on a pair, where that is known.
+fn decision_on(shelf: &Shelf, id: MsgId, recipient: &Address) -> Option<Decision>
+    ensures { result ≡ decision_on shelf.now.half (pair_of id recipient.now) }
+{
+    let known = shelf.known(id, recipient)?;
+    Some(known.decision())
+}
+
+/// Whether the sender had a notice of a pair.
+fn is_noticed(shelf: &Shelf, id: MsgId, recipient: &Address) -> bool
+    ensures { result ≡ is_noticed shelf.now.half (pair_of id recipient.now) }
+{
+    shelf.notice(id, recipient).is_some()
+}
+
+fn is_placed(decision: Option<Decision>) -> bool
+    ensures { result ≡ is_placed decision }
+{
+    match decision {
+        Some(Decision::Placed) => true,
+        Some(Decision::Refused(_)) | None => false,
+    }
+}
+
+fn is_refused(decision: Option<Decision>) -> bool
+    ensures { result ≡ is_refused decision }
+{
+    match decision {
+        Some(Decision::Refused(_)) => true,
+        Some(Decision::Placed) | None => false,
+    }
+}
