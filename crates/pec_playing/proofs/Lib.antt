@@ -4,6 +4,7 @@ pub mod KeptLemmas
 pub mod LineLemmas
 pub mod LinkLemmas
 pub mod LookLemmas
+pub mod MomentLemmas
 pub mod PlayLemmas
 pub mod RestartLemmas
 pub mod RoundLemmas

@@ -7,11 +7,11 @@ use Rattle.std.specs.declared.vec.Vec.{Vec}
 use Rattle.pec_outside.specs.DiskModel.{Sight}
 use Rattle.pec_types.specs.declared.faults.NoMemory.{NoMemory}
 use Rattle.pec_directory.specs.Directory.{providers_of}
-use Rattle.pec_ledger.specs.Network.{Site, is_up}
+use Rattle.pec_ledger.specs.Network.{Site, Sound, is_up, journals_of}
 use Rattle.pec_ledger.specs.Trade.{Trade}
 use Rattle.pec_plays.specs.Commands.{Command, Restart}
 use Rattle.pec_network.specs.OfProviders.{ProviderState}
-use Rattle.pec_network.specs.Carrying.{AllStand, NoneFalls}
+use Rattle.pec_network.specs.Carrying.{AllCarryOn, AllStand, NoneFalls}
 use Rattle.pec_network.specs.Network.{NetworkState, sites}
 use Rattle.pec_runs.specs.Ran.{LeavesOff}
 use Rattle.pec_playing.specs.Playing.{IsPlayedSo, counts_in}
@@ -36,6 +36,13 @@ pub record Keeps {D S : Type 0} (sight : D → Sight) (faults : D → ℕ) (tell
   pub seals : new.sealer ≡ old.sealer
   pub stands : tells → AllStand sight old.providers → AllStand sight new.providers
   pub later : NoneFalls faults old.providers new.providers
+
+-- Where the state before a command is Sound each provider carries on, with entries that may follow in the ledger of that
+-- state: so it is at every moment of the command.
+abbrev pub Carries : {D S : Type 0} → (D → Sight) → Type 0 → Trade → NetworkState D S → NetworkState D S → Type 0
+Carries sight tells trade old new =
+    tells → Sound trade (sites old)
+    → AllCarryOn sight trade (journals_of (sites old)) old.providers new.providers
 
 -- A command was played and its answer's lines are given, or memory ran out.
 pub record Does {D S : Type 0} (sight : D → Sight) (faults : D → ℕ) (tells : Type 0) (trade : Trade) (command : Command)

@@ -7,7 +7,7 @@ pub use Rattle.pec_network.specs.Changing.{HasRisenAt}
 pub use Rattle.pec_network.specs.Homes.{AllAt}
 pub use Rattle.pec_network.specs.Network.{IsOfDirectory, NetworkState, sites, sites_of, world_of}
 pub use Rattle.pec_network.specs.OfProviders.{ChronicleState, Desk, IsJournalOf, IsUnchanged, IsUnfit, ProviderState}
-pub use Rattle.pec_network.specs.OfProviders.{Stands, desk_of, luck_of, site_of}
+pub use Rattle.pec_network.specs.OfProviders.{Stands, Summary, desk_of, luck_of, site_of, total_of}
 pub use Rattle.pec_network.specs.Playing.{IsPlayed}
 pub use Rattle.pec_network.specs.declared.faults.NotFit.{NotFit}
 pub use Rattle.pec_network.specs.declared.faults.StartFault.{StartFault}

@@ -2,7 +2,7 @@
 -- profile.
 use Rattle.std.specs.Prelude.{ℕ, List, slice_get, Option, None, Some, option_map, Result, Ok, Err}
 use Rattle.pec_types.specs.Bytes.{Bytes}
-use Rattle.pec_network.specs.OfProviders.{ProviderState}
+use Rattle.pec_network.specs.OfProviders.{ChronicleState, ProviderState}
 use Rattle.pec_network.specs.Network.{NetworkState, sites}
 use Rattle.pec_runs.specs.Steps.{Point}
 use Rattle.pec_runs.specs.Steps as runs
@@ -10,10 +10,10 @@ use Rattle.pec_playing.specs.Playing.{counts_in}
 use Rattle.pec_playing.specs.declared.stops.Stop.{Stop}
 use Rattle.pec_playing.specs.declared.stops.Stop.TheVariants as stops
 
--- the disks of providers, by number
-abbrev pub disks_in : {D : Type 0} → List (ProviderState D) → ℕ → Option D
-disks_in {D} providers number =
-    option_map (λ (provider : ProviderState D). provider.chronicle.disk) (slice_get providers number)
+-- the entries of providers over their disks, by number
+abbrev pub chronicles_in : {D : Type 0} → List (ProviderState D) → ℕ → Option (ChronicleState D)
+chronicles_in {D} providers number =
+    option_map (λ (provider : ProviderState D). provider.chronicle) (slice_get providers number)
 
 -- A network, with what its output holds and the output's count of faults. Past the providers, the counts of faults of
 -- disks are these others.
@@ -22,7 +22,7 @@ point_of faults elsewhere network held count = record {
   state = record {
     sites = sites network;
     counts = counts_in faults network.providers elsewhere;
-    disks = disks_in network.providers;
+    chronicles = chronicles_in network.providers;
   };
   held = held;
   faults = count;

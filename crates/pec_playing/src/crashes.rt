@@ -1,7 +1,7 @@
 ghost use Rattle.std.specs.Prelude.{◌≡◌, ◌≤◌, ◌<◌, length, IfOk};
 ghost use Rattle.pec_outside.specs.Depots.{Alike};
 ghost use Rattle.pec_plays.specs.Commands.{Crash, Restart};
-ghost use Rattle.pec_playing.specs.Doing.{Does};
+ghost use Rattle.pec_playing.specs.Doing.{Carries, Does};
 ghost use Rattle.pec_playing.specs.Saying.{IsRestartText, unfit_told};
 ghost use Rattle.pec_network.specs.Network.{world_of};
 
@@ -26,6 +26,7 @@ pub(crate) fn crash<D: Disk, S: Sealer, P: Depot<D = D>>(
     requires { provider < length network.old.kept }
     ensures does { Does D.sight D.faults D.tells (world_of S.seals network.old)
         (Crash provider) network.old network.new result }
+    ensures carries { Carries D.sight D.tells (world_of S.seals network.old) network.old network.new }
     ensures home { P.tells → Alike (P.home depot.old) (P.home depot.new) }
     ensures last { Alike (P.last depot.old) (P.last depot.new) }
     ensures later { P.faults depot.old ≤ P.faults depot.new }
@@ -44,8 +45,9 @@ pub(crate) fn restart<D: Disk, S: Sealer>(
     provider: u32,
 ) -> Result<Vec<u8>, NoMemory>
     requires { provider < length network.old.kept }
-    ensures { Does D.sight D.faults D.tells (world_of S.seals network.old)
+    ensures does { Does D.sight D.faults D.tells (world_of S.seals network.old)
         (Restart provider) network.old network.new result }
+    ensures carries { Carries D.sight D.tells (world_of S.seals network.old) network.old network.new }
 {
     as_many_providers(network);
     let outcome = network.restart(alloc, provider);

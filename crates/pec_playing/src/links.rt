@@ -1,11 +1,12 @@
 ghost use Rattle.std.specs.Prelude.{◌<◌, length, IfOk};
 ghost use Rattle.pec_plays.specs.Commands.{Inject, Lose, Repeat, Swap};
-ghost use Rattle.pec_playing.specs.Doing.{Does};
+ghost use Rattle.pec_playing.specs.Doing.{Carries, Does};
 ghost use Rattle.pec_playing.specs.Saying.{IsLinkText};
 ghost use Rattle.pec_network.specs.Network.{world_of};
 
 use pec_link::LinkFault;
 use pec_network::Network;
+use pec_network::laws::a_call_leaves_what_follows;
 use pec_outside::Disk;
 use pec_script::{Answer, answer_text};
 use pec_seal::Sealer;
@@ -24,9 +25,11 @@ pub(crate) fn lose<D: Disk, S: Sealer>(
 ) -> Result<Vec<u8>, NoMemory>
     requires from { from < length network.old.kept }
     requires to { to < length network.old.kept }
-    ensures { Does D.sight D.faults D.tells (world_of S.seals network.old)
+    ensures does { Does D.sight D.faults D.tells (world_of S.seals network.old)
         (Lose from to place) network.old network.new result }
+    ensures carries { Carries D.sight D.tells (world_of S.seals network.old) network.old network.new }
 {
+    a_call_leaves_what_follows::<D>();
     let outcome = network.lose(from, to, place as usize);
     let text = link_text(alloc, Answer::Lost, outcome)?;
     Ok(text)
@@ -42,9 +45,11 @@ pub(crate) fn repeat<D: Disk, S: Sealer>(
 ) -> Result<Vec<u8>, NoMemory>
     requires from { from < length network.old.kept }
     requires to { to < length network.old.kept }
-    ensures { Does D.sight D.faults D.tells (world_of S.seals network.old)
+    ensures does { Does D.sight D.faults D.tells (world_of S.seals network.old)
         (Repeat from to place) network.old network.new result }
+    ensures carries { Carries D.sight D.tells (world_of S.seals network.old) network.old network.new }
 {
+    a_call_leaves_what_follows::<D>();
     let outcome = network.repeat(alloc, from, to, place as usize);
     let text = link_text(alloc, Answer::Repeated, outcome)?;
     Ok(text)
@@ -60,9 +65,11 @@ pub(crate) fn swap<D: Disk, S: Sealer>(
 ) -> Result<Vec<u8>, NoMemory>
     requires from { from < length network.old.kept }
     requires to { to < length network.old.kept }
-    ensures { Does D.sight D.faults D.tells (world_of S.seals network.old)
+    ensures does { Does D.sight D.faults D.tells (world_of S.seals network.old)
         (Swap from to place) network.old network.new result }
+    ensures carries { Carries D.sight D.tells (world_of S.seals network.old) network.old network.new }
 {
+    a_call_leaves_what_follows::<D>();
     let outcome = network.swap(from, to, place as usize);
     let text = link_text(alloc, Answer::Swapped, outcome)?;
     Ok(text)
@@ -78,9 +85,11 @@ pub(crate) fn inject<D: Disk, S: Sealer>(
 ) -> Result<Vec<u8>, NoMemory>
     requires from { from < length network.old.kept }
     requires to { to < length network.old.kept }
-    ensures { Does D.sight D.faults D.tells (world_of S.seals network.old)
+    ensures does { Does D.sight D.faults D.tells (world_of S.seals network.old)
         (Inject from to frame) network.old network.new result }
+    ensures carries { Carries D.sight D.tells (world_of S.seals network.old) network.old network.new }
 {
+    a_call_leaves_what_follows::<D>();
     let outcome = network.inject(from, to, Frame::of(frame));
     let text = link_text(alloc, Answer::Injected, outcome)?;
     Ok(text)

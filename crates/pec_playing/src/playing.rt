@@ -8,7 +8,7 @@ ghost use Rattle.pec_plays.specs.Commands.{Restart};
 ghost use Rattle.pec_runs.specs.ScriptLines.{command_in};
 ghost use Rattle.pec_runs.specs.Steps.{Goes, Plays};
 ghost use Rattle.pec_screen.specs.Screened.{finds_in};
-ghost use Rattle.pec_playing.specs.Doing.{Does, Keeps};
+ghost use Rattle.pec_playing.specs.Doing.{Carries, Does, Keeps};
 ghost use Rattle.pec_playing.specs.Looking.{LooksBy};
 ghost use Rattle.pec_playing.specs.Playing.{CanPlay};
 ghost use Rattle.pec_playing.specs.Points.{point_of, stop_in};
@@ -20,6 +20,7 @@ use crate::providers::{submit, tick};
 use crate::rounds::round;
 use crate::stops::Stop;
 use pec_network::Network;
+use pec_network::laws::a_call_leaves_what_follows;
 use pec_outside::{Depot, Disk, Sink, write_all};
 use pec_runs::an_act_is_done;
 use pec_screen::Judge;
@@ -27,11 +28,20 @@ use pec_script::Command;
 use pec_seal::Sealer;
 use pec_types::NoMemory;
 use std::alloc::Global;
+use std::thread::Threads;
 
 /// Plays a command of a script, and writes the lines of its answer. The screens of a provider are those at its number, and
 /// none where there are fewer. Want of memory ends the run: the command may have been played then, in whole or in part, and
 /// none of its lines is written.
-pub fn play_and_write<D: Disk, S: Sealer, P: Depot<D = D>, J: Judge, W: Sink>(
+pub fn play_and_write<
+    X: Threads + Sync,
+    D: Disk + Send,
+    S: Sealer + Sync,
+    P: Depot<D = D>,
+    J: Judge,
+    W: Sink,
+>(
+    rt: &X,
     alloc: Global,
     network: &mut Network<D, S>,
     depot: &mut P,
@@ -43,11 +53,13 @@ pub fn play_and_write<D: Disk, S: Sealer, P: Depot<D = D>, J: Judge, W: Sink>(
     // All that is asked: for a restart, where disks tell what they hold, each provider stands on its own.
     ensures goes { ((provider : ℕ) → command_in (finds_in (map J.patterns screens.old)) command ≡ Restart provider
         → P.tells × D.tells → AllStand D.sight network.old.providers) → (elsewhere : ℕ → ℕ)
-        → Goes (world_of S.seals network.old) (providers_of network.old.kept) (P.tells × D.tells)
+        → Goes (world_of S.seals network.old) (providers_of network.old.kept) (P.tells × D.tells) D.sight
         (Plays (command_in (finds_in (map J.patterns screens.old)) command) ∷ [])
         (point_of D.faults elsewhere network.old (W.held out.old) (W.faults out.old))
         (point_of D.faults elsewhere network.new (W.held out.new) (W.faults out.new)) (stop_in result) }
     ensures keeps { Keeps D.sight D.faults D.tells network.old network.new }
+    // At every moment a crash leaves of each disk what may follow, also where memory ran out or the output failed.
+    ensures carries { Carries D.sight D.tells (world_of S.seals network.old) network.old network.new }
     ensures home { P.tells → Alike (P.home depot.old) (P.home depot.new) }
     ensures last { Alike (P.last depot.old) (P.last depot.new) }
     ensures later { (P.faults depot.old ≤ P.faults depot.new) × (W.faults out.old ≤ W.faults out.new) }
@@ -59,13 +71,15 @@ pub fn play_and_write<D: Disk, S: Sealer, P: Depot<D = D>, J: Judge, W: Sink>(
     ensures patterns { map J.patterns screens.new ≡ map J.patterns screens.old }
 {
     an_act_is_done::<P>();
-    let text = play_command(alloc, network, depot, screens, command)?;
+    a_call_leaves_what_follows::<D>();
+    let text = play_command(rt, alloc, network, depot, screens, command)?;
     write_all(out, &text)?;
     Ok(())
 }
 
 /// Plays a command, and gives the lines of its answer, whatever is known of disks.
-fn play_command<D: Disk, S: Sealer, P: Depot<D = D>, J: Judge>(
+fn play_command<X: Threads + Sync, D: Disk + Send, S: Sealer + Sync, P: Depot<D = D>, J: Judge>(
+    rt: &X,
     alloc: Global,
     network: &mut Network<D, S>,
     depot: &mut P,
@@ -75,6 +89,7 @@ fn play_command<D: Disk, S: Sealer, P: Depot<D = D>, J: Judge>(
     requires can { CanPlay (length network.old.kept) command }
     ensures does { Does D.sight D.faults D.tells (world_of S.seals network.old)
         (command_in (finds_in (map J.patterns screens.old)) command) network.old network.new result }
+    ensures carries { Carries D.sight D.tells (world_of S.seals network.old) network.old network.new }
     ensures home { P.tells → Alike (P.home depot.old) (P.home depot.new) }
     ensures last { Alike (P.last depot.old) (P.last depot.new) }
     ensures later { P.faults depot.old ≤ P.faults depot.new }
@@ -83,6 +98,7 @@ fn play_command<D: Disk, S: Sealer, P: Depot<D = D>, J: Judge>(
         (map J.seen screens.old) (map J.seen screens.new) }
     ensures patterns { map J.patterns screens.new ≡ map J.patterns screens.old }
 {
+    a_call_leaves_what_follows::<D>();
     match command {
         Command::Submit {
             provider,
@@ -101,7 +117,7 @@ fn play_command<D: Disk, S: Sealer, P: Depot<D = D>, J: Judge>(
             message.bytes(),
         ),
         Command::Tick { provider, moment } => tick(alloc, network, provider, moment),
-        Command::Round { moment } => round(alloc, network, moment),
+        Command::Round { moment } => round(rt, alloc, network, moment),
         Command::Lose { from, to, place } => lose(alloc, network, from, to, place),
         Command::Repeat { from, to, place } => repeat(alloc, network, from, to, place),
         Command::Swap { from, to, place } => swap(alloc, network, from, to, place),

@@ -3,7 +3,7 @@ ghost use Rattle.pec_directory.specs.Directory.{providers_of};
 ghost use Rattle.pec_records.specs.Entry.{longest_message, most_addresses};
 ghost use Rattle.pec_plays.specs.Commands.{Submit, Tick};
 ghost use Rattle.pec_screen.specs.Screened.{finds_in};
-ghost use Rattle.pec_playing.specs.Doing.{Does};
+ghost use Rattle.pec_playing.specs.Doing.{Carries, Does};
 ghost use Rattle.pec_playing.specs.Looking.{LooksBy};
 ghost use Rattle.pec_network.specs.Network.{world_of};
 
@@ -43,6 +43,7 @@ pub(crate) fn submit<D: Disk, S: Sealer, J: Judge>(
     ensures does { Does D.sight D.faults D.tells (world_of S.seals network.old)
         (Submit provider moment sender.now path.now message.now
         (finds_in (map J.patterns screens.old) provider message.now)) network.old network.new result }
+    ensures carries { Carries D.sight D.tells (world_of S.seals network.old) network.old network.new }
     ensures looked { LooksBy (providers_of network.old.kept)
         (Submit provider moment sender.now path.now message.now
         (finds_in (map J.patterns screens.old) provider message.now))
@@ -70,8 +71,9 @@ pub(crate) fn tick<D: Disk, S: Sealer>(
     moment: Moment,
 ) -> Result<Vec<u8>, NoMemory>
     requires { provider < length network.old.kept }
-    ensures { Does D.sight D.faults D.tells (world_of S.seals network.old)
+    ensures does { Does D.sight D.faults D.tells (world_of S.seals network.old)
         (Tick provider moment) network.old network.new result }
+    ensures carries { Carries D.sight D.tells (world_of S.seals network.old) network.old network.new }
 {
     as_many_providers(network);
     match network.tick(alloc, provider, moment) {

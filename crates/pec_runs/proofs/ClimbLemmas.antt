@@ -1,5 +1,5 @@
 -- A script is played command by command: what is played behind a command is played from its beginning.
-use Rattle.std.proofs.Common.{◌≡◌, ℕ, ◌+◌, ◌≤◌, List, [], ◌∷◌, refl, arith}
+use Rattle.std.proofs.Common.{◌≡◌, ℕ, ◌+◌, ◌≤◌, List, [], ◌∷◌, arith}
 use Rattle.std.specs.Prelude.{slice_get}
 use Rattle.std.proofs.lemmas.List.Elements.{All-cons, All-nil}
 use Rattle.pec_ledger.specs.Network.{Site}
@@ -8,8 +8,8 @@ use Rattle.pec_plays.specs.Commands.{Command, Luck, played}
 use Rattle.pec_plays.specs.Possible.{MayMeet}
 use Rattle.pec_plays.specs.Scripts.{script}
 use Rattle.pec_runs.specs.Endings.{End}
-use Rattle.pec_runs.specs.Plays.{HasMemory, MayPlay, MayStray, Rest, RoseBy, Stopped, Strayed, ToTheEnd, faults_by}
-use Rattle.pec_runs.specs.Plays.{faults_told, onto_outcome, outcome_from}
+use Rattle.pec_runs.specs.Plays.{HasMemory, MayPlay, MayStray, Rest, RoseAlong, RoseBy, Stopped, Strayed, ToTheEnd, faults_by}
+use Rattle.pec_runs.specs.Plays.{faults_told}
 use Rattle.pec_runs.specs.ScriptLines.{Script, nothing_but, onto_script}
 
 rose_none : (a b : ℕ) → a ≤ b → RoseBy 0 a b
@@ -23,6 +23,33 @@ rose_both m n a b c first second =
           (arith, x, y),
     )
 
+module _ (trade : Trade) where
+  -- what counts rose along a script they rose by in all
+  pub rose_in_all : (lucks : List Luck) (sites : List Site) (commands : List Command) (from upto : ℕ → ℕ)
+      → RoseAlong trade lucks sites commands from upto → (p : ℕ)
+      → RoseBy (faults_told p commands (script trade lucks sites commands).answers) (from p) (upto p)
+  rose_in_all [] sites [] from upto rose p = rose_none (from p) (upto p) (rose p)
+  rose_in_all [] sites (c ∷ commands) from upto rose p = rose_none (from p) (upto p) (rose p)
+  rose_in_all (luck ∷ lucks) sites [] from upto rose p = rose_none (from p) (upto p) (rose p)
+  rose_in_all (luck ∷ lucks) sites (c ∷ commands) from upto rose p =
+      rose_both (faults_by p c (played trade luck sites c).answer)
+      (faults_told p commands (script trade lucks (played trade luck sites c).after commands).answers)
+      (from p) (rose.0 p) (upto p) (rose.1 p)
+      (rose_in_all lucks (played trade luck sites c).after commands rose.0 upto rose.2 p)
+
+  -- where no fault is told the counts may stay
+  pub rose_nowhere : (lucks : List Luck) (sites : List Site) (commands : List Command) (counts : ℕ → ℕ)
+      → ((p : ℕ) → faults_told p commands (script trade lucks sites commands).answers ≡ 0)
+      → RoseAlong trade lucks sites commands counts counts
+  rose_nowhere [] sites commands counts none = λ p. omega arith
+  rose_nowhere (luck ∷ lucks) sites [] counts none = λ p. omega arith
+  rose_nowhere (luck ∷ lucks) sites (c ∷ commands) counts none = (
+    counts,
+    λ p. let none_here = none p in (omega arith, λ h. omega (arith, none_here)),
+    rose_nowhere lucks (played trade luck sites c).after commands counts
+        (λ p. let none_here = none p in omega (arith, none_here)),
+  )
+
 module _ (trade : Trade) (tells : Type 0) where
   pub plays_none : (sites : List Site) (from upto : ℕ → ℕ) (written : Script) → ((p : ℕ) → from p ≤ upto p)
       → MayPlay trade tells sites from upto written [] Stopped
@@ -30,13 +57,9 @@ module _ (trade : Trade) (tells : Type 0) where
     enough = omega arith;
     meet = tt;
     memory = All-nil HasMemory;
-    counts = λ p. rose_told p written.commands;
+    counts = later;
     strays = tt;
   }
-    where
-      rose_told : (p : ℕ) (commands : List Command) → RoseBy (faults_told p commands []) (from p) (upto p)
-      rose_told p [] = rose_none (from p) (upto p) (later p)
-      rose_told p (c ∷ commands) = rose_none (from p) (upto p) (later p)
 
   pub plays_over : (sites : List Site) (from upto : ℕ → ℕ) (end : End) → ((p : ℕ) → from p ≤ upto p)
       → MayPlay trade tells sites from upto (nothing_but end) [] ToTheEnd
@@ -44,7 +67,7 @@ module _ (trade : Trade) (tells : Type 0) where
     enough = omega arith;
     meet = tt;
     memory = All-nil HasMemory;
-    counts = λ p. rose_none (from p) (upto p) (later p);
+    counts = later;
     strays = tt;
   }
 
@@ -56,7 +79,7 @@ module _ (trade : Trade) (tells : Type 0) where
     enough = omega arith;
     meet = tt;
     memory = All-nil HasMemory;
-    counts = λ p. rose_none (from p) (upto p) (later p);
+    counts = later;
     strays = may;
   }
 
@@ -71,40 +94,6 @@ module _ (trade : Trade) (tells : Type 0) where
     meet = (may, more.meet);
     memory = All-cons HasMemory (played trade luck sites command).answer
         (script trade lucks (played trade luck sites command).after written.commands).answers has more.memory;
-    counts = λ p.
-        rose_both (faults_by p command (played trade luck sites command).answer)
-        (faults_told p written.commands
-        (script trade lucks (played trade luck sites command).after written.commands).answers)
-        (from p) (mid p) (upto p) (rose p) (more.counts p);
+    counts = (mid, rose, more.counts);
     strays = more.strays;
   }
-
--- counts that rose since earlier
-rose_since : (n a b c : ℕ) → a ≤ b → RoseBy n b c → RoseBy n a c
-rose_since n a b c l rose =
-    let k = rose.0
-    in (omega arith, λ h. let x : b + n ≤ c = rose.1 h in omega (arith, x, l))
-
-pub plays_since : (trade : Trade) (tells : Type 0) (sites : List Site) (earlier from upto : ℕ → ℕ) (written : Script)
-    (lucks : List Luck)
-    (rest : Rest) → ((p : ℕ) → earlier p ≤ from p) → MayPlay trade tells sites from upto written lucks rest
-    → MayPlay trade tells sites earlier upto written lucks rest
-plays_since trade tells sites earlier from upto written lucks rest before may = record {
-  enough = may.enough;
-  meet = may.meet;
-  memory = may.memory;
-  counts = λ p.
-      rose_since (faults_told p written.commands (script trade lucks sites written.commands).answers) (earlier p)
-      (from p) (upto p) (before p)
-      (may.counts p);
-  strays = may.strays;
-}
-
-pub outcome_on : (trade : Trade) (sites : List Site) (command : Command) (luck : Luck) (written : Script)
-    (lucks : List Luck) (rest : Rest)
-    → outcome_from trade (luck ∷ lucks) rest sites (onto_script command written)
-    ≡ onto_outcome (played trade luck sites command).answer
-    (outcome_from trade lucks rest (played trade luck sites command).after written)
-outcome_on trade sites command luck written lucks ToTheEnd = refl
-outcome_on trade sites command luck written lucks Stopped = refl
-outcome_on trade sites command luck written lucks Strayed = refl

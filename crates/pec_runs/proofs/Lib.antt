@@ -7,7 +7,7 @@ pub mod HeadlineLemmas
 pub mod InputLemmas
 pub mod LeavingLemmas
 pub mod LineLemmas
-pub mod LoopLemmas
+pub mod MomentLemmas
 pub mod NextLemmas
 pub mod PlaceLemmas
 pub mod PlayedLemmas

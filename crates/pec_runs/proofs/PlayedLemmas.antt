@@ -3,6 +3,7 @@ use Rattle.std.proofs.Common.{◌≡◌, ◌≢◌, ℕ, inl, inr, List, [], ◌
 use Rattle.std.specs.Prelude.{slice_get}
 use Rattle.std.proofs.lemmas.List.{append-nil, append_assoc}
 use Rattle.pec_types.specs.Bytes.{Bytes}
+use Rattle.pec_outside.specs.DiskModel.{Sight}
 use Rattle.pec_outside.specs.Flow.{WrotePart, followed_by}
 use Rattle.pec_directory.specs.Directory.{Provider}
 use Rattle.pec_ledger.specs.Network.{Site}
@@ -38,7 +39,7 @@ pub some_acts : (providers : List Provider) (commands : List Command) (end : End
 some_acts providers [] end = λ e. cc
 some_acts providers (command ∷ commands) end = λ e. cc
 
-module _ (trade : Trade) (providers : List Provider) (tells : Type 0) {D : Type 0} where
+module _ (trade : Trade) (providers : List Provider) (tells : Type 0) {D : Type 0} (sight : D → Sight) where
   abbrev script_text : Rest → State D → List (Step D) → Script → Bytes
   script_text rest here steps written =
       outcome_text providers (outcome_from trade (lucks_in steps) rest here.sites written)
@@ -96,11 +97,13 @@ module _ (trade : Trade) (providers : List Provider) (tells : Type 0) {D : Type 
     more = front.more;
     end = front.end;
     may = λ upto rest may.
-        plays_on trade tells here.sites here.counts behind.counts upto command luck written (lucks_in steps) rest is.meet
+        plays_on trade tells here.sites here.counts behind.counts upto command luck written (lucks_in steps) rest
+        is.meet
         is.memory is.counts
         (subst (λ (s : List Site). MayPlay trade tells s behind.counts upto written (lucks_in steps) rest) is.state
         (front.may upto rest may));
-    after = ap (λ (s : List Site). (script trade (lucks_in steps) s written.commands).after) (sym is.state) ∙ front.after;
+    after = ap (λ (s : List Site). (script trade (lucks_in steps) s written.commands).after) (sym is.state) ∙
+        front.after;
     text = by_text front.text;
   }
     where
@@ -111,7 +114,8 @@ module _ (trade : Trade) (providers : List Provider) (tells : Type 0) {D : Type 
       told sites = answers_text providers (script trade (lucks_in steps) sites written.commands).answers
 
       more_text : (last : Bytes) → text_of trade providers behind steps ≡ told behind.sites ++ last
-          → line ++ text_of trade providers behind steps ≡ (line ++ told (played trade luck here.sites command).after) ++ last
+          → line ++ text_of trade providers behind steps ≡ (line ++ told (played trade luck here.sites command).after)
+          ++ last
       more_text last e =
           ap (λ (t : Bytes). line ++ t) e
           ∙ (ap (λ (s : List Site). line ++ (told s ++ last)) is.state
@@ -147,7 +151,7 @@ module _ (trade : Trade) (providers : List Provider) (tells : Type 0) {D : Type 
   -- ---- how a script goes
 
   module _ (written : Script) (here there : Point D) {how : Option Stop}
-      (goes : Goes trade providers tells (acts_of_script providers written) here there how) where
+      (goes : Goes trade providers tells sight (acts_of_script providers written) here there how) where
     abbrev behind : State D
     behind = state_behind here.state goes.steps
 
@@ -165,10 +169,14 @@ module _ (trade : Trade) (providers : List Provider) (tells : Type 0) {D : Type 
         → MayPlay trade tells behind.sites behind.counts there.state.counts front.more [] rest
         → Tells providers status here.held there.held (outcome_from trade lucks rest here.state.sites written)
         → LeavesOff trade behind.sites (command_in_hand status NoMore rest lucks written) there.state.sites
-        → IsScriptPlayed trade providers tells written status here there
+        → IsScriptPlayed trade providers tells sight written status here there
     as_played status rest may told leaves_off = record {
       steps = goes.steps;
+      unplayed = goes.left;
+      acts_are = goes.acts_are;
       each = goes.each;
+      moments = goes.moments;
+      since = goes.since;
       rest = rest;
       may = front.may there.state.counts rest may;
       told = told;
@@ -176,6 +184,7 @@ module _ (trade : Trade) (providers : List Provider) (tells : Type 0) {D : Type 
       leaves_off = subst (λ (s : List Site). LeavesOff trade s (command_in_hand status NoMore rest lucks written)
           there.state.sites) (sym front.after) leaves_off;
       is_left = λ t. refl;
+      stays = λ on. refl;
     }
 
     at_state : {next : Option Command} → there.state ≡ behind → LeavesOff trade behind.sites next there.state.sites
@@ -195,7 +204,8 @@ module _ (trade : Trade) (providers : List Provider) (tells : Type 0) {D : Type 
         → MayStray tells behind.sites (next_of (acts_of_script providers (written_as commands end)))
         → MayPlay trade tells behind.sites behind.counts there.state.counts (written_as commands end) [] Strayed
     may_stray [] end may = absurd (is_left [] may.restarts refl)
-    may_stray (command ∷ commands) end may = plays_astray trade tells behind.sites behind.counts there.state.counts command
+    may_stray (command ∷ commands) end may = plays_astray trade tells behind.sites behind.counts there.state.counts
+        command
         (written_as commands end) goes.since may
 
     told_end : at_end lucks written.commands written.end ≡ Ends written.end
@@ -210,9 +220,9 @@ module _ (trade : Trade) (providers : List Provider) (tells : Type 0) {D : Type 
         (followed_by here.held (answers ++ finish_text providers f)) (answers ++ finish_text providers f) f) (sym ended)
         (tells_end written.end here.held (answers ++ end_text providers written.end)))
 
-    ends_so : (stop : Option Stop) → EndsSo trade providers tells behind text goes.left here.held there stop
+    ends_so : (stop : Option Stop) → EndsSo trade providers tells sight behind text goes.left here.held there stop
         → IsText here.state goes.steps goes.left written front.more
-        → IsScriptPlayed trade providers tells written (status_by written.end stop) here there
+        → IsScriptPlayed trade providers tells sight written (status_by written.end stop) here there
     ends_so None ends (All none over ended is) = as_played (status_of written.end) ToTheEnd (may_end over)
         (inl (told_end ended (ends.2 ∙ ap (followed_by here.held) is))) (at_state ends.1)
     ends_so None ends (Some_left some next is) =
@@ -229,13 +239,17 @@ module _ (trade : Trade) (providers : List Provider) (tells : Type 0) {D : Type 
         (inl (refl, ends.2 ∙ ap (followed_by here.held) is))
         (subst (λ (n : Option Command). LeavesOff trade behind.sites n there.state.sites) next ends.1)
 
-    astray_so : (status : Status) → GoesAstray trade providers tells behind text goes.left here.held there
+    astray_so : (status : Status) → GoesAstray trade providers tells sight behind text goes.left here.held there
         → IsText here.state goes.steps goes.left written front.more
-        → IsScriptPlayed trade providers tells written status here there
+        → IsScriptPlayed trade providers tells sight written status here there
     astray_so status astray (All none over ended is) = absurd (is_left goes.left astray.strays.restarts none)
     astray_so status astray (Some_left some next is) = record {
       steps = goes.steps;
+      unplayed = goes.left;
+      acts_are = goes.acts_are;
       each = goes.each;
+      moments = goes.moments;
+      since = goes.since;
       rest = Strayed;
       may = front.may there.state.counts Strayed (may_stray front.more.commands front.more.end
           (subst (λ (l : List Act). MayStray tells behind.sites (next_of l)) some astray.strays));
@@ -247,12 +261,14 @@ module _ (trade : Trade) (providers : List Provider) (tells : Type 0) {D : Type 
       left = (script trade lucks here.state.sites written.commands).after;
       leaves_off = Behind refl;
       is_left = λ t. absurd (astray.strays.untold t);
+      stays = λ on. absurd (on refl);
     }
 
   pub script_goes : (written : Script) (here there : Point D) (stop : Option Stop)
-      → Goes trade providers tells (acts_of_script providers written) here there stop
-      → IsScriptPlayed trade providers tells written (status_by written.end stop) here there
+      → Goes trade providers tells sight (acts_of_script providers written) here there stop
+      → IsScriptPlayed trade providers tells sight written (status_by written.end stop) here there
   script_goes written here there stop goes = elim goes.ends [
     | inl ends ↦ ends_so written here there goes stop ends (front written here there goes).text
-    | inr astray ↦ astray_so written here there goes (status_by written.end stop) astray (front written here there goes).text
+    | inr astray ↦ astray_so written here there goes (status_by written.end stop) astray (front written here there
+        goes).text
   ]

@@ -3,22 +3,21 @@ use Rattle.std.proofs.Common.{◌≡◌, ◌≢◌, ℕ, ◌+◌, List, [], ◌�
 use Rattle.std.specs.Prelude.{IfSome}
 use Rattle.std.proofs.lemmas.List.{append_assoc}
 use Rattle.pec_types.specs.Bytes.{Bytes}
+use Rattle.pec_outside.specs.DiskModel.{Sight}
 use Rattle.pec_directory.specs.Directory.{Provider}
 use Rattle.pec_ledger.specs.Trade.{Trade}
 use Rattle.pec_plays.specs.Commands.{Command}
 use Rattle.pec_screen.specs.Screened.{Finds}
 use Rattle.pec_input.specs.Lines.{raw_lines}
-use Rattle.pec_runs.specs.Climbing.{AreLinesLeft, IsLineRead, TellsOn}
 use Rattle.pec_runs.specs.Endings.{Done, End, end_text}
-use Rattle.pec_runs.specs.Reading.{GoesOn, IsRead, LinePoint, Reads, behind_commands, behind_line, commands_by}
-use Rattle.pec_runs.specs.ScriptLines.{PassedOver, Says, Script, nothing_but, onto_script, said_by, script_of}
+use Rattle.pec_runs.specs.Reading.{AreLinesLeft, GoesOn, IsLineRead, IsRead, LinePoint, Reads, TellsOn, behind_commands}
+use Rattle.pec_runs.specs.Reading.{behind_line, commands_by}
+use Rattle.pec_runs.specs.ScriptLines.{PassedOver, Says, Script, nothing_but, said_by, script_of}
 use Rattle.pec_runs.specs.ScriptLines as lines
-use Rattle.pec_runs.specs.Statuses.{Status}
 use Rattle.pec_runs.specs.Statuses as statuses
 use Rattle.pec_runs.specs.Steps.{Act, Goes, IsScriptPlayed, Plays, Point, Stop, WriteFault}
 use Rattle.pec_runs.specs.Steps.{Writes, acts_of_script, status_by, stopped_status}
 use Rattle.pec_runs.proofs.GoingLemmas.{goes_nowhere, goes_on, halts, stops_before, writes_none}
-use Rattle.pec_runs.proofs.LoopLemmas.{lines_on}
 use Rattle.pec_runs.proofs.PlayedLemmas.{script_goes, some_acts}
 
 -- ---- acts of commands
@@ -41,13 +40,26 @@ none_left : (unread : Option Bytes) → IfSome unread (λ text. text ≡ []) →
 none_left None over = tt
 none_left (Some text) over = sym (ap raw_lines over)
 
+-- the lines that were left are the one that was read and those that are left
+lines_on : (before : Option Bytes) (line : Bytes) (behind : Option Bytes) (lines : List Bytes)
+    → IsLineRead before line behind
+    → TellsOn before behind → AreLinesLeft behind lines → AreLinesLeft before (line ∷ lines)
+lines_on None line behind lines read tells left = tt
+lines_on (Some text) line behind lines read tells left =
+    let on = tells text refl
+    in let same : raw_lines text ≡ line ∷ raw_lines on.0 = read on.0 on.1
+    in let here : lines ≡ raw_lines on.0 = subst (λ (b : Option Bytes). AreLinesLeft b lines) on.1 left
+    in ap (λ (l : List Bytes). line ∷ l) here ∙ sym same
+
 -- a script whose first line is known
-script_here : (finds : Finds) (providers : List Provider) (number : ℕ) (line : Bytes) (more : List Bytes) (what : lines.Line)
+script_here : (finds : Finds) (providers : List Provider) (number : ℕ) (line : Bytes) (more : List Bytes) (what :
+    lines.Line)
     → said_by finds providers number line ≡ what → GoesOn what
     → script_of finds providers number (line ∷ more)
     ≡ behind_commands (commands_by what) (script_of finds providers (number + 1) more)
 script_here finds providers number line more what e on =
-    ap (λ (w : lines.Line). lines.behind_line number w (script_of finds providers (number + 1) more)) e ∙ by_line what on
+    ap (λ (w : lines.Line). lines.behind_line number w (script_of finds providers (number + 1) more)) e ∙ by_line what
+    on
   where
     by_line : (what : lines.Line) → GoesOn what
         → lines.behind_line number what (script_of finds providers (number + 1) more)
@@ -63,30 +75,33 @@ done_text : (providers : List Provider) → end_text providers Done ≡ []
 unfolding end_text
 done_text providers = refl
 
-module _ (trade : Trade) (finds : Finds) (providers : List Provider) (tells : Type 0) {D : Type 0} where
+module _ (trade : Trade) (finds : Finds) (providers : List Provider) (tells : Type 0) {D : Type 0}
+    (sight : D → Sight) where
   abbrev script_at : LinePoint D → List Bytes → Script
   script_at here lines = script_of finds providers here.number lines
 
   -- ---- the loop goes on
 
-  pub reads_start : (first : LinePoint D) → Reads trade finds providers tells first first
+  pub reads_start : (first : LinePoint D) → Reads trade finds providers tells sight first first
   reads_start first = record {
     done = [];
-    goes = goes_nowhere trade providers tells first.point;
+    goes = goes_nowhere trade providers tells sight first.point;
     script = λ lines left. (lines, left, refl);
   }
 
   -- what a line says was played, whatever that is
   pub reads_on : (first here : LinePoint D) (there : Point D) (line : Bytes) (what : lines.Line) (behind : Option Bytes)
       → said_by finds providers here.number line ≡ what → GoesOn what → IsLineRead here.unread line behind
-      → TellsOn here.unread behind → Goes trade providers tells (map Plays (commands_by what)) here.point there None
-      → Reads trade finds providers tells first here
-      → Reads trade finds providers tells first (behind_line here there behind)
+      → TellsOn here.unread behind → Goes trade providers tells sight (map Plays (commands_by what)) here.point there
+      None
+      → Reads trade finds providers tells sight first here
+      → Reads trade finds providers tells sight first (behind_line here there behind)
   reads_on first here there line what behind said on read tell goes reads = record {
     done = reads.done ++ commands_by what;
-    goes = subst (λ (l : List Act). Goes trade providers tells l first.point there None)
+    goes = subst (λ (l : List Act). Goes trade providers tells sight l first.point there None)
         (sym (plays_more reads.done (commands_by what)))
-        (goes_on trade providers tells (map Plays reads.done) (map Plays (commands_by what)) first.point here.point there
+        (goes_on trade providers tells sight (map Plays reads.done) (map Plays (commands_by what)) first.point
+        here.point there
         None reads.goes goes);
     script = λ more left.
         let before = reads.script (line ∷ more) (lines_on here.unread line behind more read tell left)
@@ -95,8 +110,13 @@ module _ (trade : Trade) (finds : Finds) (providers : List Provider) (tells : Ty
           before.1,
           before.2
               ∙ (ap (behind_commands reads.done) (script_here finds providers here.number line more what said on)
-              ∙ ap (λ (l : List Command). record { commands = l; end = (script_of finds providers (here.number + 1) more).end })
-              (sym (append_assoc reads.done (commands_by what) (script_of finds providers (here.number + 1) more).commands))),
+              ∙ ap (λ (l : List Command). record {
+                commands = l;
+                end = (script_of finds providers (here.number + 1)
+                    more).end;
+              })
+              (sym (append_assoc reads.done (commands_by what) (script_of finds providers (here.number + 1)
+              more).commands))),
         );
   }
 
@@ -104,65 +124,74 @@ module _ (trade : Trade) (finds : Finds) (providers : List Provider) (tells : Ty
 
   -- acts behind those that were played are the rest of the script
   reads_by : (first here : LinePoint D) (there : Point D) (lines : List Bytes) (stop : Option Stop)
-      → Reads trade finds providers tells first here → AreLinesLeft here.unread lines
-      → Goes trade providers tells (acts_of_script providers (script_at here lines)) here.point there stop
-      → IsRead trade finds providers tells first there (status_by (script_at here lines).end stop)
+      → Reads trade finds providers tells sight first here → AreLinesLeft here.unread lines
+      → Goes trade providers tells sight (acts_of_script providers (script_at here lines)) here.point there stop
+      → IsRead trade finds providers tells sight first there (status_by (script_at here lines).end stop)
   reads_by first here there lines stop reads left goes =
       let before = reads.script lines left
-      in let all = goes_on trade providers tells (map Plays reads.done) (acts_of_script providers (script_at here lines))
+      in let all = goes_on trade providers tells sight (map Plays reads.done) (acts_of_script providers (script_at
+      here lines))
       first.point here.point there stop reads.goes goes
       in let acts = sym (acts_more reads.done (Writes (end_text providers (script_at here lines).end) ∷ [])
       (script_at here lines).commands)
       in record {
         lines = before.0;
         left = before.1;
-        played = subst (λ (s : Script). IsScriptPlayed trade providers tells s (status_by (script_at here lines).end stop)
+        played = subst (λ (s : Script). IsScriptPlayed trade providers tells sight s (status_by (script_at here
+            lines).end stop)
             first.point there) (sym before.2)
-            (script_goes trade providers tells (behind_commands reads.done (script_at here lines)) first.point there stop
-            (subst (λ (l : List Act). Goes trade providers tells l first.point there stop) acts all));
+            (script_goes trade providers tells sight (behind_commands reads.done (script_at here lines)) first.point
+            there stop
+            (subst (λ (l : List Act). Goes trade providers tells sight l first.point there stop) acts all));
       }
 
   -- the script ends at a line, whatever is behind it, or at the end of the input
   pub reads_ended : (first here : LinePoint D) (there : Point D) (lines : List Bytes) (end : End) (stop : Option Stop)
       → script_of finds providers here.number lines ≡ nothing_but end → AreLinesLeft here.unread lines
-      → Goes trade providers tells (Writes (end_text providers end) ∷ []) here.point there stop
-      → Reads trade finds providers tells first here → IsRead trade finds providers tells first there (status_by end stop)
+      → Goes trade providers tells sight (Writes (end_text providers end) ∷ []) here.point there stop
+      → Reads trade finds providers tells sight first here → IsRead trade finds providers tells sight first there
+      (status_by end stop)
   reads_ended first here there lines end stop is left goes reads =
-      subst (λ (s : Script). IsRead trade finds providers tells first there (status_by s.end stop)) is
+      subst (λ (s : Script). IsRead trade finds providers tells sight first there (status_by s.end stop)) is
       (reads_by first here there lines stop reads left
-      (subst (λ (s : Script). Goes trade providers tells (acts_of_script providers s) here.point there stop) (sym is) goes))
+      (subst (λ (s : Script). Goes trade providers tells sight (acts_of_script providers s) here.point there stop)
+      (sym is) goes))
 
   -- it was stopped within what a line says
   pub reads_stopped : (first here : LinePoint D) (there : Point D) (line : Bytes) (what : lines.Line)
       (behind : Option Bytes) (stop : Stop) → said_by finds providers here.number line ≡ what → GoesOn what
       → IsLineRead here.unread line behind → TellsOn here.unread behind
-      → Goes trade providers tells (map Plays (commands_by what)) here.point there (Some stop)
-      → Reads trade finds providers tells first here
-      → IsRead trade finds providers tells first there (stopped_status stop)
+      → Goes trade providers tells sight (map Plays (commands_by what)) here.point there (Some stop)
+      → Reads trade finds providers tells sight first here
+      → IsRead trade finds providers tells sight first there (stopped_status stop)
   reads_stopped first here there line what behind stop said on read tell goes reads =
       let more = some_lines behind
       in let script = script_here finds providers here.number line more.0 what said on
       in let later = acts_of_script providers (script_of finds providers (here.number + 1) more.0)
       in reads_by first here there (line ∷ more.0) (Some stop) reads
       (lines_on here.unread line behind more.0 read tell more.1)
-      (subst (λ (s : Script). Goes trade providers tells (acts_of_script providers s) here.point there (Some stop)) (sym script)
-      (subst (λ (l : List Act). Goes trade providers tells l here.point there (Some stop))
-      (sym (acts_more (commands_by what) (Writes (end_text providers (script_of finds providers (here.number + 1) more.0).end)
+      (subst (λ (s : Script). Goes trade providers tells sight (acts_of_script providers s) here.point there (Some
+      stop)) (sym script)
+      (subst (λ (l : List Act). Goes trade providers tells sight l here.point there (Some stop))
+      (sym (acts_more (commands_by what) (Writes (end_text providers (script_of finds providers (here.number + 1)
+      more.0).end)
       ∷ []) (script_of finds providers (here.number + 1) more.0).commands))
-      (stops_before trade providers tells (map Plays (commands_by what)) later here.point there stop goes)))
+      (stops_before trade providers tells sight (map Plays (commands_by what)) later here.point there stop goes)))
 
   -- it was stopped between two acts, by its input or for want of memory
-  pub reads_halted : (first here : LinePoint D) (stop : Stop) → stop ≢ WriteFault → Reads trade finds providers tells first here
-      → IsRead trade finds providers tells first here.point (stopped_status stop)
+  pub reads_halted : (first here : LinePoint D) (stop : Stop) → stop ≢ WriteFault
+      → Reads trade finds providers tells sight first here
+      → IsRead trade finds providers tells sight first here.point (stopped_status stop)
   reads_halted first here stop other reads =
       let more = some_lines here.unread
       in reads_by first here here.point more.0 (Some stop) reads more.1
-      (halts trade providers tells _ here.point stop
+      (halts trade providers tells sight _ here.point stop
       (some_acts providers (script_at here more.0).commands (script_at here more.0).end) other)
 
   -- the input is at its end
   pub reads_over : (first here : LinePoint D) → IfSome here.unread (λ text. text ≡ [])
-      → Reads trade finds providers tells first here → IsRead trade finds providers tells first here.point statuses.Done
+      → Reads trade finds providers tells sight first here → IsRead trade finds providers tells sight first here.point
+      statuses.Done
   reads_over first here over reads =
       reads_ended first here here.point [] Done None refl (none_left here.unread over)
-      (writes_none trade providers tells (end_text providers Done) here.point (done_text providers)) reads
+      (writes_none trade providers tells sight (end_text providers Done) here.point (done_text providers)) reads

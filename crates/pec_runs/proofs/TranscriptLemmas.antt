@@ -23,6 +23,7 @@ use Rattle.pec_runs.specs.Statuses as statuses
 use Rattle.pec_runs.specs.Transcripts.{NoFaults, StoodStill, TellsTranscript, transcript, transcript_at}
 use Rattle.pec_runs.specs.Writing.{HasEnded, IsOfEnd}
 use Rattle.pec_runs.proofs.BeginningLemmas.{none_interrupted}
+use Rattle.pec_runs.proofs.ClimbLemmas.{rose_in_all, rose_nowhere}
 use Rattle.pec_runs.proofs.QuietLemmas.{quiet_meet, quiet_memory, quiet_none}
 use Rattle.pec_runs.proofs.StatusLemmas.{at_end_full, has_ended}
 
@@ -78,7 +79,9 @@ module _ (one : OneWay) (there : QuietThere) (tells : Type 0) (old_disks new_dis
       in let calm = there (world happened) (beginning happened) written.commands
       in let same = one (world happened) happened.lucks (beginning happened) written.commands
       (none_interrupted (world happened) happened.opening.journals) full.0 may.meet may.memory
-      (λ p. none_rose _ (old.disks p) (new.disks p) (may.counts p) (none.disks p))
+      (λ p. none_rose _ (old.disks p) (new.disks p)
+      (rose_in_all (world happened) happened.lucks (beginning happened) written.commands old.disks new.disks may.counts p)
+      (none.disks p))
       in ap (λ (told : Told). told_as told (at_end happened.lucks written.commands written.end)) same
       ∙ ap (told_as (script (world happened) (quiet_lucks (world happened) (beginning happened) written.commands)
       (beginning happened) written.commands))
@@ -188,7 +191,7 @@ quiet_plays there trade tells sites counts written =
       enough = let e = calm.1 in omega (arith, e);
       meet = quiet_meet trade lucks sites written.commands calm.0;
       memory = quiet_memory trade lucks sites written.commands calm.0;
-      counts = λ p. let none = quiet_none trade p lucks sites written.commands calm.0 in
-          (omega arith, λ h. omega (arith, none));
+      counts = rose_nowhere trade lucks sites written.commands counts
+          (λ p. quiet_none trade p lucks sites written.commands calm.0);
       strays = tt;
     }

@@ -1,9 +1,9 @@
 pub mod AnswerLines
-pub mod Climbing
 pub mod Endings
 pub mod Examples
 pub mod Happened
 pub mod Headline
+pub mod Moments
 pub mod Openings
 pub mod Plays
 pub mod Ran
@@ -13,5 +13,6 @@ pub mod Resuming
 pub mod ScriptLines
 pub mod Statuses
 pub mod Steps
+pub mod Through
 pub mod Transcripts
 pub mod Writing

@@ -39,11 +39,6 @@ pub record Outcome : Type 0 where
   pub after : List Site
   pub finish : Finish
 
--- an answer before those of an outcome
-abbrev pub onto_outcome : Answer → Outcome → Outcome
-onto_outcome answer outcome =
-    record { answers = answer ∷ outcome.answers; after = outcome.after; finish = outcome.finish }
-
 -- a script is at its end where each of its commands had its luck
 abbrev pub at_end : List Luck → List Command → End → Finish
 at_end [] [] end = Ends end
@@ -139,16 +134,25 @@ abbrev pub StraysSo : Type 0 → List Site → Option Command → Rest → Type 
 StraysSo tells sites next Strayed = MayStray tells sites next
 StraysSo tells sites next _ = Unit {0}
 
+-- Counts of faults of disks, by provider, rose from some to others along a script: there are counts behind each command,
+-- up to which a disk's rose from those before it by as many faults at least as that command's answer tells of the disk.
+abbrev pub RoseAlong : Trade → List Luck → List Site → List Command → (from upto : ℕ → ℕ) → Type 0
+RoseAlong trade [] sites commands from upto = (provider : ℕ) → from provider ≤ upto provider
+RoseAlong trade (luck ∷ lucks) sites [] from upto = (provider : ℕ) → from provider ≤ upto provider
+RoseAlong trade (luck ∷ lucks) sites (command ∷ commands) from upto =
+    (behind : ℕ → ℕ)
+    × ((provider : ℕ)
+    → RoseBy (faults_by provider command (played trade luck sites command).answer) (from provider) (behind provider))
+    × RoseAlong trade lucks (played trade luck sites command).after commands behind upto
+
 -- A script may be played so from a state, while the counts of faults of disks rise from some to others: each command
 -- may meet its luck, no memory was missing in what is told, and each fault that is told of a disk raised that disk's
--- count.
+-- count in the command that tells it.
 pub record MayPlay (trade : Trade) (tells : Type 0) (sites : List Site) (from upto : ℕ → ℕ) (written : Script)
     (lucks : List Luck) (rest : Rest) : Type 0 where
   pub enough : length lucks ≤ length written.commands
   pub meet : AllMeet trade lucks sites written.commands
   pub memory : All HasMemory (script trade lucks sites written.commands).answers
-  pub counts : (provider : ℕ)
-      → RoseBy (faults_told provider written.commands (script trade lucks sites written.commands).answers)
-      (from provider) (upto provider)
+  pub counts : RoseAlong trade lucks sites written.commands from upto
   pub strays : StraysSo tells (script trade lucks sites written.commands).after
       (slice_get written.commands (length lucks)) rest

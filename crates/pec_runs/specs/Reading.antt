@@ -1,15 +1,29 @@
 -- How a loop over the lines of a script goes: it reads a line, plays what it says, and writes the last line behind the
 -- commands (`Reads`, `IsRead`). This project's profile.
-use Rattle.std.specs.Prelude.{◌≡◌, ℕ, ◌+◌, List, [], ◌∷◌, ◌++◌, map, Option, None}
+use Rattle.std.specs.Prelude.{◌≡◌, ℕ, ◌+◌, List, [], ◌∷◌, ◌++◌, map, Option, Some, None, IfSome}
 use Rattle.pec_types.specs.Bytes.{Bytes}
+use Rattle.pec_outside.specs.DiskModel.{Sight}
 use Rattle.pec_directory.specs.Directory.{Provider}
 use Rattle.pec_ledger.specs.Trade.{Trade}
 use Rattle.pec_plays.specs.Commands.{Command}
+use Rattle.pec_input.specs.Lines.{raw_lines}
 use Rattle.pec_screen.specs.Screened.{Finds}
-use Rattle.pec_runs.specs.Climbing.{AreLinesLeft}
 use Rattle.pec_runs.specs.ScriptLines.{Line, PassedOver, Says, Script, script_of}
 use Rattle.pec_runs.specs.Statuses.{Status}
 use Rattle.pec_runs.specs.Steps.{Goes, IsScriptPlayed, Plays, Point}
+
+-- the lines that are left to read, where that is told
+abbrev pub AreLinesLeft : Option Bytes → List Bytes → Type 0
+AreLinesLeft unread lines = IfSome unread (λ text. lines ≡ raw_lines text)
+
+-- The line was read off the input. The loop knows it of an input that tells its bytes.
+abbrev pub IsLineRead : Option Bytes → Bytes → Option Bytes → Type 0
+IsLineRead before line behind =
+    (rest : Bytes) → behind ≡ Some rest → IfSome before (λ text. raw_lines text ≡ line ∷ raw_lines rest)
+
+-- An input that tells its bytes goes on telling them.
+abbrev pub TellsOn : Option Bytes → Option Bytes → Type 0
+TellsOn before behind = (text : Bytes) → before ≡ Some text → (rest : Bytes) × (behind ≡ Some rest)
 
 -- Where a loop over lines stands: where the run does, the number of the next line, and what is left to read.
 pub record LinePoint (D : Type 0) : Type 0 where
@@ -36,12 +50,13 @@ GoesOn _ = ⊥
 abbrev pub behind_commands : List Command → Script → Script
 behind_commands commands script = record { commands = commands ++ script.commands; end = script.end }
 
-module _ (trade : Trade) (finds : Finds) (providers : List Provider) (tells : Type 0) {D : Type 0} where
+module _ (trade : Trade) (finds : Finds) (providers : List Provider) (tells : Type 0) {D : Type 0}
+    (sight : D → Sight) where
   -- The loop came from the first place to this one: it played these commands, and they are what the lines between say,
   -- whatever lines are left.
   pub record Reads (first here : LinePoint D) : Type 0 where
     pub done : List Command
-    pub goes : Goes trade providers tells (map Plays done) first.point here.point None
+    pub goes : Goes trade providers tells sight (map Plays done) first.point here.point None
     pub script : (lines : List Bytes) → AreLinesLeft here.unread lines
         → (all : List Bytes) × AreLinesLeft first.unread all
         × (script_of finds providers first.number all
@@ -51,5 +66,5 @@ module _ (trade : Trade) (finds : Finds) (providers : List Provider) (tells : Ty
   pub record IsRead (first : LinePoint D) (there : Point D) (status : Status) : Type 0 where
     pub lines : List Bytes
     pub left : AreLinesLeft first.unread lines
-    pub played : IsScriptPlayed trade providers tells (script_of finds providers first.number lines) status first.point
-        there
+    pub played : IsScriptPlayed trade providers tells sight (script_of finds providers first.number lines) status
+        first.point there

@@ -1,19 +1,22 @@
 -- How a run goes, act by act: each act that was done is a step, with the state behind it. `Goes` says that these acts
 -- were done one after another, from one point to another, or as many of them as came before the run was stopped or
 -- strayed. It composes; `Climbs` is what a loop over acts keeps; and `IsScriptPlayed` is what acts come to that are a
--- script. This project's profile.
+-- script. `AllMoments` says what a crash may leave of disks at any moment of it. This project's profile.
 use Rattle.std.specs.Prelude.{◌≡◌, ◌≢◌, ◌⊎◌, ℕ, ◌≤◌, List, [], ◌∷◌, ◌++◌, map, Option, None, Some}
 use Rattle.pec_types.specs.Bytes.{Bytes}
+use Rattle.pec_outside.specs.DiskModel.{LeavesOnly, Sight}
 use Rattle.pec_outside.specs.Flow.{HasRisen, WrotePart, followed_by}
+use Rattle.pec_chronicle.specs.Carrying.{FollowsSo}
+use Rattle.pec_chronicle.specs.Chronicle.{ChronicleState, Stands}
 use Rattle.pec_directory.specs.Directory.{Provider}
-use Rattle.pec_ledger.specs.Network.{Site}
+use Rattle.pec_ledger.specs.Network.{Site, Sound, interrupted_at, journal_at}
 use Rattle.pec_ledger.specs.Trade.{Trade}
 use Rattle.pec_plays.specs.Commands.{Command, Luck, played}
 use Rattle.pec_plays.specs.Possible.{MayMeet}
 use Rattle.pec_runs.specs.AnswerLines.{answer_text}
 use Rattle.pec_runs.specs.Endings.{End, end_text}
 use Rattle.pec_runs.specs.Openings.{NoMore}
-use Rattle.pec_runs.specs.Plays.{HasMemory, MayPlay, MayStray, Rest, RoseBy, faults_by, outcome_from}
+use Rattle.pec_runs.specs.Plays.{HasMemory, MayPlay, MayStray, Rest, RoseBy, Strayed, faults_by, outcome_from}
 use Rattle.pec_runs.specs.Ran.{LeavesOff, Tells, command_in_hand}
 use Rattle.pec_runs.specs.ScriptLines.{Script}
 use Rattle.pec_runs.specs.Statuses.{Status, status_of}
@@ -41,11 +44,11 @@ acts_of_script providers script = map Plays script.commands ++ Writes (end_text 
 
 -- ---- steps
 
--- A network between two acts: its state, the counts of faults of its disks, and the disks themselves, by provider.
+-- A network between two acts: its state; and by provider the count of faults of its disk, and its entries over it.
 pub record State (D : Type 0) : Type 0 where
   pub sites : List Site
   pub counts : ℕ → ℕ
-  pub disks : ℕ → Option D
+  pub chronicles : ℕ → Option (ChronicleState D)
 
 -- An act that was done, with what devices did in it, and the network behind it.
 pub record Step (D : Type 0) : Type 0 where
@@ -65,6 +68,7 @@ module _ {D : Type 0} where
   state_behind here [] = here
   state_behind here (step ∷ steps) = state_behind step.behind steps
 
+  -- their acts
   abbrev pub acts_of : List (Step D) → List Act
   acts_of steps = map (λ (step : Step D). step.act) steps
 
@@ -110,6 +114,44 @@ module _ (trade : Trade) where
     text_of providers here (step ∷ steps) =
         text_by providers here.sites step.act step.luck ++ text_of providers step.behind steps
 
+-- ---- moments
+
+-- The entries that are kept of providers are those that the ledger sees.
+abbrev pub AreSeen : {D : Type 0} → State D → Type 0
+AreSeen {D} here =
+    (provider : ℕ) (one : ChronicleState D) → here.chronicles provider ≡ Some one
+    → (journal_at here.sites provider ≡ one.entries) × (interrupted_at here.sites provider ≡ one.interrupted)
+
+module _ (trade : Trade) {D : Type 0} (sight : D → Sight) where
+  -- A provider's entries over its disk, and what they were in a state: where these stood on the disk those stand there
+  -- again, and at any moment between a crash leaves of the disk the journal of a list that follows the state.
+  pub record CameFrom (sites : List Site) (provider : ℕ) (before : Option (ChronicleState D)) (now : ChronicleState D)
+      : Type 0 where
+    pub was : ChronicleState D
+    pub is : before ≡ Some was
+    pub stands : Stands sight was → Stands sight now
+    pub moments : Stands sight was → LeavesOnly (sight was.disk) (sight now.disk) (FollowsSo trade sites provider)
+
+  -- So each provider's came from a state, where that is Sound.
+  pub record Moments (here there : State D) : Type 0 where
+    pub seen : AreSeen there
+    pub came : Sound trade here.sites → (provider : ℕ) (now : ChronicleState D) → there.chronicles provider ≡ Some now
+        → CameFrom here.sites provider (here.chronicles provider) now
+
+  -- From a state to another: nothing was done, and the disks are the same ones; or they went through such moments.
+  abbrev pub IsMoment : State D → State D → Type 0
+  IsMoment here there = (there ≡ here) ⊎ Moments here there
+
+  -- So it is from each step to the next.
+  abbrev pub AreMoments : State D → List (Step D) → Type 0
+  AreMoments here [] = Unit {0}
+  AreMoments here (step ∷ steps) = IsMoment here step.behind × AreMoments step.behind steps
+
+  -- So it is along all steps, and from the last of them to where the run stopped.
+  pub record AllMoments (here there : State D) (steps : List (Step D)) : Type 0 where
+    pub each : AreMoments here steps
+    pub last : IsMoment (state_behind here steps) there
+
 -- ---- how a run goes
 
 -- What stops a run on its way: its input or its output failed, or memory ran out.
@@ -138,10 +180,10 @@ module _ {D : Type 0} where
   IsWritten text here there (Some ReadFault) = ⊥
   IsWritten text here there (Some NoMemory) = ⊥
 
-module _ (trade : Trade) (providers : List Provider) (tells : Type 0) {D : Type 0} where
-  -- How it ends behind the steps that were done, with these acts left: none is left; or the output failed, and a front of
-  -- their lines was written; or, with an act left, the input failed, or memory ran out. Where memory ran out that act may
-  -- have been played, in whole or in part.
+module _ (trade : Trade) (providers : List Provider) (tells : Type 0) {D : Type 0} (sight : D → Sight) where
+  -- How it ends behind the steps that were done, with these acts left: none is left; or the output failed, and a front
+  -- of their lines was written; or, with an act left, the input failed, or memory ran out. Where memory ran out that act
+  -- may have been played, in whole or in part.
   abbrev pub EndsSo : State D → Bytes → List Act → Option Bytes → Point D → Option Stop → Type 0
   EndsSo behind text left before there None =
       (left ≡ []) × (there.state ≡ behind) × (there.held ≡ followed_by before text)
@@ -160,13 +202,14 @@ module _ (trade : Trade) (providers : List Provider) (tells : Type 0) {D : Type 
     pub more : Bytes
     pub held : there.held ≡ followed_by before (text ++ more)
 
-  -- A run went from here to there by these acts: all were done one after another, or some, and then it was stopped so; or
-  -- it strayed. The output is blamed only where its count of faults rose.
+  -- A run went from here to there by these acts: all were done one after another, or some, and then it was stopped so;
+  -- or it strayed. The output is blamed only where its count of faults rose.
   pub record Goes (acts : List Act) (here there : Point D) (stop : Option Stop) : Type 0 where
     pub steps : List (Step D)
     pub left : List Act
     pub acts_are : acts_of steps ++ left ≡ acts
     pub each : AreSteps trade here.state steps
+    pub moments : tells → AllMoments trade sight here.state there.state steps
     pub ends :
         EndsSo (state_behind here.state steps) (text_of trade providers here.state steps) left here.held there stop
         ⊎ GoesAstray (state_behind here.state steps) (text_of trade providers here.state steps) left here.held there
@@ -183,10 +226,14 @@ module _ (trade : Trade) (providers : List Provider) (tells : Type 0) {D : Type 
   -- ---- scripts
 
   -- A script was played from here to there, with this status: by steps, to an outcome that may be, of which so much was
-  -- written; and it left this state, where disks tell what they hold.
+  -- written; and it left this state, where disks tell what they hold, and wherever it didn't stray.
   pub record IsScriptPlayed (script : Script) (status : Status) (here there : Point D) : Type 0 where
     pub steps : List (Step D)
+    pub unplayed : List Act
+    pub acts_are : acts_of steps ++ unplayed ≡ acts_of_script providers script
     pub each : AreSteps trade here.state steps
+    pub moments : tells → AllMoments trade sight here.state there.state steps
+    pub since : (provider : ℕ) → (state_behind here.state steps).counts provider ≤ there.state.counts provider
     pub rest : Rest
     pub may : MayPlay trade tells here.state.sites here.state.counts there.state.counts script (lucks_in steps) rest
     pub told : Tells providers status here.held there.held
@@ -195,6 +242,7 @@ module _ (trade : Trade) (providers : List Provider) (tells : Type 0) {D : Type 
     pub leaves_off : LeavesOff trade (outcome_from trade (lucks_in steps) rest here.state.sites script).after
         (command_in_hand status NoMore rest (lucks_in steps) script) left
     pub is_left : tells → left ≡ there.state.sites
+    pub stays : rest ≢ Strayed → left ≡ there.state.sites
 
 -- the status of a run that was stopped so
 abbrev pub stopped_status : Stop → Status

@@ -2,11 +2,11 @@
 //! the statement.
 #![tactic(auto)]
 
-mod climbing;
 mod examples;
 mod headline;
 mod inputs;
 mod leaving;
+mod moments;
 mod quiet;
 mod reading;
 mod resuming;
@@ -15,11 +15,11 @@ mod settings;
 mod steps;
 mod writing;
 
-pub use climbing::{a_run_is_climbed, a_script_is_played_line_by_line};
 pub use examples::{runs_of_the_examples, texts_of_the_examples};
 pub use headline::the_books_belong_to_the_ledger;
 pub use inputs::a_line_is_one_thing;
 pub use leaving::{a_journal_that_is_there_survives, a_run_leaves_its_journals};
+pub use moments::a_run_may_be_killed_at_any_moment;
 pub use quiet::{
     a_run_without_faults_has_one_transcript, a_run_without_faults_is_there,
     a_script_without_faults_is_one,
@@ -29,4 +29,4 @@ pub use resuming::{a_resumed_run_begins_where_the_last_left, a_script_may_be_cut
 pub use runs::{a_run_begins_sound, a_runs_books_belong_to_the_ledger};
 pub use settings::{one_input_has_one_transcript, providers_have_one_world};
 pub use steps::{acts_are_a_script, acts_are_joined, an_act_is_done};
-pub use writing::{a_status_says_what_was_written, answers_are_whole_lines};
+pub use writing::{a_status_says_what_was_written, answers_are_whole_lines, faults_are_counted};

@@ -2,9 +2,9 @@ ghost use Rattle.std.specs.Prelude.{◌≡◌, ◌≢◌, List, [], ◌∷◌, m
 ghost use Rattle.pec_types.specs.Bytes.{Bytes};
 ghost use Rattle.pec_directory.specs.Directory.{Provider};
 ghost use Rattle.pec_ledger.specs.Trade.{Trade};
-ghost use Rattle.pec_runs.specs.Climbing.{AreLinesLeft, IsLineRead, TellsOn};
 ghost use Rattle.pec_runs.specs.Endings.{End, end_text};
-ghost use Rattle.pec_runs.specs.Reading.{GoesOn, IsRead, LinePoint, Reads, behind_line, commands_by};
+ghost use Rattle.pec_runs.specs.Reading.{AreLinesLeft, GoesOn, IsLineRead, IsRead, LinePoint, Reads, TellsOn, behind_line};
+ghost use Rattle.pec_runs.specs.Reading.{commands_by};
 ghost use Rattle.pec_runs.specs.ScriptLines.{Line, nothing_but, said_by, script_of};
 ghost use Rattle.pec_runs.specs.Statuses as statuses;
 ghost use Rattle.pec_runs.specs.Steps.{Goes, Plays, Point, Stop, WriteFault, Writes, status_by, stopped_status};
@@ -17,32 +17,35 @@ use pec_outside::Depot;
 /// which the script ends, or is stopped, within what a line says or between two lines.
 pub fn lines_are_climbed<P: Depot>()
     ensures starts { (trade : Trade) (finds : Finds) (providers : List Provider) (first : LinePoint P.D)
-        → Reads trade finds providers (P.tells × P.D.tells) first first }
+        → Reads trade finds providers (P.tells × P.D.tells) P.D.sight first first }
     ensures on { (trade : Trade) (finds : Finds) (providers : List Provider) (first here : LinePoint P.D)
         (there : Point P.D) (line : Bytes) (what : Line) (behind : Option Bytes)
         → said_by finds providers here.number line ≡ what → GoesOn what
         → IsLineRead here.unread line behind → TellsOn here.unread behind
-        → Goes trade providers (P.tells × P.D.tells) (map Plays (commands_by what)) here.point there None
-        → Reads trade finds providers (P.tells × P.D.tells) first here
-        → Reads trade finds providers (P.tells × P.D.tells) first (behind_line here there behind) }
+        → Goes trade providers (P.tells × P.D.tells) P.D.sight (map Plays (commands_by what)) here.point there None
+        → Reads trade finds providers (P.tells × P.D.tells) P.D.sight first here
+        → Reads trade finds providers (P.tells × P.D.tells) P.D.sight first (behind_line here there behind) }
     ensures over { (trade : Trade) (finds : Finds) (providers : List Provider) (first here : LinePoint P.D)
-        → IfSome here.unread (λ text. text ≡ []) → Reads trade finds providers (P.tells × P.D.tells) first here
-        → IsRead trade finds providers (P.tells × P.D.tells) first here.point statuses.Done }
+        → IfSome here.unread (λ text. text ≡ []) → Reads trade finds providers (P.tells × P.D.tells) P.D.sight first
+        here
+        → IsRead trade finds providers (P.tells × P.D.tells) P.D.sight first here.point statuses.Done }
     // The last line is written, or a front of it.
     ensures ended { (trade : Trade) (finds : Finds) (providers : List Provider) (first here : LinePoint P.D)
         (there : Point P.D) (lines : List Bytes) (end : End) (stop : Option Stop)
         → script_of finds providers here.number lines ≡ nothing_but end → AreLinesLeft here.unread lines
-        → Goes trade providers (P.tells × P.D.tells) (Writes (end_text providers end) ∷ []) here.point there stop
-        → Reads trade finds providers (P.tells × P.D.tells) first here
-        → IsRead trade finds providers (P.tells × P.D.tells) first there (status_by end stop) }
+        → Goes trade providers (P.tells × P.D.tells) P.D.sight (Writes (end_text providers end) ∷ []) here.point there
+        stop
+        → Reads trade finds providers (P.tells × P.D.tells) P.D.sight first here
+        → IsRead trade finds providers (P.tells × P.D.tells) P.D.sight first there (status_by end stop) }
     ensures stopped { (trade : Trade) (finds : Finds) (providers : List Provider) (first here : LinePoint P.D)
         (there : Point P.D) (line : Bytes) (what : Line) (behind : Option Bytes) (stop : Stop)
         → said_by finds providers here.number line ≡ what → GoesOn what
         → IsLineRead here.unread line behind → TellsOn here.unread behind
-        → Goes trade providers (P.tells × P.D.tells) (map Plays (commands_by what)) here.point there (Some stop)
-        → Reads trade finds providers (P.tells × P.D.tells) first here
-        → IsRead trade finds providers (P.tells × P.D.tells) first there (stopped_status stop) }
+        → Goes trade providers (P.tells × P.D.tells) P.D.sight (map Plays (commands_by what)) here.point there (Some
+        stop)
+        → Reads trade finds providers (P.tells × P.D.tells) P.D.sight first here
+        → IsRead trade finds providers (P.tells × P.D.tells) P.D.sight first there (stopped_status stop) }
     ensures halted { (trade : Trade) (finds : Finds) (providers : List Provider) (first here : LinePoint P.D)
-        (stop : Stop) → stop ≢ WriteFault → Reads trade finds providers (P.tells × P.D.tells) first here
-        → IsRead trade finds providers (P.tells × P.D.tells) first here.point (stopped_status stop) }
+        (stop : Stop) → stop ≢ WriteFault → Reads trade finds providers (P.tells × P.D.tells) P.D.sight first here
+        → IsRead trade finds providers (P.tells × P.D.tells) P.D.sight first here.point (stopped_status stop) }
 {}

@@ -1,4 +1,4 @@
-ghost use Rattle.std.specs.Prelude.{◌≡◌, ◌≤◌, List, [], None, Option, length};
+ghost use Rattle.std.specs.Prelude.{◌≡◌, ℕ, ◌≤◌, List, [], None, Option, length};
 ghost use Rattle.pec_types.specs.Bytes.{Bytes};
 ghost use Rattle.pec_outside.specs.Flow.{WrotePart, followed_by};
 ghost use Rattle.pec_directory.specs.Directory.{Provider};
@@ -11,7 +11,7 @@ ghost use Rattle.pec_runs.specs.Endings.{End, end_text};
 ghost use Rattle.pec_runs.specs.Endings as ends;
 ghost use Rattle.pec_runs.specs.Happened.{Asked, Happened, outcome_of, providers_in};
 ghost use Rattle.pec_runs.specs.Openings.{form_in};
-ghost use Rattle.pec_runs.specs.Plays.{Ends, outcome_text};
+ghost use Rattle.pec_runs.specs.Plays.{Ends, RoseAlong, RoseBy, faults_told, outcome_text};
 ghost use Rattle.pec_runs.specs.Ran.{Counts, RanOver};
 ghost use Rattle.pec_runs.specs.Statuses.{Status};
 ghost use Rattle.pec_runs.specs.Statuses as statuses;
@@ -26,6 +26,15 @@ pub fn answers_are_whole_lines()
     ensures count { (trade : Trade) (lucks : List Luck) (sites : List Site) (commands : List Command)
         → length lucks ≤ length commands
         → length (script trade lucks sites commands).answers ≡ length lucks }
+{}
+
+/// Along a script each fault that is told of a disk raised that disk's count in the command that tells it; so in all the
+/// count rose by as many faults at least as were told.
+pub fn faults_are_counted()
+    ensures { (trade : Trade) (lucks : List Luck) (sites : List Site) (commands : List Command) (from upto : ℕ → ℕ)
+        → RoseAlong trade lucks sites commands from upto → (provider : ℕ)
+        → RoseBy (faults_told provider commands (script trade lucks sites commands).answers)
+        (from provider) (upto provider) }
 {}
 
 /// What a status says of what was written, over disks that tell what they hold. A run that was stopped by its input

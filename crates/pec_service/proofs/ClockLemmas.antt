@@ -2,6 +2,7 @@
 use Rattle.std.proofs.Common.{◌≡◌, ◌≢◌, ℕ, zero, suc, ◌+◌, ◌≤◌, inl, inr, List, [], ◌∷◌, ◌++◌, map, refl, ap, sym, subst, ◌∙◌, Option, Some, None}
 use Rattle.std.specs.Prelude.{slice_get}
 use Rattle.pec_types.specs.Bytes.{Bytes}
+use Rattle.pec_outside.specs.DiskModel.{Sight}
 use Rattle.pec_outside.specs.Flow.{WrotePart, followed_by}
 use Rattle.pec_directory.specs.Directory.{Provider}
 use Rattle.pec_ledger.specs.Trade.{Trade}
@@ -26,7 +27,8 @@ module _ (trade : Trade) (providers : List Provider) {D : Type 0} where
     behind : state_behind (seen here) (calls_by some) ≡ seen (steps.state_behind here some)
     text : calls_text trade providers (seen here) (calls_by some) ≡ text_of trade providers here some
 
-  nothing_done : (here : steps.State D) (left : List Act) (due : List Command) → left ≡ map Plays due → Front here [] left due
+  nothing_done : (here : steps.State D) (left : List Act) (due : List Command) → left ≡ map Plays due
+      → Front here [] left due
   nothing_done here left due is =
       record { unplayed = due; left_is = is; plays = refl; are = tt; behind = refl; text = refl }
 
@@ -84,18 +86,22 @@ not_next (command ∷ unplayed) provider none is = none.0 provider cc
 
 -- ---- the law
 
-module _ (trade : Trade) (providers : List Provider) (tells : Type 0) {D : Type 0} (due : List Command) (none : NoRestart due)
-    (here there : Point D) where
+module _ (trade : Trade) (providers : List Provider) (tells : Type 0) {D : Type 0} (sight : D → Sight)
+    (due : List Command) (none : NoRestart due) (here there : Point D) where
   module _ (some : List (Step D)) (left : List Act) (front : Front trade providers here.state some left due)
       (since : (p : ℕ) → (steps.state_behind here.state some).counts p ≤ there.state.counts p) where
     held_is : there.held ≡ followed_by here.held (text_of trade providers here.state some)
         → there.held ≡ followed_by here.held (calls_text trade providers (seen here.state) (calls_by some))
     held_is is = is ∙ ap (followed_by here.held) (sym front.text)
 
-    ends_so : (stop : Option Stop) → EndsSo trade providers tells (steps.state_behind here.state some)
+    ends_so : (stop : Option Stop) → EndsSo trade providers tells sight (steps.state_behind here.state some)
         (text_of trade providers here.state some) left here.held there stop
         → CallsEnd trade providers (seen here.state) (calls_by some) front.unplayed here.held there stop
-    ends_so None ends = (no_more front.unplayed (sym front.left_is ∙ ends.0), front.behind ∙ ap seen (sym ends.1), held_is ends.2)
+    ends_so None ends = (
+      no_more front.unplayed (sym front.left_is ∙ ends.0),
+      front.behind ∙ ap seen (sym ends.1),
+      held_is ends.2,
+    )
       where
         no_more : (unplayed : List Command) → map Plays unplayed ≡ [] → unplayed ≡ []
         no_more [] e = refl
@@ -107,20 +113,21 @@ module _ (trade : Trade) (providers : List Provider) (tells : Type 0) {D : Type 
     ends_so (Some steps.ReadFault) ends = (front.behind ∙ ap seen (sym ends.1), held_is ends.2)
     ends_so (Some steps.NoMemory) ends = (
       subst (λ (s : State). LeavesOff trade s.sites (slice_get front.unplayed 0) there.state.sites) (sym front.behind)
-          (subst (λ (n : Option Command). LeavesOff trade (steps.state_behind here.state some).sites n there.state.sites)
+          (subst (λ (n : Option Command). LeavesOff trade (steps.state_behind here.state some).sites n
+          there.state.sites)
           (ap next_of front.left_is ∙ next_is front.unplayed) ends.1),
       held_is ends.2,
       subst (λ (s : State). (p : ℕ) → s.counts p ≤ there.state.counts p) (sym front.behind) since,
     )
 
-    not_astray : GoesAstray trade providers tells (steps.state_behind here.state some)
+    not_astray : GoesAstray trade providers tells sight (steps.state_behind here.state some)
         (text_of trade providers here.state some) left here.held there → ⊥
     not_astray astray =
         not_next front.unplayed astray.strays.provider
         (behind_is (commands_of (calls_by some)) front.unplayed (subst NoRestart (sym front.plays) none))
         (sym (ap next_of front.left_is) ∙ astray.strays.restarts)
 
-  pub went : (stop : Option Stop) → Goes trade providers tells (map Plays due) here there stop
+  pub went : (stop : Option Stop) → Goes trade providers tells sight (map Plays due) here there stop
       → ClockWent trade providers due here there stop
   went stop goes =
       let front = front_of trade providers here.state goes.steps goes.left due goes.acts_are goes.each
@@ -135,9 +142,9 @@ module _ (trade : Trade) (providers : List Provider) (tells : Type 0) {D : Type 
         ];
       }
 
-pub clock_went : (trade : Trade) (providers : List Provider) (tells : Type 0) {D : Type 0} (more from moment : ℕ)
-    (here there : Point D) (stop : Option Stop)
-    → Goes trade providers tells (map Plays (clock_from more from moment)) here there stop
+pub clock_went : (trade : Trade) (providers : List Provider) (tells : Type 0) {D : Type 0} (sight : D → Sight)
+    (more from moment : ℕ) (here there : Point D) (stop : Option Stop)
+    → Goes trade providers tells sight (map Plays (clock_from more from moment)) here there stop
     → ClockWent trade providers (clock_from more from moment) here there stop
-clock_went trade providers tells more from moment here there stop goes =
-    went trade providers tells (clock_from more from moment) (clock_is more from moment) here there stop goes
+clock_went trade providers tells sight more from moment here there stop goes =
+    went trade providers tells sight (clock_from more from moment) (clock_is more from moment) here there stop goes

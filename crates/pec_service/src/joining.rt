@@ -45,7 +45,7 @@ pub fn calls_are_joined()
 pub fn acts_are_calls<P: Depot>()
     ensures { (trade : Trade) (providers : List Provider) (more from moment : ℕ) (here there : Point P.D)
         (stop : Option Stop)
-        → Goes trade providers (P.tells × P.D.tells) (map Plays (clock_from more from moment)) here there stop
+        → Goes trade providers (P.tells × P.D.tells) P.D.sight (map Plays (clock_from more from moment)) here there stop
         → ClockWent trade providers (clock_from more from moment) here there stop }
 {}
 

@@ -5,7 +5,7 @@ pub use Rattle.pec_playing.specs.OfNetworks.{IsAbout, IsBegun, IsJournalOf, IsLe
 pub use Rattle.pec_playing.specs.OfNetworks.{IsRefused, IsUnfit, NetworkState, NoneFalls, NoneFell, NotFit}
 pub use Rattle.pec_playing.specs.OfNetworks.{ProviderState, Says, Stands, StartFault, Waiting, all_rested, desk_of}
 pub use Rattle.pec_playing.specs.OfNetworks.{journals_had, reopened_as, rested, site_of, sites, sites_of, trade_of}
-pub use Rattle.pec_playing.specs.OfNetworks.{waiting_for, world_of}
+pub use Rattle.pec_playing.specs.OfNetworks.{Summary, total_of, waiting_for, world_of}
 pub use Rattle.pec_playing.specs.Doing.{Keeps}
 pub use Rattle.pec_playing.specs.Playing.{CanPlay, count_or, counts_in}
 pub use Rattle.pec_playing.specs.Points.{point_of, stop_in}

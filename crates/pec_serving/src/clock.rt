@@ -16,10 +16,19 @@ use pec_seal::Sealer;
 use pec_service::acts_are_calls;
 use pec_types::Moment;
 use std::alloc::Global;
+use std::thread::Threads;
 
 /// Has each provider look at the clock, in the order of the directory, and then plays one round, all at one moment. The
 /// lines of each answer are written before the next command is played.
-pub(crate) fn play_clock<D: Disk, S: Sealer, P: Depot<D = D>, J: Judge, W: Sink>(
+pub(crate) fn play_clock<
+    X: Threads + Sync,
+    D: Disk + Send,
+    S: Sealer + Sync,
+    P: Depot<D = D>,
+    J: Judge,
+    W: Sink,
+>(
+    rt: &X,
     alloc: Global,
     network: &mut Network<D, S>,
     depot: &mut P,
@@ -43,6 +52,7 @@ pub(crate) fn play_clock<D: Disk, S: Sealer, P: Depot<D = D>, J: Judge, W: Sink>
     what_is_kept_is_kept_on::<D, S>();
     for provider in 0..network.directory().count() {
         play_and_write(
+            rt,
             alloc,
             network,
             depot,
@@ -52,6 +62,7 @@ pub(crate) fn play_clock<D: Disk, S: Sealer, P: Depot<D = D>, J: Judge, W: Sink>
         )?;
     }
     play_and_write(
+        rt,
         alloc,
         network,
         depot,

@@ -15,6 +15,7 @@ use pec_screen::Judge;
 use pec_seal::{HmacSealer, Sealer};
 use pec_service::{calls_are_joined, connections_are_joined};
 use std::alloc::Global;
+use std::thread::Threads;
 
 /// How a service ends.
 #[derive(Clone, Copy, Debug, PartialEq, Eq)]
@@ -35,7 +36,16 @@ pub enum Ending {
 /// desk of the network at one moment, its line is written, and then every provider looks at the clock, in the order of the
 /// directory, and one round is played, all at that moment. The screens of a provider are those at its number; a provider
 /// past them has none. They are dropped in the end. This project's profile.
-pub fn serve<D: Disk, P: Depot<D = D>, J: Judge, T: Ticks, R: Door, W: Sink>(
+pub fn serve<
+    X: Threads + Sync,
+    D: Disk + Send,
+    P: Depot<D = D>,
+    J: Judge,
+    T: Ticks,
+    R: Door,
+    W: Sink,
+>(
+    rt: &X,
     alloc: Global,
     network: Network<D, HmacSealer>,
     depot: &mut P,
@@ -80,6 +90,7 @@ pub fn serve<D: Disk, P: Depot<D = D>, J: Judge, T: Ticks, R: Door, W: Sink>(
                     return (network, Ending::WriteFault);
                 }
                 match play_clock(
+                    rt,
                     alloc,
                     &mut network,
                     depot,

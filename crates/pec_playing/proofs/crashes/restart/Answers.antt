@@ -4,8 +4,8 @@ use Rattle.pec_playing.proofs.RestartLemmas.{restart_says, restart_stops}
 use Rattle.pec_playing.proofs.crashes.restart.Goals as goal
 use Rattle.pec_network.specs.Network.{world_of}
 
-pub returns : goal.returns
-returns g c =
+pub returns-clause-does : goal.returns-clause-does
+returns-clause-does g c =
     let network = c.args.network.now in
     let trade = world_of g.S.Sealer.seals network in
     let new = c.restart-outcome.new.self in
@@ -19,8 +19,8 @@ returns g c =
     c.restart-outcome.ensures.refused
     c.restart-outcome.ensures.down c.restart-outcome.ensures.disk_fault c.in_ok-text.text c.in_ok-text.ensures
 
-pub returns-in_err-text : goal.returns-in_err-text
-returns-in_err-text g c =
+pub returns-in_err-text-clause-does : goal.returns-in_err-text-clause-does
+returns-in_err-text-clause-does g c =
     let network = c.args.network.now in
     let trade = world_of g.S.Sealer.seals network in
     let new = c.restart-outcome.new.self in

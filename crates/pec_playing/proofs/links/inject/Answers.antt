@@ -1,11 +1,12 @@
 use Rattle.pec_plays.specs.Commands.{Inject, Injected}
 use Rattle.pec_script.specs.declared.answers.Answer.TheVariants as lines
 use Rattle.pec_playing.proofs.LinkLemmas.{link_says, link_stops, inject_free, injected_line}
+use Rattle.pec_playing.proofs.MomentLemmas.{carries_providers}
 use Rattle.pec_playing.proofs.links.inject.Goals as goal
 use Rattle.pec_network.specs.Network.{world_of}
 
-pub returns : goal.returns
-returns g c =
+pub returns-clause-does : goal.returns-clause-does
+returns-clause-does g c =
     let network = c.args.network.now in
     let trade = world_of g.S.Sealer.seals network in
     rw (← c.of.ensures) (link_says g.D.Disk.sight g.D.Counted.faults g.D.Disk.tells trade
@@ -14,8 +15,8 @@ returns g c =
     Injected lines.Injected injected_line
     c.inject-outcome.result c.inject-outcome.ensures.plays c.in_ok-text.text c.in_ok-text.ensures)
 
-pub returns-in_err-text : goal.returns-in_err-text
-returns-in_err-text g c =
+pub returns-in_err-text-clause-does : goal.returns-in_err-text-clause-does
+returns-in_err-text-clause-does g c =
     let network = c.args.network.now in
     let trade = world_of g.S.Sealer.seals network in
     rw (← c.of.ensures) (link_stops g.D.Disk.sight g.D.Counted.faults g.D.Disk.tells trade
@@ -23,3 +24,15 @@ returns-in_err-text g c =
     c.inject-outcome.new.self c.inject-outcome.ensures.others (inject_free trade c.args.from c.args.to c.of.result)
     Injected lines.Injected injected_line
     c.inject-outcome.result c.inject-outcome.ensures.plays c.from_residual.result c.from_residual.ensures.0)
+
+pub returns-clause-carries : goal.returns-clause-carries
+returns-clause-carries g c =
+    let network = c.args.network.now in
+    carries_providers g.D.Disk.sight g.D.Disk.tells (world_of g.S.Sealer.seals network) network c.inject-outcome.new.self
+    c.inject-outcome.ensures.others c.a_call_leaves_what_follows.ensures.rests
+
+pub returns-in_err-text-clause-carries : goal.returns-in_err-text-clause-carries
+returns-in_err-text-clause-carries g c =
+    let network = c.args.network.now in
+    carries_providers g.D.Disk.sight g.D.Disk.tells (world_of g.S.Sealer.seals network) network c.inject-outcome.new.self
+    c.inject-outcome.ensures.others c.a_call_leaves_what_follows.ensures.rests

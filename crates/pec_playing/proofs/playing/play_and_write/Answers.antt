@@ -6,8 +6,10 @@ use Rattle.pec_directory.specs.Directory.{providers_of}
 use Rattle.pec_network.specs.Network.{world_of}
 use Rattle.pec_runs.specs.ScriptLines.{command_in}
 use Rattle.pec_screen.specs.Screened.{finds_in}
+use Rattle.pec_runs.specs.Steps.{IsMoment}
 use Rattle.pec_playing.specs.Points.{point_of}
 use Rattle.pec_playing.specs.declared.stops.Stop.{Stop}
+use Rattle.pec_playing.proofs.MomentLemmas.{is_moment}
 use Rattle.pec_playing.proofs.PlayLemmas.{play_says, play_stops}
 use Rattle.pec_playing.proofs.WritingLemmas.{ActLaws, play_breaks, play_ends, play_lacks}
 use Rattle.pec_playing.proofs.playing.play_and_write.Goals as goal
@@ -25,9 +27,15 @@ returns-in_err-text-clause-goes g c = λ stands elsewhere.
     let count = g.W.Counted.faults c.args.out.now in
     let here = point_of g.D.Counted.faults elsewhere old held count in
     let there = point_of g.D.Counted.faults elsewhere new held count in
-    let laws : ActLaws trade providers tells command here there = record {
-      played_so = λ luck stop. c.an_act_is_done.ensures.played trade providers command luck here there stop;
-      stopped_so = c.an_act_is_done.ensures.stopped trade providers command here there;
+    let moment : tells → IsMoment trade g.D.Disk.sight here.state there.state = λ told.
+    is_moment g.D.Disk.sight g.D.Disk.tells trade
+    (record { follows = c.a_call_leaves_what_follows.ensures.follows trade; seen = c.a_call_leaves_what_follows.ensures.seen })
+    old new does.keeps.many c.in_err-text.ensures.carries told.1
+    g.D.Counted.faults elsewhere held held count count in
+    let laws : ActLaws g.D.Disk.sight trade providers tells command here there = record {
+      played_so = λ luck stop is.
+          c.an_act_is_done.ensures.played trade providers command luck here there stop is moment;
+      stopped_so = λ left. c.an_act_is_done.ensures.stopped trade providers command here there left moment;
       strayed_so = λ text stop. c.an_act_is_done.ensures.strayed trade providers command here there text stop;
     } in
     let p = err_from_is_err_and c.from_residual.result c.from_residual.ensures.1 in
@@ -51,9 +59,15 @@ returns-in_err-write_all-clause-goes g c = λ stands elsewhere.
     let upto = g.W.Counted.faults c.write_all.new.out in
     let here = point_of g.D.Counted.faults elsewhere old before from in
     let there = point_of g.D.Counted.faults elsewhere new after upto in
-    let laws : ActLaws trade providers tells command here there = record {
-      played_so = λ luck stop. c.an_act_is_done.ensures.played trade providers command luck here there stop;
-      stopped_so = c.an_act_is_done.ensures.stopped trade providers command here there;
+    let moment : tells → IsMoment trade g.D.Disk.sight here.state there.state = λ told.
+    is_moment g.D.Disk.sight g.D.Disk.tells trade
+    (record { follows = c.a_call_leaves_what_follows.ensures.follows trade; seen = c.a_call_leaves_what_follows.ensures.seen })
+    old new does.keeps.many c.in_ok-text.ensures.carries told.1
+    g.D.Counted.faults elsewhere before after from upto in
+    let laws : ActLaws g.D.Disk.sight trade providers tells command here there = record {
+      played_so = λ luck stop is.
+          c.an_act_is_done.ensures.played trade providers command luck here there stop is moment;
+      stopped_so = λ left. c.an_act_is_done.ensures.stopped trade providers command here there left moment;
       strayed_so = λ text stop. c.an_act_is_done.ensures.strayed trade providers command here there text stop;
     } in
     let p = err_from_is_err_and c.from_residual-in_err-write_all.result c.from_residual-in_err-write_all.ensures.1 in
@@ -79,9 +93,15 @@ returns-clause-goes g c = λ stands elsewhere.
     let upto = g.W.Counted.faults c.write_all.new.out in
     let here = point_of g.D.Counted.faults elsewhere old before from in
     let there = point_of g.D.Counted.faults elsewhere new after upto in
-    let laws : ActLaws trade providers tells command here there = record {
-      played_so = λ luck stop. c.an_act_is_done.ensures.played trade providers command luck here there stop;
-      stopped_so = c.an_act_is_done.ensures.stopped trade providers command here there;
+    let moment : tells → IsMoment trade g.D.Disk.sight here.state there.state = λ told.
+    is_moment g.D.Disk.sight g.D.Disk.tells trade
+    (record { follows = c.a_call_leaves_what_follows.ensures.follows trade; seen = c.a_call_leaves_what_follows.ensures.seen })
+    old new does.keeps.many c.in_ok-text.ensures.carries told.1
+    g.D.Counted.faults elsewhere before after from upto in
+    let laws : ActLaws g.D.Disk.sight trade providers tells command here there = record {
+      played_so = λ luck stop is.
+          c.an_act_is_done.ensures.played trade providers command luck here there stop is moment;
+      stopped_so = λ left. c.an_act_is_done.ensures.stopped trade providers command here there left moment;
       strayed_so = λ text stop. c.an_act_is_done.ensures.strayed trade providers command here there text stop;
     } in
     play_ends g.D.Disk.sight g.D.Counted.faults g.D.Disk.tells tells trade command old new does.keeps elsewhere before after

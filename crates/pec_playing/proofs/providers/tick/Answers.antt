@@ -8,8 +8,8 @@ use Rattle.pec_playing.proofs.KeptLemmas.{as_many, keeps_others}
 use Rattle.pec_playing.proofs.providers.tick.Goals as goal
 use Rattle.pec_network.specs.Network.{world_of}
 
-pub returns-in-Ok : goal.returns-in-Ok
-returns-in-Ok g c =
+pub returns-in-Ok-clause-does : goal.returns-in-Ok-clause-does
+returns-in-Ok-clause-does g c =
     let network = c.args.network.now in
     let trade = world_of g.S.Sealer.seals network in
     let new = c.tick.new.self in
@@ -27,8 +27,8 @@ returns-in-Ok g c =
     (c.directory.ensures.value ∙ keeps.directory)
     ∙ ap (λ (l : List Mark). marks_text (providers_of network.kept) l) c.as_slice.ensures.value)
 
-pub returns-in-Err : goal.returns-in-Err
-returns-in-Err g c =
+pub returns-in-Err-clause-does : goal.returns-in-Err-clause-does
+returns-in-Err-clause-does g c =
     let network = c.args.network.now in
     let trade = world_of g.S.Sealer.seals network in
     let new = c.tick.new.self in
@@ -42,8 +42,8 @@ returns-in-Err g c =
     (λ e. c.in-Err.ensures.disk_fault (ap Err e)) c.in-Err.ensures.plays
     c.in_ok-text-in-Err.text c.in_ok-text-in-Err.ensures
 
-pub returns-in_err-text-in-Ok : goal.returns-in_err-text-in-Ok
-returns-in_err-text-in-Ok g c =
+pub returns-in_err-text-in-Ok-clause-does : goal.returns-in_err-text-in-Ok-clause-does
+returns-in_err-text-in-Ok-clause-does g c =
     let network = c.args.network.now in
     let trade = world_of g.S.Sealer.seals network in
     let new = c.tick.new.self in
@@ -56,8 +56,8 @@ returns-in_err-text-in-Ok g c =
     (tick_of trade c.args.provider c.args.moment) (λ (told : Vec Mark Global). Marks told.items) c.tick.result
     c.tick.ensures.plays c.from_residual.result c.from_residual.ensures.0
 
-pub returns-in_err-text-in-Err : goal.returns-in_err-text-in-Err
-returns-in_err-text-in-Err g c =
+pub returns-in_err-text-in-Err-clause-does : goal.returns-in_err-text-in-Err-clause-does
+returns-in_err-text-in-Err-clause-does g c =
     let network = c.args.network.now in
     let trade = world_of g.S.Sealer.seals network in
     let new = c.tick.new.self in

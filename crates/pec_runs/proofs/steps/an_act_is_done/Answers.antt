@@ -4,13 +4,14 @@ use Rattle.pec_runs.proofs.steps.an_act_is_done.Goals as goal
 
 pub returns : goal.returns
 returns g c = record {
-  played = λ trade providers command luck here there stop is later wrote.
-      one_played trade providers _ command luck here there stop is later wrote;
-  stopped = λ trade providers command here there left later same.
-      one_stopped trade providers _ command here there left later same;
+  played = λ trade providers command luck here there stop is moment later wrote.
+      one_played trade providers _ g.P.D.Disk.sight command luck here there stop is moment later wrote;
+  stopped = λ trade providers command here there left moment later same.
+      one_stopped trade providers _ g.P.D.Disk.sight command here there left moment later same;
   strayed = λ trade providers command here there text stop strays later held blame.
-      one_strayed trade providers _ command here there text stop strays later held blame;
+      one_strayed trade providers _ g.P.D.Disk.sight command here there text stop strays later held blame;
   written = λ trade providers text here there stop same later wrote.
-      one_written trade providers _ text here there stop same later wrote;
-  halted = λ trade providers acts here stop some other. halts trade providers _ acts here stop some other;
+      one_written trade providers _ g.P.D.Disk.sight text here there stop same later wrote;
+  halted = λ trade providers acts here stop some other. halts trade providers _ g.P.D.Disk.sight acts here stop some
+      other;
 }

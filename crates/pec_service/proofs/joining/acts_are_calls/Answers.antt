@@ -3,4 +3,4 @@ use Rattle.pec_service.proofs.joining.acts_are_calls.Goals as goal
 
 pub returns : goal.returns
 returns g c = λ trade providers more from moment here there stop goes.
-    clock_went trade providers _ more from moment here there stop goes
+    clock_went trade providers _ g.P.D.Disk.sight more from moment here there stop goes

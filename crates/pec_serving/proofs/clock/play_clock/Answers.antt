@@ -20,7 +20,7 @@ loop-provider-init g c =
       climbs = λ elsewhere.
           let here = point_of g.D.Counted.faults elsewhere start (g.W.Stream.held c.args.out.now)
           (g.W.Counted.faults c.args.out.now) in
-          subst (λ (left : List Act). Climbs trade providers tells due left here here)
+          subst (λ (left : List Act). Climbs trade providers tells g.D.Disk.sight due left here here)
           (sym (all_due (length start.kept) c.args.moment)) (c.acts_are_joined.ensures.starts trade providers due here);
       keeps = c.what_is_kept_is_kept_on.ensures.none start;
       home = λ told k. refl;
@@ -57,7 +57,8 @@ loop-provider-preserved g c =
           (g.W.Counted.faults c.loop-provider.out) in
           c.acts_are_joined.ensures.on trade providers due (Plays (Tick number moment) ∷ [])
           (due_from size moment (number + 1)) first here _
-          (subst (λ (left : List Act). Climbs trade providers tells due left first here) (next_due size moment number below)
+          (subst (λ (left : List Act). Climbs trade providers tells g.D.Disk.sight due left first here) (next_due size
+          moment number below)
           (so.climbs elsewhere))
           (rw (so.keeps.directory, so.keeps.seals) at c.in_ok-play_and_write.ensures.goes
           (λ other restarts. absurd (tick_calm number moment other restarts)) elsewhere);
@@ -95,7 +96,7 @@ returns-in_err-play_and_write-clause-clock g c = λ elsewhere.
     (g.W.Counted.faults c.loop-provider.out) in
     let there = point_of g.D.Counted.faults elsewhere c.play_and_write.new.network
     (g.W.Stream.held c.play_and_write.new.out) (g.W.Counted.faults c.play_and_write.new.out) in
-    let climbs = subst (λ (left : List Act). Climbs trade providers tells due left first here)
+    let climbs = subst (λ (left : List Act). Climbs trade providers tells g.D.Disk.sight due left first here)
     (next_due size moment number below) (so.climbs elsewhere) in
     let goes = rw (so.keeps.directory, so.keeps.seals) at c.in_err-play_and_write.ensures.goes
     (λ other restarts. absurd (tick_calm number moment other restarts)) elsewhere in
@@ -103,8 +104,9 @@ returns-in_err-play_and_write-clause-clock g c = λ elsewhere.
     let p = err_from_is_err_and c.from_residual.result
     c.from_residual.ensures.1 in
     rw (p.1, p.2) (c.acts_are_calls.ensures trade providers size 0 moment first there _
-    (by_stop (λ (o : Option Stop). Goes trade providers tells (Plays (Tick number moment) ∷ []) here there o)
-    (λ (o : Option Stop). Goes trade providers tells due first there o)
+    (by_stop (λ (o : Option Stop). Goes trade providers tells g.D.Disk.sight (Plays (Tick number moment) ∷ []) here
+    there o)
+    (λ (o : Option Stop). Goes trade providers tells g.D.Disk.sight due first there o)
     (λ why one. c.acts_are_joined.ensures.stops trade providers due (Plays (Tick number moment) ∷ [])
     (due_from size moment (number + 1)) first here there why climbs one) stop goes))
 
@@ -130,16 +132,18 @@ returns-clause-clock g c = λ elsewhere.
     (g.W.Counted.faults c.args.out.now) in
     let here = point_of g.D.Counted.faults elsewhere c.loop-provider.network (g.W.Stream.held c.loop-provider.out)
     (g.W.Counted.faults c.loop-provider.out) in
-    let there = point_of g.D.Counted.faults elsewhere c.play_and_write-2.new.network (g.W.Stream.held c.play_and_write-2.new.out)
+    let there = point_of g.D.Counted.faults elsewhere c.play_and_write-2.new.network (g.W.Stream.held
+    c.play_and_write-2.new.out)
     (g.W.Counted.faults c.play_and_write-2.new.out) in
-    let climbs = subst (λ (left : List Act). Climbs trade providers tells due left first here)
+    let climbs = subst (λ (left : List Act). Climbs trade providers tells g.D.Disk.sight due left first here)
     (last_due size moment c.loop-provider.provider last) (so.climbs elsewhere) in
     let goes = rw (so.keeps.directory, so.keeps.seals) at c.play_and_write-2.ensures.goes
     (λ other restarts. absurd (round_calm moment other restarts)) elsewhere in
     c.acts_are_calls.ensures trade providers size 0 moment first there (stop_in c.play_and_write-2.result)
-    (by_result (λ (o : Option Stop). Goes trade providers tells (Plays (Round moment) ∷ []) here there o)
-    (λ (o : Option Stop). Goes trade providers tells due first there o)
+    (by_result (λ (o : Option Stop). Goes trade providers tells g.D.Disk.sight (Plays (Round moment) ∷ []) here there o)
+    (λ (o : Option Stop). Goes trade providers tells g.D.Disk.sight due first there o)
     (λ one. c.acts_are_joined.ensures.ends trade providers due first there
     (c.acts_are_joined.ensures.on trade providers due (Plays (Round moment) ∷ []) [] first here there climbs one))
-    (λ why one. c.acts_are_joined.ensures.stops trade providers due (Plays (Round moment) ∷ []) [] first here there why climbs
+    (λ why one. c.acts_are_joined.ensures.stops trade providers due (Plays (Round moment) ∷ []) [] first here there
+    why climbs
     one) c.play_and_write-2.result goes)

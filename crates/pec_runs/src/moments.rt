@@ -1,0 +1,52 @@
+ghost use Rattle.std.specs.Prelude.{◌≡◌, ℕ, ◌<◌, ◌≤◌, List, [], length, slice_index_or};
+ghost use Rattle.pec_types.specs.Bytes.{Bytes};
+ghost use Rattle.pec_records.specs.declared.entries.Entry.{Entry};
+ghost use Rattle.pec_ledger.specs.Ledger.{Fit};
+ghost use Rattle.pec_ledger.specs.Network.{Sound, journals_in};
+ghost use Rattle.pec_ledger.specs.Trade.{Trade};
+ghost use Rattle.pec_ledger.specs.TradeLaws.{IsTrade};
+ghost use Rattle.pec_chronicle.specs.Carrying.{FollowsSo};
+ghost use Rattle.pec_chronicle.specs.Chronicle.{IsJournalOf};
+ghost use Rattle.pec_runs.specs.Moments.{AllStandIn, AreHonest, IsKilledIn, state_at};
+ghost use Rattle.pec_runs.specs.Steps.{AllMoments, AreSeen, AreSteps, State, Step};
+
+use pec_chronicle::a_disk_holds_one_list;
+use pec_ledger::any_images;
+use pec_outside::{Depot, Disk};
+use pec_plays::a_network_stays_sound;
+
+/// A run that goes by steps from a Sound state, in which what is kept of providers stands on their disks, and that injects
+/// no forged frame: before each step the state is Sound and all stand. So at whatever moment it is killed, each disk holds
+/// the journal of a list that follows the state before the step within which it was; and whatever these disks hold fits
+/// together.
+pub fn a_run_may_be_killed_at_any_moment<P: Depot>()
+    ensures sound { (trade : Trade) → IsTrade trade → (here there : State P.D) (steps : List (Step P.D))
+        → AreSteps trade here steps → AllMoments trade P.D.sight here there steps → AreHonest trade here steps
+        → Sound trade here.sites → AllStandIn P.D.sight here → (number : ℕ) → number ≤ length steps
+        → Sound trade (state_at number here there steps).sites
+        × AllStandIn P.D.sight (state_at number here there steps) }
+    ensures follows { P.D.tells → (trade : Trade) → IsTrade trade → (here there : State P.D) (steps : List (Step P.D))
+        → AreSteps trade here steps → AllMoments trade P.D.sight here there steps → AreHonest trade here steps
+        → Sound trade here.sites → AllStandIn P.D.sight here → AreSeen here → (number : ℕ) → number ≤ length steps
+        → (provider : ℕ) (bytes : Bytes) → IsKilledIn P.D.sight number here there steps provider bytes
+        → FollowsSo trade (state_at number here there steps).sites provider bytes }
+    ensures fit { P.D.tells → (trade : Trade) → IsTrade trade → (here there : State P.D) (steps : List (Step P.D))
+        → AreSteps trade here steps → AllMoments trade P.D.sight here there steps → AreHonest trade here steps
+        → Sound trade here.sites → AllStandIn P.D.sight here → AreSeen here → (number : ℕ) → number ≤ length steps
+        → (journals : List (List Entry)) → length journals ≡ trade.providers
+        → ((provider : ℕ) → provider < trade.providers → (bytes : Bytes)
+        × IsKilledIn P.D.sight number here there steps provider bytes
+        × IsJournalOf (slice_index_or journals provider []) bytes)
+        → Fit trade (journals_in journals) }
+{
+    a_network_stays_sound();
+    any_images();
+    a_disk_holds_one_list();
+    a_disk_is_so::<P::D>();
+}
+
+/// Since this moment of a disk there is no other.
+fn a_disk_is_so<D: Disk>()
+    ensures { D.tells → (disk : D) (image : Bytes) → (D.sight disk).left_since (D.sight disk).moment image
+        → (D.sight disk).may_leave image }
+{}
