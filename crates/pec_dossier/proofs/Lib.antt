@@ -1,0 +1,10 @@
+pub mod AgreementLemmas
+pub mod ConflictLemmas
+pub mod ExportLemmas
+pub mod FoundLemmas
+pub mod LineLemmas
+pub mod LoopLemmas
+pub mod PairLemmas
+pub mod ReportLemmas
+pub mod StatusLemmas
+pub mod TellingLemmas
