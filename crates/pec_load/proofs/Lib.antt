@@ -1,0 +1,6 @@
+mod AccountLemmas
+mod DirectoryLemmas
+mod LineLemmas
+mod PlainLemmas
+mod RangeLemmas
+mod RowLemmas

@@ -1,0 +1,227 @@
+-- How a run ends that plays a load.
+use Rattle.std.proofs.Common.{◌≡◌, ◌≢◌, ℕ, suc, ◌-◌, ◌^◌, ◌<◌, ◌≤◌, ◌⊎◌, inl, inr, Bool, true, false, List, [], ◌∷◌, length, refl, sym, ap, subst, ◌∙◌, arith, Option, Some}
+use Rattle.std.proofs.lemmas.List.{length-map}
+use Rattle.std.proofs.lemmas.Option.{none-some, same_Some}
+use Rattle.pec_types.specs.Bytes.{Bytes}
+use Rattle.pec_outside.specs.Flow.{HasRisen, followed_by}
+use Rattle.pec_input.specs.Lines.{raw_lines}
+use Rattle.pec_input.specs.Parts.{parts_of}
+use Rattle.pec_plays.specs.Commands.{Command, Luck}
+use Rattle.pec_screen.specs.Screened.{Finds}
+use Rattle.pec_load.specs.Generated.{commands_of}
+use Rattle.pec_load.specs.Heard.{load_input}
+use Rattle.pec_load_runs.specs.Loading.{IsOfLoad, IsQuiet, LoadRan, load_asked, load_script, state_text, written_behind}
+use Rattle.pec_load_runs.proofs.ScriptLemmas.{Told, load_begins, load_halts, never_restarts}
+use Rattle.pec_runs.specs.Endings.{End}
+use Rattle.pec_runs.specs.Endings as ends
+use Rattle.pec_runs.specs.Happened.{Begun, Halted, Happened, Stage, by_next, outcome_at, outcome_of, providers_in, stage_of}
+use Rattle.pec_runs.specs.Openings.{Disks, Next, NoMore, Holds, Unfits, Fails, Stops, IsNext, Run, Resume, next_of}
+use Rattle.pec_runs.specs.Plays.{Finish, MayPlay, Rest, Stopped, Strayed, ToTheEnd, at_end, finish_of, outcome_text}
+use Rattle.pec_runs.specs.Plays as plays
+use Rattle.pec_runs.specs.ScriptLines.{command_in}
+use Rattle.pec_runs.specs.Ran.{Counts, IsAt, PlaysOn, Ran, TellsAs, beginning, status_at, world}
+use Rattle.pec_runs.specs.Statuses.{Status, status_of}
+use Rattle.pec_runs.specs.Statuses as statuses
+use Rattle.pec_runs.specs.Transcripts.{NoFaults, StoodStill}
+
+-- ---- finishes
+
+-- how a load may finish, with what is true then of the journals and of the lucks
+abbrev Finishes : Happened → ℕ → Finish → Type 0
+Finishes happened count (plays.Ends ends.Done) =
+    (happened.opening.next ≡ NoMore) × (length happened.lucks ≡ length (commands_of count))
+Finishes happened count (plays.Ends (ends.NotEmpty provider)) = Unit {0}
+Finishes happened count plays.Stops = Unit {0}
+Finishes happened count plays.Fails = Unit {0}
+Finishes happened count _ = ⊥
+
+-- the lucks of commands that were all played
+all_played : (lucks : List Luck) (commands : List Command) (P : Finish → Type 0)
+    → (length lucks ≡ length commands → P (plays.Ends ends.Done)) → P plays.Stops → P (at_end lucks commands ends.Done)
+all_played [] [] P whole stops = whole refl
+all_played [] (command ∷ commands) P whole stops = stops
+all_played (luck ∷ lucks) [] P whole stops = stops
+all_played (luck ∷ lucks) (command ∷ commands) P whole stops =
+    all_played lucks commands P (λ e. whole (ap suc e)) stops
+
+module _ (finds : Finds) (count : ℕ) (tells : Type 0) (old_disks new_disks : Disks) (old new : Counts) (happened : Happened) where
+  rest_finishes : (rest : Rest) → happened.opening.next ≡ NoMore
+      → MayPlay (world happened) tells (beginning happened) old.disks new.disks (load_script finds count) happened.lucks rest
+      → Finishes happened count (finish_of rest happened.lucks (load_script finds count))
+  rest_finishes ToTheEnd more may =
+      all_played happened.lucks (load_script finds count).commands (Finishes happened count)
+      (λ e. (more, e ∙ length-map (commands_of count) (command_in finds))) tt
+  rest_finishes Stopped more may = tt
+  rest_finishes Strayed more may = never_restarts finds count (length happened.lucks) may.strays.provider may.strays.restarts
+
+  next_finishes : (next : Next) → happened.opening.next ≡ next → IsNext (world happened) old_disks Run (next_of happened.opening) next
+      → PlaysOn tells old_disks new_disks old new happened (load_script finds count) next
+      → Finishes happened count (by_next (world happened) happened.opening happened.lucks happened.rest (load_script finds count) next).finish
+  next_finishes NoMore e is may = rest_finishes happened.rest e may
+  next_finishes Holds e is may = tt
+  next_finishes (Unfits unfit) e is may = absurd (not_resumed is.0)
+    where
+      not_resumed : Run ≡ Resume → ⊥
+      not_resumed e = cc
+  next_finishes Fails e is may = tt
+  next_finishes Stops e is may = tt
+
+  at_finishes : (status : Status) (stage : Stage) → IsAt tells old_disks new_disks old new happened status (load_asked finds) stage
+      → (stage ≡ Halted) ⊎ (stage ≡ Begun Run (load_script finds count))
+      → Finishes happened count (outcome_at happened stage).finish
+  at_finishes status stage at (inl e) = subst (λ s. Finishes happened count (outcome_at happened s).finish) (sym e) tt
+  at_finishes status stage at (inr e) =
+      let begun = subst (IsAt tells old_disks new_disks old new happened status (load_asked finds)) e at in
+      subst (λ s. Finishes happened count (outcome_at happened s).finish) (sym e)
+      (next_finishes happened.opening.next refl begun.opening.next begun.plays)
+
+stage_by : Told → (finds : Finds) (count : ℕ) → count ≤ 20000 → (happened : Happened) (early : Bool) → happened.early ≡ early
+    → happened.parts ≡ parts_of (raw_lines (load_input count))
+    → (stage_of (load_asked finds) happened.early happened.parts ≡ Halted)
+    ⊎ (stage_of (load_asked finds) happened.early happened.parts ≡ Begun Run (load_script finds count))
+stage_by told finds count few happened true e are =
+    inl (ap (λ x. stage_of (load_asked finds) x happened.parts) e ∙ load_halts finds happened.parts)
+stage_by told finds count few happened false e are =
+    inr (ap (λ x. stage_of (load_asked finds) x happened.parts) e ∙ load_begins told finds count few happened.parts are)
+
+pub load_finishes : Told → (finds : Finds) (count : ℕ) → count ≤ 20000 → (status : Status) (before after : Option Bytes) (tells : Type 0)
+    (old_disks new_disks : Disks) (old new : Counts)
+    (ran : Ran (load_asked finds) status (Some (load_input count)) before after tells old_disks new_disks old new)
+    → Finishes ran.happened count (outcome_of (load_asked finds) ran.happened).finish
+unfolding outcome_of
+load_finishes told finds count few status before after tells old_disks new_disks old new ran =
+    at_finishes finds count tells old_disks new_disks old new ran.happened status
+    (stage_of (load_asked finds) ran.happened.early ran.happened.parts) ran.is_at
+    (stage_by told finds count few ran.happened ran.happened.early refl ran.input)
+
+-- ---- statuses
+
+ends_of : (happened : Happened) (count : ℕ) (finish : Finish) → Finishes happened count finish → (status : Status)
+    → status_at finish ≡ Some status → IsOfLoad status
+ends_of happened count (plays.Ends ends.Done) is status e = subst IsOfLoad (same_Some statuses.Done status e) tt
+ends_of happened count (plays.Ends (ends.NotEmpty provider)) is status e = subst IsOfLoad (same_Some statuses.NotEmpty status e) tt
+ends_of happened count (plays.Ends ends.Usage) is status e = absurd is
+ends_of happened count (plays.Ends ends.LongDirectory) is status e = absurd is
+ends_of happened count (plays.Ends ends.NoScript) is status e = absurd is
+ends_of happened count (plays.Ends (ends.DirectoryRefused why)) is status e = absurd is
+ends_of happened count (plays.Ends (ends.NotFit provider unfit)) is status e = absurd is
+ends_of happened count (plays.Ends (ends.LongLine number)) is status e = absurd is
+ends_of happened count (plays.Ends ends.LongScript) is status e = absurd is
+ends_of happened count (plays.Ends (ends.LineRefused number fault)) is status e = absurd is
+ends_of happened count plays.Stops is status e = absurd (none-some status e)
+ends_of happened count plays.Fails is status e = subst IsOfLoad (same_Some statuses.StartFault status e) tt
+ends_of happened count plays.Strays is status e = absurd is
+
+module _ (happened : Happened) (count : ℕ) (before after : Option Bytes) (text : Bytes) (finish : Finish)
+    (is : Finishes happened count finish) where
+  as_told : (status : Status) → TellsAs status before after text finish → IsOfLoad status
+  as_told statuses.Done told = tt
+  as_told statuses.Usage told = ends_of happened count finish is statuses.Usage told.0
+  as_told statuses.Refused told = ends_of happened count finish is statuses.Refused told.0
+  as_told statuses.ReadFault told = tt
+  as_told statuses.WriteFault told = tt
+  as_told statuses.NoMemory told = tt
+  as_told statuses.StartFault told = tt
+  as_told statuses.NotEmpty told = tt
+  as_told statuses.NotFit told = ends_of happened count finish is statuses.NotFit told.0
+  as_told statuses.ClockFault told = ends_of happened count finish is statuses.ClockFault told.0
+  as_told statuses.DoorFault told = ends_of happened count finish is statuses.DoorFault told.0
+  as_told statuses.InputTooLong told = ends_of happened count finish is statuses.InputTooLong told.0
+
+-- it doesn't stray
+no_stray : (happened : Happened) (count : ℕ) (finish : Finish) → Finishes happened count finish → finish ≡ plays.Strays → ⊥
+no_stray happened count finish is e = subst (Finishes happened count) e is
+
+pub load_stays : Told → (finds : Finds) (count : ℕ) (status : Status) (before after : Option Bytes) (tells : Type 0)
+    (old_disks new_disks : Disks) (old new : Counts) → count ≤ 20000
+    → (ran : Ran (load_asked finds) status (Some (load_input count)) before after tells old_disks new_disks old new)
+    → (outcome_of (load_asked finds) ran.happened).finish ≢ plays.Strays
+load_stays told finds count status before after tells old_disks new_disks old new few ran =
+    no_stray ran.happened count (outcome_of (load_asked finds) ran.happened).finish
+    (load_finishes told finds count few status before after tells old_disks new_disks old new ran)
+
+pub load_status : Told → (finds : Finds) (count : ℕ) (status : Status) (before after : Option Bytes) (tells : Type 0)
+    (old_disks new_disks : Disks) (old new : Counts) → count ≤ 20000
+    → Ran (load_asked finds) status (Some (load_input count)) before after tells old_disks new_disks old new → IsOfLoad status
+load_status told finds count status before after tells old_disks new_disks old new few ran =
+    let outcome = outcome_of (load_asked finds) ran.happened in
+    let is = load_finishes told finds count few status before after tells old_disks new_disks old new ran in
+    elim ran.told [
+      | inl as_is ↦ as_told ran.happened count before after (outcome_text (providers_in ran.happened.setting) outcome) outcome.finish is status as_is
+      | inr more ↦ absurd (no_stray ran.happened count outcome.finish is more.strays)
+    ]
+
+-- ---- status 0
+
+done_of : (happened : Happened) (count : ℕ) (finish : Finish) → Finishes happened count finish → status_at finish ≡ Some statuses.Done
+    → (happened.opening.next ≡ NoMore) × (length happened.lucks ≡ length (commands_of count))
+done_of happened count (plays.Ends ends.Done) is e = is
+done_of happened count (plays.Ends (ends.NotEmpty provider)) is e = cc
+done_of happened count (plays.Ends ends.Usage) is e = absurd is
+done_of happened count (plays.Ends ends.LongDirectory) is e = absurd is
+done_of happened count (plays.Ends ends.NoScript) is e = absurd is
+done_of happened count (plays.Ends (ends.DirectoryRefused why)) is e = absurd is
+done_of happened count (plays.Ends (ends.NotFit provider unfit)) is e = absurd is
+done_of happened count (plays.Ends (ends.LongLine number)) is e = absurd is
+done_of happened count (plays.Ends ends.LongScript) is e = absurd is
+done_of happened count (plays.Ends (ends.LineRefused number fault)) is e = absurd is
+done_of happened count plays.Stops is e = cc
+done_of happened count plays.Fails is e = cc
+done_of happened count plays.Strays is e = absurd is
+
+played_all : Told → (finds : Finds) (count : ℕ) → count ≤ 20000 → (status : Status) → status ≡ statuses.Done → (before after : Option Bytes)
+    (tells : Type 0) (old_disks new_disks : Disks) (old new : Counts)
+    (ran : Ran (load_asked finds) status (Some (load_input count)) before after tells old_disks new_disks old new)
+    → (ran.happened.opening.next ≡ NoMore) × (length ran.happened.lucks ≡ length (commands_of count))
+played_all told finds count few status e before after tells old_disks new_disks old new ran =
+    let outcome = outcome_of (load_asked finds) ran.happened in
+    let text = outcome_text (providers_in ran.happened.setting) outcome in
+    let is = load_finishes told finds count few status before after tells old_disks new_disks old new ran in
+    elim ran.told [
+      | inl as_is ↦
+          let so = subst (λ s. TellsAs s before after text outcome.finish) e as_is in
+          done_of ran.happened count outcome.finish is so.0
+      | inr more ↦ absurd (no_stray ran.happened count outcome.finish is more.strays)
+    ]
+
+pub load_done : Told → (finds : Finds) (count : ℕ) (before after : Option Bytes) (tells : Type 0) (old_disks new_disks : Disks)
+    (old new : Counts) → count ≤ 20000 → (load : LoadRan count finds statuses.Done before after tells old_disks new_disks old new)
+    → (load.ran.happened.opening.next ≡ NoMore) × (length load.ran.happened.lucks ≡ length (commands_of count))
+    × (after ≡ followed_by before (state_text count (world load.ran.happened)
+    (outcome_of (load_asked finds) load.ran.happened).after))
+load_done told finds count before after tells old_disks new_disks old new few load =
+    let all = played_all told finds count few load.played load.told.0 _ _ tells old_disks new_disks _ _ load.ran in (
+      all.0,
+      all.1,
+      load.told.1 ∙ ap (λ s. followed_by before (written_behind count s load.lines (world load.ran.happened)
+          (outcome_of (load_asked finds) load.ran.happened).after)) load.told.0,
+    )
+
+-- ---- without faults
+
+still_down : (before now : ℕ) → StoodStill before now → HasRisen before now → ⊥
+still_down before now still risen =
+    let same : now ≡ before = still.0 in
+    let small : now < 2 ^ 64 - 1 = still.1 in
+    let up : before < now = risen (omega arith) in
+    omega arith
+
+pub load_quiet : (count : ℕ) (finds : Finds) (before after : Option Bytes) (tells : Type 0) (old_disks new_disks : Disks) (old new : Counts)
+    (status : Status) → LoadRan count finds status before after tells old_disks new_disks old new → NoFaults old new → IsQuiet status
+load_quiet count finds before after tells old_disks new_disks old new statuses.Done load none = tt
+load_quiet count finds before after tells old_disks new_disks old new statuses.NoMemory load none = tt
+load_quiet count finds before after tells old_disks new_disks old new statuses.NotEmpty load none = tt
+load_quiet count finds before after tells old_disks new_disks old new statuses.WriteFault load none =
+    still_down old.sink new.sink none.sink load.blame
+load_quiet count finds before after tells old_disks new_disks old new statuses.StartFault load none =
+    elim load.blame [
+      | inl depot ↦ still_down old.depot new.depot none.depot depot
+      | inr disk ↦ still_down (old.disks disk.0) (new.disks disk.0) (none.disks disk.0) disk.1
+    ]
+load_quiet count finds before after tells old_disks new_disks old new statuses.Usage load none = load.told
+load_quiet count finds before after tells old_disks new_disks old new statuses.Refused load none = load.told
+load_quiet count finds before after tells old_disks new_disks old new statuses.ReadFault load none = load.told
+load_quiet count finds before after tells old_disks new_disks old new statuses.NotFit load none = load.told
+load_quiet count finds before after tells old_disks new_disks old new statuses.ClockFault load none = load.told
+load_quiet count finds before after tells old_disks new_disks old new statuses.DoorFault load none = load.told
+load_quiet count finds before after tells old_disks new_disks old new statuses.InputTooLong load none = load.told

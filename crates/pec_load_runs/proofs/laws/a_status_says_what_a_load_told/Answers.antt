@@ -1,0 +1,21 @@
+-- By the laws that are called.
+use Rattle.pec_load_runs.proofs.ScriptLemmas.{Told}
+use Rattle.pec_load_runs.proofs.StatusLemmas.{load_done, load_quiet}
+use Rattle.pec_load_runs.proofs.laws.a_status_says_what_a_load_told.Goals as goal
+
+pub returns : goal.returns
+returns g c =
+    let told : Told = record {
+      parted = c.a_load_has_its_directory.ensures.parted;
+      short = c.a_load_has_its_directory.ensures.short;
+      said = c.a_load_has_its_directory.ensures.said;
+      heard = c.a_load_has_its_commands.ensures.heard;
+      few = c.a_load_has_its_commands.ensures.few;
+      says = c.a_line_is_one_thing.ensures.says;
+    } in
+    record {
+      done = λ finds count before after depot left old new few load.
+          load_done told finds count before after _ _ _ old new few load;
+      quiet = λ finds count status before after depot left old new load none.
+          load_quiet count finds before after _ _ _ old new status load none;
+    }
