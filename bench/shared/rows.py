@@ -74,8 +74,8 @@ ROWS = {
 
 
 def accepted_in(text):
-    """The messages that a run's lines say are accepted."""
-    return {line.split(" ")[1] for line in text.decode().split("\n") if line.startswith("accepted pec.")}
+    """The messages that a run's whole lines say are accepted."""
+    return {line.split(" ")[1] for line in text.decode().split("\n")[:-1] if line.startswith("accepted pec.")}
 
 
 def booked(text):

@@ -36,6 +36,7 @@ fn main(rt: HostRuntime) -> ExitCode {
     let mut input = Input::new(rt.reader());
     let mut output = Output::new(io::writer(&rt));
     let status = run_pec(
+        &rt,
         rt.alloc(),
         &words,
         &mut input,

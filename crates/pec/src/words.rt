@@ -115,6 +115,7 @@ mod tests {
                 Vec::new(rt.alloc()),
             );
             let ran = run_pec(
+                &rt,
                 rt.alloc(),
                 &words,
                 &mut input,

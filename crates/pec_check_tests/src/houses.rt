@@ -1,8 +1,11 @@
 //! A directory of two providers, and who seals for them.
 
-use crate::letters::{Saved, letter_of};
+use crate::letters::{Saved, letter_of, replaced};
 use pec_check::{CheckFault, Report, check};
 use pec_directory::Directory;
+use pec_dossier::{Last, Stop, check_lines};
+use pec_input::Buffer;
+use pec_outside::{MemSink, MemSource};
 use pec_seal::{HmacSealer, Sealer, seal};
 use pec_trade::sealer_of;
 use pec_trial::two;
@@ -71,4 +74,43 @@ impl House {
         let letter = letter_of(alloc, saved);
         self.check_sealed(alloc, saved.1, letter.as_str())
     }
+
+    /// A letter by its name, sealed, with other words for some; without words as it is.
+    pub(crate) fn sealed_letter(
+        &self,
+        alloc: Global,
+        saved: &Saved,
+        words: &str,
+        instead: &str,
+    ) -> Vec<u8> {
+        let letter = letter_of(alloc, saved);
+        if words.is_empty() {
+            return self.sealed(alloc, saved.1, letter.as_str());
+        }
+        let letter = replaced(alloc, letter.as_str(), words, instead);
+        self.sealed(alloc, saved.1, letter.as_str())
+    }
+
+    /// How the lines of a dossier end, and what is written of them, where these reads and writes fail.
+    pub(crate) fn check_lines(
+        &self,
+        alloc: Global,
+        lines: Vec<u8>,
+        reads: &[u64],
+        writes: &[u64],
+    ) -> (Result<Last, Stop>, Vec<u8>) {
+        let mut source = MemSource::new(alloc, lines, 1000, numbers(alloc, reads));
+        let mut sink = MemSink::new(alloc, numbers(alloc, writes));
+        let mut buffer = Buffer::new(alloc);
+        let end = check_lines(alloc, &self.directory, &mut source, &mut buffer, &mut sink);
+        let mut text = Vec::new(alloc);
+        let _ = text.extend_from_slice(sink.bytes());
+        (end, text)
+    }
+}
+
+fn numbers(alloc: Global, given: &[u64]) -> Vec<u64> {
+    let mut numbers = Vec::new(alloc);
+    let _ = numbers.extend_from_slice(given);
+    numbers
 }

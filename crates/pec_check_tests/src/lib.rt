@@ -1,7 +1,9 @@
-//! Tests of `pec_check` and `pec_extract` over their public calls. What a letter is refused for was found by hand in this
+//! Tests of `pec_check`, `pec_dossier` and `pec_extract` over their public calls. What a letter is refused for was found by hand in this
 //! project's tables.
 #![tactic(auto)]
 
+#[cfg(test)]
+mod dossiers;
 #[cfg(test)]
 mod extract;
 #[cfg(test)]

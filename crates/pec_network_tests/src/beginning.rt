@@ -2,14 +2,15 @@
 //! that are missing, and journals of others.
 
 use crate::cases::{depot_failing, wrong_line};
+use crate::digests::digest_of;
 use crate::net::{Outcome, begun, played};
-use pec_directory::Directory;
 use pec_network::{Form, Network, NotFit, StartFault};
 use pec_outside::{Depot, MemDepot, MemDisk};
 use pec_seal::HmacSealer;
 use pec_trial::{journal_of, two};
 use std::alloc::Global;
 use std::test::Fail;
+use std::thread::Threads;
 
 /// What lies on the disks of a depot, which disk is out, which calls fail, and what the beginning comes to. The entries
 /// of a journal stand in a line each; `-` is an empty disk.
@@ -284,7 +285,7 @@ fn is_told(alloc: Global, provider: u32, call: u64) -> bool {
 /// A network that ends and is resumed over its disks has what it had.
 #[test]
 fn a_network_is_resumed_with_what_it_had(rt: HostRuntime) -> Result<(), Fail> {
-    let wrong = wrong_behind(rt.alloc())?;
+    let wrong = wrong_behind(&rt, rt.alloc())?;
     assert!(rt; wrong.is_none(), "{wrong:?}");
     Ok(())
 }
@@ -295,28 +296,36 @@ static FIRST_CALLS: [(u32, u64); 2] = [(0, 11), (1, 7)];
 #[test]
 fn a_disk_that_fails_as_its_journal_is_opened_is_told(rt: HostRuntime) -> Result<(), Fail> {
     for (provider, call) in &FIRST_CALLS {
-        let fault = refused(rt.alloc(), (*provider, *call))?;
+        let fault = refused(&rt, rt.alloc(), (*provider, *call))?;
         assert!(rt; fault == Some(StartFault::DiskFault(*provider)));
     }
     Ok(())
 }
 
 /// The first wrong line of a script that is played in two networks, one over the disks of the other.
-fn wrong_behind(alloc: Global) -> Result<Option<String>, Fail> {
-    let depot = depot_behind(alloc, &[])?;
-    wrong_line(played(alloc, Form::Open, depot, BEHIND)?)
+fn wrong_behind<X: Threads + Sync>(rt: &X, alloc: Global) -> Result<Option<String>, Fail> {
+    let depot = depot_behind(rt, alloc, &[])?;
+    wrong_line(played(rt, alloc, Form::Open, depot, BEHIND)?)
 }
 
 /// Why the network isn't resumed where a call of a disk fails.
-fn refused(alloc: Global, failing: (u32, u64)) -> Result<Option<StartFault>, Fail> {
-    let depot = depot_behind(alloc, &[failing])?;
+fn refused<X: Threads + Sync>(
+    rt: &X,
+    alloc: Global,
+    failing: (u32, u64),
+) -> Result<Option<StartFault>, Fail> {
+    let depot = depot_behind(rt, alloc, &[failing])?;
     Ok(begun_over(alloc, Form::Open, depot).fault)
 }
 
 /// The disks that a network leaves, of which these calls fail.
-fn depot_behind(alloc: Global, failing: &[(u32, u64)]) -> Result<MemDepot, Fail> {
+fn depot_behind<X: Threads + Sync>(
+    rt: &X,
+    alloc: Global,
+    failing: &[(u32, u64)],
+) -> Result<MemDepot, Fail> {
     let depot = depot_failing(alloc, failing, &[]);
-    left(played(alloc, Form::Make, depot, BEFORE)?)
+    left(played(rt, alloc, Form::Make, depot, BEFORE)?)
 }
 
 /// The disks that a network leaves that began and answered each line as it says.
@@ -355,20 +364,12 @@ fn journals_of_another_directory_are_not_resumed(rt: HostRuntime) -> Result<(), 
 
 /// Whether a fault is that the second journal is of another directory, with both digests.
 fn is_of_another(alloc: Global, fault: Option<StartFault>) -> bool {
-    match digest(alloc) {
+    match digest_of(alloc, two()) {
         Some(given) => {
             let wanted = NotFit::OtherDirectory([7; 32], given);
             fault == Some(StartFault::NotFit(1, wanted))
         }
         None => false,
-    }
-}
-
-/// The digest of the directory of the tests.
-fn digest(alloc: Global) -> Option<[u8; 32]> {
-    match Directory::read(alloc, two()) {
-        Ok(directory) => directory.digest(alloc).ok(),
-        Err(_) => None,
     }
 }
 

@@ -5,6 +5,7 @@ use pec_network::Form;
 use pec_outside::MemDepot;
 use std::alloc::Global;
 use std::test::Fail;
+use std::thread::Threads;
 
 /// A script over a new network, where the named calls of disks fail, each by its provider's number and its own. A crash
 /// keeps so many pending bytes, in the order of crashes, and none past the list.
@@ -17,9 +18,13 @@ pub(crate) struct Case {
 }
 
 /// The first line of the cases that isn't answered as it says, and what came.
-pub(crate) fn first_wrong_of(alloc: Global, cases: &[Case]) -> Result<Option<String>, Fail> {
+pub(crate) fn first_wrong_of<X: Threads + Sync>(
+    rt: &X,
+    alloc: Global,
+    cases: &[Case],
+) -> Result<Option<String>, Fail> {
     for case in cases {
-        let wrong = wrong_in(alloc, case)?;
+        let wrong = wrong_in(rt, alloc, case)?;
         if wrong.is_some() {
             return Ok(wrong);
         }
@@ -27,9 +32,9 @@ pub(crate) fn first_wrong_of(alloc: Global, cases: &[Case]) -> Result<Option<Str
     Ok(None)
 }
 
-fn wrong_in(alloc: Global, case: &Case) -> Result<Option<String>, Fail> {
+fn wrong_in<X: Threads + Sync>(rt: &X, alloc: Global, case: &Case) -> Result<Option<String>, Fail> {
     let depot = depot_failing(alloc, case.failing, case.kept);
-    wrong_line(played(alloc, Form::Make, depot, case.script)?)
+    wrong_line(played(rt, alloc, Form::Make, depot, case.script)?)
 }
 
 /// The first wrong line of a script whose network began.
@@ -42,8 +47,7 @@ pub(crate) fn wrong_line(played: Outcome) -> Result<Option<String>, Fail> {
     }
 }
 
-/// A depot of two empty disks, where these calls fail, each by its provider's number and its own. Where memory is
-/// wanting fewer do, and what comes isn't what has to.
+/// A depot of two empty disks, where these calls fail, each by its provider's number and its own.
 pub(crate) fn depot_failing(alloc: Global, failing: &[(u32, u64)], kept: &[u64]) -> MemDepot {
     let mut disks = Vec::new(alloc);
     for provider in 0..2u32 {
@@ -53,8 +57,8 @@ pub(crate) fn depot_failing(alloc: Global, failing: &[(u32, u64)], kept: &[u64])
     MemDepot::new(alloc, disks, kept)
 }
 
-/// The failing calls of one provider's disk.
-fn calls_of(alloc: Global, failing: &[(u32, u64)], provider: u32) -> Vec<u64> {
+/// The failing calls of one provider's disk. Where memory is wanting fewer fail, and what comes isn't what has to.
+pub(crate) fn calls_of(alloc: Global, failing: &[(u32, u64)], provider: u32) -> Vec<u64> {
     let mut calls = Vec::new(alloc);
     for (whose, call) in failing {
         if *whose == provider {

@@ -194,7 +194,7 @@ fn third() -> &'static [Case] {
 #[test]
 fn a_provider_that_is_down_is_restarted_as_it_was(rt: HostRuntime) -> Result<(), Fail> {
     for cases in [first(), second(), third()] {
-        let wrong = first_wrong_of(rt.alloc(), cases)?;
+        let wrong = first_wrong_of(&rt, rt.alloc(), cases)?;
         assert!(rt; wrong.is_none(), "{wrong:?}");
     }
     Ok(())

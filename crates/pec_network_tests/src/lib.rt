@@ -1,5 +1,5 @@
-//! Tests of `pec_network` over its public calls: two providers over disks in memory, driven line by line, beside the
-//! values that have to come.
+//! Tests of `pec_provider` and `pec_network` over their public calls: providers without a network, and networks of two,
+//! over disks in memory, driven line by line, beside the answers that have to come.
 #![tactic(auto)]
 
 #[cfg(test)]
@@ -9,7 +9,11 @@ mod cases;
 #[cfg(test)]
 mod crashes;
 #[cfg(test)]
+mod digests;
+#[cfg(test)]
 mod net;
+#[cfg(test)]
+mod providers;
 #[cfg(test)]
 mod rounds;
 #[cfg(test)]

@@ -11,23 +11,26 @@ use pec_screen::NoScreens;
 use pec_seal::HmacSealer;
 use pec_trade::sealer_of;
 use pec_trial::{
-    Answers, account_at, first_wrong, moment_of, number, small, submission_of, text_of, told,
-    told_all, told_item, told_turns, told_word, two, word,
+    account_at, moment_of, number, small, submission_of, text_of, told, told_all, told_item,
+    told_turns, told_word, two, word,
 };
 use pec_types::{Frame, Text8};
-use std::alloc::Global;
+use std::alloc::{AllocError, Global};
 use std::test::Fail;
+use std::thread::Threads;
 
 /// A network of the directory of the tests.
-struct Net {
+struct Net<'a, X: Threads + Sync> {
+    rt: &'a X,
     alloc: Global,
     network: Network<MemDisk, HmacSealer>,
     depot: MemDepot,
 }
 
-impl Drop for Net {
+impl<X: Threads + Sync> Drop for Net<'_, X> {
     fn drop(self) {
         let Net {
+            rt: _,
             alloc: _,
             network: _,
             depot: _,
@@ -66,7 +69,8 @@ impl Outcome {
 }
 
 /// Plays a script in a network of the directory of the tests, which begins over a depot and ends behind the script.
-pub(crate) fn played(
+pub(crate) fn played<X: Threads + Sync>(
+    rt: &X,
     alloc: Global,
     form: Form,
     mut depot: MemDepot,
@@ -75,6 +79,7 @@ pub(crate) fn played(
     match begun(alloc, form, &mut depot) {
         Ok(network) => within(
             Net {
+                rt,
                 alloc,
                 network,
                 depot,
@@ -114,8 +119,8 @@ fn begun_in(
     }
 }
 
-fn within(mut net: Net, script: &str) -> Result<Outcome, Fail> {
-    match first_wrong(net.alloc, &mut net, script) {
+fn within<X: Threads + Sync>(mut net: Net<'_, X>, script: &str) -> Result<Outcome, Fail> {
+    match net.first_wrong(script) {
         Ok(wrong) => Ok(Outcome {
             fault: None,
             wrong,
@@ -178,8 +183,35 @@ fn verb_of(word: &str) -> Verb {
     found
 }
 
-/// A line is a verb and the words that it has below.
-impl Answers for Net {
+/// A line of a script is `CALL -> ANSWER`, or empty. Of a network on threads no trait's method can be asked, so scripts are
+/// gone over here.
+impl<X: Threads + Sync> Net<'_, X> {
+    /// The first line of a script that isn't answered as it says, and what came.
+    fn first_wrong(&mut self, script: &str) -> Result<Option<String>, Fail> {
+        for line in script.split('\n') {
+            let wrong = self.wrong_at(line)?;
+            if wrong.is_some() {
+                return Ok(wrong);
+            }
+        }
+        Ok(None)
+    }
+
+    fn wrong_at(&mut self, line: &str) -> Result<Option<String>, Fail> {
+        if line.is_empty() {
+            return Ok(None);
+        }
+        let Some((call, answer)) = line.split_once(" -> ") else {
+            return Err("a line without an answer".into());
+        };
+        let came = self.answer(call)?;
+        if came.as_slice() == answer.as_bytes() {
+            return Ok(None);
+        }
+        Ok(Some(told_wrong(self.alloc, line, &came)?))
+    }
+
+    /// What a call comes to, which is a verb and the words that it has below.
     fn answer(&mut self, call: &str) -> Result<Vec<u8>, Fail> {
         match verb_of(word(call, 0)) {
             Verb::Submit => self.submit(call),
@@ -200,10 +232,11 @@ impl Answers for Net {
     }
 }
 
-impl Net {
+impl<X: Threads + Sync> Net<'_, X> {
     /// Ends the network. Its depot has all disks again.
     fn closed(self) -> MemDepot {
         let Net {
+            rt: _,
             alloc: _,
             network,
             mut depot,
@@ -263,7 +296,7 @@ impl Net {
     /// `round MOMENT`
     fn round(&mut self, line: &str) -> Result<Vec<u8>, Fail> {
         let moment = moment_of(line, 1)?;
-        let answer = self.network.round(self.alloc, moment);
+        let answer = self.network.round(self.rt, self.alloc, moment);
         told_turns(self.alloc, answer)
     }
 
@@ -350,6 +383,16 @@ impl Net {
         let provider = self.who(line, 1)?;
         told_number(self.alloc, self.network.entries(provider))
     }
+}
+
+/// A line that isn't answered as it says, and what came.
+fn told_wrong(alloc: Global, line: &str, came: &[u8]) -> Result<String, AllocError> {
+    let mut text = String::from_str(alloc, line)?;
+    text.push_str(" BUT ")?;
+    for b in came {
+        text.push(char::from(*b))?;
+    }
+    Ok(text)
 }
 
 fn told_number(alloc: Global, number: u64) -> Result<Vec<u8>, Fail> {

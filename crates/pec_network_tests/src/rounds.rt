@@ -229,7 +229,7 @@ fn fourth() -> &'static [Case] {
 #[test]
 fn calls_of_a_network_are_answered_as_the_rules_say(rt: HostRuntime) -> Result<(), Fail> {
     for cases in [first(), second(), third(), fourth()] {
-        let wrong = first_wrong_of(rt.alloc(), cases)?;
+        let wrong = first_wrong_of(&rt, rt.alloc(), cases)?;
         assert!(rt; wrong.is_none(), "{wrong:?}");
     }
     Ok(())

@@ -29,18 +29,27 @@ tells_end ends.LongScript before text = (refl, refl)
 tells_end (ends.LineRefused number fault) before text = (refl, refl)
 
 -- it was written, or a front of it
+pub told_last : (end : End) (last : Last) → end_shown last ≡ status_of end → (before after : Option Bytes) (line text : Bytes)
+    → line ≡ text → (result : Result Last Stop)
+    → IfOk result (λ told. (told ≡ last) × (after ≡ followed_by before line))
+    → OnErr result (WrotePart before after line) → IfErr result (λ stop. stop ≡ stops.WriteFault)
+    → TellsAs (result_shown result) before after text (plays.Ends end)
+told_last end last shown before after line text is (Ok told) ok err stop =
+    subst (λ (s : Status). TellsAs s before after text (plays.Ends end)) (sym (ap end_shown ok.0 ∙ shown))
+    (subst (λ (held : Option Bytes). TellsAs (status_of end) before held text (plays.Ends end))
+    (sym (ok.1 ∙ ap (followed_by before) is)) (tells_end end before text))
+told_last end last shown before after line text is (Err why) ok err stop =
+    subst (λ (s : Stop). TellsAs (stop_shown s) before after text (plays.Ends end)) (sym stop)
+    (subst (λ (written : Bytes). WrotePart before after written) is err)
+
+-- such a line names no provider
 pub last_told : (end : End) (last : Last) → end_shown last ≡ status_of end → (before after : Option Bytes) (line : Bytes)
     → line ≡ end_text [] end → (result : Result Last Stop)
     → IfOk result (λ told. (told ≡ last) × (after ≡ followed_by before line))
     → OnErr result (WrotePart before after line) → IfErr result (λ stop. stop ≡ stops.WriteFault)
     → TellsAs (result_shown result) before after (end_text [] end) (plays.Ends end)
-last_told end last shown before after line is (Ok told) ok err stop =
-    subst (λ (s : Status). TellsAs s before after (end_text [] end) (plays.Ends end)) (sym (ap end_shown ok.0 ∙ shown))
-    (subst (λ (held : Option Bytes). TellsAs (status_of end) before held (end_text [] end) (plays.Ends end))
-    (sym (ok.1 ∙ ap (followed_by before) is)) (tells_end end before (end_text [] end)))
-last_told end last shown before after line is (Err why) ok err stop =
-    subst (λ (s : Stop). TellsAs (stop_shown s) before after (end_text [] end) (plays.Ends end)) (sym stop)
-    (subst (λ (text : Bytes). WrotePart before after text) is err)
+last_told end last shown before after line is result ok err stop =
+    told_last end last shown before after line (end_text [] end) is result ok err stop
 
 -- the run was halted by its input, or for want of memory
 pub halted_told : (stop : Stop) → (stop ≡ stops.NoMemory) ⊎ (stop ≡ stops.ReadFault) → (before after : Option Bytes)

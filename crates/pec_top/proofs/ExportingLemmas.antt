@@ -12,7 +12,7 @@ use Rattle.pec_runs.specs.Plays.{Finish}
 use Rattle.pec_runs.specs.Plays as plays
 use Rattle.pec_runs.specs.Ran.{TellsAs}
 use Rattle.pec_runs.specs.Statuses.{Status}
-use Rattle.pec_export.specs.Exports.{Exported, by_reading, export_finish, exported_text, providers_had}
+use Rattle.pec_dossier.specs.Exports.{Exported, by_reading, export_finish, exported_text, providers_had}
 use Rattle.pec_service.specs.Runs.{Begins, Over, by_directory, stage_of}
 use Rattle.pec_top.proofs.HostingLemmas.{text_there}
 

@@ -5,7 +5,7 @@ use Rattle.std.specs.Prelude.{slice_get}
 use Rattle.std.proofs.lemmas.List.{length-map}
 use Rattle.std.proofs.lemmas.Option.{get_or_from_slice_get, none-some, same_Some, slice_get_within}
 use Rattle.pec_types.specs.Bytes.{Bytes}
-use Rattle.pec_outside.specs.DiskModel.{Sight}
+use Rattle.pec_outside.specs.DiskModel.{Sight, Stays}
 use Rattle.pec_directory.specs.Directory.{Kept}
 use Rattle.pec_records.specs.declared.entries.Entry.{Entry}
 use Rattle.pec_ledger.specs.Network.{Site, chosen, interrupted_at, journal_at, site_at}
@@ -21,7 +21,7 @@ use Rattle.pec_runs.specs.Openings.{AreLeft, Disks, IsHad, IsLeft, IsNext, IsOpe
 use Rattle.pec_runs.specs.Openings.{Stops, disks_at, fault_of, opened, opened_all}
 use Rattle.pec_runs.specs.Openings as runs
 use Rattle.pec_top.specs.Shown.{form_shown, unfit_of, way_of}
-use Rattle.pec_top.specs.Starting.{next_by}
+use Rattle.pec_top.specs.Opened.{next_by}
 use Rattle.pec_top.specs.declared.forms.Form.{Form}
 use Rattle.pec_top.specs.declared.forms.Form.TheVariants as forms
 use Rattle.pec_top.proofs.RunningLemmas.{untouched_by, untouched_same}
@@ -212,7 +212,7 @@ module _ {D : Type 0} (tells reads : Type 0) (sight : D → Sight) (kept : List 
       -- a disk that came to nothing is unchanged; but for an empty one on which a journal was being made
       next_left : (way : Form) (why : StartFault) (next : Next) → (next ≡ next_by why) ⊎ (next ≡ Stops)
           → (was now : Sight) → IsSpared (form_shown way) next was.seen → LeftAt (way_of way) why was now
-          → IsUnchanged was now
+          → Stays was now
       next_left forms.Run (faults.NotEmpty number) next which was now spared left = left
       next_left forms.Run (faults.DiskFault number) next (inl e) was now spared left =
           left (subst (λ (n : Next). IsSpared runs.Run n was.seen) e spared)
@@ -235,7 +235,8 @@ module _ {D : Type 0} (tells reads : Type 0) (sight : D → Sight) (kept : List 
           in let same = next_left form fault next which (sight old.1.0) (sight back.now)
           (subst (IsSpared (form_shown form) next) (sym old.1.2) spared) (back.left old.0.1)
           in untouched_by (tells × reads) sight home new Next_ was old (λ now is.
-          subst (λ (d : D). IsUnchanged (sight old.1.0) (sight d)) (same_Some back.now now (sym back.is ∙ is)) same)
+          subst (λ (d : D). IsUnchanged (sight old.1.0) (sight d)) (same_Some back.now now (sym back.is ∙ is))
+          (record { seen = same.seen; crash = same.crash }))
 
       pub left_part : (next : Next) → (next ≡ next_by fault) ⊎ (next ≡ Stops)
           → AreLeft Old New (form_shown form) (record { journals = Had; next = next }) (opened_all World Had)

@@ -1,31 +1,42 @@
 -- A run that serves, at each of its stages; and which device its status blames.
-use Rattle.std.proofs.Common.{◌≡◌, ◌≢◌, ℕ, ◌-◌, ◌^◌, ◌<◌, ◌≤◌, ◌⊎◌, inl, inr, Bool, true, false, List, [], refl, ap, sym, subst, ◌∙◌, arith, length}
-use Rattle.std.proofs.Common.{◌+◌, replicate, Option, Some, None, Result, Ok}
-use Rattle.std.specs.Prelude.{IfSome, if◌then◌else◌}
-use Rattle.std.proofs.lemmas.Bool.{cases_lt, le-ltb, lt-ltb}
-use Rattle.std.proofs.lemmas.List.{length-replicate}
+use Rattle.std.proofs.Common.{◌≡◌, ℕ, ◌+◌, ◌<◌, ◌≤◌, Bool, true, false, List, [], refl, ap, sym, subst, ◌∙◌, arith, length}
+use Rattle.std.proofs.Common.{replicate, Option, Some, None, Result, Ok, Err}
+use Rattle.std.specs.Prelude.{IfErr, IfSome, IsErrOf, if◌then◌else◌}
+use Rattle.std.proofs.lemmas.Bool.{le-ltb, lt-ltb}
+use Rattle.std.proofs.lemmas.List.{length-map, length-replicate}
 use Rattle.pec_types.specs.Bytes.{Bytes}
 use Rattle.pec_outside.specs.Flow.{HasRisen}
-use Rattle.pec_directory.specs.Directory.{Provider}
+use Rattle.pec_directory.specs.Directory.{Kept, Provider, providers_of}
 use Rattle.pec_input.specs.Directory.{Refusal, directory_in}
 use Rattle.pec_input.specs.declared.opening.TheConstants.{LONGEST_DIRECTORY}
-use Rattle.pec_serving.specs.OfNetworks.{BlamesDisk, NotFit, StartFault}
-use Rattle.pec_serving.specs.OfNetworks.faults as faults
 use Rattle.pec_runs.specs.Endings.{End, end_text}
 use Rattle.pec_runs.specs.Endings as ends
 use Rattle.pec_runs.specs.Happened.{IsSetting, Setting, providers_in, trade_in}
-use Rattle.pec_runs.specs.Openings.{AreUntouched, Disks, Form, Stops}
+use Rattle.pec_runs.specs.Openings.{AreUntouched, Disks, Form, Next, NoMore, Holds, Unfits, Fails, Stops, next_of}
+use Rattle.pec_runs.specs.Plays.{Finish, finish_text}
 use Rattle.pec_runs.specs.Plays as plays
 use Rattle.pec_runs.specs.Ran.{TellsAs}
 use Rattle.pec_runs.specs.Statuses.{Status}
-use Rattle.pec_runs.specs.Statuses as statuses
-use Rattle.pec_service.specs.Runs.{AllCounts, Asked, Begins, Blames, Course, Halts, Happened, HasJournals, HasServed, IsAt, IsChosen, NoneFell, Outside, Over, TellsService, by_directory, stage_of, status_at}
+use Rattle.pec_service.specs.Runs.{AllCounts, Asked, Begins, Blames, Course, GoesOn, Halts, Happened, HasJournals, HasServed}
+use Rattle.pec_service.specs.Runs.{IsAt, IsChosen, Outside, Over, ServesNone, TellsService, by_directory, finish_at, stage_of}
+use Rattle.pec_service.specs.Runs.{status_at}
 use Rattle.pec_service.specs.Services.{Halted}
 use Rattle.pec_service.specs.Services as services
 use Rattle.pec_serving.specs.Serving.{AreWritten, ending_of}
 use Rattle.pec_serving.specs.declared.serving.Ending.{Ending}
 use Rattle.pec_serving.specs.declared.serving.Ending.TheVariants as endings
+use Rattle.pec_top.specs.Blaming.{BlamesDevices, BlamesRefusal, HaveDisksRisen}
 use Rattle.pec_top.specs.Hosting.{CountsGo, counts_of, ended_as}
+use Rattle.pec_top.specs.Opened.{Finishes, IsUnopened}
+use Rattle.pec_top.specs.Opened as opened
+use Rattle.pec_top.specs.Shown.{end_shown, result_shown}
+use Rattle.pec_top.specs.declared.ending.End.{End as Last}
+use Rattle.pec_top.specs.declared.ending.End.TheVariants as lasts
+use Rattle.pec_top.specs.declared.ending.Stop.{Stop}
+use Rattle.pec_top.specs.declared.ending.Stop.TheVariants as stops
+use Rattle.pec_top.specs.declared.opening.Journals.TheVariants as journals
+use Rattle.pec_top.specs.declared.opening.Refusal.{Refusal as Shut}
+use Rattle.pec_top.specs.declared.opening.Refusal.TheVariants as refusals
 use Rattle.pec_top.proofs.RunningLemmas.{nobody, same_ok}
 
 -- ---- how a service ended
@@ -47,110 +58,74 @@ blames_ended endings.NoMoment old new clock door sink = clock refl
 blames_ended endings.NoMemory old new clock door sink = tt
 blames_ended endings.WriteFault old new clock door sink = sink refl
 
--- ---- counts
+-- ---- a run that was refused
 
-risen_since : (a b c : ℕ) → a ≤ b → b ≤ c → HasRisen b c → HasRisen a c
-risen_since a b c earlier later risen = λ low. so low (cases_lt b (2 ^ 64 - 1))
-  where
-    so : a < 2 ^ 64 - 1 → (b < 2 ^ 64 - 1) ⊎ (2 ^ 64 - 1 ≤ b) → a < c
-    so low (inl within) = let up = risen within in omega (arith, earlier, up)
-    so low (inr past) = omega (arith, low, past, later)
+-- a run that ended blames nothing
+ended_blames : (end : Last) (old new : AllCounts) → Blames (end_shown end) old new
+ended_blames lasts.Done old new = tt
+ended_blames lasts.Usage old new = tt
+ended_blames lasts.Refused old new = tt
+ended_blames lasts.NotEmpty old new = tt
+ended_blames lasts.NotFit old new = tt
+ended_blames lasts.TooLong old new = tt
 
-risen_until : (a b c : ℕ) → b ≤ c → HasRisen a b → HasRisen a c
-risen_until a b c later risen = λ low. let up = risen low in omega (arith, up, later)
-
-pub none_fell_on : (a b c : AllCounts) → NoneFell a b → NoneFell b c → NoneFell a c
-none_fell_on a b c first second = record {
-  devices = record {
-    source = let x = first.devices.source in let y = second.devices.source in omega (arith, x, y);
-    sink = let x = first.devices.sink in let y = second.devices.sink in omega (arith, x, y);
-    depot = let x = first.devices.depot in let y = second.devices.depot in omega (arith, x, y);
-    disks = λ k. let x = first.devices.disks k in let y = second.devices.disks k in omega (arith, x, y);
-  };
-  clock = let x = first.clock in let y = second.clock in omega (arith, x, y);
-  door = let x = first.door in let y = second.door in omega (arith, x, y);
-}
-
-pub blames_since : (status : Status) (a b c : AllCounts) → NoneFell a b → NoneFell b c → Blames status b c
-    → Blames status a c
-blames_since statuses.Done a b c first second blames = tt
-blames_since statuses.Usage a b c first second blames = tt
-blames_since statuses.Refused a b c first second blames = tt
-blames_since statuses.ReadFault a b c first second blames =
-    risen_since a.devices.source b.devices.source c.devices.source first.devices.source second.devices.source blames
-blames_since statuses.WriteFault a b c first second blames =
-    risen_since a.devices.sink b.devices.sink c.devices.sink first.devices.sink second.devices.sink blames
-blames_since statuses.NoMemory a b c first second blames = tt
-blames_since statuses.StartFault a b c first second (inl risen) =
-    inl (risen_since a.devices.depot b.devices.depot c.devices.depot first.devices.depot second.devices.depot risen)
-blames_since statuses.StartFault a b c first second (inr risen) = inr (
-  risen.0,
-  risen_since (a.devices.disks risen.0) (b.devices.disks risen.0) (c.devices.disks risen.0) (first.devices.disks risen.0)
-      (second.devices.disks risen.0) risen.1,
+pub refused_counts : (refusal : Shut) (result : Result Last Stop) (sink_old sink_new depot_old depot_new : ℕ)
+    (last left : ℕ → ℕ) (clock door : ℕ) → IfErr result (BlamesRefusal refusal sink_old sink_new)
+    → (refusal ≡ refusals.StartFault → HaveDisksRisen depot_old depot_new last left) → sink_old ≤ sink_new
+    → depot_old ≤ depot_new → ((k : ℕ) → last k ≤ left k)
+    → CountsGo (result_shown result) (counts_of 0 sink_old depot_old last clock door)
+    (counts_of 0 sink_new depot_new left clock door)
+refused_counts refusal result sink_old sink_new depot_old depot_new last left clock door blame disks sink depot rose = (
+  so result blame,
+  record {
+    devices = record { source = omega arith; sink = sink; depot = depot; disks = rose };
+    clock = omega arith;
+    door = omega arith;
+  },
 )
-blames_since statuses.NotEmpty a b c first second blames = tt
-blames_since statuses.NotFit a b c first second blames = tt
-blames_since statuses.ClockFault a b c first second blames =
-    risen_since a.clock b.clock c.clock first.clock second.clock blames
-blames_since statuses.DoorFault a b c first second blames = risen_since a.door b.door c.door first.door second.door blames
-blames_since statuses.InputTooLong a b c first second blames = tt
-
--- disks alone rose, and later counts
-pub start_until : (a b c : AllCounts) → NoneFell b c
-    → HasRisen a.devices.depot b.devices.depot
-    ⊎ ((provider : ℕ) × HasRisen (a.devices.disks provider) (b.devices.disks provider))
-    → Blames statuses.StartFault a c
-start_until a b c later (inl risen) =
-    inl (risen_until a.devices.depot b.devices.depot c.devices.depot later.devices.depot risen)
-start_until a b c later (inr risen) = inr (
-  risen.0,
-  risen_until (a.devices.disks risen.0) (b.devices.disks risen.0) (c.devices.disks risen.0) (later.devices.disks risen.0)
-      risen.1,
-)
-
--- A source that isn't at hand isn't blamed.
-pub source_on : (status : Status) (source_old source_new sink_old sink_new depot_old depot_new : ℕ) (last left : ℕ → ℕ)
-    (clock_old clock_new door_old door_new : ℕ) → source_old ≤ source_new
-    → CountsGo status (counts_of 0 sink_old depot_old last clock_old door_old)
-    (counts_of 0 sink_new depot_new left clock_new door_new)
-    → CountsGo status (counts_of source_old sink_old depot_old last clock_old door_old)
-    (counts_of source_new sink_new depot_new left clock_new door_new)
-source_on status source_old source_new sink_old sink_new depot_old depot_new last left clock_old clock_new door_old door_new
-    later go = (
-      blamed status go.0,
-      record {
-        devices = record {
-          source = later;
-          sink = go.1.devices.sink;
-          depot = go.1.devices.depot;
-          disks = go.1.devices.disks;
-        };
-        clock = go.1.clock;
-        door = go.1.door;
-      },
-    )
   where
-    bare_old : AllCounts
-    bare_old = counts_of 0 sink_old depot_old last clock_old door_old
+    so : (told : Result Last Stop) → IfErr told (BlamesRefusal refusal sink_old sink_new)
+        → Blames (result_shown told) (counts_of 0 sink_old depot_old last clock door)
+        (counts_of 0 sink_new depot_new left clock door)
+    so (Ok end) blame = ended_blames end (counts_of 0 sink_old depot_old last clock door)
+        (counts_of 0 sink_new depot_new left clock door)
+    so (Err stops.NoMemory) blame = tt
+    so (Err stops.ReadFault) blame = absurd blame
+    so (Err stops.WriteFault) blame = blame
+    so (Err stops.StartFault) blame = disks blame
+    so (Err stops.ClockFault) blame = absurd blame
+    so (Err stops.DoorFault) blame = absurd blame
 
-    bare_new : AllCounts
-    bare_new = counts_of 0 sink_new depot_new left clock_new door_new
+abbrev stopped : Stop → Result Last Stop
+stopped stop = Err stop
 
-    blamed : (wanted : Status) → Blames wanted bare_old bare_new
-        → Blames wanted (counts_of source_old sink_old depot_old last clock_old door_old)
-        (counts_of source_new sink_new depot_new left clock_new door_new)
-    blamed statuses.Done blames = tt
-    blamed statuses.Usage blames = tt
-    blamed statuses.Refused blames = tt
-    blamed statuses.ReadFault blames = let risen = blames (omega arith) in absurd (omega (arith, risen))
-    blamed statuses.WriteFault blames = blames
-    blamed statuses.NoMemory blames = tt
-    blamed statuses.StartFault blames = blames
-    blamed statuses.NotEmpty blames = tt
-    blamed statuses.NotFit blames = tt
-    blamed statuses.ClockFault blames = blames
-    blamed statuses.DoorFault blames = blames
-    blamed statuses.InputTooLong blames = tt
+same_stop : (a b : Stop) → stopped a ≡ stopped b → a ≡ b
+same_stop a b e = cc
+
+-- the same of a run that plays a script, which asks no clock and no door
+pub refused_devices : (refusal : Shut) (result : Result Last Stop) (source sink_old sink_new : ℕ)
+    → IfErr result (BlamesRefusal refusal sink_old sink_new) → sink_old ≤ sink_new
+    → BlamesDevices result source source sink_old sink_new
+refused_devices refusal result source sink_old sink_new blame sink =
+    (λ e. read result e blame, (λ e. wrote result e blame, (omega arith, sink)))
+  where
+    read : (told : Result Last Stop) → IsErrOf told stops.ReadFault → IfErr told (BlamesRefusal refusal sink_old sink_new)
+        → HasRisen source source
+    read (Ok end) e blame = cc
+    read (Err stop) e blame =
+        absurd (subst (BlamesRefusal refusal sink_old sink_new) (same_stop stop stops.ReadFault e) blame)
+
+    wrote : (told : Result Last Stop) → IsErrOf told stops.WriteFault → IfErr told (BlamesRefusal refusal sink_old sink_new)
+        → HasRisen sink_old sink_new
+    wrote (Ok end) e blame = cc
+    wrote (Err stop) e blame = subst (BlamesRefusal refusal sink_old sink_new) (same_stop stop stops.WriteFault e) blame
+
+pub refused_start : (refusal : Shut) (result : Result Last Stop) (sink_old sink_new : ℕ)
+    → IfErr result (BlamesRefusal refusal sink_old sink_new) → IsErrOf result stops.StartFault
+    → refusal ≡ refusals.StartFault
+refused_start refusal (Ok end) sink_old sink_new blame e = cc
+refused_start refusal (Err stop) sink_old sink_new blame e =
+    subst (BlamesRefusal refusal sink_old sink_new) (same_stop stop stops.StartFault e) blame
 
 -- ---- stages
 
@@ -275,133 +250,54 @@ module _ (asked : Asked) (status : Status) (unread before after : Option Bytes) 
         → HasServed asked status unread before after old new here there from upto
     served_begun form course chosen journals = begun_with (Some form) course (chosen, journals)
 
--- ---- a disk that came to nothing
+-- A run that was to serve and whose journals can't all be had: nobody is let in.
+goes_next : (asked : Asked) (status : Status) (before after : Option Bytes) (old new : Disks) (here : Outside) (from upto : ℕ → ℕ)
+    (setting : Setting) (course : Course) (form : Form) (next : Next) → (next ≡ NoMore → ⊥)
+    → ServesNone asked status before after old new here here from upto setting course form
+    → GoesOn asked status before after old new here here from upto setting course form next
+goes_next asked status before after old new here from upto setting course form NoMore some none = absurd (some refl)
+goes_next asked status before after old new here from upto setting course form Holds some none = none
+goes_next asked status before after old new here from upto setting course form (Unfits unfit) some none = none
+goes_next asked status before after old new here from upto setting course form Fails some none = none
+goes_next asked status before after old new here from upto setting course form Stops some none = none
 
--- The counts of a run that ends so, from before its network began.
-pub unfit_counts : (status : Status) (fault : StartFault) (sink_old sink_new depot_a depot_b depot_c : ℕ)
-    (last_a last_b last_c : ℕ → ℕ) (clock door : ℕ) → depot_a ≤ depot_b → ((k : ℕ) → last_a k ≤ last_b k)
-    → BlamesDisk depot_a depot_b last_a last_b fault
-    → (status ≡ statuses.StartFault → ((number : ℕ) × (fault ≡ faults.DiskFault number))
-    ⊎ (HasRisen depot_b depot_c ⊎ ((k : ℕ) × HasRisen (last_b k) (last_c k))))
-    → (status ≢ statuses.StartFault
-    → Blames status (counts_of 0 sink_old depot_b last_b 0 0) (counts_of 0 sink_new depot_c last_c 0 0))
-    → NoneFell (counts_of 0 sink_old depot_b last_b 0 0) (counts_of 0 sink_new depot_c last_c 0 0)
-    → CountsGo status (counts_of 0 sink_old depot_a last_a clock door) (counts_of 0 sink_new depot_c last_c clock door)
-unfit_counts status fault sink_old sink_new depot_a depot_b depot_c last_a last_b last_c clock door depot_up last_up began start
-    blame later = (
-      so status refl,
-      record {
-        devices = record {
-          source = omega arith;
-          sink = later.devices.sink;
-          depot = let l = later.devices.depot in omega (arith, depot_up, l);
-          disks = λ k. let a = last_up k in let b = later.devices.disks k in omega (arith, a, b);
-        };
-        clock = omega arith;
-        door = omega arith;
-      },
-    )
-  where
-    old_counts : AllCounts
-    old_counts = counts_of 0 sink_old depot_a last_a clock door
-
-    mid_counts : AllCounts
-    mid_counts = counts_of 0 sink_old depot_b last_b clock door
-
-    new_counts : AllCounts
-    new_counts = counts_of 0 sink_new depot_c last_c clock door
-
-    up : NoneFell mid_counts new_counts
-    up = record {
-      devices = record {
-        source = omega arith;
-        sink = later.devices.sink;
-        depot = later.devices.depot;
-        disks = later.devices.disks;
-      };
-      clock = omega arith;
-      door = omega arith;
+pub served_unopened : (asked : Asked) (status : Status) (unread before after : Option Bytes) (old new : Disks) (here : Outside)
+    (from upto : ℕ → ℕ) (bytes : Bytes) → length bytes ≤ LONGEST_DIRECTORY → (kept : List Kept)
+    → directory_in bytes ≡ Ok (providers_of kept) → IfSome unread (λ text. bytes ≡ text) → (refusal : Shut)
+    → ((providers : List Provider) (finish : Finish) → Finishes providers refusal finish
+    → TellsAs status before after (finish_text providers finish) finish)
+    → IsUnopened journals.Chosen kept old new refusal
+    → HasServed asked status unread before after old new here here from upto
+served_unopened asked status unread before after old new here from upto bytes short kept reads input refusal told
+    (opened.Halted none untouched) =
+    served_halted asked status unread before after old new here here from upto untouched refl
+    (told [] plays.Stops (subst (λ (r : Shut). Finishes [] r plays.Stops) (sym none) refl))
+served_unopened asked status unread before after old new here from upto bytes short kept reads input refusal told
+    (opened.Unlooked seals chosen failed is_setting untouched) =
+    served_unlooked asked status unread before after old new here here from upto bytes short
+    (record { kept = kept; seals = seals }) reads is_setting input untouched refl
+    (told [] plays.Fails (subst (λ (r : Shut). Finishes [] r plays.Fails) (sym failed) refl))
+served_unopened asked status unread before after old new here from upto bytes short kept reads input refusal told
+    (opened.Refused seals at) =
+    let setting : Setting = record { kept = kept; seals = seals }
+    in let course : Course = record {
+      opening = at.opening;
+      holds = at.holds;
+      service = record { whole = []; part = None; ending = Halted };
     }
-
-    first : NoneFell old_counts mid_counts
-    first = record {
-      devices = record { source = omega arith; sink = omega arith; depot = depot_up; disks = last_up };
-      clock = omega arith;
-      door = omega arith;
+    in let none : ServesNone asked status before after old new here here from upto setting course at.form = record {
+      told = told (providers_of kept) (finish_at at.holds (next_of at.opening) at.opening.next) at.finishes;
+      outside = refl;
+      disks = at.left;
     }
-
-    by_disk : (number : ℕ) → fault ≡ faults.DiskFault number
-        → (HasRisen depot_a depot_b) ⊎ (HasRisen (last_a number) (last_b number))
-    by_disk number e = subst (BlamesDisk depot_a depot_b last_a last_b) e began
-
-    started : ((number : ℕ) × (fault ≡ faults.DiskFault number))
-        ⊎ (HasRisen depot_b depot_c ⊎ ((k : ℕ) × HasRisen (last_b k) (last_c k)))
-        → Blames statuses.StartFault old_counts new_counts
-    started (inl disk) = by_which disk.0 (by_disk disk.0 disk.1)
-      where
-        by_which : (number : ℕ) → (HasRisen depot_a depot_b) ⊎ (HasRisen (last_a number) (last_b number))
-            → Blames statuses.StartFault old_counts new_counts
-        by_which number (inl risen) = start_until old_counts mid_counts new_counts up (inl risen)
-        by_which number (inr risen) = start_until old_counts mid_counts new_counts up (inr (number, risen))
-    started (inr risen) = blames_since statuses.StartFault old_counts mid_counts new_counts first up risen
-
-    so : (wanted : Status) → status ≡ wanted → Blames wanted old_counts new_counts
-    so statuses.Done e = tt
-    so statuses.Usage e = tt
-    so statuses.Refused e = tt
-    so statuses.ReadFault e =
-        let risen = subst (λ (s : Status). (s ≢ statuses.StartFault) → Blames s (counts_of 0 sink_old depot_b last_b 0 0)
-        (counts_of 0 sink_new depot_c last_c 0 0)) e blame read_apart (omega arith) in absurd (omega (arith, risen))
-      where
-        read_apart : statuses.ReadFault ≡ statuses.StartFault → ⊥
-        read_apart x = cc
-    so statuses.WriteFault e =
-        subst (λ (s : Status). (s ≢ statuses.StartFault) → Blames s (counts_of 0 sink_old depot_b last_b 0 0)
-        (counts_of 0 sink_new depot_c last_c 0 0)) e blame write_apart
-      where
-        write_apart : statuses.WriteFault ≡ statuses.StartFault → ⊥
-        write_apart x = cc
-    so statuses.NoMemory e = tt
-    so statuses.StartFault e = started (start e)
-    so statuses.NotEmpty e = tt
-    so statuses.NotFit e = tt
-    so statuses.ClockFault e =
-        let risen = subst (λ (s : Status). (s ≢ statuses.StartFault) → Blames s (counts_of 0 sink_old depot_b last_b 0 0)
-        (counts_of 0 sink_new depot_c last_c 0 0)) e blame clock_apart (omega arith) in absurd (omega (arith, risen))
-      where
-        clock_apart : statuses.ClockFault ≡ statuses.StartFault → ⊥
-        clock_apart x = cc
-    so statuses.DoorFault e =
-        let risen = subst (λ (s : Status). (s ≢ statuses.StartFault) → Blames s (counts_of 0 sink_old depot_b last_b 0 0)
-        (counts_of 0 sink_new depot_c last_c 0 0)) e blame door_apart (omega arith) in absurd (omega (arith, risen))
-      where
-        door_apart : statuses.DoorFault ≡ statuses.StartFault → ⊥
-        door_apart x = cc
-    so statuses.InputTooLong e = tt
-
--- A disk that isn't asked isn't blamed.
-pub told_blames : (status : Status) (sink_old sink_new depot_old depot_new : ℕ) (last_old last_new : ℕ → ℕ)
-    → (status ≡ statuses.StartFault → ⊥)
-    → Blames status (counts_of 0 sink_old depot_old last_old 0 0) (counts_of 0 sink_new depot_old last_old 0 0)
-    → Blames status (counts_of 0 sink_old depot_old last_old 0 0) (counts_of 0 sink_new depot_new last_new 0 0)
-told_blames statuses.Done sink_old sink_new depot_old depot_new last_old last_new never blames = tt
-told_blames statuses.Usage sink_old sink_new depot_old depot_new last_old last_new never blames = tt
-told_blames statuses.Refused sink_old sink_new depot_old depot_new last_old last_new never blames = tt
-told_blames statuses.ReadFault sink_old sink_new depot_old depot_new last_old last_new never blames = blames
-told_blames statuses.WriteFault sink_old sink_new depot_old depot_new last_old last_new never blames = blames
-told_blames statuses.NoMemory sink_old sink_new depot_old depot_new last_old last_new never blames = tt
-told_blames statuses.StartFault sink_old sink_new depot_old depot_new last_old last_new never blames = absurd (never refl)
-told_blames statuses.NotEmpty sink_old sink_new depot_old depot_new last_old last_new never blames = tt
-told_blames statuses.NotFit sink_old sink_new depot_old depot_new last_old last_new never blames = tt
-told_blames statuses.ClockFault sink_old sink_new depot_old depot_new last_old last_new never blames = blames
-told_blames statuses.DoorFault sink_old sink_new depot_old depot_new last_old last_new never blames = blames
-told_blames statuses.InputTooLong sink_old sink_new depot_old depot_new last_old last_new never blames = tt
-
-pub not_held_disk : (number k : ℕ) → faults.NotEmpty number ≡ faults.DiskFault k → ⊥
-not_held_disk number k e = cc
-
-pub not_unfit_disk : (number k : ℕ) (why : NotFit) → faults.NotFit number why ≡ faults.DiskFault k → ⊥
-not_unfit_disk number k why e = cc
+    in let many = length-map kept (λ (one : Kept). one.provider)
+    in let chosen = subst (λ (count : ℕ). IsChosen old count at.form) (sym many) at.is_form
+    in served_begun asked status unread before after old new here here from upto bytes short setting reads at.is_setting input
+    at.form course chosen (record {
+      opening = at.is_opening;
+      looked_at = at.may_hold;
+      goes_on = goes_next asked status before after old new here from upto setting course at.form at.opening.next at.some none;
+    })
 
 -- an input that is too long for a directory
 pub long_text : (most : ℕ) (unread : Option Bytes) → IfSome unread (λ text. most < length text)

@@ -6,7 +6,7 @@ use Rattle.std.proofs.lemmas.List.{length-replicate}
 use Rattle.pec_types.specs.Bytes.{Bytes}
 use Rattle.pec_input.specs.Finding.{IsLong, lines_left}
 use Rattle.pec_input.specs.Lines.{content_of, raw_lines}
-use Rattle.pec_runs.specs.Climbing.{AreLinesLeft, IsLineRead, TellsOn}
+use Rattle.pec_runs.specs.Reading.{AreLinesLeft, IsLineRead, TellsOn}
 
 -- some lines are left
 pub lines_there : (unread : Option Bytes) → (lines : List Bytes) × AreLinesLeft unread lines
@@ -47,17 +47,6 @@ module _ (before : Option Bytes) (line : Bytes) (behind : Option Bytes) where
       so (Some text) (Some rest) first =
           let here : raw_lines text ≡ line ∷ raw_lines rest = cc
           in (raw_lines rest, sym here)
-
--- the lines that were left are the one that was read and those that are left
-pub lines_on : (before : Option Bytes) (line : Bytes) (behind : Option Bytes) (lines : List Bytes)
-    → IsLineRead before line behind → TellsOn before behind → AreLinesLeft behind lines
-    → AreLinesLeft before (line ∷ lines)
-lines_on None line behind lines read tells left = tt
-lines_on (Some text) line behind lines read tells left =
-    let on = tells text refl
-    in let same : raw_lines text ≡ line ∷ raw_lines on.0 = read on.0 on.1
-    in let here : lines ≡ raw_lines on.0 = subst (λ (b : Option Bytes). AreLinesLeft b lines) on.1 left
-    in ap (λ (l : List Bytes). line ∷ l) here ∙ sym same
 
 -- Where a line is too long it is the first of those that are left.
 pub record LongThere (most : ℕ) (unread : Option Bytes) : Type 0 where

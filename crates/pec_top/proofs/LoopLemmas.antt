@@ -1,6 +1,7 @@
 -- A loop over the lines of a script goes on behind a line, and ends: by what was found, and by what that says.
 use Rattle.std.proofs.Common.{◌≡◌, ℕ, List, [], ◌∷◌, ap, sym, subst, Global, Vec, Option, None, Some, Err}
 use Rattle.pec_types.specs.Bytes.{Bytes}
+use Rattle.pec_outside.specs.DiskModel.{Sight}
 use Rattle.pec_directory.specs.Directory.{Provider}
 use Rattle.pec_input.specs.Finding.{IsAtEnd, IsFound}
 use Rattle.pec_input.specs.Lines.{raw_lines}
@@ -9,8 +10,7 @@ use Rattle.pec_input.specs.declared.buffers.Found.TheVariants as found
 use Rattle.pec_input.specs.declared.buffers.InputFault.{InputFault}
 use Rattle.pec_input.specs.declared.buffers.InputFault.TheVariants as faults
 use Rattle.pec_ledger.specs.Trade.{Trade}
-use Rattle.pec_runs.specs.Climbing.{AreLinesLeft}
-use Rattle.pec_runs.specs.Reading.{IsRead, LinePoint, Reads, behind_line}
+use Rattle.pec_runs.specs.Reading.{AreLinesLeft, IsRead, LinePoint, Reads, behind_line}
 use Rattle.pec_runs.specs.ScriptLines.{PassedOver, Says, command_in, longest_line}
 use Rattle.pec_runs.specs.Statuses.{Status}
 use Rattle.pec_runs.specs.Statuses as statuses
@@ -31,11 +31,11 @@ none_left : (unread : Option Bytes) → IsAtEnd unread → AreLinesLeft unread [
 none_left None over = tt
 none_left (Some text) over = sym (ap raw_lines over)
 
-module _ {D : Type 0} {tells : Type 0} {trade : Trade} {finds : Finds} {providers : List Provider}
-    {first here : LinePoint D} (came : Reads trade finds providers tells first here)
-    (laws : LoopLaws D tells trade finds providers) where
+module _ {D : Type 0} {tells : Type 0} {sight : D → Sight} {trade : Trade} {finds : Finds} {providers : List Provider}
+    {first here : LinePoint D} (came : Reads trade finds providers tells sight first here)
+    (laws : LoopLaws D tells sight trade finds providers) where
   abbrev ReadTo : Point D → Status → Type 0
-  ReadTo there status = IsRead trade finds providers tells first there status
+  ReadTo there status = IsRead trade finds providers tells sight first there status
 
   -- memory ran out, or the input failed
   pub lacks_here : ReadTo here.point statuses.NoMemory
@@ -51,7 +51,7 @@ module _ {D : Type 0} {tells : Type 0} {trade : Trade} {finds : Finds} {provider
 
     -- what is found is a line where the script goes on
     pub passes : (what : Found) → WasFound what → IsSaid finds providers here.number what line said.Nothing
-        → Reads trade finds providers tells first (behind_line here here.point behind)
+        → Reads trade finds providers tells sight first (behind_line here here.point behind)
     passes found.End told says = absurd says
     passes found.Line told says =
         laws.on first here here.point line PassedOver behind says tt (line_read here.unread line behind told.2)
@@ -62,8 +62,8 @@ module _ {D : Type 0} {tells : Type 0} {trade : Trade} {finds : Finds} {provider
 
     pub plays : (what : Found) → WasFound what → (command : Command)
         → IsSaid finds providers here.number what line (said.Command command) → (there : Point D)
-        → Goes trade providers tells (Plays (command_in finds command) ∷ []) here.point there None
-        → Reads trade finds providers tells first (behind_line here there behind)
+        → Goes trade providers tells sight (Plays (command_in finds command) ∷ []) here.point there None
+        → Reads trade finds providers tells sight first (behind_line here there behind)
     plays found.End told command says there goes = absurd says
     plays found.Line told command says there goes =
         laws.on first here there line (Says (command_in finds command)) behind says tt
@@ -74,14 +74,14 @@ module _ {D : Type 0} {tells : Type 0} {trade : Trade} {finds : Finds} {provider
 
     pub stops : (what : Found) → WasFound what → (command : Command)
         → IsSaid finds providers here.number what line (said.Command command) → (there : Point D) (stop : PlayStop)
-        → Goes trade providers tells (Plays (command_in finds command) ∷ []) here.point there
+        → Goes trade providers tells sight (Plays (command_in finds command) ∷ []) here.point there
         (stop_in {T = Unit {0}} (Err stop))
         → ReadTo there (stop_shown (played_stop stop))
     stops what told command says there stop goes = by_stop stop goes
       where
         stops_so : (why : Stop) → (what : Found) → WasFound what
             → IsSaid finds providers here.number what line (said.Command command)
-            → Goes trade providers tells (Plays (command_in finds command) ∷ []) here.point there (Some why)
+            → Goes trade providers tells sight (Plays (command_in finds command) ∷ []) here.point there (Some why)
             → ReadTo there (stopped_status why)
         stops_so why found.End told says goes = absurd says
         stops_so why found.Line told says goes =
@@ -92,7 +92,7 @@ module _ {D : Type 0} {tells : Type 0} {trade : Trade} {finds : Finds} {provider
             in absurd (says long.line long.lines long.long)
 
         by_stop : (stop : PlayStop)
-            → Goes trade providers tells (Plays (command_in finds command) ∷ []) here.point there
+            → Goes trade providers tells sight (Plays (command_in finds command) ∷ []) here.point there
             (stop_in {T = Unit {0}} (Err stop))
             → ReadTo there (stop_shown (played_stop stop))
         by_stop play_stops.NoMemory goes = stops_so NoMemory what told says goes

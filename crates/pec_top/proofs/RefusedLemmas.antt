@@ -1,36 +1,36 @@
 -- A run whose journals can't all be had.
-use Rattle.std.proofs.Common.{◌≡◌, ◌≢◌, ℕ, ◌<◌, ◌≤◌, ◌⊎◌, inl, inr, false, List, [], ◌∷◌, refl, ap, sym, subst, ◌∙◌}
+use Rattle.std.proofs.Common.{◌≡◌, ◌≢◌, ℕ, ◌<◌, ◌≤◌, ◌⊎◌, inl, inr, Bool, false, List, [], ◌∷◌, refl, ap, sym, subst, ◌∙◌}
 use Rattle.std.proofs.Common.{arith, length, get_or, Option, Some, None, Ok}
 use Rattle.std.proofs.lemmas.Bool.{cases_eq, cases_lt}
 use Rattle.std.proofs.lemmas.Option.{none-some}
 use Rattle.pec_serving.specs.OfNetworks.{ProviderState}
-use Rattle.std.proofs.lemmas.List.{length-map}
 use Rattle.pec_types.specs.Bytes.{Bytes}
 use Rattle.pec_outside.specs.DiskModel.{Sight}
 use Rattle.pec_directory.specs.Directory.{Kept, Provider, providers_of}
 use Rattle.pec_input.specs.Directory.{directory_in}
 use Rattle.pec_input.specs.Opening.{parts_left}
 use Rattle.pec_input.specs.declared.opening.TheConstants.{LONGEST_DIRECTORY}
-use Rattle.pec_records.specs.declared.entries.Entry.{Entry}
-use Rattle.pec_ledger.specs.OfDirectory.{IsOf}
 use Rattle.pec_ledger.specs.Trade.{Trade}
-use Rattle.pec_seal.specs.Seals.{Seals}
-use Rattle.pec_serving.specs.OfNetworks.{IsAbout, IsRefused, StartFault, journals_had, trade_of}
+use Rattle.pec_serving.specs.OfNetworks.{IsAbout, IsRefused, StartFault}
 use Rattle.pec_serving.specs.OfNetworks.faults as faults
-use Rattle.pec_runs.specs.Happened.{Asked, Happened, IsSetting, Setting, by_next}
-use Rattle.pec_runs.specs.Openings.{Disks, Next, NoMore, Holds, Unfits, Fails, Stops, disks_at, form_in, opened_all}
-use Rattle.pec_runs.specs.Plays.{Stopped, finish_text}
+use Rattle.pec_runs.specs.Happened.{Asked, Happened, Setting, by_next, trade_in}
+use Rattle.pec_runs.specs.Openings.{Disks, Next, NoMore, Holds, Unfits, Fails, Stops, Opening, form_in, next_of, opened_all}
+use Rattle.pec_runs.specs.Openings as runs
+use Rattle.pec_runs.specs.Plays.{Finish, Stopped, finish_text}
+use Rattle.pec_runs.specs.Plays as plays
 use Rattle.pec_runs.specs.Ran.{Behind, Counts, LeavesOff, PlaysOn, Tells, TellsAs, command_in_hand}
 use Rattle.pec_runs.specs.ScriptLines.{Script, script_of}
 use Rattle.pec_runs.specs.Statuses.{Status}
 use Rattle.pec_top.specs.Running.{RanSo, disk_counts, parts_behind}
 use Rattle.pec_top.specs.Shown.{form_shown, way_of}
-use Rattle.pec_top.specs.Starting.{EndsSo, finish_at, next_by, provider_named}
+use Rattle.pec_service.specs.Runs.{finish_at}
+use Rattle.pec_top.specs.Opened.{Finishes, Halted, IsUnopened, Refused, Unlooked, next_by, provider_named}
 use Rattle.pec_top.specs.declared.forms.Form.{Form}
 use Rattle.pec_top.specs.declared.forms.Form.TheVariants as forms
-use Rattle.pec_top.proofs.HadLemmas.{left_part, opening_part}
+use Rattle.pec_top.specs.declared.opening.Journals.TheVariants as journals
+use Rattle.pec_top.specs.declared.opening.Refusal.{Refusal}
 use Rattle.pec_top.proofs.LineReadLemmas.{lines_there}
-use Rattle.pec_top.proofs.RunningLemmas.{ran_begun}
+use Rattle.pec_top.proofs.RunningLemmas.{ran_begun, ran_halted}
 
 -- a refusal is of the next provider
 pub names_next : (form : Form) (me : ℕ) (fault : StartFault) → IsAbout (way_of form) me fault
@@ -57,13 +57,11 @@ pub not_all : (fault : StartFault) (next : Next) → (next ≡ next_by fault) �
 not_all fault next (inl e) none = next_known fault (sym e ∙ none)
 not_all fault next (inr e) none = stops_known (sym e ∙ none)
 
-module _ (trade : Trade) (providers : List Provider) (journals : List (List Entry)) (script : Script)
-    (status : Status) where
+module _ (trade : Trade) (providers : List Provider) (opening : Opening) (script : Script) (status : Status) where
   tells_next : (before after : Option Bytes) (next : Next) → (next ≡ NoMore → ⊥)
-      → TellsAs status before after (finish_text providers (finish_at (length journals) next))
-      (finish_at (length journals) next)
-      → Tells providers status before after
-      (by_next trade (record { journals = journals; next = next }) [] Stopped script next)
+      → TellsAs status before after (finish_text providers (finish_at false (next_of opening) next))
+      (finish_at false (next_of opening) next)
+      → Tells providers status before after (by_next trade opening [] Stopped script next)
   tells_next before after NoMore some told = absurd (some refl)
   tells_next before after Holds some told = inl told
   tells_next before after (Unfits unfit) some told = inl told
@@ -71,8 +69,8 @@ module _ (trade : Trade) (providers : List Provider) (journals : List (List Entr
   tells_next before after Stops some told = inl told
 
   leaves_next : (next : Next) → (next ≡ NoMore → ⊥)
-      → LeavesOff trade (by_next trade (record { journals = journals; next = next }) [] Stopped script next).after
-      (command_in_hand status next Stopped [] script) (opened_all trade journals)
+      → LeavesOff trade (by_next trade opening [] Stopped script next).after
+      (command_in_hand status next Stopped [] script) (opened_all trade opening.journals)
   leaves_next NoMore some = absurd (some refl)
   leaves_next Holds some = Behind refl
   leaves_next (Unfits unfit) some = Behind refl
@@ -87,54 +85,48 @@ plays_next tells old_disks new_disks old new happened script (Unfits unfit) some
 plays_next tells old_disks new_disks old new happened script Fails some = tt
 plays_next tells old_disks new_disks old new happened script Stops some = tt
 
-pub ran_refused : {D : Type 0} (home_tells reads : Type 0) (sight : D → Sight) (kept : List Kept) (seals : Seals)
-    (of : IsOf kept (trade_of kept seals)) (home new : ℕ → Option D) (form : Form) (fault : StartFault)
-    (refused : IsRefused home_tells reads sight kept (way_of form) home new fault)
-    (reads_so : reads → (disk : D) → (sight disk).may_leave (sight disk).seen)
-    (asked : Asked) → form_in asked.words ≡ Some (form_shown form) → (bytes : Bytes)
-    → length bytes ≤ LONGEST_DIRECTORY
-    → directory_in bytes ≡ Ok (providers_of kept)
-    → IsSetting (providers_of kept) (record { kept = kept; seals = seals })
-    → (status : Status) (unread behind before after : Option Bytes) (from upto : ℕ → ℕ)
-    → parts_left unread ≡ parts_behind bytes behind
-    → EndsSo (providers_of kept) fault status before after
-    → RanSo asked status unread before after (home_tells × reads) (disks_at (home_tells × reads) sight home)
-    (disks_at (home_tells × reads) sight new) from upto
-ran_refused home_tells reads sight kept seals of home new form fault refused reads_so asked is bytes short opens
-    is_setting status unread behind before after from upto input ends =
-    let trade = trade_of kept seals
+-- A run in a form that plays a script whose journals can't all be had.
+pub ran_unopened : (asked : Asked) (way : Form) → form_in asked.words ≡ Some (form_shown way) → (bytes : Bytes)
+    → length bytes ≤ LONGEST_DIRECTORY → (kept : List Kept) → directory_in bytes ≡ Ok (providers_of kept)
+    → (refusal : Refusal) (status : Status) (unread behind before after : Option Bytes) (tells : Type 0) (old new : Disks)
+    (from upto : ℕ → ℕ) → parts_left unread ≡ parts_behind bytes behind
+    → ((providers : List Provider) (finish : Finish) → Finishes providers refusal finish
+    → TellsAs status before after (finish_text providers finish) finish)
+    → IsUnopened (journals.As way) kept old new refusal
+    → RanSo asked status unread before after tells old new from upto
+ran_unopened asked way is bytes short kept opens refusal status unread behind before after tells old new from upto input told
+    (Halted none untouched) =
+    ran_halted asked unread before after tells old new from upto untouched (form_shown way) status is
+    (told [] plays.Stops (subst (λ (r : Refusal). Finishes [] r plays.Stops) (sym none) refl))
+ran_unopened asked way is bytes short kept opens refusal status unread behind before after tells old new from upto input told
+    (Unlooked seals chosen failed setting untouched) = absurd (apart chosen)
+  where
+    apart : journals.As way ≡ journals.Chosen → ⊥
+    apart e = cc
+ran_unopened asked way is bytes short kept opens refusal status unread behind before after tells old new from upto input told
+    (Refused seals at) =
+    let setting : Setting = record { kept = kept; seals = seals }
+    in let trade = trade_in setting
     in let providers = providers_of kept
-    in let journals = journals_had refused.providers
     in let lines = lines_there behind
-    in let setting : Setting = record { kept = kept; seals = seals }
+    in let script = script_of asked.finds providers 1 lines.0
     in let happened : Happened = record {
       parts = record { directory = bytes; script = Some lines.0 };
       early = false;
       setting = setting;
-      opening = record { journals = journals; next = ends.next };
+      opening = at.opening;
       lucks = [];
       rest = Stopped;
     }
-    in let some = not_all fault ends.next ends.is_next
-    in let opening = opening_part home_tells reads sight kept seals of home form new fault refused ends.next
-    ends.is_next
-    in let size : length journals ≡ length refused.providers = length-map refused.providers (λ p.
-    p.chronicle.entries)
-    in let named : provider_named (length refused.providers) fault ≡ length journals
-    = names_next form (length refused.providers) fault refused.about ∙ sym size
-    in ran_begun asked (form_shown form) is bytes short setting opens is_setting lines.0
-    (record { journals = journals; next = ends.next }) [] Stopped status unread behind before after
-    (home_tells × reads)
-    (disks_at (home_tells × reads) sight home) (disks_at (home_tells × reads) sight new) from upto
-    (opened_all trade journals) input lines.1 opening
-    (plays_next (home_tells × reads) (disks_at (home_tells × reads) sight home)
-    (disks_at (home_tells × reads) sight new) (disk_counts from) (disk_counts upto) happened
-    (script_of asked.finds providers 1 lines.0) ends.next some)
-    (leaves_next trade providers journals (script_of asked.finds providers 1 lines.0) status ends.next some)
-    (left_part home_tells reads sight kept seals of home form new fault refused reads_so ends.next ends.is_next)
-    (tells_next trade providers journals (script_of asked.finds providers 1 lines.0) status before after ends.next some
-    (subst (λ (n : ℕ). TellsAs status before after (finish_text providers (finish_at n ends.next))
-    (finish_at n ends.next)) named (ends.told (length refused.providers))))
+    in let finish = subst (λ (h : Bool). Finishes providers refusal (finish_at h (next_of at.opening) at.opening.next))
+    at.may_hold at.finishes
+    in ran_begun asked at.form (is ∙ ap (λ (f : runs.Form). Some f) (sym at.is_form)) bytes short setting opens at.is_setting
+    lines.0 at.opening [] Stopped status unread behind before after tells old new from upto
+    (opened_all trade at.opening.journals) input lines.1 at.is_opening
+    (plays_next tells old new (disk_counts from) (disk_counts upto) happened script at.opening.next at.some)
+    (leaves_next trade providers at.opening script status at.opening.next at.some) at.left
+    (tells_next trade providers at.opening script status before after at.opening.next at.some
+    (told providers (finish_at false (next_of at.opening) at.opening.next) finish))
 
 -- each disk that was at home is at home again
 module _ {D : Type 0} (home_tells reads : Type 0) (sight : D → Sight) (kept : List Kept) (form : Form)

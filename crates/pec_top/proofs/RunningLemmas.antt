@@ -6,8 +6,6 @@ use Rattle.std.proofs.lemmas.Bool.{le-ltb, lt-ltb}
 use Rattle.std.proofs.lemmas.Option.{same_Some}
 use Rattle.pec_types.specs.Bytes.{Bytes}
 use Rattle.pec_outside.specs.DiskModel.{Sight}
-use Rattle.pec_outside.specs.Flow.{followed_by}
-use Rattle.pec_top.proofs.FlowLemmas.{followed_by-nil}
 use Rattle.pec_directory.specs.Directory.{Provider}
 use Rattle.pec_input.specs.Directory.{Refusal, directory_in}
 use Rattle.pec_input.specs.Opening.{parts_left}
@@ -15,7 +13,7 @@ use Rattle.pec_input.specs.Parts.{Parts}
 use Rattle.pec_input.specs.declared.opening.TheConstants.{LONGEST_DIRECTORY}
 use Rattle.pec_ledger.specs.Network.{Site}
 use Rattle.pec_seal.specs.Hmac.{hmac_seals}
-use Rattle.pec_runs.specs.Climbing.{AreLinesLeft}
+use Rattle.pec_runs.specs.Reading.{AreLinesLeft}
 use Rattle.pec_runs.specs.Endings.{End, end_text}
 use Rattle.pec_runs.specs.Endings as ends
 use Rattle.pec_runs.specs.Happened.{Asked, Begun, Halted, Happened, IsSetting, Over, Setting, Stage, by_directory, by_form}
@@ -108,11 +106,9 @@ module _ (asked : Asked) (unread before after : Option Bytes) (tells : Type 0) (
 
   -- It was halted before a disk was asked for, and nothing was written.
   pub ran_halted : (form : Form) (status : Status) → form_in asked.words ≡ Some form
-      → ((text : Bytes) → after ≡ followed_by before text → TellsAs status before after text plays.Stops)
-      → after ≡ before
-      → RanSo asked status unread before after tells old new from upto
+      → TellsAs status before after [] plays.Stops → RanSo asked status unread before after tells old new from upto
   unfolding outcome_of stage_of
-  ran_halted form status is tells_so same =
+  ran_halted form status is told =
       let parts = parts_there unread
       in let stage : stage_of asked true parts.0 ≡ Halted = ap (by_form asked.finds true parts.0) is
       in record {
@@ -121,8 +117,7 @@ module _ (asked : Asked) (unread before after : Option Bytes) (tells : Type 0) (
         setting = λ f script begun. absurd (halted_not_begun f script (sym stage ∙ begun));
         told = inl (subst
             (λ (s : Stage). TellsAs status before after (plays.outcome_text [] (outcome_at (nothing parts.0 true) s))
-            (outcome_at (nothing parts.0 true) s).finish) (sym stage)
-            (tells_so [] (same ∙ sym (followed_by-nil before))));
+            (outcome_at (nothing parts.0 true) s).finish) (sym stage) told);
         is_at = subst (λ (s : Stage). IsAt tells old new (disk_counts from) (disk_counts upto)
             (nothing parts.0 true) status asked s) (sym stage) untouched_;
       }

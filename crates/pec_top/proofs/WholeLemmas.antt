@@ -14,11 +14,11 @@ use Rattle.pec_records.specs.declared.entries.Entry.{Entry}
 use Rattle.pec_ledger.specs.Network.{Site, site_at}
 use Rattle.pec_ledger.specs.Trade.{Trade}
 use Rattle.pec_serving.specs.OfNetworks.{AllAt, AllStand, IsOfDirectory, NetworkState, ProviderState, Stands, desk_of, site_of, sites, sites_of}
-use Rattle.pec_plays.specs.Commands.{Luck}
+use Rattle.pec_plays.specs.Commands.{Command, Luck, played}
 use Rattle.pec_serving.specs.OfNetworks.{Waiting, waiting_for}
 use Rattle.pec_runs.specs.Happened.{Asked, IsSetting, Setting, providers_in, trade_in}
 use Rattle.pec_runs.specs.Openings.{AreLeft, Disks, Form, IsLeft, IsOpening, IsUntouched, NoMore, disks_at, form_in, opened_all}
-use Rattle.pec_runs.specs.Plays.{MayPlay, Rest, RoseBy, outcome_from}
+use Rattle.pec_runs.specs.Plays.{MayPlay, Rest, RoseAlong, RoseBy, outcome_from}
 use Rattle.pec_runs.specs.Ran.{LeavesOff, Tells, command_in_hand}
 use Rattle.pec_runs.specs.ScriptLines.{Script, script_of}
 use Rattle.pec_screen.specs.Screened.{Finds}
@@ -41,6 +41,21 @@ rose_between number earlier from upto later first rose second =
     let least = rose.0 in
     (omega arith, λ low. let more : from + number ≤ upto = rose.1 (omega arith) in omega (arith, more, first, second))
 
+-- so it is along a script
+rose_along : (trade : Trade) (lucks : List Luck) (sites : List Site) (commands : List Command)
+    (earlier from upto later : ℕ → ℕ) → ((k : ℕ) → earlier k ≤ from k) → ((k : ℕ) → upto k ≤ later k)
+    → RoseAlong trade lucks sites commands from upto → RoseAlong trade lucks sites commands earlier later
+rose_along trade [] sites commands earlier from upto later first second rose =
+    λ k. omega (arith, first k, rose k, second k)
+rose_along trade (luck ∷ lucks) sites [] earlier from upto later first second rose =
+    λ k. omega (arith, first k, rose k, second k)
+rose_along trade (luck ∷ lucks) sites (command ∷ commands) earlier from upto later first second rose = (
+  rose.0,
+  λ k. rose_between _ (earlier k) (from k) (rose.0 k) (rose.0 k) (first k) (rose.1 k) (omega arith),
+  rose_along trade lucks (played trade luck sites command).after commands rose.0 rose.0 upto later (λ k. omega arith)
+      second rose.2,
+)
+
 may_between : (tells : Type 0) (trade : Trade) (sites : List Site) (earlier from upto later : ℕ → ℕ) (script : Script)
     (lucks : List Luck) (rest : Rest) → ((k : ℕ) → earlier k ≤ from k) → ((k : ℕ) → upto k ≤ later k)
     → MayPlay trade tells sites from upto script lucks rest → MayPlay trade tells sites earlier later script lucks rest
@@ -48,7 +63,7 @@ may_between tells trade sites earlier from upto later script lucks rest first se
   enough = may.enough;
   meet = may.meet;
   memory = may.memory;
-  counts = λ k. rose_between _ (earlier k) (from k) (upto k) (later k) (first k) (may.counts k) (second k);
+  counts = rose_along trade lucks sites script.commands earlier from upto later first second may.counts;
   strays = may.strays;
 }
 
@@ -146,16 +161,18 @@ pub ran_script : {D : Type 0} (asked : Asked) (form : Form) → form_in asked.wo
     → length bytes ≤ LONGEST_DIRECTORY
     → (setting : Setting) → directory_in bytes ≡ Ok (providers_in setting)
     → IsSetting (providers_in setting) setting
-    → (journals : List (List Entry)) (status : Status) (unread behind : Option Bytes) (tells : Type 0)
+    → (journals : List (List Entry)) (status : Status) (unread behind : Option Bytes) (tells : Type 0) (sight : D
+    → Sight)
     (old new : Disks) (from upto : ℕ → ℕ) (point there : Point D)
     → point.state.sites ≡ opened_all (trade_in setting) journals → ((k : ℕ) → from k ≤ point.state.counts k)
     → ((k : ℕ) → there.state.counts k ≤ upto k) → parts_left unread ≡ parts_behind bytes behind
     → IsOpening (trade_in setting) old form (record { journals = journals; next = NoMore })
-    → IsRead (trade_in setting) asked.finds (providers_in setting) tells (at_first point behind) there status
+    → IsRead (trade_in setting) asked.finds (providers_in setting) tells sight (at_first point behind) there status
     → ((left : List Site) → (tells → left ≡ there.state.sites)
     → AreLeft old new form (record { journals = journals; next = NoMore }) left)
     → RanSo asked status unread point.held there.held tells old new from upto
-ran_script asked form is bytes short setting reads is_setting journals status unread behind tells old new from upto point
+ran_script asked form is bytes short setting reads is_setting journals status unread behind tells sight old new from
+    upto point
     there begins since later input opens read leaves =
     let trade = trade_in setting
     in let providers = providers_in setting
@@ -171,5 +188,6 @@ ran_script asked form is bytes short setting reads is_setting journals status un
     (subst (λ (s : List Site). LeavesOff trade (outcome_from trade lucks played.rest s script).after
     (command_in_hand status NoMore played.rest lucks script) played.left) begins played.leaves_off)
     (leaves played.left played.is_left)
-    (subst (λ (s : List Site). Tells providers status point.held there.held (outcome_from trade lucks played.rest s script))
+    (subst (λ (s : List Site). Tells providers status point.held there.held (outcome_from trade lucks played.rest s
+    script))
     begins played.told)

@@ -1,10 +1,12 @@
 pub mod Blaming
+pub mod Checking
 pub mod Hosting
 pub mod Inputs
 pub mod LoopLaws
 pub mod Running
 pub mod Scripts
 pub mod Shown
-pub mod Starting
+pub mod Opened
 pub mod Surveys
+pub mod Tasks
 pub mod Saying

@@ -2,43 +2,45 @@
 -- `LoopLaws`. This project's profile.
 use Rattle.std.specs.Prelude.{◌≡◌, ◌≢◌, ℕ, ◌+◌, ◌≤◌, List, [], ◌∷◌, length, map, Option, None, Some}
 use Rattle.pec_types.specs.Bytes.{Bytes}
+use Rattle.pec_outside.specs.DiskModel.{Sight}
 use Rattle.pec_directory.specs.Directory.{Provider}
 use Rattle.pec_input.specs.Lines.{content_of}
 use Rattle.pec_ledger.specs.Trade.{Trade}
-use Rattle.pec_runs.specs.Climbing.{AreLinesLeft, IsLineRead, TellsOn}
 use Rattle.pec_runs.specs.Endings.{End, end_text}
-use Rattle.pec_runs.specs.Reading.{GoesOn, IsRead, LinePoint, Reads, behind_line, commands_by}
+use Rattle.pec_runs.specs.Reading.{AreLinesLeft, GoesOn, IsLineRead, IsRead, LinePoint, Reads, TellsOn, behind_line, commands_by}
 use Rattle.pec_runs.specs.ScriptLines.{Line, nothing_but, said_by, script_of}
 use Rattle.pec_runs.specs.Steps.{Goes, IsWritten, NoneFell, Plays, Point, Stop, WriteFault, Writes, status_by, stopped_status}
 use Rattle.pec_screen.specs.Screened.{Finds}
 
-pub record LoopLaws (D : Type 0) (tells : Type 0) (trade : Trade) (finds : Finds) (providers : List Provider) : Type 0 where
+pub record LoopLaws (D : Type 0) (tells : Type 0) (sight : D → Sight) (trade : Trade) (finds : Finds)
+    (providers : List Provider) : Type 0 where
   -- acts: none, and a text that is written
-  pub nowhere : (here : Point D) → Goes trade providers tells [] here here None
+  pub nowhere : (here : Point D) → Goes trade providers tells sight [] here here None
   pub written : (text : Bytes) (here there : Point D) (stop : Option Stop) → there.state ≡ here.state
       → NoneFell here there → IsWritten text here there stop
-      → Goes trade providers tells (Writes text ∷ []) here there stop
+      → Goes trade providers tells sight (Writes text ∷ []) here there stop
   -- lines
-  pub starts : (first : LinePoint D) → Reads trade finds providers tells first first
+  pub starts : (first : LinePoint D) → Reads trade finds providers tells sight first first
   pub on : (first here : LinePoint D) (there : Point D) (line : Bytes) (what : Line) (behind : Option Bytes)
       → said_by finds providers here.number line ≡ what → GoesOn what → IsLineRead here.unread line behind
-      → TellsOn here.unread behind → Goes trade providers tells (map Plays (commands_by what)) here.point there None
-      → Reads trade finds providers tells first here
-      → Reads trade finds providers tells first (behind_line here there behind)
+      → TellsOn here.unread behind → Goes trade providers tells sight (map Plays (commands_by what)) here.point there
+      None
+      → Reads trade finds providers tells sight first here
+      → Reads trade finds providers tells sight first (behind_line here there behind)
   pub ended : (first here : LinePoint D) (there : Point D) (lines : List Bytes) (end : End) (stop : Option Stop)
       → script_of finds providers here.number lines ≡ nothing_but end → AreLinesLeft here.unread lines
-      → Goes trade providers tells (Writes (end_text providers end) ∷ []) here.point there stop
-      → Reads trade finds providers tells first here
-      → IsRead trade finds providers tells first there (status_by end stop)
+      → Goes trade providers tells sight (Writes (end_text providers end) ∷ []) here.point there stop
+      → Reads trade finds providers tells sight first here
+      → IsRead trade finds providers tells sight first there (status_by end stop)
   pub stopped : (first here : LinePoint D) (there : Point D) (line : Bytes) (what : Line) (behind : Option Bytes)
       (stop : Stop) → said_by finds providers here.number line ≡ what → GoesOn what
       → IsLineRead here.unread line behind → TellsOn here.unread behind
-      → Goes trade providers tells (map Plays (commands_by what)) here.point there (Some stop)
-      → Reads trade finds providers tells first here
-      → IsRead trade finds providers tells first there (stopped_status stop)
+      → Goes trade providers tells sight (map Plays (commands_by what)) here.point there (Some stop)
+      → Reads trade finds providers tells sight first here
+      → IsRead trade finds providers tells sight first there (stopped_status stop)
   pub halted : (first here : LinePoint D) (stop : Stop) → stop ≢ WriteFault
-      → Reads trade finds providers tells first here
-      → IsRead trade finds providers tells first here.point (stopped_status stop)
+      → Reads trade finds providers tells sight first here
+      → IsRead trade finds providers tells sight first here.point (stopped_status stop)
   -- bytes
   pub content : (line : Bytes) → (length (content_of line) ≤ length line)
       × (length line ≤ length (content_of line) + 2)

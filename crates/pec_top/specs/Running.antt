@@ -1,12 +1,13 @@
 -- A run but for the counts of faults of its devices: `RanSo`. This project's profile.
 use Rattle.std.specs.Prelude.{◌≡◌, ◌≢◌, ℕ, List, Ok, Option, Some, None, option_map}
 use Rattle.pec_types.specs.Bytes.{Bytes}
+use Rattle.pec_outside.specs.DiskModel.{Sight}
 use Rattle.pec_directory.specs.Directory.{Provider}
 use Rattle.pec_input.specs.Directory.{directory_in}
 use Rattle.pec_input.specs.Lines.{raw_lines}
 use Rattle.pec_input.specs.Parts.{Parts}
 use Rattle.pec_runs.specs.Happened.{Asked, Begun, Happened, IsSetting, outcome_of, providers_in, stage_of}
-use Rattle.pec_runs.specs.Openings.{Disks, Form}
+use Rattle.pec_runs.specs.Openings.{Disks, Form, disks_at}
 use Rattle.pec_runs.specs.Ran.{Counts, IsAt, IsInput, Tells}
 use Rattle.pec_runs.specs.ScriptLines.{Script}
 use Rattle.pec_runs.specs.Statuses.{Status}
@@ -32,6 +33,12 @@ pub record RanSo (asked : Asked) (status : Status) (unread before after : Option
   pub told : Tells (providers_in happened.setting) status before after (outcome_of asked happened)
   pub is_at : IsAt tells old_disks new_disks (disk_counts from) (disk_counts upto) happened status asked
       (stage_of asked happened.early happened.parts)
+
+-- The same over a depot that had these disks at home, by provider, and has those.
+abbrev pub RanSoOver : {D : Type 0} → Type 0 → (D → Sight) → Asked → Status → (unread before after : Option Bytes)
+    → (home left : ℕ → Option D) → (from upto : ℕ → ℕ) → Type 0
+RanSoOver tells sight asked status unread before after home left from upto =
+    RanSo asked status unread before after tells (disks_at tells sight home) (disks_at tells sight left) from upto
 
 -- Each disk that was at home is at home again.
 abbrev pub AreHomeAgain : {D : Type 0} → (old new : ℕ → Option D) → Type 0

@@ -20,6 +20,9 @@ use Rattle.pec_top.specs.declared.ending.Stop.{Stop}
 use Rattle.pec_top.specs.declared.ending.Stop.TheVariants as stops
 use Rattle.pec_top.specs.declared.forms.Form.{Form}
 use Rattle.pec_top.specs.declared.forms.Form.TheVariants as forms
+use Rattle.pec_top.specs.declared.forms.Task.{Task}
+use Rattle.pec_top.specs.declared.forms.Task.TheVariants as asked
+use Rattle.pec_top.specs.Tasks as tasks
 use Rattle.pec_top.specs.declared.status.Status.{Status}
 use Rattle.pec_top.specs.declared.status.Status.TheVariants as told
 
@@ -50,6 +53,8 @@ stop_shown stops.NoMemory = statuses.NoMemory
 stop_shown stops.ReadFault = statuses.ReadFault
 stop_shown stops.WriteFault = statuses.WriteFault
 stop_shown stops.StartFault = statuses.StartFault
+stop_shown stops.ClockFault = statuses.ClockFault
+stop_shown stops.DoorFault = statuses.DoorFault
 
 -- the status of a run that ended, or was stopped
 abbrev pub result_shown : Result End Stop → statuses.Status
@@ -77,6 +82,13 @@ abbrev pub form_named : Bytes → Option runs.Form
 form_named word =
     if bytes_eq word (codes "run") then Some runs.Run
     else (if bytes_eq word (codes "resume") then Some runs.Resume else None)
+
+abbrev pub task_shown : Task → tasks.Task
+task_shown (asked.Play form) = tasks.Plays (form_shown form)
+task_shown (asked.Serve wanted) = tasks.Serves wanted
+task_shown asked.Export = tasks.Exports
+task_shown asked.Check = tasks.Checks
+task_shown asked.NoForm = tasks.NoForm
 
 -- how a network begins in this form
 abbrev pub way_of : Form → Way

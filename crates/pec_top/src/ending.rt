@@ -26,6 +26,8 @@ pub(crate) enum Stop {
     WriteFault,
     /// A disk failed, or the depot did, while journals were made or opened.
     StartFault,
+    ClockFault,
+    DoorFault,
 }
 
 impl From<NoMemory> for Stop {

@@ -1,14 +1,52 @@
 ghost use Rattle.std.specs.Prelude.{◌≡◌, codes, map, None, option_map, string_bytes, if◌then◌else◌};
 ghost use Rattle.std.specs.Str.{bytes_eq};
-ghost use Rattle.pec_export.specs.Exports.{asks_ldif};
+ghost use Rattle.pec_dossier.specs.Checks.{asks_check};
+ghost use Rattle.pec_dossier.specs.Exports.{asks_ldif};
 ghost use Rattle.pec_runs.specs.Openings.{form_in};
 ghost use Rattle.pec_service.specs.Runs.{number_wanted, wanted_in};
-ghost use Rattle.pec_top.specs.Shown.{form_named, form_shown};
+ghost use Rattle.pec_top.specs.Shown.{form_named, form_shown, task_shown, way_of};
+ghost use Rattle.pec_top.specs.Tasks.{task_in};
 
+use pec_serving::Form as Way;
 use pec_words::number_below;
 
 /// How many connections may be asked for.
 const MOST_CONNECTIONS: u64 = 1_000_000;
+
+/// What the words ask of the program.
+#[derive(Clone, Copy, Debug, PartialEq, Eq)]
+pub(crate) enum Task {
+    /// To play a script.
+    Play(Form),
+    /// To serve so many connections.
+    Serve(u32),
+    /// To write its directory as LDIF.
+    Export,
+    /// To check a dossier of saved letters.
+    Check,
+    /// The words are none of the program's forms.
+    NoForm,
+}
+
+impl Task {
+    pub(crate) fn of(words: &[String]) -> Task
+        ensures { task_shown result ≡ task_in (map string_bytes words.now) }
+    {
+        if asks_ldif(words) {
+            return Task::Export;
+        }
+        if asks_check(words) {
+            return Task::Check;
+        }
+        if let Some(wanted) = wanted(words) {
+            return Task::Serve(wanted);
+        }
+        match Form::of(words) {
+            Some(form) => Task::Play(form),
+            None => Task::NoForm,
+        }
+    }
+}
 
 /// The forms of the program that play a script.
 #[derive(Clone, Copy, Debug, PartialEq, Eq)]
@@ -21,12 +59,22 @@ pub(crate) enum Form {
 
 impl Form {
     /// The form that the words are.
-    pub(crate) fn of(words: &[String]) -> Option<Form>
+    fn of(words: &[String]) -> Option<Form>
         ensures { option_map form_shown result ≡ form_in (map string_bytes words.now) }
     {
         match words {
             [word] => named(word.as_str()),
             _ => None,
+        }
+    }
+
+    /// How a network begins in this form.
+    pub(crate) fn way(self) -> Way
+        ensures { result ≡ way_of self }
+    {
+        match self {
+            Form::Run => Way::Make,
+            Form::Resume => Way::Open,
         }
     }
 }
@@ -45,7 +93,7 @@ fn named(word: &str) -> Option<Form>
 }
 
 /// Whether the words ask for the directory as LDIF: `ldif`.
-pub(crate) fn asks_ldif(words: &[String]) -> bool
+fn asks_ldif(words: &[String]) -> bool
     ensures { result ≡ asks_ldif (map string_bytes words.now) }
 {
     match words {
@@ -54,8 +102,18 @@ pub(crate) fn asks_ldif(words: &[String]) -> bool
     }
 }
 
+/// Whether the words ask for a dossier to be checked: `check`.
+fn asks_check(words: &[String]) -> bool
+    ensures { result ≡ asks_check (map string_bytes words.now) }
+{
+    match words {
+        [word] => word.as_str() == "check",
+        _ => false,
+    }
+}
+
 /// How many connections the words ask for, where they are `serve N`.
-pub(crate) fn wanted(words: &[String]) -> Option<u32>
+fn wanted(words: &[String]) -> Option<u32>
     ensures { result ≡ wanted_in (map string_bytes words.now) }
 {
     match words {

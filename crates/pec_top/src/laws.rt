@@ -5,6 +5,7 @@ ghost use Rattle.pec_serving.specs.OfNetworks.{IsOfDirectory};
 ghost use Rattle.pec_screen.specs.Screened.{Finds};
 ghost use Rattle.pec_top.specs.LoopLaws.{LoopLaws};
 
+pub use pec_dossier::no_conflict;
 use pec_input::lines_are_the_text;
 use pec_outside::{Depot, Disk};
 use pec_runs::{acts_are_joined, an_act_is_done, lines_are_climbed};
@@ -26,7 +27,7 @@ pub(crate) fn a_disk_reads_as_an_image<D: Disk>()
 /// What is said of a loop over the lines of a script, in every world.
 pub(crate) fn a_loop_climbs<P: Depot>()
     ensures { (trade : Trade) (finds : Finds) (providers : List Provider)
-        → LoopLaws P.D (P.tells × P.D.tells) trade finds providers }
+        → LoopLaws P.D (P.tells × P.D.tells) P.D.sight trade finds providers }
 {
     lines_are_the_text();
     acts_are_joined::<P>();

@@ -2,13 +2,14 @@
 //! journals that are left.
 #![tactic(auto)]
 
-mod beginning;
+mod checking;
 mod ending;
 mod exporting;
 mod forms;
 mod hosting;
 mod input;
-mod laws;
+pub mod laws;
+mod opening;
 mod run;
 mod said;
 mod script;

@@ -1,62 +1,54 @@
-ghost use Rattle.std.specs.Prelude.{◌≡◌, ◌≢◌, ℕ, ◌<◌, ◌≤◌, List, Some, None, length, map, string_bytes, IfOk};
+ghost use Rattle.std.specs.Prelude.{◌≡◌, ◌≢◌, ℕ, ◌<◌, ◌≤◌, List, Some, None, length, map, IfOk};
 ghost use Rattle.std.specs.Prelude.{IfErr, OnErr, IsErrOf, Option};
 ghost use Rattle.pec_types.specs.Bytes.{Bytes};
 ghost use Rattle.pec_outside.specs.Flow.{behind, followed_by, HasRisen, WrotePart};
 ghost use Rattle.pec_directory.specs.Directory.{providers_of};
 ghost use Rattle.pec_input.specs.Finding.{IsAtEnd};
-ghost use Rattle.pec_runs.specs.Openings.{disks_at, form_in};
+ghost use Rattle.pec_runs.specs.Openings.{form_in};
 ghost use Rattle.pec_screen.specs.Screened.{finds_in};
-ghost use Rattle.pec_top.specs.Blaming.{BlamesDevices, BlamesDisks};
+ghost use Rattle.pec_top.specs.Blaming.{BlamesDevices, DisksGo};
 ghost use Rattle.pec_top.specs.Inputs.{IsTaken};
-ghost use Rattle.pec_top.specs.Running.{AreHomeAgain, RanSo};
+ghost use Rattle.pec_top.specs.Running.{AreHomeAgain, RanSoOver};
 ghost use Rattle.pec_top.specs.Shown.{form_shown, result_shown};
 
-use crate::beginning::{begin, end_at_start};
 use crate::ending::{End, Stop};
 use crate::forms::Form;
 use crate::input::Input;
-use crate::laws::{a_disk_reads_as_an_image, a_network_is_whole};
+use crate::laws::a_network_is_whole;
+use crate::opening::{Journals, end_refused, open};
 use crate::script::play_script;
 use pec_directory::Directory;
 use pec_input::Buffer;
 use pec_outside::{Depot, Disk, Sink, Source, write_all};
 use pec_screen::Judge;
-use pec_seal::{HmacSealer, Sealer};
-use pec_serving::{a_trade_says_what_its_parts_say, sealer_of, the_texts_are_a_trade};
 use std::alloc::Global;
+use std::thread::Threads;
 
-/// Runs the program on its words, its input and the disks of a depot.
-pub(crate) fn run_words<S: Source, W: Sink, P: Depot, J: Judge>(
+/// Runs the program in a form that plays a script, on its input and the disks of a depot.
+pub(crate) fn run_form<X: Threads + Sync, S: Source, W: Sink, P: Depot, J: Judge>(
+    rt: &X,
     alloc: Global,
-    words: &[String],
+    form: Form,
     input: &mut S,
     out: &mut W,
     depot: &mut P,
     screens: &mut [J],
 ) -> Result<End, Stop>
-    ensures ran { RanSo
-        (record { words = map string_bytes words.now; finds = finds_in (map J.patterns screens.old) })
-        (result_shown result) (S.left input.old)
-        (W.held out.old) (W.held out.new) (P.tells × P.D.tells)
-        (disks_at (P.tells × P.D.tells) P.D.sight (P.home depot.old))
-        (disks_at (P.tells × P.D.tells) P.D.sight (P.home depot.new)) (P.last depot.old) (P.last depot.new) }
-    ensures unread { form_in (map string_bytes words.now) ≡ None → input.new ≡ input.old }
+    ensures ran { (words : List Bytes) → form_in words ≡ Some (form_shown form)
+        → RanSoOver (P.tells × P.D.tells) P.D.sight
+        (record { words = words; finds = finds_in (map J.patterns screens.old) }) (result_shown result) (S.left input.old)
+        (W.held out.old) (W.held out.new) (P.home depot.old) (P.home depot.new) (P.last depot.old) (P.last depot.new) }
     ensures all_read { IfOk result (λ end. end ≡ End.Done → IsAtEnd (S.left input.new)) }
     ensures blame { BlamesDevices result (S.faults input.old) (S.faults input.new)
         (W.faults out.old) (W.faults out.new) }
-    ensures start { BlamesDisks result (P.faults depot.old) (P.faults depot.new)
-        (P.last depot.old) (P.last depot.new) }
-    ensures depot_later { P.faults depot.old ≤ P.faults depot.new }
-    ensures last_later { (provider : ℕ) → P.last depot.old provider ≤ P.last depot.new provider }
+    ensures disks { DisksGo result (P.faults depot.old) (P.faults depot.new) (P.last depot.old) (P.last depot.new) }
     ensures home { P.tells → AreHomeAgain (P.home depot.old) (P.home depot.new) }
 {
-    let Some(form) = Form::of(words) else {
-        return write_last(out, b"usage\n", End::Usage);
-    };
     let mut buffer = Buffer::new(alloc);
     match Input::read(alloc, input, &mut buffer)? {
         Input::Opens(directory) => {
             run_opened(
+                rt,
                 alloc,
                 form,
                 directory,
@@ -72,7 +64,8 @@ pub(crate) fn run_words<S: Source, W: Sink, P: Depot, J: Judge>(
 }
 
 /// Begins the network of a directory, plays the script that is left, and keeps its disks in the depot again.
-fn run_opened<S: Source, W: Sink, P: Depot, J: Judge>(
+fn run_opened<X: Threads + Sync, S: Source, W: Sink, P: Depot, J: Judge>(
+    rt: &X,
     alloc: Global,
     form: Form,
     directory: Directory,
@@ -84,36 +77,25 @@ fn run_opened<S: Source, W: Sink, P: Depot, J: Judge>(
 ) -> Result<End, Stop>
     ensures ran { (words : List Bytes) (unread : Option Bytes) → form_in words ≡ Some (form_shown form)
         → IsTaken unread (behind buffer.old (S.left source.old)) (providers_of directory)
-        → RanSo (record { words = words; finds = finds_in (map J.patterns screens.old) })
-        (result_shown result) unread
-        (W.held out.old) (W.held out.new) (P.tells × P.D.tells)
-        (disks_at (P.tells × P.D.tells) P.D.sight (P.home depot.old))
-        (disks_at (P.tells × P.D.tells) P.D.sight (P.home depot.new)) (P.last depot.old) (P.last depot.new) }
+        → RanSoOver (P.tells × P.D.tells) P.D.sight
+        (record { words = words; finds = finds_in (map J.patterns screens.old) }) (result_shown result) unread
+        (W.held out.old) (W.held out.new) (P.home depot.old) (P.home depot.new) (P.last depot.old) (P.last depot.new) }
     ensures all_read { IfOk result (λ end. end ≡ End.Done → IsAtEnd (behind buffer.new (S.left source.new))) }
     ensures blame { BlamesDevices result (S.faults source.old) (S.faults source.new)
         (W.faults out.old) (W.faults out.new) }
-    ensures start { BlamesDisks result (P.faults depot.old) (P.faults depot.new)
-        (P.last depot.old) (P.last depot.new) }
-    ensures depot_later { P.faults depot.old ≤ P.faults depot.new }
-    ensures last_later { (provider : ℕ) → P.last depot.old provider ≤ P.last depot.new provider }
+    ensures disks { DisksGo result (P.faults depot.old) (P.faults depot.new) (P.last depot.old) (P.last depot.new) }
     ensures home { P.tells → AreHomeAgain (P.home depot.old) (P.home depot.new) }
 {
-    a_trade_says_what_its_parts_say();
-    the_texts_are_a_trade::<HmacSealer>();
-    a_disk_reads_as_an_image::<P::D>();
-    // (a directory is lawful, and its zones are by its rules)
-    directory.count();
-    let sealer = sealer_of(alloc, &directory)?;
-    match begin(alloc, form, directory, sealer, depot) {
+    match open(alloc, Journals::As(form), directory, depot) {
         Ok(network) => {
             let mut network = network;
             a_network_is_whole(&network);
-            let result = play_script(alloc, &mut network, depot, screens, source, buffer, out);
+            let result = play_script(rt, alloc, &mut network, depot, screens, source, buffer, out);
             a_network_is_whole(&network);
             network.close(depot);
             result
         }
-        Err(refused) => end_at_start(alloc, &refused.1, refused.0, out),
+        Err(refusal) => end_refused(refusal, out),
     }
 }
 

@@ -19,9 +19,19 @@ use pec_screen::Judge;
 use pec_seal::Sealer;
 use pec_serving::{Network, play_and_write, what_is_kept_is_kept_on};
 use std::alloc::Global;
+use std::thread::Threads;
 
 /// Plays the lines that are left over a network. The lines of each answer are written before the next line is read.
-pub(crate) fn play_script<D: Disk, H: Sealer, P: Depot<D = D>, J: Judge, S: Source, W: Sink>(
+pub(crate) fn play_script<
+    X: Threads + Sync,
+    D: Disk + Send,
+    H: Sealer + Sync,
+    P: Depot<D = D>,
+    J: Judge,
+    S: Source,
+    W: Sink,
+>(
+    rt: &X,
     alloc: Global,
     network: &mut Network<D, H>,
     depot: &mut P,
@@ -32,7 +42,7 @@ pub(crate) fn play_script<D: Disk, H: Sealer, P: Depot<D = D>, J: Judge, S: Sour
 ) -> Result<End, Stop>
     ensures read { (P.tells × D.tells → AllStand D.sight network.old.providers) → (elsewhere : ℕ → ℕ)
         → IsRead (world_of H.seals network.old) (finds_in (map J.patterns screens.old))
-        (providers_of network.old.kept) (P.tells × D.tells)
+        (providers_of network.old.kept) (P.tells × D.tells) D.sight
         (at_first (point_of D.faults elsewhere network.old (W.held out.old) (W.faults out.old))
         (behind buffer.old (S.left source.old)))
         (point_of D.faults elsewhere network.new (W.held out.new) (W.faults out.new)) (result_shown result) }
@@ -59,7 +69,7 @@ pub(crate) fn play_script<D: Disk, H: Sealer, P: Depot<D = D>, J: Judge, S: Sour
                 continue 'lines;
             }
             Said::Command(command) => {
-                play_and_write(alloc, network, depot, screens, command, out)?;
+                play_and_write(rt, alloc, network, depot, screens, command, out)?;
                 number += 1;
             }
             Said::Last(text, end) => {

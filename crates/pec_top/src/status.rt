@@ -1,6 +1,6 @@
-ghost use Rattle.std.specs.Prelude.{◌≡◌};
+ghost use Rattle.std.specs.Prelude.{◌≡◌, Ok};
 ghost use Rattle.pec_runs.specs.Statuses.{code_of};
-ghost use Rattle.pec_top.specs.Shown.{end_shown, status_shown, stop_shown};
+ghost use Rattle.pec_top.specs.Shown.{end_shown, result_shown, status_shown, stop_shown};
 
 use crate::ending::{End, Stop};
 
@@ -54,8 +54,19 @@ impl Status {
     }
 }
 
+/// The status of a run that ended, or was stopped.
+pub(crate) fn status_of(run: Result<End, Stop>) -> Status
+    ensures shown { status_shown result ≡ result_shown run }
+    ensures done { result ≡ Status.Done → run ≡ Ok End.Done }
+{
+    match run {
+        Ok(end) => end_status(end),
+        Err(stop) => stop_status(stop),
+    }
+}
+
 /// The status of a run that ended so.
-pub(crate) fn end_status(end: End) -> Status
+fn end_status(end: End) -> Status
     ensures { status_shown result ≡ end_shown end }
 {
     match end {
@@ -69,7 +80,7 @@ pub(crate) fn end_status(end: End) -> Status
 }
 
 /// The status of a run that was stopped so.
-pub(crate) fn stop_status(stop: Stop) -> Status
+fn stop_status(stop: Stop) -> Status
     ensures { status_shown result ≡ stop_shown stop }
 {
     match stop {
@@ -77,5 +88,7 @@ pub(crate) fn stop_status(stop: Stop) -> Status
         Stop::ReadFault => Status::ReadFault,
         Stop::WriteFault => Status::WriteFault,
         Stop::StartFault => Status::StartFault,
+        Stop::ClockFault => Status::ClockFault,
+        Stop::DoorFault => Status::DoorFault,
     }
 }

@@ -265,6 +265,6 @@ fn fifth() -> &'static [Case] {
 #[test]
 fn messages_come_to_their_ends(rt: HostRuntime) {
     for cases in [first(), second(), third(), fourth(), fifth()] {
-        assert_eq!(rt; first_wrong(rt.alloc(), cases), None);
+        assert_eq!(rt; first_wrong(&rt, cases), None);
     }
 }

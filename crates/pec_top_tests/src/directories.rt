@@ -1,103 +1,33 @@
 //! Directories and messages of the tests.
 
+use crate::running::joined;
+use pec_trial::{alfa, two};
+use std::alloc::Global;
+
 /// A directory of the tests. Tables name it, and are spared its text.
 #[derive(Clone, Copy)]
 pub(crate) enum Directory {
     Alfa,
     Two,
+    /// `alfa`, `beta` and `gamma`, of gina.
     Three,
     Domains,
 }
 
 impl Directory {
-    pub(crate) fn text(self) -> &'static str {
-        match self {
-            Directory::Alfa => alfa(),
-            Directory::Two => two(),
-            Directory::Three => three(),
-            Directory::Domains => domains(),
-        }
+    pub(crate) fn text(self, alloc: Global) -> String {
+        let (front, back) = match self {
+            Directory::Alfa => (alfa(), ""),
+            Directory::Two => (two(), ""),
+            Directory::Three => (two(), gamma()),
+            Directory::Domains => (domains(), ""),
+        };
+        joined(alloc, &[front, back])
     }
 }
 
-/// The provider `alfa` with the accounts alice and anna.
-const ALFA: &str = r#"[[provider]]
-name = "alfa"
-mailReceipt = "ricevute@alfa.example"
-managedDomains = ["alfa.example"]
-key = "000102030405060708090a0b0c0d0e0f"
-zone = "CET-1CEST,M3.5.0,M10.5.0/3"
-[[provider.account]]
-address = "alice@alfa.example"
-quota = 100
-key = "chiave-alice"
-[[provider.account]]
-address = "anna@alfa.example"
-quota = 100
-key = "chiave-anna"
-"#;
-
-/// The providers `alfa`, of alice and anna, and `beta`, of bob and carl.
-const TWO: &str = r#"[[provider]]
-name = "alfa"
-mailReceipt = "ricevute@alfa.example"
-managedDomains = ["alfa.example"]
-key = "000102030405060708090a0b0c0d0e0f"
-zone = "CET-1CEST,M3.5.0,M10.5.0/3"
-[[provider.account]]
-address = "alice@alfa.example"
-quota = 100
-key = "chiave-alice"
-[[provider.account]]
-address = "anna@alfa.example"
-quota = 100
-key = "chiave-anna"
-[[provider]]
-name = "beta"
-mailReceipt = "ricevute@beta.example"
-managedDomains = ["beta.example"]
-key = "101112131415161718191a1b1c1d1e1f"
-zone = "CET-1CEST,M3.5.0,M10.5.0/3"
-[[provider.account]]
-address = "bob@beta.example"
-quota = 100
-key = "chiave-bob"
-[[provider.account]]
-address = "carl@beta.example"
-quota = 1
-key = "chiave-carl"
-"#;
-
-/// The providers `alfa`, of alice and anna, `beta`, of bob and carl, and `gamma`, of gina.
-const THREE: &str = r#"[[provider]]
-name = "alfa"
-mailReceipt = "ricevute@alfa.example"
-managedDomains = ["alfa.example"]
-key = "000102030405060708090a0b0c0d0e0f"
-zone = "CET-1CEST,M3.5.0,M10.5.0/3"
-[[provider.account]]
-address = "alice@alfa.example"
-quota = 100
-key = "chiave-alice"
-[[provider.account]]
-address = "anna@alfa.example"
-quota = 100
-key = "chiave-anna"
-[[provider]]
-name = "beta"
-mailReceipt = "ricevute@beta.example"
-managedDomains = ["beta.example"]
-key = "101112131415161718191a1b1c1d1e1f"
-zone = "CET-1CEST,M3.5.0,M10.5.0/3"
-[[provider.account]]
-address = "bob@beta.example"
-quota = 100
-key = "chiave-bob"
-[[provider.account]]
-address = "carl@beta.example"
-quota = 1
-key = "chiave-carl"
-[[provider]]
+/// The provider `gamma`, of gina.
+const GAMMA: &str = r#"[[provider]]
 name = "gamma"
 mailReceipt = "ricevute@gamma.example"
 managedDomains = ["gamma.example"]
@@ -156,16 +86,8 @@ fn messages() -> &'static [(&'static str, &'static str)] {
     &MESSAGES
 }
 
-fn alfa() -> &'static str {
-    ALFA
-}
-
-fn two() -> &'static str {
-    TWO
-}
-
-fn three() -> &'static str {
-    THREE
+fn gamma() -> &'static str {
+    GAMMA
 }
 
 fn domains() -> &'static str {

@@ -2,74 +2,18 @@
 
 use crate::directories::Directory;
 use crate::running::{
-    Case, Ran, Run, depot_failing, first_wrong, joined, played, played_afresh, written_out,
+    Case, Run, System, depot_failing, first_wrong, joined, played, played_afresh, written_out,
 };
-use pec_outside::MemDepot;
 use pec_top::Status;
-use std::alloc::Global;
-
-const BEGINNING: &str =
-    "submit alfa 1704186000 alice@alfa.example anna@alfa.example {M1}\nrestart alfa\n\
-round 1704186001\nround 1704186002\nround 1704186003\nround 1704186004\nround 1704186005\n";
-
-const ROUNDS: &str =
-    "restart alfa\nround 1704186001\nround 1704186002\nround 1704186003\nround 1704186004\nround 1704186005\n";
-
-const BOXES: &str = "mailbox alice@alfa.example\nmailbox anna@alfa.example\n";
-
-const DELIVERED: &str =
-    "0 acceptance I0 -\n1 delivery I0 anna@alfa.example\nmailbox 2\n0 envelope I0 -\nmailbox 1\n";
-
-const NOTHING: &[u8] = b"mailbox 0\nmailbox 0\n";
-
-/// Runs the program in this form over disks of alfa.
-fn alfa_played(alloc: Global, depot: &mut MemDepot, form: &str, script: &str) -> Ran {
-    played(alloc, depot, Directory::Alfa.text(), form, script)
-}
-
-/// Whether further rounds end well, at the second time where the fault came only as the journal was opened.
-fn ends_well(alloc: Global, depot: &mut MemDepot) -> bool {
-    match alfa_played(alloc, depot, "resume", ROUNDS).status {
-        Status::Done => true,
-        Status::StartFault => alfa_played(alloc, depot, "resume", ROUNDS).status == Status::Done,
-        _ => false,
-    }
-}
-
-/// Whether the mailboxes hold the message once, or nothing where it wasn't accepted.
-fn is_held_once(alloc: Global, depot: &mut MemDepot, accepted: bool) -> bool {
-    let delivered = written_out(alloc, DELIVERED);
-    let boxes = alfa_played(alloc, depot, "resume", BOXES);
-    boxes.text.as_slice() == delivered.as_bytes() || (!accepted && boxes.text.as_slice() == NOTHING)
-}
-
-/// Whether a run that a fault of alfa's disk may end or hold up, and further runs over its disks, deliver the message
-/// once or not at all: not at all only where it wasn't accepted. Where the run doesn't begin it writes nothing.
-fn is_delivered_once(alloc: Global, call: u64) -> bool {
-    let mut depot = depot_failing(alloc, &[(0, call)]);
-    let first = alfa_played(alloc, &mut depot, "run", BEGINNING);
-    if first.status == Status::StartFault {
-        first.text.is_empty()
-    } else {
-        ends_well(alloc, &mut depot)
-            && is_held_once(alloc, &mut depot, first.text.starts_with(b"accepted"))
-    }
-}
-
-#[test]
-fn a_fault_of_a_disk_loses_no_receipt_and_doubles_none(rt: HostRuntime) {
-    for call in 0..40u64 {
-        assert!(rt; is_delivered_once(rt.alloc(), call), "call {call}");
-    }
-}
+use pec_trial::{alfa, two};
 
 /// Whether the last lines write these books, where each piece of the script is run over the disks that the one before left.
-fn comes_cut_up(alloc: Global, lines: &[&str], books: &[u8]) -> bool {
-    let mut depot = depot_failing(alloc, &[]);
+fn comes_cut_up(rt: &impl System, lines: &[&str], books: &[u8]) -> bool {
+    let mut depot = depot_failing(rt.alloc(), &[]);
     let mut form = "run";
     let mut right = false;
     for line in lines {
-        let last = played(alloc, &mut depot, Directory::Two.text(), form, line);
+        let last = played(rt, &mut depot, two(), form, line);
         right = last.text.as_slice() == books;
         form = "resume";
     }
@@ -77,9 +21,9 @@ fn comes_cut_up(alloc: Global, lines: &[&str], books: &[u8]) -> bool {
 }
 
 /// Whether they do, where all pieces are one run.
-fn comes_at_once(alloc: Global, lines: &[&str], books: &[u8]) -> bool {
-    let script = joined(alloc, lines);
-    let ran = played_afresh(alloc, Directory::Two.text(), script.as_str());
+fn comes_at_once(rt: &impl System, lines: &[&str], books: &[u8]) -> bool {
+    let script = joined(rt.alloc(), lines);
+    let ran = played_afresh(rt, two(), script.as_str());
     ran.text.ends_with(books)
 }
 
@@ -118,13 +62,12 @@ fn settled() -> &'static [&'static str] {
 /// A script in one run and the same script cut into ten runs end with the same books and mailboxes.
 #[test]
 fn a_script_may_be_cut_into_runs(rt: HostRuntime) {
-    assert!(rt; is_the_same_cut_up(rt.alloc()));
+    assert!(rt; is_the_same_cut_up(&rt));
 }
 
-fn is_the_same_cut_up(alloc: Global) -> bool {
-    let books = written_out(alloc, SETTLED_BOOKS);
-    comes_at_once(alloc, settled(), books.as_bytes())
-        && comes_cut_up(alloc, settled(), books.as_bytes())
+fn is_the_same_cut_up(rt: &impl System) -> bool {
+    let books = written_out(rt.alloc(), SETTLED_BOOKS);
+    comes_at_once(rt, settled(), books.as_bytes()) && comes_cut_up(rt, settled(), books.as_bytes())
 }
 
 // A journal is made by three calls of its disk, and an entry is appended by four. So those of a provider's first four
@@ -306,22 +249,22 @@ fn third() -> &'static [Case] {
 #[test]
 fn runs_go_on_where_others_left(rt: HostRuntime) {
     for cases in [first(), second(), third()] {
-        assert_eq!(rt; first_wrong(rt.alloc(), cases), None);
+        assert_eq!(rt; first_wrong(&rt, cases), None);
     }
 }
 
 /// Over journals that another directory made, the two digests are told, each in 64 hexadecimal digits.
 #[test]
 fn a_journal_of_another_directory_is_not_opened(rt: HostRuntime) {
-    assert!(rt; is_refused_under_another(rt.alloc()));
+    assert!(rt; is_refused_under_another(&rt));
 }
 
 /// Whether a run under the directory of alfa alone is refused so over disks on which a run under that of two made
 /// journals.
-fn is_refused_under_another(alloc: Global) -> bool {
-    let mut depot = depot_failing(alloc, &[]);
-    let first = played(alloc, &mut depot, Directory::Two.text(), "run", "");
-    let again = alfa_played(alloc, &mut depot, "resume", "");
+fn is_refused_under_another(rt: &impl System) -> bool {
+    let mut depot = depot_failing(rt.alloc(), &[]);
+    let first = played(rt, &mut depot, two(), "run", "");
+    let again = played(rt, &mut depot, alfa(), "resume", "");
     first.status == Status::Done
         && again.status == Status::NotFit
         && again.text.starts_with(b"not-fit alfa directory ")

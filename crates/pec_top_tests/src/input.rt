@@ -1,19 +1,20 @@
-//! Words, directories, pieces, limits and devices of a run, over memory.
+//! Words, directories, ends of lines and limits of a run, over memory.
 
-use crate::directories::Directory;
-use crate::running::{Given, Ran, copied, input_of, played_afresh, put, ran_afresh};
+use crate::running::{Given, System, copied, input_of, played_afresh, put, ran_afresh};
 use pec_top::Status;
+use pec_trial::{alfa, two};
 use std::alloc::Global;
 
 const FIRST: &str =
     "submit alfa 1704186000 alice@alfa.example anna@alfa.example {M1}\nbook alice@alfa.example\n";
 
-const FIRST_OUTPUT: &[u8] = b"accepted pec.0000000@alfa.example\n\
+/// What is written for the first script.
+pub(crate) const FIRST_OUTPUT: &[u8] = b"accepted pec.0000000@alfa.example\n\
 pec.0000000@alfa.example anna@alfa.example primary 1704186000 - - - open\nbook 1\n";
 
 /// The input of the first script, behind the directory of alfa.
-fn first_input(alloc: Global) -> Vec<u8> {
-    input_of(alloc, Directory::Alfa.text(), FIRST)
+pub(crate) fn first_input(alloc: Global) -> Vec<u8> {
+    input_of(alloc, alfa(), FIRST)
 }
 
 fn first_output() -> &'static [u8] {
@@ -22,7 +23,7 @@ fn first_output() -> &'static [u8] {
 
 /// Whether a run over empty disks on these words and this input, in pieces of so many bytes, writes this and ends so.
 fn comes(
-    alloc: Global,
+    rt: &impl System,
     words: &[&str],
     input: &[u8],
     piece: usize,
@@ -33,7 +34,7 @@ fn comes(
         piece,
         ..Given::of(words, input)
     };
-    ran_afresh(alloc, &given).is(output, status)
+    ran_afresh(rt, &given).is(output, status)
 }
 
 /// Words that are no form of the program.
@@ -75,19 +76,25 @@ fn long_inputs() -> &'static [Long] {
 /// Whatever stands in the input, and whether it can be read or not.
 #[test]
 fn other_words_are_answered_with_the_usage(rt: HostRuntime) {
-    for words in wrong_words() {
-        assert!(rt; is_usage(rt.alloc(), words));
-    }
+    assert!(rt; are_usages(&rt));
 }
 
-fn is_usage(alloc: Global, words: &[&str]) -> bool {
-    let input = first_input(alloc);
+fn are_usages(rt: &impl System) -> bool {
+    let mut right = true;
+    for words in wrong_words() {
+        right = is_usage(rt, words) && right;
+    }
+    right
+}
+
+fn is_usage(rt: &impl System, words: &[&str]) -> bool {
+    let input = first_input(rt.alloc());
     let given = Given {
         piece: 7,
         reads: &[0],
         ..Given::of(words, &input)
     };
-    ran_afresh(alloc, &given).is(b"usage\n", Status::Usage)
+    ran_afresh(rt, &given).is(b"usage\n", Status::Usage)
 }
 
 /// Words, an input, and what is written for them.
@@ -128,33 +135,15 @@ static BEGUN: [Begun; 4] = [
 
 #[test]
 fn words_and_directories_come_first(rt: HostRuntime) {
-    for begun in inputs() {
-        assert!(rt;
-            comes(
-                rt.alloc(),
-                begun.words,
-                begun.input,
-                7,
-                begun.output,
-                begun.status
-            )
-        );
-    }
+    assert!(rt; are_begun(&rt));
 }
 
-#[test]
-fn an_input_without_a_mark_has_no_script(rt: HostRuntime) {
-    let input = Directory::Alfa.text().as_bytes();
-    assert!(rt;
-        comes(
-            rt.alloc(),
-            &["run"],
-            input,
-            7,
-            b"refused no-script\n",
-            Status::Refused
-        )
-    );
+fn are_begun(rt: &impl System) -> bool {
+    let mut right = true;
+    for begun in inputs() {
+        right = comes(rt, begun.words, begun.input, 7, begun.output, begun.status) && right;
+    }
+    right
 }
 
 /// Each row has a text of the directory, what stands there instead, and the fault of that.
@@ -223,35 +212,35 @@ static FAULTS: [(&str, &str, &[u8]); 12] = [
 
 #[test]
 fn a_directory_is_refused_for_its_first_fault(rt: HostRuntime) {
+    assert!(rt; are_refused(&rt));
+}
+
+fn are_refused(rt: &impl System) -> bool {
+    let mut right = true;
     for (there, instead, output) in faults() {
-        assert!(rt; is_refused(rt.alloc(), there, instead, output), "{instead}");
+        right = is_refused(rt, there, instead, output) && right;
     }
+    right
 }
 
 /// Whether a run under the directory of two, where another text stands in place of one, is refused so.
-fn is_refused(alloc: Global, there: &str, instead: &str, output: &[u8]) -> bool {
-    let directory = Directory::Two
-        .text()
+fn is_refused(rt: &impl System, there: &str, instead: &str, output: &[u8]) -> bool {
+    let alloc = rt.alloc();
+    let directory = two()
         .replacen(alloc, there, instead, 1)
         .unwrap_or(String::new(alloc));
-    played_afresh(alloc, directory.as_str(), "").is(output, Status::Refused)
+    played_afresh(rt, directory.as_str(), "").is(output, Status::Refused)
 }
 
-/// An input may come in pieces of one byte, and its lines may end with a carriage return.
+/// Lines may end with a carriage return.
 #[test]
-fn pieces_and_ends_are_taken_as_they_come(rt: HostRuntime) {
-    assert!(rt; is_taken_by_bytes(rt.alloc()));
-    assert!(rt; is_taken_with_returns(rt.alloc()));
+fn ends_are_taken_as_they_come(rt: HostRuntime) {
+    assert!(rt; is_taken_with_returns(&rt));
 }
 
-fn is_taken_by_bytes(alloc: Global) -> bool {
-    let input = first_input(alloc);
-    comes(alloc, &["run"], &input, 1, first_output(), Status::Done)
-}
-
-fn is_taken_with_returns(alloc: Global) -> bool {
-    let input = with_returns(alloc, &first_input(alloc));
-    comes(alloc, &["run"], &input, 1000, first_output(), Status::Done)
+fn is_taken_with_returns(rt: &impl System) -> bool {
+    let input = with_returns(rt.alloc(), &first_input(rt.alloc()));
+    comes(rt, &["run"], &input, 1000, first_output(), Status::Done)
 }
 
 /// The bytes with a carriage return before each line feed.
@@ -264,73 +253,6 @@ fn with_returns(alloc: Global, input: &[u8]) -> Vec<u8> {
         put(&mut ended, &[*b]);
     }
     ended
-}
-
-/// Wherever an input is cut it writes a front, or what the cut line says. Every seventh cut is enough to meet each kind
-/// of place.
-#[test]
-fn cuts_are_taken_as_they_come(rt: HostRuntime) {
-    assert_eq!(rt; first_wrong_cut(rt.alloc()), None);
-}
-
-fn first_wrong_cut(alloc: Global) -> Option<usize> {
-    let input = first_input(alloc);
-    let mut wrong = None;
-    for cut in 0..input.len() {
-        if cut % 7 == 0 && wrong.is_none() && !is_front_of_first(alloc, &input[..cut]) {
-            wrong = Some(cut);
-        }
-    }
-    wrong
-}
-
-fn is_front_of_first(alloc: Global, input: &[u8]) -> bool {
-    let given = Given {
-        piece: 64,
-        ..Given::of(&["run"], input)
-    };
-    is_front(&ran_afresh(alloc, &given))
-}
-
-/// A cut inside the last word of a line leaves less of a message, or the address of nobody.
-fn is_front(ran: &Ran) -> bool {
-    ran.status == Status::Refused
-        || first_output().starts_with(&ran.text)
-        || ran.text.ends_with(b"no-account\n")
-        || ran.text.as_slice() == b"not-accepted pec.0000000@alfa.example head\n".as_slice()
-}
-
-#[test]
-fn each_read_can_fail(rt: HostRuntime) {
-    for call in 0..6u64 {
-        assert!(rt;
-            is_stopped(rt.alloc(), &[call], &[], Status::ReadFault),
-            "read {call}"
-        );
-    }
-}
-
-#[test]
-fn each_write_can_fail(rt: HostRuntime) {
-    for call in 0..2u64 {
-        assert!(rt;
-            is_stopped(rt.alloc(), &[], &[call], Status::WriteFault),
-            "write {call}"
-        );
-    }
-}
-
-/// Whether a run where these reads and writes fail ends so, and writes a front.
-fn is_stopped(alloc: Global, reads: &[u64], writes: &[u64], status: Status) -> bool {
-    let input = first_input(alloc);
-    let given = Given {
-        piece: 60,
-        reads,
-        writes,
-        ..Given::of(&["run"], &input)
-    };
-    let ran = ran_afresh(alloc, &given);
-    ran.status == status && first_output().starts_with(&ran.text)
 }
 
 /// So many times a byte between two texts, and what is written for that.
@@ -396,17 +318,18 @@ static LONG: [Long; 6] = [
 ];
 
 /// Whether an input so long comes as it says: behind `%%` stand the directory of alfa and the mark.
-fn is_limited(alloc: Global, long: &Long) -> bool {
+fn is_limited(rt: &impl System, long: &Long) -> bool {
+    let alloc = rt.alloc();
     let mut input = front_of(alloc, long.front);
     let middle = vec![in alloc; long.byte; long.count].unwrap_or(Vec::new(alloc));
     put(&mut input, &middle);
     put(&mut input, long.back);
-    comes(alloc, &["run"], &input, 1_000_000, long.output, long.status)
+    comes(rt, &["run"], &input, 1_000_000, long.output, long.status)
 }
 
 fn front_of(alloc: Global, front: &str) -> Vec<u8> {
     if front == "%%" {
-        input_of(alloc, Directory::Alfa.text(), "")
+        input_of(alloc, alfa(), "")
     } else {
         copied(alloc, front.as_bytes())
     }
@@ -414,7 +337,13 @@ fn front_of(alloc: Global, front: &str) -> Vec<u8> {
 
 #[test]
 fn the_limits_of_an_input_are_kept(rt: HostRuntime) {
+    assert!(rt; are_limited(&rt));
+}
+
+fn are_limited(rt: &impl System) -> bool {
+    let mut right = true;
     for long in long_inputs() {
-        assert!(rt; is_limited(rt.alloc(), long));
+        right = is_limited(rt, long) && right;
     }
+    right
 }

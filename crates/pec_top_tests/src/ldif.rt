@@ -1,9 +1,8 @@
 //! Directories in LDIF: what the form `ldif` writes, and what all forms make of such a text. Worked out by hand.
 
-use crate::directories::Directory;
-use crate::running::{Given, Ran, depot_failing, lines_of, played, ran_afresh};
+use crate::running::{Given, Ran, System, depot_failing, lines_of, played, ran_afresh};
 use pec_top::Status;
-use std::alloc::Global;
+use pec_trial::{alfa, two};
 
 /// The directory of alfa.
 const ALFA: &str = "version: 1
@@ -153,30 +152,36 @@ fn export() -> &'static str {
 }
 
 /// A run on these words over empty disks, where these reads and writes fail.
-fn ran(alloc: Global, words: &[&str], input: &[u8], reads: &[u64], writes: &[u64]) -> Ran {
+fn ran(rt: &impl System, words: &[&str], input: &[u8], reads: &[u64], writes: &[u64]) -> Ran {
     let given = Given {
         piece: 100,
         reads,
         writes,
         ..Given::of(words, input)
     };
-    ran_afresh(alloc, &given)
+    ran_afresh(rt, &given)
 }
 
 /// Whether this is written, and the status is this.
-fn is_written(alloc: Global, words: &[&str], input: &[u8], output: &[u8], status: Status) -> bool {
-    ran(alloc, words, input, &[], &[]).is(output, status)
+fn is_written(
+    rt: &impl System,
+    words: &[&str],
+    input: &[u8],
+    output: &[u8],
+    status: Status,
+) -> bool {
+    ran(rt, words, input, &[], &[]).is(output, status)
 }
 
 /// Whether the form `ldif` writes this directory.
-fn is_export(alloc: Global, input: &[u8], output: &[u8]) -> bool {
-    is_written(alloc, &["ldif"], input, output, Status::Done)
+fn is_export(rt: &impl System, input: &[u8], output: &[u8]) -> bool {
+    is_written(rt, &["ldif"], input, output, Status::Done)
 }
 
 /// The place of the first row that doesn't come as it says.
-fn first_other(alloc: Global) -> Option<usize> {
+fn first_other(rt: &impl System) -> Option<usize> {
     for (place, row) in rows().iter().enumerate() {
-        if !is_written(alloc, row.0, row.1, row.2.as_bytes(), row.3) {
+        if !is_written(rt, row.0, row.1, row.2.as_bytes(), row.3) {
             return Some(place);
         }
     }
@@ -185,59 +190,60 @@ fn first_other(alloc: Global) -> Option<usize> {
 
 #[test]
 fn a_directory_is_ldif_by_its_first_line(rt: HostRuntime) {
-    assert_eq!(rt; first_other(rt.alloc()), None);
+    assert_eq!(rt; first_other(&rt), None);
 }
 
 #[test]
 fn a_directory_is_written_in_ldif(rt: HostRuntime) {
     let wanted = alfa_in_ldif().as_bytes();
-    assert!(rt; is_export(rt.alloc(), Directory::Alfa.text().as_bytes(), wanted));
-    assert!(rt; is_export(rt.alloc(), wanted, wanted));
+    assert!(rt; is_export(&rt, alfa().as_bytes(), wanted));
+    assert!(rt; is_export(&rt, wanted, wanted));
 }
 
 #[test]
 fn what_may_not_stand_plain_is_written_in_base64(rt: HostRuntime) {
-    assert!(rt; is_coded(rt.alloc(), "<chiave", "pecKey:: PGNoaWF2ZQ=="));
-    assert!(rt; is_coded(rt.alloc(), ":chiave", "pecKey:: OmNoaWF2ZQ=="));
+    assert!(rt; is_coded(&rt, "<chiave", "pecKey:: PGNoaWF2ZQ=="));
+    assert!(rt; is_coded(&rt, ":chiave", "pecKey:: OmNoaWF2ZQ=="));
 }
 
 /// Whether the line of alice's key is this where her key is another one, and is read as that key.
-fn is_coded(alloc: Global, key: &str, line: &str) -> bool {
-    let directory = Directory::Alfa
-        .text()
+fn is_coded(rt: &impl System, key: &str, line: &str) -> bool {
+    let alloc = rt.alloc();
+    let directory = alfa()
         .replacen(alloc, "chiave-alice", key, 1)
         .unwrap_or(String::new(alloc));
     let wanted = alfa_in_ldif()
         .replacen(alloc, "pecKey: chiave-alice", line, 1)
         .unwrap_or(String::new(alloc));
-    is_export(alloc, directory.as_bytes(), wanted.as_bytes())
-        && is_export(alloc, wanted.as_bytes(), wanted.as_bytes())
+    is_export(rt, directory.as_bytes(), wanted.as_bytes())
+        && is_export(rt, wanted.as_bytes(), wanted.as_bytes())
 }
 
 /// What a registry hands out is read as the same directory as that in TOML.
 #[test]
 fn an_export_is_read(rt: HostRuntime) {
-    assert!(rt; is_two(rt.alloc()));
+    assert!(rt; is_two(&rt));
 }
 
-fn is_two(alloc: Global) -> bool {
-    let export = lines_of(alloc, export());
-    let wanted = ran(alloc, &["ldif"], Directory::Two.text().as_bytes(), &[], &[]);
-    is_export(alloc, export.as_bytes(), &wanted.text)
+fn is_two(rt: &impl System) -> bool {
+    let export = lines_of(rt.alloc(), export());
+    let wanted = ran(rt, &["ldif"], two().as_bytes(), &[], &[]);
+    is_export(rt, export.as_bytes(), &wanted.text)
 }
 
 /// The journal of a directory in TOML is that of the same in LDIF.
 #[test]
 fn a_run_resumes_with_the_directory_in_ldif(rt: HostRuntime) {
-    assert!(rt; is_resumed(rt.alloc()));
+    assert!(rt; is_resumed(&rt));
 }
 
-fn is_resumed(alloc: Global) -> bool {
+fn is_resumed(rt: &impl System) -> bool {
+    let alloc = rt.alloc();
     let mut depot = depot_failing(alloc, &[]);
     let script = "submit alfa 1704186000 alice@alfa.example anna@alfa.example {M1}\n";
-    played(alloc, &mut depot, Directory::Alfa.text(), "run", script);
+    played(rt, &mut depot, alfa(), "run", script);
     let book = "book alice@alfa.example\n";
-    let ran = played(alloc, &mut depot, alfa_in_ldif(), "resume", book);
+    let ran = played(rt, &mut depot, alfa_in_ldif(), "resume", book);
     let wanted = "I0 anna@alfa.example primary 1704186000 - - - open\nbook 1\n";
     ran.writes(alloc, wanted, Status::Done)
 }
@@ -246,43 +252,47 @@ fn is_resumed(alloc: Global) -> bool {
 #[test]
 fn a_service_reads_ldif(rt: HostRuntime) {
     let refused = b"refused directory ldif no-dn 11\n";
-    assert!(rt; is_served(rt.alloc(), "version: 1\ncn: x\n", refused, Status::Refused));
-    assert!(rt; is_served(rt.alloc(), alfa_in_ldif(), b"", Status::DoorFault));
+    assert!(rt; is_served(&rt, "version: 1\ncn: x\n", refused, Status::Refused));
+    assert!(rt; is_served(&rt, alfa_in_ldif(), b"", Status::DoorFault));
 }
 
 /// Whether a run that waits for a connection, at a door at which none comes, writes this and ends so.
-fn is_served(alloc: Global, directory: &str, output: &[u8], status: Status) -> bool {
+fn is_served(rt: &impl System, directory: &str, output: &[u8], status: Status) -> bool {
     let given = Given::of(&["serve", "1"], directory.as_bytes());
-    ran_afresh(alloc, &given).is(output, status)
+    ran_afresh(rt, &given).is(output, status)
 }
 
 #[test]
 fn devices_fail(rt: HostRuntime) {
+    assert!(rt; reads_fail(&rt));
+    assert!(rt; is_stopped(&rt, &[], &[0], Status::WriteFault));
+}
+
+fn reads_fail(rt: &impl System) -> bool {
+    let mut right = true;
     for call in 0..6u64 {
-        assert!(rt;
-            is_stopped(rt.alloc(), &[call], &[], Status::ReadFault),
-            "read {call}"
-        );
+        right = is_stopped(rt, &[call], &[], Status::ReadFault) && right;
     }
-    assert!(rt; is_stopped(rt.alloc(), &[], &[0], Status::WriteFault));
+    right
 }
 
 /// Whether a run where these reads and writes fail ends so, and writes nothing.
-fn is_stopped(alloc: Global, reads: &[u64], writes: &[u64], status: Status) -> bool {
-    ran(alloc, &["ldif"], alfa_in_ldif().as_bytes(), reads, writes).is(b"", status)
+fn is_stopped(rt: &impl System, reads: &[u64], writes: &[u64], status: Status) -> bool {
+    ran(rt, &["ldif"], alfa_in_ldif().as_bytes(), reads, writes).is(b"", status)
 }
 
 /// A directory has 1,048,576 bytes at most.
 #[test]
 fn a_directory_may_be_too_long(rt: HostRuntime) {
     let longest = "refused directory no-provider\n";
-    assert!(rt; is_long(rt.alloc(), 1_048_576, longest, Status::Refused));
+    assert!(rt; is_long(&rt, 1_048_576, longest, Status::Refused));
     let longer = "too-long directory\n";
-    assert!(rt; is_long(rt.alloc(), 1_048_577, longer, Status::InputTooLong));
+    assert!(rt; is_long(&rt, 1_048_577, longer, Status::InputTooLong));
 }
 
 /// Whether this is written where a comment of so many bytes is the directory.
-fn is_long(alloc: Global, size: usize, output: &str, status: Status) -> bool {
+fn is_long(rt: &impl System, size: usize, output: &str, status: Status) -> bool {
+    let alloc = rt.alloc();
     let input = vec![in alloc; b'#'; size].unwrap_or(Vec::new(alloc));
-    is_written(alloc, &["ldif"], &input, output.as_bytes(), status)
+    is_written(rt, &["ldif"], &input, output.as_bytes(), status)
 }

@@ -1,12 +1,16 @@
-//! Tests of `pec_top` over its public calls.
+//! Tests of `pec_top` over its public calls: whole runs of the program over memory, those that serve connections too.
 #![tactic(auto)]
 
+#[cfg(test)]
+mod checking;
 #[cfg(test)]
 mod delivery;
 #[cfg(test)]
 mod directories;
 #[cfg(test)]
 mod disks;
+#[cfg(test)]
+mod faults;
 #[cfg(test)]
 mod forgery;
 #[cfg(test)]
@@ -23,6 +27,8 @@ mod refusals;
 mod running;
 #[cfg(test)]
 mod screens;
+#[cfg(test)]
+mod services;
 #[cfg(test)]
 mod serving;
 #[cfg(test)]

@@ -1,8 +1,9 @@
 //! Commands and lines that are refused, and journals that aren't taken. All outputs were worked out by hand.
 
 use crate::directories::Directory;
-use crate::running::{Case, Run, first_wrong, joined, played_afresh};
+use crate::running::{Case, Run, System, first_wrong, joined, played_afresh};
 use pec_top::Status;
+use pec_trial::two;
 use std::alloc::Global;
 
 const ROW: &str = "submit alfa 1704186000 alice@alfa.example anna@alfa.example {M1}\n";
@@ -173,40 +174,47 @@ fn lines() -> &'static [(&'static str, &'static str)] {
 #[test]
 fn what_is_refused_is_told_by_its_first_cause(rt: HostRuntime) {
     for cases in [first(), second(), third()] {
-        assert_eq!(rt; first_wrong(rt.alloc(), cases), None);
+        assert_eq!(rt; first_wrong(&rt, cases), None);
     }
 }
 
 #[test]
 fn a_line_that_says_no_command_ends_the_run(rt: HostRuntime) {
+    assert!(rt; are_refused(&rt));
+}
+
+fn are_refused(rt: &impl System) -> bool {
+    let mut right = true;
     for (line, fault) in lines() {
-        assert!(rt; is_refused_for(rt.alloc(), line, fault), "{line}");
+        right = is_refused_for(rt, line, fault) && right;
     }
+    right
 }
 
 /// Whether a script of this line is refused for this fault, and ends there.
-fn is_refused_for(alloc: Global, line: &str, fault: &str) -> bool {
+fn is_refused_for(rt: &impl System, line: &str, fault: &str) -> bool {
+    let alloc = rt.alloc();
     let script = joined(alloc, &[line, "\nbook alice@alfa.example\n"]);
     let output = joined(alloc, &["refused line 1 ", fault, "\n"]);
-    let ran = played_afresh(alloc, Directory::Two.text(), script.as_str());
+    let ran = played_afresh(rt, two(), script.as_str());
     ran.is(output.as_bytes(), Status::Refused)
 }
 
 /// Where the limit is 1000, a message of 500 bytes may go to two recipients, and one of 501 bytes may not.
 #[test]
 fn a_message_counts_once_for_each_recipient(rt: HostRuntime) {
-    assert!(rt; is_limited(rt.alloc()));
+    assert!(rt; is_limited(&rt));
 }
 
-fn is_limited(alloc: Global) -> bool {
-    let directory = Directory::Two
-        .text()
+fn is_limited(rt: &impl System) -> bool {
+    let alloc = rt.alloc();
+    let directory = two()
         .replacen(alloc, "name = \"alfa\"", "name = \"alfa\"\nlimit = 1000", 1)
         .unwrap_or(String::new(alloc));
     let smaller = submission_of(alloc, 431);
     let larger = submission_of(alloc, 432);
     let script = joined(alloc, &[smaller.as_str(), larger.as_str()]);
-    let ran = played_afresh(alloc, directory.as_str(), script.as_str());
+    let ran = played_afresh(rt, directory.as_str(), script.as_str());
     ran.writes(alloc, "accepted I0\nnot-accepted I1 size\n", Status::Done)
 }
 
@@ -230,15 +238,16 @@ fn many(alloc: Global, text: &str, times: u32) -> String {
 /// A link holds 64 frames, and the next is refused.
 #[test]
 fn a_full_link_takes_no_frame(rt: HostRuntime) {
-    assert!(rt; is_full(rt.alloc()));
+    assert!(rt; is_full(&rt));
 }
 
-fn is_full(alloc: Global) -> bool {
+fn is_full(rt: &impl System) -> bool {
+    let alloc = rt.alloc();
     let more = "inject alfa beta {F1}\nrepeat alfa beta 0\nrepeat alfa beta 64\n";
     let first = many(alloc, "inject alfa beta {F1}\n", 64);
     let script = joined(alloc, &[first.as_str(), more]);
     let first = many(alloc, "injected\n", 64);
     let output = joined(alloc, &[first.as_str(), "link-full\nlink-full\nno-frame\n"]);
-    let ran = played_afresh(alloc, Directory::Two.text(), script.as_str());
+    let ran = played_afresh(rt, two(), script.as_str());
     ran.is(output.as_bytes(), Status::Done)
 }

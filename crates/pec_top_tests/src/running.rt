@@ -10,6 +10,12 @@ use pec_screen::Screens;
 use pec_top::{Status, run_pec};
 use pec_types::Moment;
 use std::alloc::Global;
+use std::thread::Threads;
+
+/// What a test is handed of the system: threads and memory.
+pub(crate) trait System: Threads + Sync + AllocGlobal {}
+
+impl<X: Threads + Sync + AllocGlobal> System for X {}
 
 /// One run: its form, its script, what it has to write, and its status. In a script `{..}` holds a message or its name,
 /// and its base64 is written; in an output `I0` to `I2` are the first messages of alfa, `J0` is beta's, `K0` gamma's.
@@ -31,28 +37,29 @@ pub(crate) struct Case {
 }
 
 /// What the first case is about that doesn't come as it says.
-pub(crate) fn first_wrong(alloc: Global, cases: &[Case]) -> Option<&'static str> {
+pub(crate) fn first_wrong(rt: &impl System, cases: &[Case]) -> Option<&'static str> {
     for case in cases {
-        if !comes(alloc, case) {
+        if !comes(rt, case) {
             return Some(case.why);
         }
     }
     None
 }
 
-fn comes(alloc: Global, case: &Case) -> bool {
-    let mut depot = depot_failing(alloc, case.failing);
+fn comes(rt: &impl System, case: &Case) -> bool {
+    let directory = case.directory.text(rt.alloc());
+    let mut depot = depot_failing(rt.alloc(), case.failing);
     let mut right = true;
     for run in case.runs {
-        right = runs(alloc, &mut depot, case.directory, run) && right;
+        right = runs(rt, &mut depot, directory.as_str(), run) && right;
     }
     right
 }
 
 /// Whether a run writes what it has to, and ends with its status.
-fn runs(alloc: Global, depot: &mut MemDepot, directory: Directory, run: &Run) -> bool {
-    let ran = played(alloc, depot, directory.text(), run.form, run.script);
-    ran.writes(alloc, run.output, run.status)
+fn runs(rt: &impl System, depot: &mut MemDepot, directory: &str, run: &Run) -> bool {
+    let ran = played(rt, depot, directory, run.form, run.script);
+    ran.writes(rt.alloc(), run.output, run.status)
 }
 
 /// What a run wrote, and its status.
@@ -71,6 +78,16 @@ impl Ran {
     /// Whether it wrote this and ended so.
     pub(crate) fn is(&self, text: &[u8], status: Status) -> bool {
         self.status == status && self.text.as_slice() == text
+    }
+
+    /// Whether it ended so, and what it wrote ends in this.
+    pub(crate) fn ends(&self, text: &[u8], status: Status) -> bool {
+        self.status == status && self.text.ends_with(text)
+    }
+
+    /// Whether it ended so, and wrote a front of this.
+    pub(crate) fn is_front_of(&self, text: &[u8], status: Status) -> bool {
+        self.status == status && text.starts_with(&self.text)
     }
 
     /// Whether it wrote this output, in which messages have their short names, and ended so.
@@ -107,74 +124,76 @@ impl<'a> Given<'a> {
 
 /// Runs the program in this form, over a depot, on a script behind a directory.
 pub(crate) fn played(
-    alloc: Global,
+    rt: &impl System,
     depot: &mut MemDepot,
     directory: &str,
     form: &str,
     script: &str,
 ) -> Ran {
-    let input = input_of(alloc, directory, script);
-    ran_over(alloc, depot, &Given::of(&[form], &input))
+    let input = input_of(rt.alloc(), directory, script);
+    ran_over(rt, depot, &Given::of(&[form], &input))
 }
 
 /// Runs the program in the form `run`, over empty disks, on a script behind a directory.
-pub(crate) fn played_afresh(alloc: Global, directory: &str, script: &str) -> Ran {
-    let mut depot = depot_failing(alloc, &[]);
-    played(alloc, &mut depot, directory, "run", script)
+pub(crate) fn played_afresh(rt: &impl System, directory: &str, script: &str) -> Ran {
+    let mut depot = depot_failing(rt.alloc(), &[]);
+    played(rt, &mut depot, directory, "run", script)
 }
 
 /// Runs the program over a depot, without screens and connections.
-pub(crate) fn ran_over(alloc: Global, depot: &mut MemDepot, given: &Given<'_>) -> Ran {
-    ran_under(alloc, depot, given, Vec::new(alloc))
+pub(crate) fn ran_over(rt: &impl System, depot: &mut MemDepot, given: &Given<'_>) -> Ran {
+    ran_under(rt, depot, given, Vec::new(rt.alloc()))
 }
 
 /// The same over empty disks.
-pub(crate) fn ran_afresh(alloc: Global, given: &Given<'_>) -> Ran {
-    let mut depot = depot_failing(alloc, &[]);
-    ran_over(alloc, &mut depot, given)
+pub(crate) fn ran_afresh(rt: &impl System, given: &Given<'_>) -> Ran {
+    let mut depot = depot_failing(rt.alloc(), &[]);
+    ran_over(rt, &mut depot, given)
 }
 
 /// Runs the program over a depot, with screens, a list for each provider.
 pub(crate) fn ran_under(
-    alloc: Global,
+    rt: &impl System,
     depot: &mut MemDepot,
     given: &Given<'_>,
     screens: Vec<Screens>,
 ) -> Ran {
+    let alloc = rt.alloc();
     let mut door = MemDoor::new(alloc, Vec::new(alloc), Vec::new(alloc), Vec::new(alloc));
-    ran_at(alloc, depot, &mut door, given, screens)
+    ran_at(rt, depot, &mut door, given, screens)
 }
 
-/// Runs the program over a depot and at a door, by a clock that stands still.
+/// Runs the program over a depot and at a door.
 pub(crate) fn ran_at(
-    alloc: Global,
+    rt: &impl System,
     depot: &mut MemDepot,
     door: &mut MemDoor,
     given: &Given<'_>,
     screens: Vec<Screens>,
 ) -> Ran {
-    match clock(alloc, given.clock) {
-        Some(ticks) => ran_by(alloc, depot, door, ticks, given, screens),
+    match clock(rt.alloc(), given.clock) {
+        Some(ticks) => ran_by(rt, depot, door, ticks, given, screens),
         None => Ran {
-            text: Vec::new(alloc),
+            text: Vec::new(rt.alloc()),
             status: Status::NoMemory,
         },
     }
 }
 
 fn ran_by(
-    alloc: Global,
+    rt: &impl System,
     depot: &mut MemDepot,
     door: &mut MemDoor,
     mut ticks: MemTicks,
     given: &Given<'_>,
     screens: Vec<Screens>,
 ) -> Ran {
+    let alloc = rt.alloc();
     let words = strings(alloc, given.words);
     let mut source = source_of(alloc, given);
     let mut sink = MemSink::new(alloc, numbers(alloc, given.writes));
     let status = status_of(
-        alloc,
+        rt,
         &words,
         &mut source,
         &mut sink,
@@ -191,7 +210,7 @@ fn ran_by(
 
 /// The one call of the program, by a function without a clause: the proofs of others are spared its own.
 fn status_of<S: Source, W: Sink, P: Depot, T: Ticks, R: Door>(
-    alloc: Global,
+    rt: &impl System,
     words: &[String],
     source: &mut S,
     sink: &mut W,
@@ -200,7 +219,17 @@ fn status_of<S: Source, W: Sink, P: Depot, T: Ticks, R: Door>(
     door: &mut R,
     screens: Vec<Screens>,
 ) -> Status {
-    run_pec(alloc, words, source, sink, depot, ticks, door, screens)
+    run_pec(
+        rt,
+        rt.alloc(),
+        words,
+        source,
+        sink,
+        depot,
+        ticks,
+        door,
+        screens,
+    )
 }
 
 /// A depot of three empty disks, where these calls fail, each by its provider's number and its own.
@@ -223,11 +252,22 @@ fn calls_of(alloc: Global, failing: &[(u32, u64)], provider: u32) -> Vec<u64> {
     calls
 }
 
-/// A clock that stands still, where these calls fail.
+/// A clock that begins at 1704186000 and goes on by a second from one look to the next, where these calls fail.
 fn clock(alloc: Global, failing: &[u64]) -> Option<MemTicks> {
-    let moment = Moment::new(1_704_186_000)?;
-    let moments = Vec::from_slice(alloc, &[moment]).ok()?;
+    let mut moments = Vec::new(alloc);
+    for second in 0..10 {
+        add_moment(&mut moments, 1_704_186_000 + second);
+    }
+    if moments.is_empty() {
+        return None;
+    }
     Some(MemTicks::new(alloc, moments, numbers(alloc, failing)))
+}
+
+fn add_moment(moments: &mut Vec<Moment>, seconds: u64) {
+    if let Some(moment) = Moment::new(seconds) {
+        let _ = moments.push(moment);
+    }
 }
 
 fn source_of(alloc: Global, given: &Given<'_>) -> MemSource {
@@ -308,6 +348,11 @@ fn add_message(alloc: Global, script: &mut Vec<u8>, inside: &str) {
 
 pub(crate) fn in_base64(alloc: Global, bytes: &[u8]) -> String {
     STANDARD.encode(alloc, bytes).unwrap_or(String::new(alloc))
+}
+
+/// The bytes of a text whose lines end at `|`.
+pub(crate) fn bytes_of(alloc: Global, text: &str) -> Vec<u8> {
+    copied(alloc, lines_of(alloc, text).as_bytes())
 }
 
 /// A text whose lines end at `|`, with its ends of lines.

@@ -1,10 +1,10 @@
 //! Messages that a provider doesn't accept for what its screens find, over whole runs. Worked out by hand.
 
-use crate::directories::Directory;
 use crate::items::{holds, last_item};
-use crate::running::{Given, Ran, depot_failing, input_of, ran_under};
+use crate::running::{Given, Ran, System, depot_failing, input_of, ran_under};
 use pec_screen::{PatternScreen, Screen, Screens};
 use pec_top::Status;
+use pec_trial::two;
 use pec_types::Text8;
 use std::alloc::{AllocError, Global};
 
@@ -47,39 +47,48 @@ fn rows() -> &'static [Row] {
 
 #[test]
 fn a_message_is_refused_by_the_screens_of_its_provider(rt: HostRuntime) {
-    for row in rows() {
-        assert!(rt; is_right(rt.alloc(), row), "{}", row.3);
-    }
+    assert!(rt; are_right(&rt));
 }
 
-fn is_right(alloc: Global, row: &Row) -> bool {
-    screened(alloc, row.0, row.1, row.2).writes(alloc, row.3, Status::Done)
+fn are_right(rt: &impl System) -> bool {
+    let mut right = true;
+    for row in rows() {
+        right = is_right(rt, row) && right;
+    }
+    right
+}
+
+fn is_right(rt: &impl System, row: &Row) -> bool {
+    screened(rt, row.0, row.1, row.2).writes(rt.alloc(), row.3, Status::Done)
 }
 
 #[test]
 fn the_notice_says_that_a_virus_was_found(rt: HostRuntime) {
-    assert!(rt; is_told(rt.alloc()));
+    assert!(rt; is_told(&rt));
 }
 
 const SHOWN: &str = "submit alfa 1704186000 alice@alfa.example bob@beta.example \
      {From: alice@alfa.example|To: bob@beta.example|Subject: Ciao||PEC-VIRUS-DI-PROVA|}\n\
      show alice@alfa.example 0\n";
 
-fn is_told(alloc: Global) -> bool {
-    let ran = screened(alloc, &[0], 1, SHOWN);
+fn is_told(rt: &impl System) -> bool {
+    let alloc = rt.alloc();
+    let ran = screened(rt, &[0], 1, SHOWN);
     let notice = last_item(alloc, &ran.text);
     holds(alloc, &notice, "|X-VerificaSicurezza: errore|", true)
 }
 
 /// Runs a script with so many lists of screens, where the named ones have one of the pattern.
-fn screened(alloc: Global, named: &[usize], lists: usize, script: &str) -> Ran {
-    let input = input_of(alloc, Directory::Two.text(), script);
+fn screened(rt: &impl System, named: &[usize], lists: usize, script: &str) -> Ran {
+    let alloc = rt.alloc();
+    let input = input_of(alloc, two(), script);
     let mut depot = depot_failing(alloc, &[]);
     let screens = screens_of(alloc, named, lists);
-    ran_under(alloc, &mut depot, &Given::of(&["run"], &input), screens)
+    ran_under(rt, &mut depot, &Given::of(&["run"], &input), screens)
 }
 
-fn screens_of(alloc: Global, named: &[usize], lists: usize) -> Vec<Screens> {
+/// So many lists of screens, where the named ones have one of the pattern.
+pub(crate) fn screens_of(alloc: Global, named: &[usize], lists: usize) -> Vec<Screens> {
     let mut screens = Vec::new(alloc);
     for place in 0..lists {
         if let Ok(list) = list(alloc, named.contains(&place)) {

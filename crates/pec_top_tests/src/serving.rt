@@ -1,11 +1,12 @@
 //! Runs that serve connections. Worked out by hand. In requests and replies lines end at `|`, and each ends at `^`.
 
-use crate::directories::Directory;
 use crate::running::{
-    Given, Ran, copied, depot_failing, lines_of, numbers, played, put, ran_at, written_out,
+    Given, Ran, System, bytes_of, depot_failing, lines_of, numbers, played, put, ran_at,
+    written_out,
 };
 use pec_outside::{Depot, Disk, MemDepot, MemDoor};
 use pec_top::Status;
+use pec_trial::{alfa, two};
 use std::alloc::Global;
 
 const RUN: &str = "submit alfa 1704186000 alice@alfa.example anna@alfa.example {M1}\n";
@@ -72,38 +73,37 @@ fn opened() -> &'static [Row] {
 
 #[test]
 fn connections_are_served(rt: HostRuntime) {
-    for row in fresh() {
-        assert!(rt; is_answered(rt.alloc(), "", row), "{}", row.2);
+    assert!(rt; are_answered(&rt, "", fresh()));
+    assert!(rt; are_answered(&rt, RUN, opened()));
+}
+
+fn are_answered(rt: &impl System, script: &str, rows: &[Row]) -> bool {
+    let mut right = true;
+    for row in rows {
+        right = is_answered(rt, script, row) && right;
     }
-    for row in opened() {
-        assert!(rt; is_answered(rt.alloc(), RUN, row), "{}", row.2);
-    }
+    right
 }
 
 /// Whether the connections of a row come as it says, on the disks of this script.
-fn is_answered(alloc: Global, script: &str, row: &Row) -> bool {
+fn is_answered(rt: &impl System, script: &str, row: &Row) -> bool {
+    let alloc = rt.alloc();
     let mut depot = depot_failing(alloc, &[]);
-    lay(alloc, &mut depot, script);
+    lay(rt, &mut depot, script);
     let mut door = door(alloc, row.0, &[]);
     let count = if row.0.len() > hand_in().len() {
         "2"
     } else {
         "1"
     };
-    let ran = served(
-        alloc,
-        &mut depot,
-        &mut door,
-        &["serve", count],
-        Directory::Alfa.text(),
-    );
+    let ran = served(rt, &mut depot, &mut door, &["serve", count], alfa());
     ran.writes(alloc, row.2, Status::Done) && is_replied(alloc, &door, row.1)
 }
 
 /// Plays a script, and leaves its journals; none where it is empty.
-fn lay(alloc: Global, depot: &mut MemDepot, script: &str) {
+fn lay(rt: &impl System, depot: &mut MemDepot, script: &str) {
     if !script.is_empty() {
-        played(alloc, depot, Directory::Alfa.text(), "run", script);
+        played(rt, depot, alfa(), "run", script);
     }
 }
 
@@ -129,15 +129,22 @@ fn words() -> &'static [(&'static [&'static str], &'static str, Status)] {
 
 #[test]
 fn words_and_directories_are_refused(rt: HostRuntime) {
-    for (words, output, status) in words() {
-        assert!(rt; is_refused(rt.alloc(), words, output, *status));
-    }
+    assert!(rt; are_refused(&rt));
 }
 
-fn is_refused(alloc: Global, words: &[&str], output: &str, status: Status) -> bool {
+fn are_refused(rt: &impl System) -> bool {
+    let mut right = true;
+    for (words, output, status) in words() {
+        right = is_refused(rt, words, output, *status) && right;
+    }
+    right
+}
+
+fn is_refused(rt: &impl System, words: &[&str], output: &str, status: Status) -> bool {
+    let alloc = rt.alloc();
     let mut depot = depot_failing(alloc, &[]);
     let mut door = door(alloc, hand_in(), &[]);
-    let ran = served(alloc, &mut depot, &mut door, words, "%%\n");
+    let ran = served(rt, &mut depot, &mut door, words, "%%\n");
     ran.is(output.as_bytes(), status) && door.replies().is_empty()
 }
 
@@ -150,26 +157,23 @@ static STRANGE: [(u32, &str, Status); 2] = [
 
 #[test]
 fn disks_are_refused(rt: HostRuntime) {
-    for (provider, output, status) in &STRANGE {
-        assert!(rt;
-            is_strange(rt.alloc(), *provider, output, *status),
-            "at {provider}"
-        );
-    }
+    assert!(rt; are_strange(&rt));
 }
 
-fn is_strange(alloc: Global, provider: u32, output: &str, status: Status) -> bool {
+fn are_strange(rt: &impl System) -> bool {
+    let mut right = true;
+    for (provider, output, status) in &STRANGE {
+        right = is_strange(rt, *provider, output, *status) && right;
+    }
+    right
+}
+
+fn is_strange(rt: &impl System, provider: u32, output: &str, status: Status) -> bool {
+    let alloc = rt.alloc();
     let mut depot = depot_failing(alloc, &[]);
     let mut door = door(alloc, hand_in(), &[]);
     put_strange(&mut depot, provider)
-        && served(
-            alloc,
-            &mut depot,
-            &mut door,
-            &["serve", "1"],
-            Directory::Two.text(),
-        )
-        .is(output.as_bytes(), status)
+        && served(rt, &mut depot, &mut door, &["serve", "1"], two()).is(output.as_bytes(), status)
 }
 
 /// Puts something else on the disk of one of the first providers, and answers whether it could.
@@ -200,24 +204,28 @@ fn faults() -> &'static [(&'static str, &'static str, Status)] {
 
 #[test]
 fn a_device_that_fails_ends_the_service(rt: HostRuntime) {
+    assert!(rt; are_ended(&rt));
+}
+
+fn are_ended(rt: &impl System) -> bool {
+    let mut right = true;
     for (device, replies, status) in faults() {
-        assert!(rt;
-            is_ended(rt.alloc(), device, replies, *status),
-            "at {device}"
-        );
+        right = is_ended(rt, device, replies, *status) && right;
     }
+    right
 }
 
 /// Whether a service where this device is broken gives these replies, writes nothing and ends so.
-fn is_ended(alloc: Global, device: &str, replies: &str, status: Status) -> bool {
+fn is_ended(rt: &impl System, device: &str, replies: &str, status: Status) -> bool {
+    let alloc = rt.alloc();
     let mut depot = depot_failing(alloc, failing_disk(device));
     let mut door = door(alloc, hand_in(), failing(device, "door"));
     let given = Given {
         clock: failing(device, "clock"),
         writes: failing(device, "output"),
-        ..Given::of(&["serve", "1"], Directory::Alfa.text().as_bytes())
+        ..Given::of(&["serve", "1"], alfa().as_bytes())
     };
-    let ran = ran_at(alloc, &mut depot, &mut door, &given, Vec::new(alloc));
+    let ran = ran_at(rt, &mut depot, &mut door, &given, Vec::new(alloc));
     ran.is(b"", status) && is_replied(alloc, &door, replies)
 }
 
@@ -246,20 +254,16 @@ fn door(alloc: Global, requests: &str, failing: &[u64]) -> MemDoor {
     MemDoor::new(alloc, texts, numbers(alloc, failing), Vec::new(alloc))
 }
 
-fn bytes_of(alloc: Global, request: &str) -> Vec<u8> {
-    copied(alloc, lines_of(alloc, request).as_bytes())
-}
-
-/// Runs words over a directory, with a clock that stands still.
+/// Runs words over a directory.
 fn served(
-    alloc: Global,
+    rt: &impl System,
     depot: &mut MemDepot,
     door: &mut MemDoor,
     words: &[&str],
     directory: &str,
 ) -> Ran {
     let given = Given::of(words, directory.as_bytes());
-    ran_at(alloc, depot, door, &given, Vec::new(alloc))
+    ran_at(rt, depot, door, &given, Vec::new(rt.alloc()))
 }
 
 /// Whether a door has these replies.

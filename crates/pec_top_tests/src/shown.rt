@@ -1,9 +1,9 @@
 //! What `show` gives of each kind of item, decoded and compared with the text of the formats under its seal.
 
-use crate::directories::Directory;
 use crate::items::{holds, last_item};
 use crate::letters::{Letter, ORIGINAL, usual};
-use crate::running::{joined, played_afresh, replaced, with_words};
+use crate::running::{System, joined, played_afresh, replaced, with_words};
+use pec_trial::two;
 use std::alloc::Global;
 
 /// A script whose last line shows an item, the item's seal line, what letter it is, and the words that stand in its text.
@@ -291,32 +291,31 @@ fn holdings() -> &'static [Holding] {
 #[test]
 fn each_kind_of_item_is_shown_as_the_formats_have_it(rt: HostRuntime) {
     for items in [first(), second(), third()] {
-        assert_eq!(rt; first_wrong(rt.alloc(), items), None);
+        assert_eq!(rt; first_wrong(&rt, items), None);
     }
 }
 
 #[test]
 fn receipts_hold_what_was_wished(rt: HostRuntime) {
-    for holding in holdings() {
-        assert!(rt; is_held(rt.alloc(), holding), "{}", holding.why);
-    }
+    assert_eq!(rt; first_not_held(&rt), None);
 }
 
 /// What the first item is about that isn't shown as it has to be.
-fn first_wrong(alloc: Global, items: &[Item]) -> Option<&'static str> {
+fn first_wrong(rt: &impl System, items: &[Item]) -> Option<&'static str> {
     for item in items {
-        if !is_shown(alloc, item) {
+        if !is_shown(rt, item) {
             return Some(item.why);
         }
     }
     None
 }
 
-fn is_shown(alloc: Global, item: &Item) -> bool {
+fn is_shown(rt: &impl System, item: &Item) -> bool {
+    let alloc = rt.alloc();
     let text = text_of(alloc, item);
     let letter = joined(alloc, &[item.seal, "\n", text.as_str()]);
     let letter = replaced(alloc, letter.as_str(), "\n", "\r\n");
-    shown(alloc, item.script).as_slice() == letter.as_bytes()
+    shown(rt, item.script).as_slice() == letter.as_bytes()
 }
 
 /// The text of an item under its seal line.
@@ -325,13 +324,23 @@ fn text_of(alloc: Global, item: &Item) -> String {
     with_words(alloc, text.as_str(), usual())
 }
 
-fn is_held(alloc: Global, holding: &Holding) -> bool {
-    let shown = shown(alloc, holding.script);
-    holds(alloc, &shown, holding.piece, holding.is_there)
+/// What the first piece is about that isn't held as it says.
+fn first_not_held(rt: &impl System) -> Option<&'static str> {
+    for holding in holdings() {
+        if !is_held(rt, holding) {
+            return Some(holding.why);
+        }
+    }
+    None
+}
+
+fn is_held(rt: &impl System, holding: &Holding) -> bool {
+    let shown = shown(rt, holding.script);
+    holds(rt.alloc(), &shown, holding.piece, holding.is_there)
 }
 
 /// The bytes of the item that the last line of a script shows.
-fn shown(alloc: Global, script: &str) -> Vec<u8> {
-    let ran = played_afresh(alloc, Directory::Two.text(), script);
-    last_item(alloc, &ran.text)
+fn shown(rt: &impl System, script: &str) -> Vec<u8> {
+    let ran = played_afresh(rt, two(), script);
+    last_item(rt.alloc(), &ran.text)
 }

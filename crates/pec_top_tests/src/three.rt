@@ -93,5 +93,5 @@ fn cases() -> &'static [Case] {
 
 #[test]
 fn three_providers_carry_each_others_mail(rt: HostRuntime) {
-    assert_eq!(rt; first_wrong(rt.alloc(), cases()), None);
+    assert_eq!(rt; first_wrong(&rt, cases()), None);
 }

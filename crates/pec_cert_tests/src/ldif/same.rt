@@ -1,6 +1,6 @@
 //! Texts of LDIF that are one directory, and what is written of a directory. Expected texts were worked by hand in what
 //! docs/formats.md says, and their base64 by another program.
-use crate::texts::{is_text, is_value};
+use crate::texts::{is_text, is_value, put};
 use pec_directory::Directory;
 use pec_ldif::{directory_of, is_ldif, ldif_of};
 use std::alloc::Global;
@@ -95,6 +95,10 @@ const OTHER_LDIF: &str = "version: 1\n\
     ";
 
 /// The texts, by functions without a clause: the proofs of the tests are spared them.
+fn written_text() -> &'static str {
+    LDIF
+}
+
 fn ldif() -> &'static [u8] {
     LDIF.as_bytes()
 }
@@ -130,235 +134,40 @@ fn a_directory_is_written_as_records(rt: HostRuntime) {
     assert!(rt; is_text(rewritten(rt.alloc(), other_ldif()), other_ldif()));
 }
 
-/// Texts that are the first directory.
-static SAME: [&str; 8] = [
-    // as it is written
-    "version: 1\n\
-    \n\
-    dn: cn=0\n\
-    objectClass: pecProvider\n\
-    pecName: alfa\n\
-    mailReceipt: ricevute@alfa.example\n\
-    managedDomains: alfa.example\n\
-    pecKey: 000102030405060708090a0b0c0d0e0f\n\
-    pecZone: CET-1CEST,M3.5.0,M10.5.0/3\n\
-    pecLimit: 31457280\n\
-    \n\
-    dn: cn=0.1\n\
-    objectClass: pecAccount\n\
-    pecAddress: alice@alfa.example\n\
-    pecQuota: 100\n\
-    pecKey: chiave-alice\n\
-    \n\
-    dn: cn=0.2\n\
-    objectClass: pecAccount\n\
-    pecAddress: anna@alfa.example\n\
-    pecQuota: 100\n\
-    pecKey: chiave-anna\n\
-    ",
+/// What stands in the text as it is written, and what stands there instead, each wherever it does. The directory stays
+/// the same.
+static CHANGES: [&[(&str, &str)]; 5] = [
     // names in two lines
-    "version: 1\n\
-    \n\
-    dn: cn=0\n\
-    o\n\
-    \x20bjectClass: pecProvider\n\
-    pec\n\
-    \x20Name: alfa\n\
-    mailReceipt\n\
-    \x20: ricevute@alfa.example\n\
-    managedDomains: alfa.example\n\
-    pecKey: 000102030405060708090a0b0c0d0e0f\n\
-    pecZone: CET-1CEST,M3.5.0,M10.5.0/3\n\
-    pecLimit: 31457280\n\
-    \n\
-    dn: cn=0.1\n\
-    o\n\
-    \x20bjectClass: pecAccount\n\
-    pecAddress: alice@alfa.example\n\
-    pecQuota: 100\n\
-    pecKey: chiave-alice\n\
-    \n\
-    dn: cn=0.2\n\
-    o\n\
-    \x20bjectClass: pecAccount\n\
-    pecAddress: anna@alfa.example\n\
-    pecQuota: 100\n\
-    pecKey: chiave-anna\n\
-    ",
+    &[
+        ("objectClass", "o\n bjectClass"),
+        ("pecName", "pec\n Name"),
+        ("mailReceipt:", "mailReceipt\n :"),
+    ],
     // values in more
-    "version: 1\n\
-    \n\
-    dn: cn=0\n\
-    objectClass: pecProvider\n\
-    pecName:\n\
-    \x20 alfa\n\
-    mailReceipt: ricevute@alfa.example\n\
-    managedDomains: alfa.example\n\
-    pecKey: 000102\n\
-    \x200304\n\
-    \x20\n\
-    \x2005060708090a0b0c0d0e0f\n\
-    pecZone: CET-1CEST,\n\
-    \x20M3.5.0,M10.5.0/3\n\
-    pecLimit: 31457280\n\
-    \n\
-    dn: cn=0.1\n\
-    objectClass: pecAccount\n\
-    pecAddress: alice@alfa.example\n\
-    pecQuota: 100\n\
-    pecKey: chiave-alice\n\
-    \n\
-    dn: cn=0.2\n\
-    objectClass: pecAccount\n\
-    pecAddress: anna@alfa.example\n\
-    pecQuota: 100\n\
-    pecKey: chiave-anna\n\
-    ",
+    &[
+        ("pecName: alfa", "pecName:\n  alfa"),
+        ("00010203040506", "000102\n 0304\n \n 0506"),
+        ("CET-1CEST,", "CET-1CEST,\n "),
+    ],
     // base64 in two
-    "version: 1\n\
-    \n\
-    dn: cn=0\n\
-    objectClass: pecProvider\n\
-    pecName:\n\
-    \x20: \n\
-    \x20YWxmYQ==\n\
-    mailReceipt: ricevute@alfa.example\n\
-    managedDomains: alfa.example\n\
-    pecKey: 000102030405060708090a0b0c0d0e0f\n\
-    pecZone: CET-1CEST,M3.5.0,M10.5.0/3\n\
-    pecLimit: 31457280\n\
-    \n\
-    dn: cn=0.1\n\
-    objectClass: pecAccount\n\
-    pecAddress: alice@alfa.example\n\
-    pecQuota: 100\n\
-    pecKey:: Y2hpYX\n\
-    \x20ZlLWFsaWNl\n\
-    \n\
-    dn: cn=0.2\n\
-    objectClass: pecAccount\n\
-    pecAddress: anna@alfa.example\n\
-    pecQuota: 100\n\
-    pecKey: chiave-anna\n\
-    ",
+    &[
+        ("pecName: alfa", "pecName:\n : \n YWxmYQ=="),
+        ("pecKey: chiave-alice", "pecKey:: Y2hpYX\n ZlLWFsaWNl"),
+    ],
     // carriage returns
-    "version: 1\r\n\
-    \r\n\
-    dn: cn=0\r\n\
-    objectClass: pecProvider\r\n\
-    pecName: alfa\r\n\
-    mailReceipt: ricevute@alfa.example\r\n\
-    managedDomains: alfa.example\r\n\
-    pecKey: 000102030405060708090a0b0c0d0e0f\r\n\
-    pecZone: CET-1CEST,M3.5.0,M10.5.0/3\r\n\
-    pecLimit: 31457280\r\n\
-    \r\n\
-    dn: cn=0.1\r\n\
-    objectClass: pecAccount\r\n\
-    pecAddress: alice@alfa.example\r\n\
-    pecQuota: 100\r\n\
-    pecKey: chiave-alice\r\n\
-    \r\n\
-    dn: cn=0.2\r\n\
-    objectClass: pecAccount\r\n\
-    pecAddress: anna@alfa.example\r\n\
-    pecQuota: 100\r\n\
-    pecKey: chiave-anna\r\n\
-    ",
+    &[("\n", "\r\n")],
     // capitals
-    "version: 1\n\
-    \n\
-    DN: cn=0\n\
-    OBJECTCLASS: pecProvider\n\
-    PECNAME: alfa\n\
-    mailReceipt: ricevute@alfa.example\n\
-    manageddomains: alfa.example\n\
-    pecKey: 000102030405060708090a0b0c0d0e0f\n\
-    pecZone: CET-1CEST,M3.5.0,M10.5.0/3\n\
-    pecLimit: 31457280\n\
-    \n\
-    DN: cn=0.1\n\
-    OBJECTCLASS: pecAccount\n\
-    pecAddress: Alice@Alfa.example\n\
-    pecQuota: 100\n\
-    pecKey: chiave-alice\n\
-    \n\
-    DN: cn=0.2\n\
-    OBJECTCLASS: pecAccount\n\
-    pecAddress: anna@alfa.example\n\
-    pecQuota: 100\n\
-    pecKey: chiave-anna\n\
-    ",
-    // eight bytes a line
-    "version:\n\
-    \x20 1\n\
-    \n\
-    dn: cn=0\n\
-    objectCl\n\
-    \x20ass: pe\n\
-    \x20cProvid\n\
-    \x20er\n\
-    pecName:\n\
-    \x20 alfa\n\
-    mailRece\n\
-    \x20ipt: ri\n\
-    \x20cevute@\n\
-    \x20alfa.ex\n\
-    \x20ample\n\
-    managedD\n\
-    \x20omains:\n\
-    \x20 alfa.e\n\
-    \x20xample\n\
-    pecKey: \n\
-    \x200001020\n\
-    \x203040506\n\
-    \x200708090\n\
-    \x20a0b0c0d\n\
-    \x200e0f\n\
-    pecZone:\n\
-    \x20 CET-1C\n\
-    \x20EST,M3.\n\
-    \x205.0,M10\n\
-    \x20.5.0/3\n\
-    pecLimit\n\
-    \x20: 31457\n\
-    \x20280\n\
-    \n\
-    dn: cn=0\n\
-    \x20.1\n\
-    objectCl\n\
-    \x20ass: pe\n\
-    \x20cAccoun\n\
-    \x20t\n\
-    pecAddre\n\
-    \x20ss: ali\n\
-    \x20ce@alfa\n\
-    \x20.exampl\n\
-    \x20e\n\
-    pecQuota\n\
-    \x20: 100\n\
-    pecKey: \n\
-    \x20chiave-\n\
-    \x20alice\n\
-    \n\
-    dn: cn=0\n\
-    \x20.2\n\
-    objectCl\n\
-    \x20ass: pe\n\
-    \x20cAccoun\n\
-    \x20t\n\
-    pecAddre\n\
-    \x20ss: ann\n\
-    \x20a@alfa.\n\
-    \x20example\n\
-    pecQuota\n\
-    \x20: 100\n\
-    pecKey: \n\
-    \x20chiave-\n\
-    \x20anna\n\
-    ",
-    // as a registry exports it
-    "# extended LDIF\n\
+    &[
+        ("dn:", "DN:"),
+        ("objectClass", "OBJECTCLASS"),
+        ("pecName", "PECNAME"),
+        ("managedDomains", "manageddomains"),
+        ("alice@alfa", "Alice@Alfa"),
+    ],
+];
+
+/// The same directory as a registry exports it.
+const EXPORT: &str = "# extended LDIF\n\
     #\n\
     # LDAPv3, base <dc=example> with scope\n\
     \x20 subtree\n\
@@ -394,17 +203,67 @@ static SAME: [&str; 8] = [
     pecAddress: anna@alfa.example\n\
     pecKey:: Y2hpYXZlLWFubmE=\n\
     pecQuota: 100\n\
-    entryUUID: 6f1f8d6e-7d3a-4b52-9a5e-0a6f5b8f2a11",
-];
+    entryUUID: 6f1f8d6e-7d3a-4b52-9a5e-0a6f5b8f2a11";
+
+/// The tables and texts, by functions without a clause: the proof of the test is spared them.
+fn changes() -> &'static [&'static [(&'static str, &'static str)]] {
+    &CHANGES
+}
+
+fn export() -> &'static [u8] {
+    EXPORT.as_bytes()
+}
+
+/// The text as it is written, with these changes; empty where what one of them changes doesn't stand in it.
+fn changed(alloc: Global, changes: &[(&str, &str)]) -> String {
+    let mut text = String::from_str(alloc, written_text()).unwrap_or(String::new(alloc));
+    for (there, instead) in changes {
+        text = replaced(alloc, text.as_str(), there, instead);
+    }
+    text
+}
+
+fn replaced(alloc: Global, text: &str, there: &str, instead: &str) -> String {
+    if text.contains(there) {
+        text.replace(alloc, there, instead)
+            .unwrap_or(String::new(alloc))
+    } else {
+        String::new(alloc)
+    }
+}
+
+/// A text whose lines go on in others behind eight bytes.
+fn folded(alloc: Global, text: &[u8]) -> Vec<u8> {
+    let mut lines = Vec::new(alloc);
+    let mut column = 0u32;
+    for b in text {
+        if column == 8 && *b != b'\n' {
+            put(&mut lines, b"\n ");
+            column = 1;
+        }
+        put(&mut lines, &[*b]);
+        column = if *b == b'\n' {
+            0
+        } else {
+            column.saturating_add(1)
+        };
+    }
+    lines
+}
 
 #[test]
 fn texts_of_many_forms_are_one_directory(rt: HostRuntime) {
-    for text in &SAME {
-        assert!(rt;
-            is_text(rewritten(rt.alloc(), text.as_bytes()), ldif()),
-            "{text}"
-        );
+    for changes in changes() {
+        assert!(rt; is_same(rt.alloc(), changed(rt.alloc(), changes).as_bytes()));
     }
+    assert!(rt; is_same(rt.alloc(), ldif()));
+    assert!(rt; is_same(rt.alloc(), &folded(rt.alloc(), ldif())));
+    assert!(rt; is_same(rt.alloc(), export()));
+}
+
+/// Whether a text is the first directory.
+fn is_same(alloc: Global, text: &[u8]) -> bool {
+    is_text(rewritten(alloc, text), ldif())
 }
 
 /// Texts, and whether their first line says that they are LDIF.

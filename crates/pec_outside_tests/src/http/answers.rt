@@ -3,8 +3,22 @@ use super::desk::Mood;
 use super::serving::is_answered;
 use std::alloc::Global;
 
-/// A request, and what it is answered where the desk takes messages of up to ten bytes from `anna@alfa.example`.
+/// A request with short words, and what it is answered where the desk takes messages of up to ten bytes from
+/// `anna@alfa.example`.
 type Row = (&'static str, (u16, &'static str));
+
+/// Short words, and what they stand for: the end of a line, two targets with what stands round them, a key and a path that
+/// are right, each a line, and the length of a message, which the request ends with.
+static WORDS: [(&str, &str); 6] = [
+    ("|", "\r\n"),
+    ("{book}", "/mail/anna@alfa.example/book HTTP/1.1"),
+    ("{submit}", "POST /mail/anna@alfa.example/submit HTTP/1.1"),
+    ("{key}", "x-key: chiave\r\n"),
+    ("{path}", "x-path: bob@beta.example\r\n"),
+    ("{five}", "content-length: 5\r\n\r\nSalve"),
+];
+
+const ACCEPTED: &str = "accepted pec.0000007@alfa.example\n";
 
 /// The kind of all answers but messages.
 pub(crate) const TEXT: &str = "text/plain";
@@ -12,88 +26,55 @@ pub(crate) const TEXT: &str = "text/plain";
 // Each row of the answers that stops a request, where the next one applies too.
 static ROWS: [Row; 18] = [
     // no empty line ends the head
-    (
-        "GET /mail/anna@alfa.example/book HTTP/1.1\r\nx-key: chiave\r\n",
-        (400, "bad-request\n"),
-    ),
+    ("GET {book}|{key}", (400, "bad-request\n")),
     // row 2 before 3: no head, and no route
-    ("GET /nowhere\r\n\r\n", (400, "bad-request\n")),
+    ("GET /nowhere||", (400, "bad-request\n")),
     // 3 before 4: no route, and another method
-    (
-        "PUT /nowhere HTTP/1.1\r\nx-key: chiave\r\n\r\n",
-        (404, "not-found\n"),
-    ),
+    ("PUT /nowhere HTTP/1.1|{key}|", (404, "not-found\n")),
     // 4 before 5: another method, and no account
     (
-        "POST /mail/bob@alfa.example/book HTTP/1.1\r\n\r\n",
+        "POST /mail/bob@alfa.example/book HTTP/1.1||",
         (405, "method\n"),
     ),
     (
-        "GET /mail/anna@alfa.example/submit HTTP/1.1\r\nx-key: chiave\r\n\r\n",
+        "GET /mail/anna@alfa.example/submit HTTP/1.1|{key}|",
         (405, "method\n"),
     ),
-    (
-        "HEAD /mail/anna@alfa.example/book HTTP/1.1\r\nx-key: chiave\r\n\r\n",
-        (405, "method\n"),
-    ),
-    (
-        "get /mail/anna@alfa.example/book HTTP/1.1\r\nx-key: chiave\r\n\r\n",
-        (405, "method\n"),
-    ),
+    ("HEAD {book}|{key}|", (405, "method\n")),
+    ("get {book}|{key}|", (405, "method\n")),
     // 5 before 6: no account, and no key
     (
-        "GET /mail/bob@alfa.example/book HTTP/1.1\r\n\r\n",
+        "GET /mail/bob@alfa.example/book HTTP/1.1||",
         (404, "not-found\n"),
     ),
     // 5 before 7: no account, and a key
     (
-        "GET /mail/bob@alfa.example/book HTTP/1.1\r\nx-key: x\r\n\r\n",
+        "GET /mail/bob@alfa.example/book HTTP/1.1|x-key: x||",
         (404, "not-found\n"),
     ),
     // 6 before 8: no key, and no length
-    (
-        "POST /mail/anna@alfa.example/submit HTTP/1.1\r\n\r\n",
-        (401, "no-key\n"),
-    ),
+    ("{submit}||", (401, "no-key\n")),
     // 7 before 8: a wrong key, and no length
-    (
-        "POST /mail/anna@alfa.example/submit HTTP/1.1\r\nx-key: chiavi\r\n\r\n",
-        (403, "wrong-key\n"),
-    ),
+    ("{submit}|x-key: chiavi||", (403, "wrong-key\n")),
     // 8 before 9: no length, and no path
-    (
-        "POST /mail/anna@alfa.example/submit HTTP/1.1\r\nx-key: chiave\r\n\r\n",
-        (411, "length\n"),
-    ),
+    ("{submit}|{key}|", (411, "length\n")),
     // 9 before 10: no path, and too long
-    (
-        "POST /mail/anna@alfa.example/submit HTTP/1.1\r\nx-key: chiave\r\ncontent-length: 11\r\n\r\n",
-        (400, "bad-request\n"),
-    ),
+    ("{submit}|{key}content-length: 11||", (400, "bad-request\n")),
     // 10 before 11: too long, and cut
     (
-        "POST /mail/anna@alfa.example/submit HTTP/1.1\r\nx-key: chiave\r\nx-path: bob@beta.example\r\n\
-         content-length: 11\r\n\r\n",
+        "{submit}|{key}{path}content-length: 11||",
         (413, "too-large\n"),
     ),
     // 11: cut
     (
-        "POST /mail/anna@alfa.example/submit HTTP/1.1\r\nx-key: chiave\r\nx-path: bob@beta.example\r\n\
-         content-length: 5\r\n\r\nSalv",
+        "{submit}|{key}{path}content-length: 5||Salv",
         (400, "bad-request\n"),
     ),
     // none
+    ("{submit}|{key}{path}{five}", (201, ACCEPTED)),
+    ("GET {book}|{key}|", (200, "book 0\n")),
     (
-        "POST /mail/anna@alfa.example/submit HTTP/1.1\r\nx-key: chiave\r\nx-path: bob@beta.example\r\n\
-         content-length: 5\r\n\r\nSalve",
-        (201, "accepted pec.0000007@alfa.example\n"),
-    ),
-    (
-        "GET /mail/anna@alfa.example/book HTTP/1.1\r\nx-key: chiave\r\n\r\n",
-        (200, "book 0\n"),
-    ),
-    (
-        "GET /mail/anna@alfa.example/items HTTP/1.1\r\nx-key: chiave\r\n\r\n",
+        "GET /mail/anna@alfa.example/items HTTP/1.1|{key}|",
         (200, "mailbox 0\n"),
     ),
 ];
@@ -101,112 +82,91 @@ static ROWS: [Row; 18] = [
 // Addresses, routes and places in targets.
 static TARGETS: [Row; 26] = [
     (
-        "GET /mail/ANNA%40alfa.EXAMPLE/book HTTP/1.1\r\nx-key: chiave\r\n\r\n",
+        "GET /mail/ANNA%40alfa.EXAMPLE/book HTTP/1.1|{key}|",
         (200, "book 0\n"),
     ),
     // two signs
     (
-        "GET /mail/anna%40%40alfa.example/book HTTP/1.1\r\nx-key: chiave\r\n\r\n",
+        "GET /mail/anna%40%40alfa.example/book HTTP/1.1|{key}|",
         (404, "not-found\n"),
     ),
     // no other escape is read
     (
-        "GET /mail/anna@alfa%2eexample/book HTTP/1.1\r\nx-key: chiave\r\n\r\n",
+        "GET /mail/anna@alfa%2eexample/book HTTP/1.1|{key}|",
         (404, "not-found\n"),
     ),
     (
-        "GET /mail%2fanna@alfa.example/book HTTP/1.1\r\nx-key: chiave\r\n\r\n",
+        "GET /mail%2fanna@alfa.example/book HTTP/1.1|{key}|",
         (404, "not-found\n"),
     ),
     (
-        "GET /mail/anna@alfa.example%2fbook HTTP/1.1\r\nx-key: chiave\r\n\r\n",
+        "GET /mail/anna@alfa.example%2fbook HTTP/1.1|{key}|",
         (404, "not-found\n"),
     ),
     (
-        "GET /mail/anna%4/book HTTP/1.1\r\nx-key: chiave\r\n\r\n",
+        "GET /mail/anna%4/book HTTP/1.1|{key}|",
         (404, "not-found\n"),
     ),
     // a query, a fragment, an absolute target, an asterisk
     (
-        "GET /mail/anna@alfa.example/book? HTTP/1.1\r\nx-key: chiave\r\n\r\n",
+        "GET /mail/anna@alfa.example/book? HTTP/1.1|{key}|",
         (404, "not-found\n"),
     ),
     (
-        "GET /mail/anna@alfa.example/book?x=1 HTTP/1.1\r\nx-key: chiave\r\n\r\n",
+        "GET /mail/anna@alfa.example/book?x=1 HTTP/1.1|{key}|",
         (404, "not-found\n"),
     ),
     (
-        "GET /mail/anna@alfa.example/book#x HTTP/1.1\r\nx-key: chiave\r\n\r\n",
+        "GET /mail/anna@alfa.example/book#x HTTP/1.1|{key}|",
+        (404, "not-found\n"),
+    ),
+    ("GET http://localhost{book}|{key}|", (404, "not-found\n")),
+    ("OPTIONS * HTTP/1.1|{key}|", (404, "not-found\n")),
+    ("GET / HTTP/1.1|{key}|", (404, "not-found\n")),
+    ("GET /mail/ HTTP/1.1|{key}|", (404, "not-found\n")),
+    (
+        "GET /mail/anna@alfa.example HTTP/1.1|{key}|",
         (404, "not-found\n"),
     ),
     (
-        "GET http://localhost/mail/anna@alfa.example/book HTTP/1.1\r\nx-key: chiave\r\n\r\n",
+        "GET /mail/anna@alfa.example/ HTTP/1.1|{key}|",
         (404, "not-found\n"),
     ),
     (
-        "OPTIONS * HTTP/1.1\r\nx-key: chiave\r\n\r\n",
+        "GET /mail/anna@alfa.example/book/ HTTP/1.1|{key}|",
         (404, "not-found\n"),
     ),
+    ("GET /{book}|{key}|", (404, "not-found\n")),
     (
-        "GET / HTTP/1.1\r\nx-key: chiave\r\n\r\n",
-        (404, "not-found\n"),
-    ),
-    (
-        "GET /mail/ HTTP/1.1\r\nx-key: chiave\r\n\r\n",
-        (404, "not-found\n"),
-    ),
-    (
-        "GET /mail/anna@alfa.example HTTP/1.1\r\nx-key: chiave\r\n\r\n",
-        (404, "not-found\n"),
-    ),
-    (
-        "GET /mail/anna@alfa.example/ HTTP/1.1\r\nx-key: chiave\r\n\r\n",
-        (404, "not-found\n"),
-    ),
-    (
-        "GET /mail/anna@alfa.example/book/ HTTP/1.1\r\nx-key: chiave\r\n\r\n",
-        (404, "not-found\n"),
-    ),
-    (
-        "GET //mail/anna@alfa.example/book HTTP/1.1\r\nx-key: chiave\r\n\r\n",
-        (404, "not-found\n"),
-    ),
-    (
-        "GET /Mail/anna@alfa.example/book HTTP/1.1\r\nx-key: chiave\r\n\r\n",
+        "GET /Mail/anna@alfa.example/book HTTP/1.1|{key}|",
         (404, "not-found\n"),
     ),
     // an address that is none
-    (
-        "GET /mail/anna/book HTTP/1.1\r\nx-key: chiave\r\n\r\n",
-        (404, "not-found\n"),
-    ),
-    (
-        "GET /mail//book HTTP/1.1\r\nx-key: chiave\r\n\r\n",
-        (404, "not-found\n"),
-    ),
+    ("GET /mail/anna/book HTTP/1.1|{key}|", (404, "not-found\n")),
+    ("GET /mail//book HTTP/1.1|{key}|", (404, "not-found\n")),
     // places: one spelling, of at most nine digits
     (
-        "GET /mail/anna@alfa.example/items/ HTTP/1.1\r\nx-key: chiave\r\n\r\n",
+        "GET /mail/anna@alfa.example/items/ HTTP/1.1|{key}|",
         (404, "not-found\n"),
     ),
     (
-        "GET /mail/anna@alfa.example/items/8 HTTP/1.1\r\nx-key: chiave\r\n\r\n",
+        "GET /mail/anna@alfa.example/items/8 HTTP/1.1|{key}|",
         (404, "not-found\n"),
     ),
     (
-        "PUT /mail/anna@alfa.example/items/999999999 HTTP/1.1\r\nx-key: chiave\r\n\r\n",
+        "PUT /mail/anna@alfa.example/items/999999999 HTTP/1.1|{key}|",
         (405, "method\n"),
     ),
     (
-        "PUT /mail/anna@alfa.example/items/1000000000 HTTP/1.1\r\nx-key: chiave\r\n\r\n",
+        "PUT /mail/anna@alfa.example/items/1000000000 HTTP/1.1|{key}|",
         (404, "not-found\n"),
     ),
     (
-        "PUT /mail/anna@alfa.example/items/07 HTTP/1.1\r\nx-key: chiave\r\n\r\n",
+        "PUT /mail/anna@alfa.example/items/07 HTTP/1.1|{key}|",
         (404, "not-found\n"),
     ),
     (
-        "PUT /mail/anna@alfa.example/items/+7 HTTP/1.1\r\nx-key: chiave\r\n\r\n",
+        "PUT /mail/anna@alfa.example/items/+7 HTTP/1.1|{key}|",
         (404, "not-found\n"),
     ),
 ];
@@ -215,149 +175,96 @@ static TARGETS: [Row; 26] = [
 static FIELDS: [Row; 29] = [
     // names in capitals, and blanks round values
     (
-        "POST /mail/anna@alfa.example/submit HTTP/1.1\r\nX-KEY:chiave\r\nX-Path: \t bob@beta.example \t\r\n\
-         Content-LENGTH:  5 \r\n\r\nSalve",
-        (201, "accepted pec.0000007@alfa.example\n"),
+        "{submit}|X-KEY:chiave|X-Path: \t bob@beta.example \t|Content-LENGTH:  5 ||Salve",
+        (201, ACCEPTED),
     ),
     // the first key counts
-    (
-        "POST /mail/anna@alfa.example/submit HTTP/1.1\r\nx-key: chiave\r\nx-key: x\r\n\
-         x-path: bob@beta.example\r\ncontent-length: 5\r\n\r\nSalve",
-        (201, "accepted pec.0000007@alfa.example\n"),
-    ),
-    (
-        "POST /mail/anna@alfa.example/submit HTTP/1.1\r\nx-key: x\r\nx-key: chiave\r\n\
-         x-path: bob@beta.example\r\ncontent-length: 5\r\n\r\nSalve",
-        (403, "wrong-key\n"),
-    ),
-    (
-        "POST /mail/anna@alfa.example/submit HTTP/1.1\r\nx-key:\r\nx-path: bob@beta.example\r\n\
-         content-length: 5\r\n\r\nSalve",
-        (403, "wrong-key\n"),
-    ),
-    (
-        "POST /mail/anna@alfa.example/submit HTTP/1.1\r\nx-keys: chiave\r\nx-path: bob@beta.example\r\n\
-         content-length: 5\r\n\r\nSalve",
-        (401, "no-key\n"),
-    ),
+    ("{submit}|{key}x-key: x|{path}{five}", (201, ACCEPTED)),
+    ("{submit}|x-key: x|{key}{path}{five}", (403, "wrong-key\n")),
+    ("{submit}|x-key:|{path}{five}", (403, "wrong-key\n")),
+    ("{submit}|x-keys: chiave|{path}{five}", (401, "no-key\n")),
     // lengths
     (
-        "POST /mail/anna@alfa.example/submit HTTP/1.1\r\nx-key: chiave\r\nx-path: bob@beta.example\r\n\
-         content-length: 0000000005\r\n\r\nSalve",
-        (201, "accepted pec.0000007@alfa.example\n"),
+        "{submit}|{key}{path}content-length: 0000000005||Salve",
+        (201, ACCEPTED),
     ),
     (
-        "POST /mail/anna@alfa.example/submit HTTP/1.1\r\nx-key: chiave\r\nx-path: bob@beta.example\r\n\
-         content-length: 00000000005\r\n\r\nSalve",
+        "{submit}|{key}{path}content-length: 00000000005||Salve",
         (411, "length\n"),
     ),
     (
-        "POST /mail/anna@alfa.example/submit HTTP/1.1\r\nx-key: chiave\r\nx-path: bob@beta.example\r\n\
-         content-length: 0\r\n\r\nSalve",
-        (201, "accepted pec.0000007@alfa.example\n"),
+        "{submit}|{key}{path}content-length: 0||Salve",
+        (201, ACCEPTED),
     ),
     (
-        "POST /mail/anna@alfa.example/submit HTTP/1.1\r\nx-key: chiave\r\nx-path: bob@beta.example\r\n\
-         content-length: 10\r\n\r\n0123456789",
-        (201, "accepted pec.0000007@alfa.example\n"),
+        "{submit}|{key}{path}content-length: 10||0123456789",
+        (201, ACCEPTED),
     ),
     (
-        "POST /mail/anna@alfa.example/submit HTTP/1.1\r\nx-key: chiave\r\nx-path: bob@beta.example\r\n\
-         content-length: 9999999999\r\n\r\nSalve",
+        "{submit}|{key}{path}content-length: 9999999999||Salve",
         (413, "too-large\n"),
     ),
     (
-        "POST /mail/anna@alfa.example/submit HTTP/1.1\r\nx-key: chiave\r\nx-path: bob@beta.example\r\n\
-         content-length: 99999999999\r\n\r\nSalve",
+        "{submit}|{key}{path}content-length: 99999999999||Salve",
         (411, "length\n"),
     ),
     (
-        "POST /mail/anna@alfa.example/submit HTTP/1.1\r\nx-key: chiave\r\nx-path: bob@beta.example\r\n\
-         content-length: +5\r\n\r\nSalve",
+        "{submit}|{key}{path}content-length: +5||Salve",
         (411, "length\n"),
     ),
     (
-        "POST /mail/anna@alfa.example/submit HTTP/1.1\r\nx-key: chiave\r\nx-path: bob@beta.example\r\n\
-         content-length: -5\r\n\r\nSalve",
+        "{submit}|{key}{path}content-length: -5||Salve",
         (411, "length\n"),
     ),
     (
-        "POST /mail/anna@alfa.example/submit HTTP/1.1\r\nx-key: chiave\r\nx-path: bob@beta.example\r\n\
-         content-length: 5 5\r\n\r\nSalve",
+        "{submit}|{key}{path}content-length: 5 5||Salve",
         (411, "length\n"),
     ),
     (
-        "POST /mail/anna@alfa.example/submit HTTP/1.1\r\nx-key: chiave\r\nx-path: bob@beta.example\r\n\
-         content-length: 5, 5\r\n\r\nSalve",
+        "{submit}|{key}{path}content-length: 5, 5||Salve",
         (411, "length\n"),
     ),
     (
-        "POST /mail/anna@alfa.example/submit HTTP/1.1\r\nx-key: chiave\r\nx-path: bob@beta.example\r\n\
-         content-length: 0x5\r\n\r\nSalve",
+        "{submit}|{key}{path}content-length: 0x5||Salve",
         (411, "length\n"),
     ),
     (
-        "POST /mail/anna@alfa.example/submit HTTP/1.1\r\nx-key: chiave\r\nx-path: bob@beta.example\r\n\
-         content-length:\r\n\r\nSalve",
+        "{submit}|{key}{path}content-length:||Salve",
         (411, "length\n"),
     ),
     (
-        "POST /mail/anna@alfa.example/submit HTTP/1.1\r\nx-key: chiave\r\nx-path: bob@beta.example\r\n\
-         content-length: 5\r\ncontent-length: 5\r\n\r\nSalve",
+        "{submit}|{key}{path}content-length: 5|{five}",
         (411, "length\n"),
     ),
     (
-        "POST /mail/anna@alfa.example/submit HTTP/1.1\r\nx-key: chiave\r\nx-path: bob@beta.example\r\n\
-         content-length: 5\r\ntransfer-encoding: chunked\r\n\r\nSalve",
+        "{submit}|{key}{path}content-length: 5|transfer-encoding: chunked||Salve",
         (411, "length\n"),
     ),
     (
-        "POST /mail/anna@alfa.example/submit HTTP/1.1\r\nx-key: chiave\r\nx-path: bob@beta.example\r\n\
-         Transfer-Encoding: identity\r\n\r\n5\r\nSalve\r\n0\r\n\r\n",
+        "{submit}|{key}{path}Transfer-Encoding: identity||5|Salve|0||",
         (411, "length\n"),
     ),
     // paths
     (
-        "POST /mail/anna@alfa.example/submit HTTP/1.1\r\nx-key: chiave\r\n\
-         x-path: bob@beta.example , \tBOB@beta.example\r\ncontent-length: 5\r\n\r\nSalve",
-        (201, "accepted pec.0000007@alfa.example\n"),
+        "{submit}|{key}x-path: bob@beta.example , \tBOB@beta.example|{five}",
+        (201, ACCEPTED),
     ),
+    ("{submit}|{key}x-path:|{five}", (400, "bad-request\n")),
+    ("{submit}|{key}x-path: ,|{five}", (400, "bad-request\n")),
     (
-        "POST /mail/anna@alfa.example/submit HTTP/1.1\r\nx-key: chiave\r\nx-path:\r\ncontent-length: 5\r\n\r\nSalve",
+        "{submit}|{key}x-path: bob@beta.example,|{five}",
         (400, "bad-request\n"),
     ),
     (
-        "POST /mail/anna@alfa.example/submit HTTP/1.1\r\nx-key: chiave\r\nx-path: ,\r\ncontent-length: 5\r\n\r\nSalve",
+        "{submit}|{key}x-path: bob@beta.example bob@beta.example|{five}",
         (400, "bad-request\n"),
     ),
-    (
-        "POST /mail/anna@alfa.example/submit HTTP/1.1\r\nx-key: chiave\r\nx-path: bob@beta.example,\r\n\
-         content-length: 5\r\n\r\nSalve",
-        (400, "bad-request\n"),
-    ),
-    (
-        "POST /mail/anna@alfa.example/submit HTTP/1.1\r\nx-key: chiave\r\n\
-         x-path: bob@beta.example bob@beta.example\r\ncontent-length: 5\r\n\r\nSalve",
-        (400, "bad-request\n"),
-    ),
-    (
-        "POST /mail/anna@alfa.example/submit HTTP/1.1\r\nx-key: chiave\r\nx-path: bob@beta.example\r\n\
-         x-path: bob@beta.example\r\ncontent-length: 5\r\n\r\nSalve",
-        (400, "bad-request\n"),
-    ),
+    ("{submit}|{key}{path}{path}{five}", (400, "bad-request\n")),
     // a body behind what is asked, and a second request
+    ("GET {book}|{key}{five}", (200, "book 0\n")),
+    ("{submit}|{key}{path}{five}, Bob", (201, ACCEPTED)),
     (
-        "GET /mail/anna@alfa.example/book HTTP/1.1\r\nx-key: chiave\r\ncontent-length: 5\r\n\r\nSalve",
-        (200, "book 0\n"),
-    ),
-    (
-        "POST /mail/anna@alfa.example/submit HTTP/1.1\r\nx-key: chiave\r\nx-path: bob@beta.example\r\n\
-         content-length: 5\r\n\r\nSalve, Bob",
-        (201, "accepted pec.0000007@alfa.example\n"),
-    ),
-    (
-        "GET /mail/anna@alfa.example/book HTTP/1.1\r\nx-key: chiave\r\n\r\n\
-         GET /mail/anna@alfa.example/submit HTTP/1.1\r\nx-key: chiave\r\n\r\n",
+        "GET {book}|{key}|GET /mail/anna@alfa.example/submit HTTP/1.1|{key}|",
         (200, "book 0\n"),
     ),
 ];
@@ -365,46 +272,31 @@ static FIELDS: [Row; 29] = [
 // Heads in whole.
 static HEADS: [Row; 10] = [
     // empty lines in front, and lines that end with LF alone
-    (
-        "\r\n\nGET /mail/anna@alfa.example/book HTTP/1.1\nx-key: chiave\n\n",
-        (200, "book 0\n"),
-    ),
+    ("|\nGET {book}\nx-key: chiave\n\n", (200, "book 0\n")),
     // version 1.0
     (
-        "GET /mail/anna@alfa.example/book HTTP/1.0\r\nx-key: chiave\r\n\r\n",
+        "GET /mail/anna@alfa.example/book HTTP/1.0|{key}|",
         (200, "book 0\n"),
     ),
     // other versions
     (
-        "GET /mail/anna@alfa.example/book HTTP/2.0\r\nx-key: chiave\r\n\r\n",
+        "GET /mail/anna@alfa.example/book HTTP/2.0|{key}|",
         (400, "bad-request\n"),
     ),
     (
-        "GET /mail/anna@alfa.example/book\r\nx-key: chiave\r\n\r\n",
+        "GET /mail/anna@alfa.example/book|{key}|",
         (400, "bad-request\n"),
     ),
     // a line that isn't a field
-    (
-        "GET /mail/anna@alfa.example/book HTTP/1.1\r\nx-key\r\n\r\n",
-        (400, "bad-request\n"),
-    ),
+    ("GET {book}|x-key||", (400, "bad-request\n")),
     // a blank behind a name, or in front of one
-    (
-        "GET /mail/anna@alfa.example/book HTTP/1.1\r\nx-key : chiave\r\n\r\n",
-        (400, "bad-request\n"),
-    ),
-    (
-        "GET /mail/anna@alfa.example/book HTTP/1.1\r\n x-key: chiave\r\n\r\n",
-        (400, "bad-request\n"),
-    ),
+    ("GET {book}|x-key : chiave||", (400, "bad-request\n")),
+    ("GET {book}| {key}|", (400, "bad-request\n")),
     // nothing
     ("", (400, "bad-request\n")),
-    ("\r\n\r\n\r\n", (400, "bad-request\n")),
+    ("|||", (400, "bad-request\n")),
     // bytes that aren't ASCII in the method
-    (
-        "G\u{e9}T /mail/anna@alfa.example/book HTTP/1.1\r\nx-key: chiave\r\n\r\n",
-        (400, "bad-request\n"),
-    ),
+    ("G\u{e9}T {book}|{key}|", (400, "bad-request\n")),
 ];
 
 #[test]
@@ -439,7 +331,18 @@ fn first_wrong(alloc: Global, rows: &[Row]) -> Option<&'static str> {
 
 /// Whether the request of a row is answered as the row has it, in whole and byte by byte.
 fn is_right(alloc: Global, row: &Row) -> bool {
-    let request = row.0.as_bytes();
-    is_answered(alloc, Mood::Accepts, request, 4096, TEXT, row.1)
-        && is_answered(alloc, Mood::Accepts, request, 1, TEXT, row.1)
+    let request = written_out(alloc, row.0);
+    is_answered(alloc, Mood::Accepts, request.as_bytes(), 4096, TEXT, row.1)
+        && is_answered(alloc, Mood::Accepts, request.as_bytes(), 1, TEXT, row.1)
+}
+
+/// A request without short words.
+fn written_out(alloc: Global, request: &str) -> String {
+    let mut text = String::from_str(alloc, request).unwrap_or(String::new(alloc));
+    for (word, instead) in &WORDS {
+        text = text
+            .replace(alloc, word, instead)
+            .unwrap_or(String::new(alloc));
+    }
+    text
 }

@@ -1,111 +1,166 @@
--- The disks are looked at; or one can't be.
-use Rattle.std.proofs.Common.{map, ◌≡◌, ◌∙◌, refl, sym, subst, length}
+-- All journals are had, and connections are served; or not all are.
+use Rattle.std.proofs.Common.{map, ◌≡◌, ◌∙◌, ℕ, inl, inr, arith, refl, sym, subst, List, length, false}
+use Rattle.std.proofs.lemmas.Bool.{cases_lt}
 use Rattle.std.proofs.lemmas.List.{length-map}
-use Rattle.std.proofs.lemmas.Result.{err_from_is_err_and}
 use Rattle.pec_directory.specs.Directory.{Kept, providers_of}
+use Rattle.pec_ledger.specs.Network.{Site}
 use Rattle.pec_seal.specs.Hmac.{hmac_seals}
-use Rattle.pec_runs.specs.Happened.{IsSetting, Setting}
-use Rattle.pec_runs.specs.Openings.{disks_at}
-use Rattle.pec_runs.specs.Statuses as statuses
+use Rattle.pec_serving.specs.OfNetworks.{counts_in, journals_had, sites}
+use Rattle.pec_runs.specs.Happened.{Setting, trade_in}
+use Rattle.pec_runs.specs.Openings.{NoMore, disks_at}
+use Rattle.pec_runs.specs.Statuses.{Status}
 use Rattle.pec_screen.specs.Screened.{finds_in}
-use Rattle.pec_service.specs.Runs.{Asked, IsChosen, Outside}
-use Rattle.pec_top.specs.Hosting.{told_shown}
-use Rattle.pec_top.specs.Shown.{form_shown}
-use Rattle.pec_top.proofs.FlowLemmas.{followed_by-nil}
-use Rattle.pec_top.proofs.HostedLemmas.{journals_since}
-use Rattle.pec_top.proofs.HostingLemmas.{served_begun, served_halted, served_unlooked}
-use Rattle.pec_top.proofs.RestLemmas.{leaves_back, reads_on, untouched_rest}
-use Rattle.pec_top.proofs.RunningLemmas.{untouched}
+use Rattle.pec_service.specs.Runs.{Asked, Blames, Course, IsChosen, Outside, TellsService, first_place, place_with}
+use Rattle.pec_service.specs.Services.{IsService, service_text}
+use Rattle.pec_serving.specs.Playing.{state_of}
+use Rattle.pec_top.specs.Hosting.{counts_of, ended_as}
+use Rattle.pec_top.specs.Inputs.{IsWholeTaken}
+use Rattle.pec_top.specs.Scripts.{AreKept}
+use Rattle.pec_top.specs.Shown.{result_shown}
+use Rattle.pec_top.proofs.CountLemmas.{closed_so, counts_later}
+use Rattle.pec_top.proofs.HostingLemmas.{blames_ended, refused_counts, served_begun, served_unopened, told_as}
+use Rattle.pec_top.proofs.WholeLemmas.{all_kept_so, none_gone}
 use Rattle.pec_top.proofs.hosting.serve_opened.Goals as goal
 
-pub returns-in_err-sealer-clause-served : goal.returns-in_err-sealer-clause-served
-returns-in_err-sealer-clause-served g c = λ unread left taken.
+pub returns-in-Ok-clause-served : goal.returns-in-Ok-clause-served
+returns-in-Ok-clause-served g c = λ unread rest whole.
     let asked : Asked = record { wanted = c.args.wanted; finds = finds_in (map g.J.Judge.patterns c.args.screens.items) } in
     let tells = g.P.Depot.tells × g.P.D.Disk.tells in
-    let home = g.P.Depot.home c.args.depot.now in
-    let disks = disks_at tells g.P.D.Disk.sight home in
-    let last = g.P.Depot.last c.args.depot.now in
-    let before = g.W.Stream.held c.args.out.now in
-    let here : Outside = record {
-      moments = g.T.Ticks.coming c.args.ticks.now;
-      requests = g.R.Door.requests c.args.door.now;
-      replies = g.R.Door.replies c.args.door.now;
-    } in
-    let p = err_from_is_err_and c.from_residual.result c.from_residual.ensures.1 in
-    rw (p.1, p.2) (served_halted asked statuses.NoMemory unread before before disks disks here here last last
-    (untouched tells g.P.D.Disk.sight home) refl (refl, sym (followed_by-nil before)))
-
-pub returns-in_default-clause-served : goal.returns-in_default-clause-served
-returns-in_default-clause-served g c = λ unread left taken.
-    let asked : Asked = record { wanted = c.args.wanted; finds = finds_in (map g.J.Judge.patterns c.args.screens.items) } in
-    let tells = g.P.Depot.tells × g.P.D.Disk.tells in
-    let home = g.P.Depot.home c.args.depot.now in
-    let disks = disks_at tells g.P.D.Disk.sight home in
-    let last = g.P.Depot.last c.args.depot.now in
-    let before = g.W.Stream.held c.args.out.now in
-    let here : Outside = record {
-      moments = g.T.Ticks.coming c.args.ticks.now;
-      requests = g.R.Door.requests c.args.door.now;
-      replies = g.R.Door.replies c.args.door.now;
-    } in
-    let kept = c.args.directory in
-    let seals = hmac_seals c.in_ok-sealer.sealer.names.items c.in_ok-sealer.sealer.keys.items in
+    let sight = g.P.D.Disk.sight in
+    let faults = g.P.D.Counted.faults in
+    let network = c.in-Ok.network in
+    let kept = network.kept in
+    let seals = hmac_seals network.sealer.names.items network.sealer.keys.items in
     let setting : Setting = record { kept = kept; seals = seals } in
-    let is_setting : IsSetting (providers_of kept) setting = record {
-      kept = refl;
-      zones = c.count.ensures.zones;
-      lawful = c.count.ensures.lawful;
-      seals = c.in_ok-sealer.ensures.exact;
-      world = c.the_texts_are_a_trade.ensures.trade c.in_ok-sealer.sealer kept c.count.ensures.lawful
-          c.in_ok-sealer.ensures.fits;
-    } in
-    let new = g.P.Depot.home c.choose_form.new.depot in
-    served_unlooked asked statuses.StartFault unread before before disks (disks_at tells g.P.D.Disk.sight new) here here last
-    (g.P.Depot.last c.choose_form.new.depot) taken.bytes taken.short setting taken.reads is_setting taken.input
-    (untouched_rest g.P.Depot.tells g.P.D.Disk.tells g.P.D.Disk.sight home new c.choose_form.ensures.rest) refl
-    (refl, sym (followed_by-nil before))
-
-pub returns-clause-served : goal.returns-clause-served
-returns-clause-served g c = λ unread left taken.
-    let asked : Asked = record { wanted = c.args.wanted; finds = finds_in (map g.J.Judge.patterns c.args.screens.items) } in
-    let tells = g.P.Depot.tells × g.P.D.Disk.tells in
-    let home = g.P.Depot.home c.args.depot.now in
-    let disks = disks_at tells g.P.D.Disk.sight home in
-    let last = g.P.Depot.last c.args.depot.now in
+    let opened = c.in-Ok.ensures.opened in
+    let taken = subst (λ (k : List Kept). IsWholeTaken unread rest (providers_of k)) (sym c.in-Ok.ensures.same) whole in
+    let old = g.P.Depot.home c.args.depot.now in
+    let mid = g.P.Depot.home c.open.new.depot in
+    let new = g.P.Depot.home c.close.new.depot in
+    let from = g.P.Depot.last c.args.depot.now in
+    let mid_last = g.P.Depot.last c.open.new.depot in
+    let upto = g.P.Depot.last c.close.new.depot in
+    let served = c.serve-network.result.0 in
+    let ending = c.serve-network.result.1 in
+    let keeps = c.serve-network.ensures.keeps in
     let before = g.W.Stream.held c.args.out.now in
+    let after = g.W.Stream.held c.serve-network.new.out in
+    let closed = closed_so faults mid_last (g.P.Depot.last c.serve-network.new.depot) upto served.providers
+    c.serve-network.ensures.last c.close.ensures.last in
     let here : Outside = record {
       moments = g.T.Ticks.coming c.args.ticks.now;
       requests = g.R.Door.requests c.args.door.now;
       replies = g.R.Door.replies c.args.door.now;
     } in
-    let kept = c.args.directory in
-    let seals = hmac_seals c.in_ok-sealer.sealer.names.items c.in_ok-sealer.sealer.keys.items in
-    let setting : Setting = record { kept = kept; seals = seals } in
-    let is_setting : IsSetting (providers_of kept) setting = record {
-      kept = refl;
-      zones = c.count.ensures.zones;
-      lawful = c.count.ensures.lawful;
-      seals = c.in_ok-sealer.ensures.exact;
-      world = c.the_texts_are_a_trade.ensures.trade c.in_ok-sealer.sealer kept c.count.ensures.lawful
-          c.in_ok-sealer.ensures.fits;
-    } in
-    let mid = g.P.Depot.home c.choose_form.new.depot in
-    let new = g.P.Depot.home c.serve_formed.new.depot in
     let there : Outside = record {
-      moments = g.T.Ticks.coming c.serve_formed.new.ticks;
-      requests = g.R.Door.requests c.serve_formed.new.door;
-      replies = g.R.Door.replies c.serve_formed.new.door;
+      moments = g.T.Ticks.coming c.serve-network.new.ticks;
+      requests = g.R.Door.requests c.serve-network.new.door;
+      replies = g.R.Door.replies c.serve-network.new.door;
     } in
-    let status = told_shown c.serve_formed.result in
-    let after = g.W.Stream.held c.serve_formed.new.out in
-    let upto = g.P.Depot.last c.serve_formed.new.depot in
-    let form = form_shown c.in-Ok.form in
-    let many : length (providers_of kept) ≡ length kept = length-map kept (λ (one : Kept). one.provider) in
-    let chosen = subst (λ (count : _). IsChosen disks count form) (c.count.ensures.count ∙ sym many) c.in-Ok.ensures.chosen in
-    let served = c.serve_formed.ensures.served in
-    served_begun asked status unread before after disks (disks_at tells g.P.D.Disk.sight new) here there last upto taken.bytes
-    taken.short setting taken.reads is_setting taken.input form served.0 chosen
-    (journals_since asked status before after disks (disks_at tells g.P.D.Disk.sight mid) (disks_at tells g.P.D.Disk.sight new)
-    (reads_on g.P.Depot.tells g.P.D.Disk.tells g.P.D.Disk.sight home mid c.choose_form.ensures.rest)
-    (leaves_back g.P.Depot.tells g.P.D.Disk.tells g.P.D.Disk.sight home mid c.choose_form.ensures.rest) here there last
-    (g.P.Depot.last c.choose_form.new.depot) upto c.choose_form.ensures.last setting served.0 form served.1)
+    let counts = counts_in faults network.providers mid_last in
+    let serves = c.serve-network.ensures.serves mid_last in
+    let journals = journals_had network.providers in
+    let trade = trade_in setting in
+    let course : Course = record {
+      opening = record { journals = journals; next = NoMore };
+      holds = false;
+      service = serves.service;
+    } in
+    let kept_so = subst (λ (k : List Kept). AreKept tells sight (length k) (sites served) mid new) keeps.directory
+    (all_kept_so g.P.Depot.tells g.P.D.Disk.tells sight served c.a_network_is_whole-in-Ok.ensures
+    (g.P.Depot.home c.serve-network.new.depot) new c.close.ensures.kept mid
+    (λ told. keeps.stands told.1 (opened.stands told)) c.serve-network.ensures.home) in
+    let many = length-map kept (λ (one : Kept). one.provider) in
+    let chosen = subst (λ (count : ℕ). IsChosen (disks_at tells sight old) count opened.form) (sym many) opened.is_form in
+    served_begun asked (result_shown c.ended.result) unread before after (disks_at tells sight old) (disks_at tells sight new)
+    here there from upto taken.bytes taken.short setting taken.reads opened.setting taken.input opened.form course chosen
+    (record {
+      opening = opened.opening;
+      looked_at = tt;
+      goes_on = record {
+        counts = counts;
+        sooner = opened.counts;
+        network = state_of faults mid_last served;
+        is = subst (λ (s : List Site). IsService trade kept asked.finds asked.wanted
+            (place_with (record { sites = s; counts = counts }) here)
+            (place_with (state_of faults mid_last served) there) serves.service) opened.begins serves.is;
+        told = subst (λ (s : Status). TellsService s before after (service_text trade kept
+            (first_place trade journals counts here) serves.service) serves.service.ending) (sym c.ended.ensures)
+            (subst (λ (s : List Site). TellsService (ended_as ending) before after (service_text trade kept
+            (place_with (record { sites = s; counts = counts }) here) serves.service) serves.service.ending) opened.begins
+            (told_as ending before after (service_text trade kept
+            (place_with (record { sites = sites network; counts = counts }) here) serves.service)
+            serves.service.ending serves.ending_is serves.written));
+        later = λ k. let e = closed k in omega (arith, e);
+        disks = opened.leaves (sites served) (sites served) new (λ told. refl) kept_so;
+      };
+    })
+
+pub returns-in-Ok-clause-counts : goal.returns-in-Ok-clause-counts
+returns-in-Ok-clause-counts g c =
+    let faults = g.P.D.Counted.faults in
+    let mid_last = g.P.Depot.last c.open.new.depot in
+    let network = c.in-Ok.network in
+    let served = c.serve-network.result.0 in
+    let closed = closed_so faults mid_last (g.P.Depot.last c.serve-network.new.depot) (g.P.Depot.last c.close.new.depot)
+    served.providers c.serve-network.ensures.last c.close.ensures.last in
+    let began = c.in-Ok.ensures.opened.counts in
+    let later = counts_later faults network.providers served.providers (sym c.serve-network.ensures.keeps.many)
+    c.serve-network.ensures.keeps.later mid_last in
+    let old = counts_of 0 (g.W.Counted.faults c.args.out.now) (g.P.Counted.faults c.args.depot.now)
+    (g.P.Depot.last c.args.depot.now) (g.T.Counted.faults c.args.ticks.now) (g.R.Counted.faults c.args.door.now) in
+    let new = counts_of 0 (g.W.Counted.faults c.serve-network.new.out) (g.P.Counted.faults c.close.new.depot)
+    (g.P.Depot.last c.close.new.depot) (g.T.Counted.faults c.serve-network.new.ticks)
+    (g.R.Counted.faults c.serve-network.new.door) in (
+      subst (λ (s : Status). Blames s old new) (sym c.ended.ensures)
+          (blames_ended c.serve-network.result.1 old new c.serve-network.ensures.no_moment c.serve-network.ensures.no_connection
+          c.serve-network.ensures.write_fault),
+      record {
+        devices = record {
+          source = omega arith;
+          sink = c.serve-network.ensures.out_later;
+          depot = omega (arith, c.open.ensures.later, c.serve-network.ensures.depot_later, c.close.ensures.later);
+          disks = λ k. let a = began k in let b = later k in let e = closed k in omega (arith, a, b, e);
+        };
+        clock = c.serve-network.ensures.clock_later;
+        door = c.serve-network.ensures.door_later;
+      },
+    )
+
+pub returns-in-Ok-clause-home : goal.returns-in-Ok-clause-home
+returns-in-Ok-clause-home g c = λ told k some.
+    let served = c.serve-network.result.0 in
+    let count = c.a_network_is_whole-in-Ok.ensures.count in
+    let first = c.a_network_is_whole.ensures.count in
+    let many = c.serve-network.ensures.keeps.many in
+    elim (cases_lt k (length served.kept)) [
+      | inl within ↦ none_gone g.P.Depot.tells g.P.D.Disk.tells g.P.D.Disk.sight served c.a_network_is_whole-in-Ok.ensures
+          (g.P.Depot.home c.serve-network.new.depot) (g.P.Depot.home c.close.new.depot) c.close.ensures.kept told k within
+      | inr past ↦ λ gone. c.in-Ok.ensures.opened.apart told k (omega (arith, count, first, many, past)) some
+          (sym (c.serve-network.ensures.home told k)
+          ∙ (sym ((c.close.ensures.kept told).elsewhere k (omega (arith, count, past))) ∙ gone))
+    ]
+
+pub returns-in-Err-clause-served : goal.returns-in-Err-clause-served
+returns-in-Err-clause-served g c = λ unread rest taken.
+    let asked : Asked = record { wanted = c.args.wanted; finds = finds_in (map g.J.Judge.patterns c.args.screens.items) } in
+    let tells = g.P.Depot.tells × g.P.D.Disk.tells in
+    let sight = g.P.D.Disk.sight in
+    let here : Outside = record {
+      moments = g.T.Ticks.coming c.args.ticks.now;
+      requests = g.R.Door.requests c.args.door.now;
+      replies = g.R.Door.replies c.args.door.now;
+    } in
+    served_unopened asked (result_shown c.end_refused.result) unread (g.W.Stream.held c.args.out.now)
+    (g.W.Stream.held c.end_refused.new.out) (disks_at tells sight (g.P.Depot.home c.args.depot.now))
+    (disks_at tells sight (g.P.Depot.home c.open.new.depot)) here (g.P.Depot.last c.args.depot.now)
+    (g.P.Depot.last c.open.new.depot) taken.bytes taken.short c.args.directory taken.reads taken.input c.in-Err.refusal
+    c.end_refused.ensures.told c.in-Err.ensures.refused
+
+pub returns-in-Err-clause-counts : goal.returns-in-Err-clause-counts
+returns-in-Err-clause-counts g c =
+    refused_counts c.in-Err.refusal c.end_refused.result (g.W.Counted.faults c.args.out.now)
+    (g.W.Counted.faults c.end_refused.new.out) (g.P.Counted.faults c.args.depot.now) (g.P.Counted.faults c.open.new.depot)
+    (g.P.Depot.last c.args.depot.now) (g.P.Depot.last c.open.new.depot) (g.T.Counted.faults c.args.ticks.now)
+    (g.R.Counted.faults c.args.door.now) c.end_refused.ensures.blame c.in-Err.ensures.blame c.end_refused.ensures.later
+    c.open.ensures.later c.open.ensures.last

@@ -19,7 +19,7 @@ invariant-lines g l =
     record {
       reads : (depot.tells × disk.tells → AllStand disk.sight l.fn.network.providers) → (elsewhere : ℕ → ℕ)
           → Reads (world_of g.H.Sealer.seals l.fn.network) (finds_in (map g.J.Judge.patterns l.fn.screens))
-          (providers_of l.fn.network.kept) (depot.tells × disk.tells)
+          (providers_of l.fn.network.kept) (depot.tells × disk.tells) disk.sight
           (at_first (point_of faults elsewhere l.fn.network (sink.held l.fn.out) (g.W.Counted.faults l.fn.out))
           (behind l.fn.buffer (g.S.Stream.left l.fn.source))) (record {
             point = point_of faults elsewhere l.network (sink.held l.out) (g.W.Counted.faults l.out);

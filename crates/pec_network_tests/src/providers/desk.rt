@@ -1,0 +1,356 @@
+//! One provider of the directory of the tests over a disk in memory, which is asked by lines.
+
+ghost use Rattle.std.specs.Prelude.{◌<◌, ◌≤◌, length};
+ghost use Rattle.pec_records.specs.Entry.{longest_message, most_addresses};
+
+use super::home::Home;
+use pec_outside::MemDisk;
+use pec_provider::{CreateFault, House, Provider, ProviderFault, ReopenFault, Submitted};
+use pec_screen::NoScreens;
+use pec_seal::{HmacSealer, Sealer};
+use pec_trial::{
+    Submission, account_at, add, add_number, moment_of, number, small, submission_of, told,
+    told_all, told_item, told_list, told_word, word,
+};
+use pec_types::{Frame, NoMemory};
+use std::alloc::Global;
+use std::marker::Model;
+use std::test::Fail;
+
+/// The two providers of the directory of the tests.
+#[derive(Clone, Copy)]
+pub(crate) enum Who {
+    Alfa,
+    Beta,
+}
+
+impl Who {
+    /// The number of the provider.
+    fn number(self) -> u32
+        ensures { result < 2 }
+    {
+        match self {
+            Who::Alfa => 0,
+            Who::Beta => 1,
+        }
+    }
+}
+
+/// One provider, and the frames that it put last.
+pub(crate) struct Desk {
+    alloc: Global,
+    home: Home,
+    me: u32,
+    provider: Provider<MemDisk>,
+    put: Vec<Frame>,
+}
+
+impl Model for Desk {
+    ghost use Rattle.pec_outside.specs.MemoryDisk.{DiskState};
+    ghost use Rattle.pec_provider.specs.Provider.{ProviderState, Runs};
+
+    ghost Value = { ProviderState DiskState };
+
+    ghost view = { λ desk. desk.provider };
+
+    ghost invariant = { λ desk. Runs desk.home.directory (⟦<HmacSealer as Sealer>⟧.seals desk.home.sealer) desk.me
+        desk.provider };
+}
+
+impl Drop for Desk {
+    fn drop(self) {
+        let Desk {
+            alloc: _,
+            home: _,
+            me: _,
+            provider: _,
+            put: _,
+        } = self;
+    }
+}
+
+impl Desk {
+    /// A provider on a disk, on which it makes its journal; or why it can't.
+    pub(crate) fn made(
+        alloc: Global,
+        home: Home,
+        who: Who,
+        disk: MemDisk,
+    ) -> Result<Desk, CreateFault> {
+        let me = who.number();
+        let house = House {
+            directory: &home.directory,
+            sealer: &home.sealer,
+            me,
+        };
+        match Provider::create(alloc, &house, disk) {
+            Ok(provider) => Ok(Desk {
+                alloc,
+                home,
+                me,
+                provider,
+                put: Vec::new(alloc),
+            }),
+            Err((fault, _)) => Err(fault),
+        }
+    }
+
+    /// The provider whose journal is on a disk; or why it isn't opened.
+    pub(crate) fn opened(
+        alloc: Global,
+        home: Home,
+        who: Who,
+        disk: MemDisk,
+    ) -> Result<Desk, ReopenFault> {
+        let me = who.number();
+        let house = House {
+            directory: &home.directory,
+            sealer: &home.sealer,
+            me,
+        };
+        match Provider::reopen(alloc, &house, disk) {
+            Ok(provider) => Ok(Desk {
+                alloc,
+                home,
+                me,
+                provider,
+                put: Vec::new(alloc),
+            }),
+            Err((fault, _)) => Err(fault),
+        }
+    }
+
+    /// The provider opened again over its disk, and whether an entry of it was interrupted; none where it isn't opened.
+    pub(crate) fn reopened(self, who: Who) -> Option<(Desk, bool)> {
+        let Desk {
+            alloc,
+            home,
+            me: _,
+            provider,
+            put: _,
+        } = self;
+        let (disk, interrupted) = provider.into_parts();
+        let was_interrupted = interrupted.is_some();
+        match Desk::opened(alloc, home, who, disk) {
+            Ok(desk) => Some((desk, was_interrupted)),
+            Err(_) => None,
+        }
+    }
+
+    pub(crate) fn put(&self) -> &[Frame] {
+        &self.put
+    }
+}
+
+/// A verb of a line.
+#[derive(Clone, Copy)]
+enum Verb {
+    Submit,
+    Tick,
+    Arrive,
+    Decide,
+    Put,
+    EndTurn,
+    Book,
+    Mailbox,
+    Item,
+    Figures,
+    Unknown,
+}
+
+const VERBS: [(&str, Verb); 10] = [
+    ("submit", Verb::Submit),
+    ("tick", Verb::Tick),
+    ("arrive", Verb::Arrive),
+    ("decide", Verb::Decide),
+    ("put", Verb::Put),
+    ("end-turn", Verb::EndTurn),
+    ("book", Verb::Book),
+    ("mailbox", Verb::Mailbox),
+    ("item", Verb::Item),
+    ("figures", Verb::Figures),
+];
+
+fn verb_of(word: &str) -> Verb {
+    let mut found = Verb::Unknown;
+    for (name, verb) in &VERBS {
+        if *name == word {
+            found = *verb;
+        }
+    }
+    found
+}
+
+impl Desk {
+    /// What a line asks of it, as words: a provider, a verb, and what each verb has below. A frame that a line names is
+    /// given beside it.
+    pub(crate) fn answer(&mut self, line: &str, frame: &[u8]) -> Result<Vec<u8>, Fail> {
+        match verb_of(word(line, 1)) {
+            Verb::Submit => self.submit(line),
+            Verb::Tick => self.tick(line),
+            Verb::Arrive => self.arrive(line, frame),
+            Verb::Decide => self.decide(line),
+            Verb::Put => self.put_due(line),
+            Verb::EndTurn => self.end_turn(),
+            Verb::Book => self.book(line),
+            Verb::Mailbox => self.mailbox(line),
+            Verb::Item => self.item(line),
+            Verb::Figures => self.figures(),
+            Verb::Unknown => Err("no such verb".into()),
+        }
+    }
+
+    /// `submit MOMENT SENDER PATH MESSAGE`
+    fn submit(&mut self, line: &str) -> Result<Vec<u8>, Fail> {
+        let asked = submission_of(self.alloc, line)?;
+        let answer = self.submitted(&asked);
+        told(self.alloc, answer)
+    }
+
+    fn submitted(&mut self, asked: &Submission) -> Result<Submitted, ProviderFault>
+        requires path { (0 < length asked.now.path.items) × (length asked.now.path.items ≤ most_addresses) }
+        requires message { length asked.now.message.items ≤ longest_message }
+    {
+        let home = &self.home;
+        let house = House {
+            directory: &home.directory,
+            sealer: &home.sealer,
+            me: self.me,
+        };
+        let mut none = NoScreens;
+        self.provider.submit(
+            self.alloc,
+            &house,
+            asked.moment,
+            &asked.sender,
+            &asked.path,
+            &asked.message,
+            &mut none,
+        )
+    }
+
+    /// `tick MOMENT`
+    fn tick(&mut self, line: &str) -> Result<Vec<u8>, Fail> {
+        let moment = moment_of(line, 2)?;
+        let home = &self.home;
+        let house = House {
+            directory: &home.directory,
+            sealer: &home.sealer,
+            me: self.me,
+        };
+        let answer = self.provider.tick(self.alloc, &house, moment);
+        told_all(self.alloc, answer, b"marks")
+    }
+
+    /// `arrive MOMENT ..`
+    fn arrive(&mut self, line: &str, frame: &[u8]) -> Result<Vec<u8>, Fail> {
+        let moment = moment_of(line, 2)?;
+        let home = &self.home;
+        let house = House {
+            directory: &home.directory,
+            sealer: &home.sealer,
+            me: self.me,
+        };
+        let answer = self.provider.arrive(self.alloc, &house, moment, frame);
+        told(self.alloc, answer)
+    }
+
+    /// `decide MOMENT`
+    fn decide(&mut self, line: &str) -> Result<Vec<u8>, Fail> {
+        let moment = moment_of(line, 2)?;
+        let home = &self.home;
+        let house = House {
+            directory: &home.directory,
+            sealer: &home.sealer,
+            me: self.me,
+        };
+        let answer = self.provider.decide_next(self.alloc, &house, moment);
+        told(self.alloc, answer)
+    }
+
+    /// `put TO ROOM`
+    fn put_due(&mut self, line: &str) -> Result<Vec<u8>, Fail> {
+        let to = small(line, 2)?;
+        let room = number(line, 3)? as usize;
+        self.put = self.due(to, room).unwrap_or(Vec::new(self.alloc));
+        told_list(self.alloc, &self.put, b"frames")
+    }
+
+    fn due(&self, to: u32, room: usize) -> Result<Vec<Frame>, NoMemory> {
+        let home = &self.home;
+        let house = House {
+            directory: &home.directory,
+            sealer: &home.sealer,
+            me: self.me,
+        };
+        self.provider.put_due(self.alloc, &house, to, room)
+    }
+
+    /// `end-turn`
+    fn end_turn(&mut self) -> Result<Vec<u8>, Fail> {
+        self.provider.end_turn();
+        told_word(self.alloc, b"ended")
+    }
+
+    /// `book ACCOUNT`
+    fn book(&self, line: &str) -> Result<Vec<u8>, Fail> {
+        let account = account_at(self.alloc, line, 2)?;
+        let home = &self.home;
+        let house = House {
+            directory: &home.directory,
+            sealer: &home.sealer,
+            me: self.me,
+        };
+        let answer = self.provider.book(self.alloc, &house, &account);
+        told_all(self.alloc, answer, b"rows")
+    }
+
+    /// `mailbox ACCOUNT`
+    fn mailbox(&self, line: &str) -> Result<Vec<u8>, Fail> {
+        let account = account_at(self.alloc, line, 2)?;
+        let home = &self.home;
+        let house = House {
+            directory: &home.directory,
+            sealer: &home.sealer,
+            me: self.me,
+        };
+        let answer = self.provider.mailbox(self.alloc, &house, &account);
+        told_all(self.alloc, answer, b"items")
+    }
+
+    /// `item ACCOUNT PLACE`
+    fn item(&self, line: &str) -> Result<Vec<u8>, Fail> {
+        let place = small(line, 3)?;
+        let account = account_at(self.alloc, line, 2)?;
+        let home = &self.home;
+        let house = House {
+            directory: &home.directory,
+            sealer: &home.sealer,
+            me: self.me,
+        };
+        let answer = self.provider.item(self.alloc, &house, &account, place);
+        told_item(self.alloc, answer)
+    }
+
+    /// `figures`: entries, the last moment, messages, the end of the journal, and whether the provider is down.
+    fn figures(&self) -> Result<Vec<u8>, Fail> {
+        let provider = &self.provider;
+        let numbers = [
+            provider.entries(),
+            provider.last().seconds(),
+            provider.messages(),
+            provider.fill(),
+        ];
+        let words = figures_text(self.alloc, numbers, provider.is_down());
+        told_word(self.alloc, &words)
+    }
+}
+
+fn figures_text(alloc: Global, numbers: [u64; 4], is_down: bool) -> Vec<u8> {
+    let mut words = Vec::new(alloc);
+    for number in numbers {
+        let _ = add_number(alloc, &mut words, number);
+    }
+    let _ = add(&mut words, if is_down { b"down" } else { b"up" });
+    words
+}

@@ -1,0 +1,5 @@
+//! Everything fails in turn: tables of runs over memory, of which each loops over the number of what fails or is cut.
+mod calls;
+mod devices;
+mod frames;
+mod images;
