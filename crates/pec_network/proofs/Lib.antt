@@ -13,9 +13,11 @@ pub mod MomentLemmas
 pub mod PassLemmas
 pub mod ProviderLemmas
 pub mod RoundLemmas
+pub mod SeatLemmas
 pub mod ShowLemmas
 pub mod SiteLemmas
 pub mod StartLemmas
 pub mod StepLemmas
 pub mod SummingLemmas
 pub mod TurnLemmas
+pub mod WorkLemmas

@@ -1,0 +1,37 @@
+use Rattle.std.proofs.Common.{◌<◌, ◌≤◌, [], List, ℕ, length, get_or, subst, sym}
+use Rattle.std.proofs.lemmas.List.{length-map}
+use Rattle.std.proofs.lemmas.Option.{none-some}
+use Rattle.pec_directory.specs.Directory.{Kept}
+use Rattle.pec_trade.specs.Houses.{world_at}
+use Rattle.pec_provider.specs.Provider.{desk_of, site_of}
+use Rattle.pec_rows.specs.Rows.{waits}
+use Rattle.pec_link.specs.Ends.{Putting}
+use Rattle.pec_network.specs.Turning.{room_in, turn_of}
+use Rattle.pec_network.proofs.WorkLemmas.{can_put, nothing_put}
+use Rattle.pec_network.proofs.working.work.Goals as goal
+
+pub put_all-requires : goal.put_all-requires
+put_all-requires g c =
+    let slot = c.args.slot.now in
+    let house = c.args.house.now in
+    let turn = turn_of (site_of (desk_of c.take_turn-taken.new.provider) (waits c.take_turn-taken.new.takers)) c.in-Ok.turn c.in-Ok.out in
+    can_put (world_at house) house.me c.args.moment c.as_slice.result.now (site_of (desk_of slot.provider) (waits slot.takers)) turn
+    c.into_vec.result.items slot.putters (length-map house.directory.now (λ (one : Kept). one.provider)) c.requires.putters
+    c.in-Ok.ensures.took c.into_vec.ensures c.in-Ok.ensures.fit
+    (subst (λ (rooms : List ℕ). (to : ℕ) (other : Putting) → to < length slot.putters → room_in rooms to ≤ (get_or slot.putters to other).free)
+    (sym c.as_slice.ensures) c.requires.free)
+
+pub returns-in-Err : goal.returns-in-Err
+returns-in-Err g c = record {
+  out = [];
+  turn = λ turn e. absurd (none-some turn e);
+  short = λ e. c.in-Err.ensures.short;
+  puts = nothing_put c.args.slot.now.putters;
+  frames = c.in-Err.ensures.kept;
+  runs = c.in-Err.ensures.runs;
+  nothing_owed = c.in-Err.ensures.nothing_owed;
+  links = c.in-Err.ensures.links;
+  carries = c.in-Err.ensures.carries;
+  stands = c.in-Err.ensures.stands;
+  later = c.in-Err.ensures.later;
+}
