@@ -8,9 +8,11 @@ pub mod HeadlessLemmas
 pub mod HostingLemmas
 pub mod InputLemmas
 pub mod LineReadLemmas
+pub mod LoadingLemmas
 pub mod LoopLemmas
 pub mod OpenedLemmas
 pub mod RefusedLemmas
+pub mod ReportLemmas
 pub mod RestLemmas
 pub mod RunningLemmas
 pub mod SaidLemmas

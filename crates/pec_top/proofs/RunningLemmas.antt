@@ -25,7 +25,7 @@ use Rattle.pec_plays.specs.Commands.{Luck}
 use Rattle.pec_runs.specs.Plays.{Outcome, Rest, Stopped}
 use Rattle.pec_runs.specs.Plays as plays
 use Rattle.pec_runs.specs.Ran.{Blames, Counts, IsAt, IsInput, LeavesOff, NoneFell, PlaysOn, Ran, Tells, TellsAs}
-use Rattle.pec_runs.specs.Ran.{command_in_hand}
+use Rattle.pec_runs.specs.Ran.{command_in_hand, world}
 use Rattle.pec_runs.specs.ScriptLines.{Script, script_of}
 use Rattle.pec_runs.specs.Statuses.{Status}
 use Rattle.pec_top.specs.Running.{RanSo, disk_counts, parts_behind}
@@ -201,7 +201,7 @@ module _ (asked : Asked) (form : Form) (is : form_in asked.words ≡ Some form) 
   unfolding outcome_of
   outcome_so = ap (outcome_at happened_so) begun_so
 
-  pub ran_begun : (status : Status) (unread behind before after : Option Bytes) (tells : Type 0) (old new : Disks)
+  unfoldable pub ran_begun : (status : Status) (unread behind before after : Option Bytes) (tells : Type 0) (old new : Disks)
       (from upto : ℕ → ℕ)
       (left : List Site) → parts_left unread ≡ parts_behind bytes behind → AreLinesLeft behind lines
       → IsOpening (trade_in setting) old form opening
@@ -231,9 +231,24 @@ module _ (asked : Asked) (form : Form) (is : form_in asked.words ≡ Some form) 
             });
       }
 
+  -- what it comes to
+  pub begun_comes : (status : Status) (unread behind before after : Option Bytes) (tells : Type 0) (old new : Disks)
+      (from upto : ℕ → ℕ) (left : List Site) (input : parts_left unread ≡ parts_behind bytes behind)
+      (lines_left : AreLinesLeft behind lines) (opens : IsOpening (trade_in setting) old form opening)
+      (plays : PlaysOn tells old new (disk_counts from) (disk_counts upto) happened_so script_had opening.next)
+      (leaves : LeavesOff (trade_in setting) outcome_had.after
+      (command_in_hand status opening.next rest lucks script_had) left)
+      (disks : AreLeft old new form opening left) (told : Tells (providers_in setting) status before after outcome_had)
+      → let ran = ran_begun status unread behind before after tells old new from upto left input lines_left opens plays
+      leaves disks told
+      in (world ran.happened ≡ trade_in setting) × (outcome_of asked ran.happened ≡ outcome_had)
+  unfolding ran_begun
+  begun_comes status unread behind before after tells old new from upto left input lines_left opens plays leaves disks
+      told = (refl, outcome_so)
+
 -- ---- the whole run
 
-pub ran_whole : (asked : Asked) (status : Status) (unread before after : Option Bytes) (tells : Type 0)
+unfoldable pub ran_whole : (asked : Asked) (status : Status) (unread before after : Option Bytes) (tells : Type 0)
     (old_disks new_disks : Disks) (old new : Counts) → Blames status old new → NoneFell old new
     → RanSo asked status unread before after tells old_disks new_disks old.disks new.disks
     → Ran asked status unread before after tells old_disks new_disks old new

@@ -16,19 +16,21 @@ use Rattle.pec_ledger.specs.Trade.{Trade}
 use Rattle.pec_serving.specs.OfNetworks.{AllAt, AllStand, IsOfDirectory, NetworkState, ProviderState, Stands, desk_of, site_of, sites, sites_of}
 use Rattle.pec_plays.specs.Commands.{Command, Luck, played}
 use Rattle.pec_serving.specs.OfNetworks.{Waiting, waiting_for}
-use Rattle.pec_runs.specs.Happened.{Asked, IsSetting, Setting, providers_in, trade_in}
-use Rattle.pec_runs.specs.Openings.{AreLeft, Disks, Form, IsLeft, IsOpening, IsUntouched, NoMore, disks_at, form_in, opened_all}
-use Rattle.pec_runs.specs.Plays.{MayPlay, Rest, RoseAlong, RoseBy, outcome_from}
-use Rattle.pec_runs.specs.Ran.{LeavesOff, Tells, command_in_hand}
+use Rattle.pec_runs.specs.Happened.{Asked, IsSetting, Setting, outcome_of, providers_in, trade_in}
+use Rattle.pec_runs.specs.Openings.{AreLeft, Disks, Form, IsLeft, IsOpening, IsUntouched, NoMore, Opening, disks_at, form_in, opened_all}
+use Rattle.pec_runs.specs.Plays.{MayPlay, Outcome, Rest, RoseAlong, RoseBy, Strayed, Strays, finish_of, outcome_from}
+use Rattle.pec_runs.specs.Ran.{Behind, LeavesOff, Tells, Within, command_in_hand}
 use Rattle.pec_runs.specs.ScriptLines.{Script, script_of}
 use Rattle.pec_screen.specs.Screened.{Finds}
 use Rattle.pec_runs.specs.Statuses.{Status}
-use Rattle.pec_top.specs.Running.{RanSo, parts_behind}
+use Rattle.pec_top.specs.Reporting.{RanReporting, Reports}
+use Rattle.pec_top.specs.Running.{parts_behind}
+use Rattle.pec_top.specs.declared.reporting.Report.{Report}
 use Rattle.pec_runs.specs.Steps.{Point, lucks_in}
 use Rattle.pec_runs.specs.Reading.{IsRead}
 use Rattle.pec_top.specs.Scripts.{AreKept, at_first}
 use Rattle.pec_top.proofs.HadLemmas.{left_so}
-use Rattle.pec_top.proofs.RunningLemmas.{ran_begun, untouched_same}
+use Rattle.pec_top.proofs.RunningLemmas.{begun_comes, ran_begun, untouched_same}
 
 there : {X : Type 0} (xs : List X) (k : ℕ) → k < length xs → X
 there [] k l = absurd (omega (arith, l))
@@ -157,6 +159,16 @@ module _ {D : Type 0} (tells : Type 0) (sight : D → Sight)
     others = λ k far was before. untouched_at k (omega (arith, size, far)) was before;
   }
 
+-- a run that doesn't stray has no rest that does
+on_its_way : (lucks : List Luck) (rest : Rest) (script : Script) → (finish_of rest lucks script ≢ Strays) → rest ≢ Strayed
+on_its_way lucks rest script on e = on (ap (λ (r : Rest). finish_of r lucks script) e)
+
+-- with no command in hand the journals that are left are those behind the last answer
+left_off : (trade : Trade) (after : List Site) (next : Option Command) (left : List Site) → LeavesOff trade after None left
+    → left ≡ after
+left_off trade after next left (Behind is) = is
+left_off trade after next left (Within command luck some journals interrupted) = absurd (none-some command some)
+
 pub ran_script : {D : Type 0} (asked : Asked) (form : Form) → form_in asked.words ≡ Some form → (bytes : Bytes)
     → length bytes ≤ LONGEST_DIRECTORY
     → (setting : Setting) → directory_in bytes ≡ Ok (providers_in setting)
@@ -170,24 +182,40 @@ pub ran_script : {D : Type 0} (asked : Asked) (form : Form) → form_in asked.wo
     → IsRead (trade_in setting) asked.finds (providers_in setting) tells sight (at_first point behind) there status
     → ((left : List Site) → (tells → left ≡ there.state.sites)
     → AreLeft old new form (record { journals = journals; next = NoMore }) left)
-    → RanSo asked status unread point.held there.held tells old new from upto
+    → (report told : Report) → Reports report told (trade_in setting) there.state.sites
+    → RanReporting asked status unread point.held there.held tells old new from upto report told
 ran_script asked form is bytes short setting reads is_setting journals status unread behind tells sight old new from
     upto point
-    there begins since later input opens read leaves =
+    there begins since later input opens read leaves report told says =
     let trade = trade_in setting
     in let providers = providers_in setting
     in let played = read.played
     in let lucks = lucks_in played.steps
     in let script = script_of asked.finds providers 1 read.lines
-    in ran_begun asked form is bytes short setting reads is_setting read.lines
-    (record { journals = journals; next = NoMore }) lucks played.rest status unread behind point.held there.held tells
-    old new from upto played.left input read.left opens
-    (subst (λ (s : List Site). MayPlay trade tells s from upto script lucks played.rest) begins
+    in let opening : Opening = record { journals = journals; next = NoMore }
+    in let may = subst (λ (s : List Site). MayPlay trade tells s from upto script lucks played.rest) begins
     (may_between tells trade point.state.sites from point.state.counts there.state.counts upto script lucks
-    played.rest since later played.may))
-    (subst (λ (s : List Site). LeavesOff trade (outcome_from trade lucks played.rest s script).after
-    (command_in_hand status NoMore played.rest lucks script) played.left) begins played.leaves_off)
-    (leaves played.left played.is_left)
-    (subst (λ (s : List Site). Tells providers status point.held there.held (outcome_from trade lucks played.rest s
-    script))
-    begins played.told)
+    played.rest since later played.may)
+    in let leaves_off = subst (λ (s : List Site). LeavesOff trade (outcome_from trade lucks played.rest s script).after
+    (command_in_hand status NoMore played.rest lucks script) played.left) begins played.leaves_off
+    in let are_left = leaves played.left played.is_left
+    in let tells_so = subst (λ (s : List Site). Tells providers status point.held there.held (outcome_from trade lucks
+    played.rest s script)) begins played.told
+    in let ran = ran_begun asked form is bytes short setting reads is_setting read.lines opening lucks played.rest status
+    unread behind point.held there.held tells old new from upto played.left input read.left opens may leaves_off are_left
+    tells_so
+    in let comes = begun_comes asked form is bytes short setting reads is_setting read.lines opening lucks played.rest
+    status unread behind point.held there.held tells old new from upto played.left input read.left opens may leaves_off
+    are_left tells_so
+    in record {
+      ran = ran;
+      reported = λ done on.
+          let stays = played.stays (on_its_way lucks played.rest script
+              (λ e. on (ap (λ (o : Outcome). o.finish) comes.1 ∙ e)))
+          in let off = left_off trade _ _ played.left (subst (λ (s : Status). LeavesOff trade
+          (outcome_from trade lucks played.rest (opened_all trade journals) script).after
+          (command_in_hand s NoMore played.rest lucks script) played.left) done leaves_off)
+          in subst (λ (t : Trade). Reports report told t (outcome_of asked ran.happened).after) (sym comes.0)
+          (subst (λ (s : List Site). Reports report told trade s)
+          (sym stays ∙ (off ∙ sym (ap (λ (o : Outcome). o.after) comes.1))) says);
+    }

@@ -3,6 +3,7 @@ pub mod Checking
 pub mod Hosting
 pub mod Inputs
 pub mod LoopLaws
+pub mod Reporting
 pub mod Running
 pub mod Scripts
 pub mod Shown

@@ -1,15 +1,17 @@
-ghost use Rattle.std.specs.Prelude.{◌≡◌, ◌≢◌, ℕ, None, map, string_bytes, false};
+ghost use Rattle.std.specs.Prelude.{◌≡◌, ◌≢◌, ℕ, None, map, string_bytes, false, true};
 ghost use Rattle.pec_input.specs.Finding.{IsAtEnd};
 ghost use Rattle.pec_screen.specs.Screened.{finds_in};
 ghost use Rattle.pec_top.specs.Hosting.{counts_of};
 ghost use Rattle.pec_top.specs.Shown.{status_shown};
-ghost use Rattle.pec_top.specs.Tasks.{Checks, Exports, IsRun, NoForm, asks_outside, task_in};
+ghost use Rattle.pec_top.specs.Tasks.{Checks, Exports, IsRun, Loads, NoForm, asks_outside, reads_input, task_in};
 
 use crate::checking::check_form;
 use crate::ending::End;
 use crate::exporting::export_form;
 use crate::forms::Task;
 use crate::hosting::serve_form;
+use crate::loading::load_form;
+use crate::reporting::Report;
 use crate::run::{run_form, write_last};
 use crate::status::{Status, status_of};
 use pec_outside::{Depot, Door, Sink, Source, Ticks};
@@ -22,7 +24,9 @@ use std::thread::Threads;
 /// `%%` and the script. In the form `serve N` the input is the directory; it makes the journals where all disks are empty,
 /// opens them otherwise, and serves N connections that come in at the door, each at the moment that the clock tells. In
 /// the form `ldif` the input is the directory, and it is written as LDIF. In the form `check` it is the directory, a line `%%`
-/// and the letters that a party saved, each in base64 on a line; what they prove is written. The screens of a provider, which look at what
+/// and the letters that a party saved, each in base64 on a line; what they prove is written. In the form `load N` no input is
+/// read: a directory and a script of N messages are made and played as in the form `run`, and what has become of the messages is
+/// written. The screens of a provider, which look at what
 /// its accounts hand in, are those at its number, and none where there are fewer; a crash and a restart leave them as they
 /// are. Moments are seconds since 1970-01-01T00:00:00Z. This project's profile of RFC 6109, sections 2 to 4.
 pub fn run_pec<X: Threads + Sync, S: Source, W: Sink, P: Depot, T: Ticks, R: Door, J: Judge>(
@@ -66,7 +70,10 @@ pub fn run_pec<X: Threads + Sync, S: Source, W: Sink, P: Depot, T: Ticks, R: Doo
     // Each connection that was accepted is closed.
     ensures closed { R.out door.new ≡ R.out door.old }
     // At status 0 the input was read to its end.
-    ensures all_read { result ≡ Status.Done → IsAtEnd (S.left input.new) }
+    ensures all_read { result ≡ Status.Done → reads_input (task_in (map string_bytes words.now)) ≡ true
+        → IsAtEnd (S.left input.new) }
+    // A load reads no byte of it.
+    ensures made { (count : ℕ) → task_in (map string_bytes words.now) ≡ Loads count → input.new ≡ input.old }
     // For words that are no form no byte of the input is read.
     ensures unread { task_in (map string_bytes words.now) ≡ NoForm → input.new ≡ input.old }
     // Each disk that was at home is at home again.
@@ -76,13 +83,18 @@ pub fn run_pec<X: Threads + Sync, S: Source, W: Sink, P: Depot, T: Ticks, R: Doo
     match Task::of(words) {
         Task::Play(form) => {
             let mut screens = screens;
-            status_of(run_form(rt, alloc, form, input, out, depot, screens.as_mut_slice()))
+            let mut report = Report::Unasked;
+            status_of(run_form(rt, alloc, form, input, out, depot, screens.as_mut_slice(), &mut report))
         }
         Task::Serve(wanted) => {
             status_of(serve_form(rt, alloc, wanted, input, out, depot, ticks, door, screens))
         }
         Task::Export => status_of(export_form(alloc, input, out)),
         Task::Check => status_of(check_form(alloc, input, out)),
+        Task::Load(count) => {
+            let mut screens = screens;
+            status_of(load_form(rt, alloc, count, out, depot, screens.as_mut_slice()))
+        }
         Task::NoForm => status_of(write_last(out, b"usage\n", End::Usage)),
     }
 }

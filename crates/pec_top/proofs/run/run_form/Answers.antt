@@ -8,6 +8,7 @@ use Rattle.pec_top.specs.Shown.{form_shown, result_shown, stop_shown}
 use Rattle.pec_top.proofs.EndLemmas.{halted_told, last_told}
 use Rattle.pec_top.proofs.FlowLemmas.{followed_by-nil}
 use Rattle.pec_top.proofs.InputLemmas.{all_read_behind, behind_nothing}
+use Rattle.pec_top.proofs.ReportLemmas.{unreported}
 use Rattle.pec_top.proofs.RunningLemmas.{ran_halted, ran_over, untouched}
 use Rattle.pec_top.proofs.run.run_form.Goals as goal
 
@@ -24,9 +25,10 @@ returns-in_err-directory-clause-ran g c = λ words is.
     let before = g.W.Stream.held c.args.out.now in
     let stop = c.in_err-directory.field-0.0 in
     let p = err_from_is_err_and c.from_residual.result c.from_residual.ensures.1 in
-    rw (p.1, p.2) (ran_halted asked (g.S.Stream.left c.args.input.now) before before tells disks disks last last
+    rw (p.1, p.2) (unreported asked (stop_shown stop) (g.S.Stream.left c.args.input.now) before before tells disks disks
+    last last c.args.report.now (ran_halted asked (g.S.Stream.left c.args.input.now) before before tells disks disks last last
     (untouched tells g.P.D.Disk.sight home) (form_shown c.args.form) (stop_shown stop) is
-    (halted_told stop c.in_err-directory.ensures.stops before before [] (sym (followed_by-nil before))))
+    (halted_told stop c.in_err-directory.ensures.stops before before [] (sym (followed_by-nil before)))))
 
 pub returns-in-Opens-clause-ran : goal.returns-in-Opens-clause-ran
 returns-in-Opens-clause-ran g c = λ words is.
@@ -53,8 +55,9 @@ returns-clause-ran g c = λ words is.
     let before = g.W.Stream.held c.args.out.now in
     let after = g.W.Stream.held c.write_last.new.out in
     let over = rw (c.in-Ends.is, c.new-buffer.ensures, behind_nothing unread) at c.in_ok-directory.ensures.read in
-    ran_over asked unread before after tells disks disks last last (untouched tells g.P.D.Disk.sight home) over.parts false
+    unreported asked (result_shown c.write_last.result) unread before after tells disks disks last last c.args.report.now
+    (ran_over asked unread before after tells disks disks last last (untouched tells g.P.D.Disk.sight home) over.parts false
     over.end (result_shown c.write_last.result) (over.stage asked (form_shown c.args.form) is)
     over.input (last_told over.end c.in-Ends.end over.shown before after _ (c.deref.ensures.value ∙ over.text_is [])
     c.write_last.result c.write_last.ensures.ok c.write_last.ensures.err
-    c.write_last.ensures.stop)
+    c.write_last.ensures.stop))

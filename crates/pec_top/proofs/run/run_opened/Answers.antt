@@ -15,6 +15,7 @@ use Rattle.pec_top.specs.Shown.{result_shown}
 use Rattle.pec_top.proofs.CountLemmas.{closed_so, counts_later}
 use Rattle.pec_top.proofs.HostingLemmas.{refused_devices, refused_start}
 use Rattle.pec_top.proofs.RefusedLemmas.{ran_unopened}
+use Rattle.pec_top.proofs.ReportLemmas.{unreported}
 use Rattle.pec_top.proofs.WholeLemmas.{all_kept_so, none_gone, ran_script}
 use Rattle.pec_top.proofs.run.run_opened.Goals as goal
 
@@ -55,7 +56,8 @@ returns-in-Ok-clause-ran g c = λ words unread is taken.
     opened.begins
     opened.counts (λ k. let e = closed k in omega (arith, e)) here.parts opened.opening
     (c.play_script-result.ensures.read opened.stands mid_last)
-    (λ left is_left. opened.leaves (sites played) left new is_left kept_so)
+    (λ left is_left. opened.leaves (sites played) left new is_left kept_so) c.args.report.now c.of.result
+    (rw (keeps.directory, keeps.seals) at c.of.ensures)
 
 pub returns-in-Ok-clause-home : goal.returns-in-Ok-clause-home
 returns-in-Ok-clause-home g c = λ told k some.
@@ -92,12 +94,16 @@ returns-in-Err-clause-ran g c = λ words unread is taken.
     let asked : Asked = record { words = words; finds = finds_in (map g.J.Judge.patterns c.args.screens.now) } in
     let tells = g.P.Depot.tells × g.P.D.Disk.tells in
     let sight = g.P.D.Disk.sight in
-    ran_unopened asked c.args.form is taken.bytes taken.short c.args.directory taken.reads c.in-Err.refusal
+    unreported asked (result_shown c.end_refused.result) unread (g.W.Stream.held c.args.out.now)
+    (g.W.Stream.held c.end_refused.new.out) tells (disks_at tells sight (g.P.Depot.home c.args.depot.now))
+    (disks_at tells sight (g.P.Depot.home c.open.new.depot)) (g.P.Depot.last c.args.depot.now)
+    (g.P.Depot.last c.open.new.depot) c.args.report.now
+    (ran_unopened asked c.args.form is taken.bytes taken.short c.args.directory taken.reads c.in-Err.refusal
     (result_shown c.end_refused.result) unread (behind c.args.buffer.now (g.S.Stream.left c.args.source.now))
     (g.W.Stream.held c.args.out.now) (g.W.Stream.held c.end_refused.new.out) tells
     (disks_at tells sight (g.P.Depot.home c.args.depot.now)) (disks_at tells sight (g.P.Depot.home c.open.new.depot))
     (g.P.Depot.last c.args.depot.now) (g.P.Depot.last c.open.new.depot) taken.parts c.end_refused.ensures.told
-    c.in-Err.ensures.refused
+    c.in-Err.ensures.refused)
 
 pub returns-in-Err-clause-blame : goal.returns-in-Err-clause-blame
 returns-in-Err-clause-blame g c =

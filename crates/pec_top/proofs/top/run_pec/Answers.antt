@@ -11,7 +11,7 @@ use Rattle.pec_runs.specs.Statuses.{Status}
 use Rattle.pec_screen.specs.Screened.{finds_in}
 use Rattle.pec_top.specs.Hosting.{counts_of}
 use Rattle.pec_top.specs.Shown.{form_shown, result_shown, status_shown}
-use Rattle.pec_top.specs.Tasks.{IsRun, Task, View, asks_outside}
+use Rattle.pec_top.specs.Tasks.{IsRun, Task, View, asks_outside, reads_input}
 use Rattle.pec_top.specs.declared.ending.End.TheVariants as lasts
 use Rattle.pec_top.proofs.EndLemmas.{last_told}
 use Rattle.pec_top.proofs.RunningLemmas.{parts_there, ran_over, ran_whole, stage_usage, untouched}
@@ -45,30 +45,31 @@ returns-in-Play-clause-ran g c =
     let run = c.run_form.result in
     let form = form_shown c.in-Play.form in
     let of = c.run_form.ensures in
-    let ran = rw c.as_mut_slice.ensures.value at of.ran words (form_played words form c.in-Play.ensures) in
+    let ran = rw c.as_mut_slice.ensures.value at of.ran words (form_played words form c.in-Play.ensures.shown)
+    in
     let so = ran_counted run asked unread before after tells (disks_at tells g.P.D.Disk.sight old_home)
-    (disks_at tells g.P.D.Disk.sight new_home) old new of.blame of.disks.0 of.disks.1 of.disks.2 ran in
-    rw (← c.in-Play.ensures) (subst (λ (s : Status). RanOver tells g.P.D.Disk.sight asked s unread before after old_home
+    (disks_at tells g.P.D.Disk.sight new_home) old new of.blame of.disks.0 of.disks.1 of.disks.2 ran.ran in
+    rw (← c.in-Play.ensures.shown) (subst (λ (s : Status). RanOver tells g.P.D.Disk.sight asked s unread before after old_home
     new_home old new) (sym c.status_of.ensures.shown) so)
 
 pub returns-in-Play-clause-all_read : goal.returns-in-Play-clause-all_read
-returns-in-Play-clause-all_read g c = λ done.
+returns-in-Play-clause-all_read g c = λ done reads.
     ended_read c.run_form.result (g.S.Stream.left c.run_form.new.input) (c.status_of.ensures.done done)
     c.run_form.ensures.all_read
 
 pub returns-in-Serve-clause-ran : goal.returns-in-Serve-clause-ran
 returns-in-Serve-clause-ran g c =
     let of = c.serve_form.ensures in
-    rw (← c.in-Serve.ensures, c.status_of-in-Serve.ensures.shown)
+    rw (← c.in-Serve.ensures.shown, c.status_of-in-Serve.ensures.shown)
     (record { served = of.served; blame = of.counts.0; counts = of.counts.1 })
 
 pub returns-in-Serve-clause-all_read : goal.returns-in-Serve-clause-all_read
-returns-in-Serve-clause-all_read g c = λ done.
+returns-in-Serve-clause-all_read g c = λ done reads.
     c.serve_form.ensures.all_read (c.status_of-in-Serve.ensures.done done)
 
 pub returns-in-Serve-clause-apart : goal.returns-in-Serve-clause-apart
 returns-in-Serve-clause-apart g c = λ other.
-    absurd (false≢true (sym other ∙ sym (ap asks_outside c.in-Serve.ensures)))
+    absurd (false≢true (sym other ∙ sym (ap asks_outside c.in-Serve.ensures.shown)))
 
 pub returns-in-Export-clause-ran : goal.returns-in-Export-clause-ran
 returns-in-Export-clause-ran g c =
@@ -87,7 +88,7 @@ returns-in-Export-clause-ran g c =
       disks = disks;
     } in
     let of = c.export_form.ensures in
-    rw (← c.in-Export.ensures, c.status_of-in-Export.ensures.shown) (record {
+    rw (← c.in-Export.ensures.shown, c.status_of-in-Export.ensures.shown) (record {
       exported = of.exported;
       blame = blames_result c.export_form.result old new of.blame (λ e. absurd (of.started e));
       counts = record {
@@ -99,7 +100,7 @@ returns-in-Export-clause-ran g c =
     })
 
 pub returns-in-Export-clause-all_read : goal.returns-in-Export-clause-all_read
-returns-in-Export-clause-all_read g c = λ done.
+returns-in-Export-clause-all_read g c = λ done reads.
     ended_read c.export_form.result (g.S.Stream.left c.export_form.new.input) (c.status_of-in-Export.ensures.done done)
     c.export_form.ensures.all_read
 
@@ -120,7 +121,7 @@ returns-in-Check-clause-ran g c =
       disks = disks;
     } in
     let of = c.check_form.ensures in
-    rw (← c.in-Check.ensures, c.status_of-in-Check.ensures.shown) (record {
+    rw (← c.in-Check.ensures.shown, c.status_of-in-Check.ensures.shown) (record {
       checked = of.checked;
       blame = blames_result c.check_form.result old new of.blame (λ e. absurd (of.started e));
       counts = record {
@@ -132,12 +133,21 @@ returns-in-Check-clause-ran g c =
     })
 
 pub returns-in-Check-clause-all_read : goal.returns-in-Check-clause-all_read
-returns-in-Check-clause-all_read g c = λ done.
+returns-in-Check-clause-all_read g c = λ done reads.
     ended_read c.check_form.result (g.S.Stream.left c.check_form.new.input) (c.status_of-in-Check.ensures.done done)
     c.check_form.ensures.all_read
 
+pub returns-in-Load-clause-ran : goal.returns-in-Load-clause-ran
+returns-in-Load-clause-ran g c =
+    let loaded = rw c.as_mut_slice-in-Load.ensures.value at c.load_form.ensures.loaded (g.S.Counted.faults c.args.input.now) in
+    rw (← c.in-Load.ensures.shown, c.status_of-in-Load.ensures.shown) loaded
+
+pub returns-in-Load-clause-all_read : goal.returns-in-Load-clause-all_read
+returns-in-Load-clause-all_read g c = λ done reads.
+    absurd (false≢true (ap reads_input c.in-Load.ensures.shown ∙ reads))
+
 pub returns-in-NoForm-clause-all_read : goal.returns-in-NoForm-clause-all_read
-returns-in-NoForm-clause-all_read g c = λ done.
+returns-in-NoForm-clause-all_read g c = λ done reads.
     absurd (usage_undone _ c.write_last.result (c.status_of-in-NoForm.ensures.done done) c.write_last.ensures.ok)
 
 pub returns-in-NoForm-clause-ran : goal.returns-in-NoForm-clause-ran
@@ -167,10 +177,10 @@ returns-in-NoForm-clause-ran g c =
     let of = c.write_last.ensures in
     let parts = parts_there unread in
     let so = ran_over asked unread before after tells disks disks last last (untouched tells g.P.D.Disk.sight home) parts.0
-    true ends.Usage (result_shown run) (stage_usage asked true parts.0 (form_none words c.in-NoForm.ensures)) parts.1
+    true ends.Usage (result_shown run) (stage_usage asked true parts.0 (form_none words c.in-NoForm.ensures.shown)) parts.1
     (last_told ends.Usage lasts.Usage refl before after _ (sym (usage_text _)) run of.ok of.err of.stop) in
     let ran = ran_whole asked (result_shown run) unread before after tells disks disks old new
     (blames_written run old new of.stop of.write_fault)
     (record { source = omega arith; sink = of.later; depot = omega arith; disks = λ k. omega arith }) so in
-    rw (← c.in-NoForm.ensures) (subst (λ (s : Status). RanOver tells g.P.D.Disk.sight asked s unread before after home home
+    rw (← c.in-NoForm.ensures.shown) (subst (λ (s : Status). RanOver tells g.P.D.Disk.sight asked s unread before after home home
     old new) (sym c.status_of-in-NoForm.ensures.shown) ran)
