@@ -1,4 +1,4 @@
-ghost use Rattle.std.specs.Prelude.{◌≡◌, ℕ, ◌<◌, ◌≤◌, List, length, map, IsErrOf};
+ghost use Rattle.std.specs.Prelude.{◌≡◌, ℕ, ◌<◌, ◌≤◌, List, length, map, slice_index_or, IsErrOf};
 ghost use Rattle.pec_types.specs.declared.turns.ProviderFault.TheVariants as faults;
 ghost use Rattle.pec_directory.specs.Directory.{providers_of};
 ghost use Rattle.pec_records.specs.Entry.{longest_message, most_addresses};
@@ -6,6 +6,8 @@ ghost use Rattle.pec_ledger.specs.Ledger.{Journals};
 ghost use Rattle.pec_plays.specs.Commands.{Marks, Submit, Submits, Tick, played};
 ghost use Rattle.pec_points.specs.Case.{case_at};
 ghost use Rattle.pec_provider.specs.Looking.{Looks};
+ghost use Rattle.pec_provider.specs.Provider.{ProviderState};
+ghost use Rattle.pec_provider.specs.Ticking.{Ticks};
 ghost use Rattle.pec_screen.specs.Screened.{finds_in};
 ghost use Rattle.pec_screen.specs.VerdictReading.{finds};
 ghost use Rattle.pec_network.specs.Carrying.{AllCarryOn, NoneFalls};
@@ -20,7 +22,7 @@ use pec_outside::Disk;
 use pec_provider::House;
 use pec_screen::{Judge, NoScreens};
 use pec_seal::Sealer;
-use pec_types::{Address, Mark, Moment, ProviderFault, Submitted};
+use pec_types::{Address, Mark, Moment, ProviderFault, Steps, Submitted};
 use std::alloc::Global;
 
 /// Commands of one provider, by its number in the directory.
@@ -118,17 +120,22 @@ impl<D: Disk, S: Sealer> Network<D, S> {
 
     /// Has a provider look at the clock: the marks that are due by then are set, and told. The first of these refusals
     /// that applies is answered, and leaves all as it was: `Down`, `ClockBack`, `NoMemory`, `JournalFull`. After
-    /// `DiskFault` the provider is down.
+    /// `DiskFault` the provider is down. Each acceptance that is looked up is a step.
     pub fn tick(
         &mut self,
         alloc: Global,
         provider: u32,
         moment: Moment,
+        steps: &mut Steps,
     ) -> Result<Vec<Mark>, ProviderFault>
         requires { provider < length self.old.kept }
         ensures plays { IsPlayed (λ marks. Marks marks.items)
             (λ luck. played (world_of S.seals self.old) luck (sites self.old)
             (Tick provider moment)) (sites self.old) (sites self.new) result }
+        // At most two more acceptances are looked up than limits of pairs pass in the call, and as many as pass on Ok.
+        ensures looked { (other : ProviderState D) → Ticks (world_of S.seals self.old) provider moment
+            (slice_index_or self.old.providers provider other) (slice_index_or self.new.providers provider other)
+            steps.old steps.new result }
         ensures others { ChangesOnly provider self.old self.new }
         ensures carries { D.tells → (journals : Journals) → AllCarryOn D.sight
             (world_of S.seals self.old) journals self.old.providers self.new.providers }
@@ -142,6 +149,6 @@ impl<D: Disk, S: Sealer> Network<D, S> {
             sealer: &self.sealer,
             me: provider,
         };
-        self.providers[provider as usize].tick(alloc, &house, moment)
+        self.providers[provider as usize].tick(alloc, &house, moment, steps)
     }
 }

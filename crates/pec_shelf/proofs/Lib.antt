@@ -1,4 +1,6 @@
+pub mod AcceptanceLemmas
 pub mod BookLemmas
+pub mod CursorLemmas
 pub mod DrawerLemmas
 pub mod DueLemmas
 pub mod KeptLemmas
@@ -7,6 +9,7 @@ pub mod LoopLemmas
 pub mod MarkLemmas
 pub mod OwnLemmas
 pub mod PairLemmas
+pub mod PairingLemmas
 pub mod SizeLemmas
 pub mod StepLemmas
 pub mod StillLemmas
@@ -14,3 +17,4 @@ pub mod SummaryLemmas
 pub mod TradeLemmas
 pub mod UndecidedLemmas
 pub mod WaitingLemmas
+pub mod WatchLemmas

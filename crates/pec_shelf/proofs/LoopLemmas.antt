@@ -79,3 +79,6 @@ pub filter_more : {X Y : Type 0} (h : X → Option Y) (xs : List X) (n : ℕ) (x
     → new ≡ old ++ filter_map h (x ∷ []) → new ≡ filter_map h (take (n + 1) xs)
 filter_more h xs n x old new l e is step =
     step ∙ ap (λ ys. ys ++ filter_map h (x ∷ [])) is ∙ sym (filter_map-append h (take n xs) (x ∷ [])) ∙ ap (filter_map h) (sym (take_one xs n x l e))
+
+pub no_marks_more : (half : Half) (ready : Prepared) (marks : List Mark) → marks ≡ [] → ready ≡ with_marks half ready marks
+no_marks_more half ready marks none = rw (none, append-nil ready.adds.marks, append-nil ready.adds.items) refl

@@ -38,6 +38,7 @@ holds_new kept me shelf new = record {
   is_half = λ trade of. new.1;
   homes = λ trade of. rw (new.1, new.2) refl;
   in_range = rw new.1 (omega arith);
+  ticked = new.3;
 }
 
 module _ (kept : List Kept) (me : ℕ) (shelf : Seen) (new : IsNew me shelf) (trade : Trade) (of : IsOf kept trade) (digest : Bytes)

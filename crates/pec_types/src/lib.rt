@@ -15,7 +15,9 @@ mod moments;
 mod places;
 mod receipts;
 mod scanning;
+mod steps;
 mod texts;
+mod timetable;
 mod turns;
 mod words;
 
@@ -36,6 +38,8 @@ pub use moments::{END_OF_TIME, Moment};
 pub use places::Place;
 pub use receipts::Kind;
 pub use scanning::{Stand, lower_addresses_pass};
+pub use steps::Steps;
 pub use texts::{Text, Text8, TextFault, first_unprintable, printable_is_said_of_each_byte};
+pub use timetable::Timetable;
 pub use turns::{Event, ProviderFault, Submitted, Turn};
 pub use words::{id_text, seven_digits, seven_digits_are_read_back};
