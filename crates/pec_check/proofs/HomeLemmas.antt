@@ -13,8 +13,8 @@ use Rattle.pec_types.specs.declared.disputes.Disputed.TheVariants as disputed
 use Rattle.pec_types.specs.declared.disputes.LetterFault.{LetterFault}
 use Rattle.pec_types.specs.declared.disputes.LetterFault.TheVariants.{Disagree, NotThis}
 use Rattle.pec_types.specs.declared.messages.Refusal.TheVariants as refusals
-use Rattle.pec_types.specs.declared.receipts.Kind.{Kind}
-use Rattle.pec_types.specs.declared.receipts.Kind.TheVariants as kinds
+use Rattle.pec_kinds.specs.declared.receipts.Kind.{Kind}
+use Rattle.pec_kinds.specs.declared.receipts.Kind.TheVariants as kinds
 use Rattle.pec_cert.specs.declared.certificates.CertRecipient.{CertRecipient}
 use Rattle.pec_directory.specs.Directory.{Provider, home_of, is_certified}
 use Rattle.pec_directory.specs.Ids.{id_of}
@@ -140,6 +140,9 @@ module _ (providers : List Provider) (letter : Letter) where
       let p = and_parts (list_all (is_typed providers) letter.cert.recipients) (is_one letter.cert.recipients letter.cert.delivered) e
       in one_home letter.cert.delivered p.0 p.1
   delivered_home (kinds.DeliveryError refusals.Virus) s e = absurd (cc s)
+  delivered_home kinds.VirusFound s e =
+      let p = and_parts (list_all (is_typed providers) letter.cert.recipients) (is_one letter.cert.recipients letter.cert.delivered) e
+      in one_home letter.cert.delivered p.0 p.1
   delivered_home kinds.Warning s e = absurd (cc s)
   delivered_home kinds.Notice s e = absurd (cc s)
   delivered_home kinds.LateNotice s e = absurd (cc s)

@@ -7,8 +7,8 @@ use Rattle.std.specs.Option.{option_and_then}
 use Rattle.std.specs.Result.{result_ok}
 use Rattle.pec_types.specs.Bytes.{Bytes}
 use Rattle.pec_types.specs.declared.messages.Refusal.TheVariants as refusals
-use Rattle.pec_types.specs.declared.receipts.Kind.{Kind}
-use Rattle.pec_types.specs.declared.receipts.Kind.TheVariants as kinds
+use Rattle.pec_kinds.specs.declared.receipts.Kind.{Kind}
+use Rattle.pec_kinds.specs.declared.receipts.Kind.TheVariants as kinds
 use Rattle.pec_heads.specs.FactsOfHeads.{first_value}
 use Rattle.pec_bodies.specs.PartsReading.{parts_of}
 use Rattle.pec_directory.specs.Directory.{Provider, home_of}
@@ -66,8 +66,8 @@ receipt_report read seen = record {
 
 -- ---- the right provider
 
--- Who has to seal a receipt: a line for each kind. What was decided of a message is for the recipient's home to say, and
--- that a virus kept it from being placed, for the message's own provider.
+-- Who has to seal a receipt: a line for each kind. What was decided of a message is for the recipient's home to say, to the
+-- sender or of a virus to the message's own provider; that a virus kept it from being placed is for this one to say.
 abbrev pub sealing_of : Kind → Sealing
 sealing_of kinds.Acceptance = Anyone
 sealing_of (kinds.NonAcceptance cause) = Anyone
@@ -76,6 +76,7 @@ sealing_of kinds.Delivery = RecipientsHome
 sealing_of (kinds.DeliveryError refusals.NoMailbox) = RecipientsHome
 sealing_of (kinds.DeliveryError refusals.MailboxFull) = RecipientsHome
 sealing_of (kinds.DeliveryError refusals.Virus) = MessagesProvider
+sealing_of kinds.VirusFound = RecipientsHome
 sealing_of kinds.Warning = Anyone
 sealing_of kinds.Notice = Anyone
 sealing_of kinds.LateNotice = Anyone

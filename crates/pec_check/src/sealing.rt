@@ -5,8 +5,9 @@ ghost use Rattle.pec_check.specs.Genuine.{sealing_of};
 ghost use Rattle.pec_check.specs.GenuineReading.{sealer_of};
 
 use pec_directory::Directory;
+use pec_kinds::Kind;
 use pec_receipts::ReceiptView;
-use pec_types::{Address, Kind, Refusal};
+use pec_types::{Address, Refusal};
 
 /// Who has to seal a receipt.
 #[derive(Clone, Copy, Debug, PartialEq, Eq)]
@@ -26,7 +27,8 @@ fn sealing_of(kind: Kind) -> Sealing
     match kind {
         Kind::Delivery
         | Kind::DeliveryError(Refusal::NoMailbox)
-        | Kind::DeliveryError(Refusal::MailboxFull) => Sealing::RecipientsHome,
+        | Kind::DeliveryError(Refusal::MailboxFull)
+        | Kind::VirusFound => Sealing::RecipientsHome,
         Kind::DeliveryError(Refusal::Virus) => Sealing::MessagesProvider,
         Kind::Acceptance
         | Kind::NonAcceptance(_)

@@ -3,7 +3,7 @@ use Rattle.std.proofs.Common.{ℕ, List, [], ◌∷◌, false, refl, sym, arith,
 use Rattle.std.proofs.lemmas.List.{append-nil}
 use Rattle.pec_types.specs.Bytes.{Bytes}
 use Rattle.pec_types.specs.declared.messages.Facts.{Facts}
-use Rattle.pec_types.specs.declared.receipts.Kind.{Kind}
+use Rattle.pec_kinds.specs.declared.receipts.Kind.{Kind}
 use Rattle.pec_ledger.specs.Examples.{alice, anna, first, receipt_on, to_one}
 use Rattle.pec_ledger.specs.Network.{FollowsState, Site, journal_at}
 use Rattle.pec_ledger.specs.SmallWorld.{facts_from, small}

@@ -13,8 +13,8 @@ use Rattle.pec_types.specs.declared.messages.Facts.{Facts}
 use Rattle.pec_types.specs.declared.messages.Recipient.{Recipient}
 use Rattle.pec_types.specs.declared.messages.Refusal.TheVariants as refusals
 use Rattle.pec_types.specs.declared.messages.Wish.TheVariants.{Full}
-use Rattle.pec_types.specs.declared.receipts.Kind.{Kind}
-use Rattle.pec_types.specs.declared.receipts.Kind.TheVariants as kinds
+use Rattle.pec_kinds.specs.declared.receipts.Kind.{Kind}
+use Rattle.pec_kinds.specs.declared.receipts.Kind.TheVariants as kinds
 use Rattle.pec_ledger.specs.Lookups.{addresses_of}
 use Rattle.pec_ledger.specs.Pairs.{id_of}
 use Rattle.pec_ledger.specs.Trade.{Framed, Seen, SeenEnvelope, SeenReceipt, Trade}
@@ -102,6 +102,7 @@ kind_code kinds.Warning = 7
 kind_code kinds.Notice = 8
 kind_code kinds.LateNotice = 9
 kind_code kinds.Ack = 10
+kind_code kinds.VirusFound = 11
 
 -- the kind for which a number stands
 abbrev pub kind_at : ℕ → Kind
@@ -115,7 +116,8 @@ kind_at code =
     else (if code == 7 then kinds.Warning
     else (if code == 8 then kinds.Notice
     else (if code == 9 then kinds.LateNotice
-    else (if code == 10 then kinds.Ack else kinds.NonAcceptance causes.Head)))))))))
+    else (if code == 10 then kinds.Ack
+    else (if code == 11 then kinds.VirusFound else kinds.NonAcceptance causes.Head))))))))))
 
 -- the end of a receipt's text, which names the recipient, if there is one
 abbrev pub recipient_text : Option Bytes → Bytes

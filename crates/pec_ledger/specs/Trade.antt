@@ -7,7 +7,7 @@ use Rattle.pec_types.specs.Bytes.{Bytes, Path}
 use Rattle.pec_types.specs.Message.{Id}
 use Rattle.pec_types.specs.declared.messages.Cause.{Cause}
 use Rattle.pec_types.specs.declared.messages.Facts.{Facts}
-use Rattle.pec_types.specs.declared.receipts.Kind.{Kind}
+use Rattle.pec_kinds.specs.declared.receipts.Kind.{Kind}
 
 -- What a receipt states: its kind, the message, the provider that composed and sealed it, its moment in seconds, and
 -- the recipient that it names, if its kind names one.

@@ -14,10 +14,11 @@ use crate::desks::Desk;
 use crate::texts::given_text;
 use pec_heads::{Head, HeadFault};
 use pec_index::Index;
+use pec_kinds::Kind;
 use pec_receipts::Receipt;
 use pec_seal::Sealer;
 use pec_types::{
-    Address, Cause, Class, Facts, Items, Kind, Moment, MsgId, NoMemory, Recipient, Text, Wish,
+    Address, Cause, Class, Facts, Items, Moment, MsgId, NoMemory, Recipient, Text, Wish,
     an_address_is_told_exactly, printable_is_said_of_each_byte,
 };
 use std::alloc::Global;

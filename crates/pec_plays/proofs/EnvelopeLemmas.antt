@@ -7,9 +7,11 @@ use Rattle.pec_types.specs.Message.{Id}
 use Rattle.pec_types.specs.declared.messages.Cause.{Cause}
 use Rattle.pec_types.specs.declared.messages.Decision.{Decision}
 use Rattle.pec_types.specs.declared.messages.Decision.TheVariants.{Placed, Refused}
-use Rattle.pec_types.specs.declared.receipts.Kind.{Kind}
-use Rattle.pec_types.specs.declared.receipts.Kind.TheVariants as kinds
+use Rattle.pec_types.specs.declared.messages.Refusal.TheVariants as refusals
+use Rattle.pec_kinds.specs.declared.receipts.Kind.{Kind}
+use Rattle.pec_kinds.specs.declared.receipts.Kind.TheVariants as kinds
 use Rattle.pec_records.specs.declared.entries.Entry.{Entry}
+use Rattle.pec_screen.specs.Verdicts.{Patterns}
 use Rattle.pec_records.specs.declared.entries.Entry.TheVariants as entries
 use Rattle.pec_ledger.specs.Half.{Charge, Known, Taken}
 use Rattle.pec_ledger.specs.Ledger.{body_at}
@@ -80,7 +82,10 @@ module _ (trade : Trade) where
     of_receipt f r (kinds.NonAcceptance cause) = others f.message _
     of_receipt f r kinds.Charge = charges f r _ _
     of_receipt f r kinds.Delivery = of_outcome f r Placed r.recipient
-    of_receipt f r (kinds.DeliveryError refusal) = of_outcome f r (Refused refusal) r.recipient
+    of_receipt f r (kinds.DeliveryError refusals.NoMailbox) = of_outcome f r (Refused refusals.NoMailbox) r.recipient
+    of_receipt f r (kinds.DeliveryError refusals.MailboxFull) = of_outcome f r (Refused refusals.MailboxFull) r.recipient
+    of_receipt f r (kinds.DeliveryError refusals.Virus) = others f.message _
+    of_receipt f r kinds.VirusFound = of_outcome f r (Refused refusals.Virus) r.recipient
     of_receipt f r kinds.Warning = others f.message _
     of_receipt f r kinds.Notice = others f.message _
     of_receipt f r kinds.LateNotice = others f.message _
@@ -99,9 +104,9 @@ module _ (trade : Trade) where
     unfolding arrive
     arrived frame = of_frame (trade.unframed frame)
 
-    pub decided : (pair : Pair) → Holds (decide trade p now es pair).entry
+    pub decided : (screens : List Patterns) (pair : Pair) → Holds (decide trade p now screens es pair).entry
     unfolding decide
-    decided pair = entering _ tt
+    decided screens pair = entering _ tt
 
   pub submitted : (cause : Option Cause) (now : ℕ) (sender : Bytes) (path : Path) (message : Bytes)
       → HasEnvelope trade (entry_by cause now sender path message)

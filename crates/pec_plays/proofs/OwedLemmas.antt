@@ -12,6 +12,7 @@ use Rattle.pec_types.specs.declared.letters.Letter.{Letter}
 use Rattle.pec_types.specs.declared.letters.Letter.TheVariants as letters
 use Rattle.pec_types.specs.declared.messages.Decision.{Decision}
 use Rattle.pec_records.specs.declared.entries.Entry.{Entry}
+use Rattle.pec_screen.specs.Verdicts.{Patterns}
 use Rattle.pec_records.specs.declared.entries.Entry.TheVariants as entries
 use Rattle.pec_ledger.specs.Along.{GoesOnAs}
 use Rattle.pec_ledger.specs.Half.{Half, Known, Taken, empty}
@@ -147,27 +148,27 @@ module _ (trade : Trade) (p : ℕ) where
 
     -- ---- turns
 
-    decide_owes_nothing : (es : List Entry) (pair : Pair) → (decide trade p now es pair).owed ≡ []
+    decide_owes_nothing : (screens : List Patterns) (es : List Entry) (pair : Pair) → (decide trade p now screens es pair).owed ≡ []
     unfolding decide
-    decide_owes_nothing es pair = refl
+    decide_owes_nothing screens es pair = refl
 
-    decisions_owe_nothing : (es : List Entry) (pairs : List Pair) → owed_of (decisions trade p now es pairs) ≡ []
-    decisions_owe_nothing es [] = refl
-    decisions_owe_nothing es (pair ∷ pairs) =
-        ap (λ (l : List Letter). l ++ owed_of (decisions trade p now (journal_after es (decide trade p now es pair)) pairs)) (decide_owes_nothing es pair)
-        ∙ decisions_owe_nothing (journal_after es (decide trade p now es pair)) pairs
+    decisions_owe_nothing : (screens : List Patterns) (es : List Entry) (pairs : List Pair) → owed_of (decisions trade p now screens es pairs) ≡ []
+    decisions_owe_nothing screens es [] = refl
+    decisions_owe_nothing screens es (pair ∷ pairs) =
+        ap (λ (l : List Letter). l ++ owed_of (decisions trade p now screens (journal_after es (decide trade p now screens es pair)) pairs)) (decide_owes_nothing screens es pair)
+        ∙ decisions_owe_nothing screens (journal_after es (decide trade p now screens es pair)) pairs
 
-    pub plan_backs : (es : List Entry) (frames : List Bytes) (letter : Letter) → Contains (owed_of (plan trade p now es frames)) letter
-        → IsBacked p (half trade p (es ++ entries_of (plan trade p now es frames))) letter
-    plan_backs es [] letter c =
-        absurd (contains_none letter (subst (λ (l : List Letter). Contains l letter) (decisions_owe_nothing es (undecided trade p es)) c))
-    plan_backs es (frame ∷ frames) letter c =
+    pub plan_backs : (screens : List Patterns) (es : List Entry) (frames : List Bytes) (letter : Letter) → Contains (owed_of (plan trade p now screens es frames)) letter
+        → IsBacked p (half trade p (es ++ entries_of (plan trade p now screens es frames))) letter
+    plan_backs screens es [] letter c =
+        absurd (contains_none letter (subst (λ (l : List Letter). Contains l letter) (decisions_owe_nothing screens es (undecided trade p es)) c))
+    plan_backs screens es (frame ∷ frames) letter c =
         let s = arrive trade p now es frame
         in let behind = journal_after es s
-        in let rest = plan trade p now behind frames
+        in let rest = plan trade p now screens behind frames
         in let all : (behind ++ entries_of rest) ≡ es ++ (option_to_list s.entry ++ entries_of rest) = append_assoc es (option_to_list s.entry) (entries_of rest)
         in subst (λ (l : List Entry). IsBacked p (half trade p l) letter) all
         (elim (Contains-append_cases s.owed (owed_of rest) letter c) [
           | inl here ↦ backed_stays behind (behind ++ entries_of rest) letter (entries_of rest, refl) (frame_backs es frame (trade.unframed frame) refl letter here)
-          | inr later ↦ plan_backs behind frames letter later
+          | inr later ↦ plan_backs screens behind frames letter later
         ])

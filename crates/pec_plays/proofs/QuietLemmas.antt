@@ -1,21 +1,22 @@
 -- Runs without faults are one: a turn without faults is cut in one way.
 use Rattle.std.proofs.Common.{◌≡◌, ℕ, zero, suc, ◌+◌, ◌<◌, List, [], ◌∷◌, ◌++◌, Bool, true, false, inl, inr, length, take, refl, ap, sym, subst, ◌∙◌, arith, nat_lt, Option, Some, None}
-use Rattle.std.specs.Prelude.{slice_get, slice_set, slice_index_or, if◌then◌else◌}
+use Rattle.std.specs.Prelude.{slice_get, slice_set, slice_index_or, ◌==◌, if◌then◌else◌}
 use Rattle.std.proofs.lemmas.Bool.{cases_lt, false≢true}
 use Rattle.std.proofs.lemmas.List.Elements.{All-cons, All-head, All-nil, All-tail}
 use Rattle.std.proofs.lemmas.Option.{none-some, same_Some}
 use Rattle.pec_types.specs.Bytes.{Bytes, Path}
 use Rattle.pec_types.specs.declared.messages.TheConstants.{MESSAGES}
-use Rattle.pec_types.specs.declared.turns.ProviderFault.TheVariants as faults
+use Rattle.pec_kinds.specs.declared.turns.ProviderFault.TheVariants as faults
 use Rattle.pec_records.specs.declared.entries.Entry.{Entry}
 use Rattle.pec_records.specs.declared.entries.Entry.TheVariants as entries
-use Rattle.pec_ledger.specs.Books.{book, mailbox_lines}
+use Rattle.pec_screen.specs.Verdicts.{Patterns}
+use Rattle.pec_ledger.specs.Books.{archive_lines, book, mailbox_lines}
 use Rattle.pec_ledger.specs.Half.{Half, Posted}
 use Rattle.pec_ledger.specs.Items.{item_text}
-use Rattle.pec_ledger.specs.Lookups.{mailbox}
+use Rattle.pec_ledger.specs.Lookups.{archive, mailbox}
 use Rattle.pec_ledger.specs.Network.{Site, chosen, empty_site, frames_between, journal_at, site_at}
 use Rattle.pec_ledger.specs.Trade.{Trade}
-use Rattle.pec_plays.specs.Commands.{Answer, Command, Luck, Played, IsUp, Refuses, Restarted, Turns, Submit, Tick, Round, Lose, Repeat, Swap, Inject, Crash, Restart, Book, Mailbox, Show, Lines, Items, account_home, answers, append, appended, asked, at_work, messages_at, played, put_again, restarted, restarted_site, shown, shown_bytes, stopped_site, submitted, swapped, swapped_at, ticked, with_entry, with_frames, with_site}
+use Rattle.pec_plays.specs.Commands.{Answer, Command, Luck, Played, IsUp, Refuses, Restarted, Turns, Submit, Tick, Round, Lose, Repeat, Swap, Inject, Crash, Restart, Book, Mailbox, Show, Archive, Upgrade, Vault, VaultShow, Lines, Items, Vaults, Screen, account_home, answers, append, appended, archived, asked, at_work, finds_at, items_at, messages_at, played, put_again, restarted, restarted_site, screened, shown, shown_bytes, stopped_site, submitted, swapped, swapped_at, ticked, upgraded, version_at, with_entry, with_frames, with_screens, with_site}
 use Rattle.pec_plays.specs.Possible.{AllQuiet, HaveRoom, IsCalm, IsFull, IsQuiet, MayCut, MayMeet, NoneInterrupted, later_cut, quiet_cut, quiet_luck, quiet_lucks}
 use Rattle.pec_plays.specs.Rounds.{Rounded, delivered, link_size, outs_of, rooms_of, rounded, told_from, turns_from, turns_of, with_waiting}
 use Rattle.pec_plays.specs.Scripts.{onto, script}
@@ -111,6 +112,20 @@ module _ (trade : Trade) (sites : List Site) (a b : Luck) (quiet_a : IsQuiet a) 
   ticked_one : (p now : ℕ) → ticked trade a sites p now ≡ ticked trade b sites p now
   ticked_one p now = work_one p now _ _ (append_one p (entries.Ticked now) _)
 
+  archived_one : (found : Option ℕ) (now : ℕ) (account : Bytes) (place : ℕ)
+      → archived trade a sites found now account place ≡ archived trade b sites found now account place
+  archived_one None now account place = refl
+  archived_one (Some p) now account place =
+      work_one p now _ _
+      (ap (λ (x : Played). if nat_lt place (items_at trade sites p account) then x else answers sites (Refuses faults.NoItem))
+      (ap (λ (x : Played). if version_at trade sites p == 2 then x else answers sites (Refuses faults.OldJournal))
+      (append_one p (entries.Archived now account place) _)))
+
+  upgraded_one : (p now : ℕ) → upgraded trade a sites p now ≡ upgraded trade b sites p now
+  upgraded_one p now =
+      work_one p now _ _
+      (ap (λ (x : Played). if version_at trade sites p == 1 then x else answers sites (Refuses faults.NoNeed)) (append_one p (entries.Upgraded now) _))
+
   -- ---- restarts
 
   chosen_nothing : (x : Bool) (i : Option Entry) → i ≡ None → chosen x i ≡ []
@@ -119,7 +134,7 @@ module _ (trade : Trade) (sites : List Site) (a b : Luck) (quiet_a : IsQuiet a) 
 
   found_nothing : (site : Site) (x y : Bool) → site.interrupted ≡ None → restarted_site x site ≡ restarted_site y site
   found_nothing site x y e =
-      ap (λ (more : List Entry). record { journal = site.journal ++ more; up = true; interrupted = None; waiting = site.waiting })
+      ap (λ (more : List Entry). record (site) { journal = site.journal ++ more; up = true; interrupted = None })
       (chosen_nothing x site.interrupted e ∙ sym (chosen_nothing y site.interrupted e))
 
   abbrev restarted_as : Bool → ℕ → Site → Site → Played
@@ -137,18 +152,18 @@ module _ (trade : Trade) (sites : List Site) (a b : Luck) (quiet_a : IsQuiet a) 
   module _ (now : ℕ) where
     -- where a turn begins, it may be cut so
     abbrev MayBegin : ℕ → Site → Cut → Type 0
-    MayBegin p site cut = site.up ≡ true → nat_lt now (last_of trade p site.journal) ≡ false → MayCut (plan trade p now site.journal (frames_in site.waiting)) cut
+    MayBegin p site cut = site.up ≡ true → nat_lt now (last_of trade p site.journal) ≡ false → MayCut (plan trade p now site.screens site.journal (frames_in site.waiting)) cut
 
     abbrev turn_by : ℕ → (ℕ → ℕ) → Site → Cut → Bool → Bool → Turned
     turn_by p rooms site cut up late =
         if up then (if late then not_begun site (faults.ClockBack (last_of trade p site.journal))
-        else cut_turn trade p rooms site (plan trade p now site.journal (frames_in site.waiting)) cut)
+        else cut_turn trade p rooms site (plan trade p now site.screens site.journal (frames_in site.waiting)) cut)
         else not_begun site faults.Down
 
     turn_one : (p : ℕ) (rooms : ℕ → ℕ) (site : Site) (x y : Cut) → MayBegin p site x → MayBegin p site y → IsCalm x → IsCalm y
         → (up late : Bool) → site.up ≡ up → nat_lt now (last_of trade p site.journal) ≡ late → turn_by p rooms site x up late ≡ turn_by p rooms site y up late
     turn_one p rooms site x y may_x may_y calm_x calm_y true false e f =
-        let steps = plan trade p now site.journal (frames_in site.waiting)
+        let steps = plan trade p now site.screens site.journal (frames_in site.waiting)
         in ap (cut_turn trade p rooms site steps) (calm_cut steps x (may_x e f) calm_x ∙ sym (calm_cut steps y (may_y e f) calm_y))
     turn_one p rooms site x y may_x may_y calm_x calm_y true true e f = refl
     turn_one p rooms site x y may_x may_y calm_x calm_y false late e f = refl
@@ -195,7 +210,7 @@ module _ (trade : Trade) (sites : List Site) (a b : Luck) (quiet_a : IsQuiet a) 
   pub played_one : (command : Command) → NoneInterrupted sites → MayMeet trade a sites command → MayMeet trade b sites command
       → played trade a sites command ≡ played trade b sites command
   unfolding played
-  played_one (Submit p now sender path message found) none may_a may_b = submitted_one p now sender path message found
+  played_one (Submit p now sender path message) none may_a may_b = submitted_one p now sender path message (finds_at sites p message)
   played_one (Tick p now) none may_a may_b = ticked_one p now
   played_one (Round now) none may_a may_b =
       ap (λ (r : Rounded). let x : Played = record { answer = Turns r.turns; after = r.sites } in x) (rounded_one now may_a may_b)
@@ -208,6 +223,11 @@ module _ (trade : Trade) (sites : List Site) (a b : Luck) (quiet_a : IsQuiet a) 
   played_one (Book address) none may_a may_b = refl
   played_one (Mailbox address) none may_a may_b = refl
   played_one (Show address place) none may_a may_b = refl
+  played_one (Archive address now place) none may_a may_b = archived_one (account_home trade address (trade.home address)) now address place
+  played_one (Upgrade p now) none may_a may_b = upgraded_one p now
+  played_one (Vault address) none may_a may_b = refl
+  played_one (VaultShow address place) none may_a may_b = refl
+  played_one (Screen p place spare) none may_a may_b = refl
 
 -- ---- no entry is interrupted by a command without faults
 
@@ -234,6 +254,20 @@ module _ (trade : Trade) (sites : List Site) (luck : Luck) (quiet : IsQuiet luck
   none_work : (p now : ℕ) (done : Played) → NoneInterrupted done.after → NoneInterrupted (at_work trade sites p now done).after
   none_work p now done more =
       none_by (site_at sites p).up _ _ (none_by (nat_lt now (last_of trade p (journal_at sites p))) _ done none more) none
+
+  none_archived : (found : Option ℕ) (now : ℕ) (account : Bytes) (place : ℕ) → NoneInterrupted (archived trade luck sites found now account place).after
+  none_archived None now account place = none
+  none_archived (Some p) now account place =
+      none_work p now _
+      (none_by (nat_lt place (items_at trade sites p account)) _ _
+      (none_by (version_at trade sites p == 2) _ _ (none_append p (entries.Archived now account place) _) none) none)
+
+  none_screened : (p place : ℕ) (spare : Option Patterns) → NoneInterrupted (screened sites p place spare).after
+  none_screened p place None = none
+  none_screened p place (Some patterns) =
+      none_by (site_at sites p).up _ _
+      (none_by (nat_lt place (length (site_at sites p).screens)) _ _
+      (with_none p (with_screens (site_at sites p) (slice_set (site_at sites p).screens place patterns)) (none p)) none) none
 
   none_frames : (from to : ℕ) (frames : List Bytes) → NoneInterrupted (with_frames sites from to frames)
   none_frames from to frames = with_none to (with_waiting (site_at sites to) (slice_set (site_at sites to).waiting from frames)) (none to)
@@ -274,7 +308,7 @@ module _ (trade : Trade) (sites : List Site) (luck : Luck) (quiet : IsQuiet luck
   turn_keeps p now rooms site cut calm =
       keeps_by site site.up _ _
       (keeps_by site (nat_lt now (last_of trade p site.journal)) _ _ refl
-      (cut_keeps p rooms site (plan trade p now site.journal (frames_in site.waiting)) cut calm))
+      (cut_keeps p rooms site (plan trade p now site.screens site.journal (frames_in site.waiting)) cut calm))
       refl
 
   none_rounded : (now : ℕ) → NoneInterrupted (rounded trade now luck.cuts sites).sites
@@ -289,7 +323,7 @@ module _ (trade : Trade) (sites : List Site) (luck : Luck) (quiet : IsQuiet luck
 
   pub none_behind : (command : Command) → NoneInterrupted (played trade luck sites command).after
   unfolding played
-  none_behind (Submit p now sender path message found) =
+  none_behind (Submit p now sender path message) =
       none_by (trade.is_account p sender) _ _
       (none_work p now _ (none_by (nat_lt (messages_at trade sites p) MESSAGES) _ _ (none_append p _ _) none)) none
   none_behind (Tick p now) = none_work p now _ (none_append p (entries.Ticked now) _)
@@ -308,6 +342,14 @@ module _ (trade : Trade) (sites : List Site) (luck : Luck) (quiet : IsQuiet luck
   none_behind (Show address place) =
       none_asked (λ (p : ℕ) (h : Half). shown trade sites p (slice_get (mailbox h address) place)) (account_home trade address (trade.home address))
       (λ p h. none_shown p (slice_get (mailbox h address) place))
+  none_behind (Archive address now place) = none_archived (account_home trade address (trade.home address)) now address place
+  none_behind (Upgrade p now) = none_work p now _ (none_by (version_at trade sites p == 1) _ _ (none_append p (entries.Upgraded now) _) none)
+  none_behind (Vault address) =
+      none_asked (λ (p : ℕ) (h : Half). answers sites (Vaults (archive_lines h address))) (account_home trade address (trade.home address)) (λ p h. none)
+  none_behind (VaultShow address place) =
+      none_asked (λ (p : ℕ) (h : Half). shown trade sites p (slice_get (archive h address) place)) (account_home trade address (trade.home address))
+      (λ p h. none_shown p (slice_get (archive h address) place))
+  none_behind (Screen p place spare) = none_screened p place spare
 
 -- ---- scripts
 
@@ -329,10 +371,10 @@ script_one trade (x ∷ a) (y ∷ b) sites (command ∷ commands) e none quiet_a
 
 pub quiet_there : (trade : Trade) (sites : List Site) (command : Command) → MayMeet trade (quiet_luck trade sites command) sites command × IsQuiet (quiet_luck trade sites command)
 quiet_there trade sites (Round now) = (
-  λ p l up late. quiet_may (plan trade p now (site_at sites p).journal (frames_in (site_at sites p).waiting)),
-  record { cuts = λ p. quiet_is_calm (plan trade p now (site_at sites p).journal (frames_in (site_at sites p).waiting)); works = refl },
+  λ p l up late. quiet_may (plan trade p now (site_at sites p).screens (site_at sites p).journal (frames_in (site_at sites p).waiting)),
+  record { cuts = λ p. quiet_is_calm (plan trade p now (site_at sites p).screens (site_at sites p).journal (frames_in (site_at sites p).waiting)); works = refl },
 )
-quiet_there trade sites (Submit p now sender path message found) = (tt, record { cuts = λ p. tt; works = refl })
+quiet_there trade sites (Submit p now sender path message) = (tt, record { cuts = λ p. tt; works = refl })
 quiet_there trade sites (Tick p now) = (tt, record { cuts = λ p. tt; works = refl })
 quiet_there trade sites (Lose from to place) = (tt, record { cuts = λ p. tt; works = refl })
 quiet_there trade sites (Repeat from to place) = (tt, record { cuts = λ p. tt; works = refl })
@@ -343,6 +385,11 @@ quiet_there trade sites (Restart p) = (tt, record { cuts = λ p. tt; works = ref
 quiet_there trade sites (Book address) = (tt, record { cuts = λ p. tt; works = refl })
 quiet_there trade sites (Mailbox address) = (tt, record { cuts = λ p. tt; works = refl })
 quiet_there trade sites (Show address place) = (tt, record { cuts = λ p. tt; works = refl })
+quiet_there trade sites (Archive address now place) = (tt, record { cuts = λ p. tt; works = refl })
+quiet_there trade sites (Upgrade p now) = (tt, record { cuts = λ p. tt; works = refl })
+quiet_there trade sites (Vault address) = (tt, record { cuts = λ p. tt; works = refl })
+quiet_there trade sites (VaultShow address place) = (tt, record { cuts = λ p. tt; works = refl })
+quiet_there trade sites (Screen p place spare) = (tt, record { cuts = λ p. tt; works = refl })
 
 pub quiet_along : (trade : Trade) (sites : List Site) (commands : List Command) → AllQuiet trade (quiet_lucks trade sites commands) sites commands
 quiet_along trade sites [] = tt

@@ -7,8 +7,8 @@ use Rattle.std.proofs.lemmas.List.{append-nil, get_or_past, length-append, lengt
 use Rattle.std.proofs.lemmas.List.Elements.{All-append, All-drop, All-nil}
 use Rattle.pec_types.specs.Bytes.{Bytes}
 use Rattle.pec_types.specs.declared.letters.Letter.{Letter}
-use Rattle.pec_types.specs.declared.turns.ProviderFault.{ProviderFault}
-use Rattle.pec_types.specs.declared.turns.ProviderFault.TheVariants as faults
+use Rattle.pec_kinds.specs.declared.turns.ProviderFault.{ProviderFault}
+use Rattle.pec_kinds.specs.declared.turns.ProviderFault.TheVariants as faults
 use Rattle.pec_types.specs.declared.moments.TheConstants.{END_OF_TIME}
 use Rattle.pec_records.specs.declared.entries.Entry.{Entry}
 use Rattle.pec_ledger.specs.Ledger.{Fit, Follows, Journals}
@@ -89,8 +89,8 @@ module _ (trade : Trade) (world : IsTrade trade) (laws : StateLaws trade) (sites
   turn_became p now range rooms cut =
       by_test p (site_at sites p).up _ _
       (λ up. by_test p (nat_lt now (last_of trade p (journal_at sites p))) _ _ (λ late. as_it_was p (faults.ClockBack (last_of trade p (journal_at sites p))))
-      (λ time. cut_became p rooms (plan trade p now (journal_at sites p) (frames_in (site_at sites p).waiting)) up
-      (plan_follows trade world (journals_of sites) arrivals p now (journal_at sites p) (frames_in (site_at sites p).waiting)
+      (λ time. cut_became p rooms (plan trade p now (site_at sites p).screens (journal_at sites p) (frames_in (site_at sites p).waiting)) up
+      (plan_follows trade world (journals_of sites) arrivals p now (site_at sites p).screens (journal_at sites p) (frames_in (site_at sites p).waiting)
       (all_waiting (journals_of sites) (site_at sites p).waiting (λ k. sound.genuine k p))
       (ltb-false now (last_of trade p (journal_at sites p)) time) range)
       cut))
@@ -116,7 +116,7 @@ module _ (trade : Trade) (world : IsTrade trade) (laws : StateLaws trade) (sites
   turn_leaves p now rooms cut =
       leaves_by (site_at sites p).up _ _
       (leaves_by (nat_lt now (last_of trade p (journal_at sites p))) _ _ (λ k. sound.genuine k p)
-      (cut_leaves p rooms (plan trade p now (journal_at sites p) (frames_in (site_at sites p).waiting)) cut))
+      (cut_leaves p rooms (plan trade p now (site_at sites p).screens (journal_at sites p) (frames_in (site_at sites p).waiting)) cut))
       (λ k. sound.genuine k p)
 
   -- ---- what a turn puts, in journals in which its own is that behind the turn
@@ -147,7 +147,7 @@ module _ (trade : Trade) (world : IsTrade trade) (laws : StateLaws trade) (sites
   turn_puts p now rooms cut =
       puts_by p (site_at sites p).up _ _
       (puts_by p (nat_lt now (last_of trade p (journal_at sites p))) _ _ (λ J texts e k. All-nil (IsGenuine trade J))
-      (cut_puts p rooms (plan trade p now (journal_at sites p) (frames_in (site_at sites p).waiting)) cut))
+      (cut_puts p rooms (plan trade p now (site_at sites p).screens (journal_at sites p) (frames_in (site_at sites p).waiting)) cut))
       (λ J texts e k. All-nil (IsGenuine trade J))
 
   -- ---- what waits after a delivery
@@ -186,7 +186,7 @@ module _ (trade : Trade) (world : IsTrade trade) (laws : StateLaws trade) (sites
   turn_leaves_fewer p now rooms cut =
       fewer_by p (site_at sites p).up _ _
       (fewer_by p (nat_lt now (last_of trade p (journal_at sites p))) _ _ (λ k. omega arith)
-      (cut_leaves_fewer p rooms (plan trade p now (journal_at sites p) (frames_in (site_at sites p).waiting)) cut))
+      (cut_leaves_fewer p rooms (plan trade p now (site_at sites p).screens (journal_at sites p) (frames_in (site_at sites p).waiting)) cut))
       (λ k. omega arith)
 
   abbrev PutsFit : (ℕ → ℕ) → Turned → Type 0
@@ -218,7 +218,7 @@ module _ (trade : Trade) (world : IsTrade trade) (laws : StateLaws trade) (sites
   turn_puts_fit p now rooms cut =
       fit_by rooms (site_at sites p).up _ _
       (fit_by rooms (nat_lt now (last_of trade p (journal_at sites p))) _ _ (λ k. omega arith)
-      (cut_puts_fit p rooms (plan trade p now (journal_at sites p) (frames_in (site_at sites p).waiting)) cut))
+      (cut_puts_fit p rooms (plan trade p now (site_at sites p).screens (journal_at sites p) (frames_in (site_at sites p).waiting)) cut))
       (λ k. omega arith)
 
   longer_by : (to : ℕ) (outs : List (List (List Bytes))) (links : List (List Bytes)) (k : ℕ)

@@ -1,21 +1,22 @@
 -- An answer settles the state behind it: of two lucks with one answer the state is one.
 use Rattle.std.proofs.Common.{◌≡◌, ℕ, suc, ◌+◌, ◌-◌, ◌≤◌, min, List, [], ◌∷◌, ◌++◌, Bool, true, false, inl, inr, length, take, drop, map, refl, ap, sym, subst, ◌∙◌, arith, nat_lt, Option, Some, None}
-use Rattle.std.specs.Prelude.{if◌then◌else◌}
+use Rattle.std.specs.Prelude.{◌==◌, if◌then◌else◌}
 use Rattle.std.specs.Option.{option_and_then, option_to_list}
 use Rattle.std.proofs.lemmas.Bool.{cases_lt}
 use Rattle.std.proofs.lemmas.List.{drop_all, length-append, length-map, length-take, take_all}
 use Rattle.std.proofs.lemmas.Option.{slice_get_past}
 use Rattle.pec_types.specs.Bytes.{Bytes, Path}
 use Rattle.pec_types.specs.declared.turns.Event.{Event}
-use Rattle.pec_types.specs.declared.turns.ProviderFault.{ProviderFault}
-use Rattle.pec_types.specs.declared.turns.ProviderFault.TheVariants as faults
-use Rattle.pec_types.specs.declared.turns.Turn.{Turn}
+use Rattle.pec_kinds.specs.declared.turns.ProviderFault.{ProviderFault}
+use Rattle.pec_kinds.specs.declared.turns.ProviderFault.TheVariants as faults
+use Rattle.pec_kinds.specs.declared.turns.Turn.{Turn}
 use Rattle.pec_types.specs.declared.messages.TheConstants.{MESSAGES}
 use Rattle.pec_records.specs.declared.entries.Entry.{Entry}
+use Rattle.pec_screen.specs.Verdicts.{Patterns}
 use Rattle.pec_records.specs.declared.entries.Entry.TheVariants as entries
 use Rattle.pec_ledger.specs.Network.{Site, chosen, journal_at, site_at}
 use Rattle.pec_ledger.specs.Trade.{Trade}
-use Rattle.pec_plays.specs.Commands.{Answer, Command, Luck, Played, IsUp, Turns, Restarted, Refuses, Submit, Tick, Round, Lose, Repeat, Swap, Inject, Crash, Restart, Book, Mailbox, Show, answers, append, appended, at_work, messages_at, played, restarted, restarted_site, submitted, ticked, with_site}
+use Rattle.pec_plays.specs.Commands.{Answer, Command, Luck, Played, IsUp, Turns, Restarted, Refuses, Submit, Tick, Round, Lose, Repeat, Swap, Inject, Crash, Restart, Book, Mailbox, Show, Archive, Upgrade, Vault, VaultShow, Archived, Upgraded, Screen, account_home, answers, append, appended, archived, at_work, finds_at, items_at, messages_at, played, restarted, restarted_site, submitted, ticked, upgraded, version_at, with_site}
 use Rattle.pec_plays.specs.Reception.{arrive}
 use Rattle.pec_plays.specs.Rounds.{delivered, outs_of, rooms_of, rounded, told_from, turns_from, turns_of}
 use Rattle.pec_plays.specs.Scripts.{script}
@@ -70,6 +71,20 @@ module _ (trade : Trade) (sites : List Site) (a b : Luck) where
   ticked_settled : (p now : ℕ) → Settled (ticked trade a sites p now) (ticked trade b sites p now)
   ticked_settled p now = work_settled p now _ _ (append_settled p (entries.Ticked now) _ refl)
 
+  archived_settled : (found : Option ℕ) (now : ℕ) (account : Bytes) (place : ℕ)
+      → Settled (archived trade a sites found now account place) (archived trade b sites found now account place)
+  archived_settled None now account place = λ e. refl
+  archived_settled (Some p) now account place =
+      work_settled p now _ _
+      (settled_by (nat_lt place (items_at trade sites p account)) _ _ (answers sites (Refuses faults.NoItem))
+      (settled_by (version_at trade sites p == 2) _ _ (answers sites (Refuses faults.OldJournal))
+      (append_settled p (entries.Archived now account place) Archived refl)))
+
+  upgraded_settled : (p now : ℕ) → Settled (upgraded trade a sites p now) (upgraded trade b sites p now)
+  upgraded_settled p now =
+      work_settled p now _ _
+      (settled_by (version_at trade sites p == 1) _ _ (answers sites (Refuses faults.NoNeed)) (append_settled p (entries.Upgraded now) Upgraded refl))
+
   -- ---- restarts
 
   found_so : (site : Site) (x y : Bool) (i : Option Entry) → site.interrupted ≡ i
@@ -91,7 +106,7 @@ module _ (trade : Trade) (sites : List Site) (a b : Luck) where
       (record { answer = Restarted (length (restarted_site x site).journal); after = with_site sites p (restarted_site x site) })
       (record { answer = Restarted (length (restarted_site y site).journal); after = with_site sites p (restarted_site y site) })
   restarted_so p site x y e =
-      ap (λ (more : List Entry). with_site sites p (record { journal = site.journal ++ more; up = true; interrupted = None; waiting = site.waiting }))
+      ap (λ (more : List Entry). with_site sites p (record (site) { journal = site.journal ++ more; up = true; interrupted = None }))
       (found_so site x y site.interrupted refl (ap count_in e))
 
   works_or_not : (x y : Bool) (z u v : Played) → is_refusal z.answer ≡ true → is_refusal u.answer ≡ false → is_refusal v.answer ≡ false → Settled u v
@@ -198,9 +213,9 @@ cut_settled trade p rooms site steps (Stops n) (Fails m) few e f = absurd (let c
 cut_settled trade p rooms site steps (Stops n) (Full m) few e f = absurd (let c = ap code f in omega (arith, c))
 
 module _ (trade : Trade) (now : ℕ) where
-  more_steps : (p : ℕ) (es : List Entry) (frames : List Bytes) → length frames ≤ length (plan trade p now es frames)
-  more_steps p es [] = omega arith
-  more_steps p es (frame ∷ frames) = suc_le (more_steps p (es ++ option_to_list (arrive trade p now es frame).entry) frames)
+  more_steps : (p : ℕ) (screens : List Patterns) (es : List Entry) (frames : List Bytes) → length frames ≤ length (plan trade p now screens es frames)
+  more_steps p screens es [] = omega arith
+  more_steps p screens es (frame ∷ frames) = suc_le (more_steps p screens (es ++ option_to_list (arrive trade p now es frame).entry) frames)
     where
       suc_le : {n m : ℕ} → n ≤ m → suc n ≤ suc m
       suc_le l = omega (arith, l)
@@ -225,7 +240,7 @@ module _ (trade : Trade) (now : ℕ) where
   turned_settled p rooms site a b =
       by_test site.up _ _ _
       (else_test (nat_lt now (last_of trade p site.journal)) _ _ _
-      (cut_settled trade p rooms site (plan trade p now site.journal (frames_in site.waiting)) a b (more_steps p site.journal (frames_in site.waiting))))
+      (cut_settled trade p rooms site (plan trade p now site.screens site.journal (frames_in site.waiting)) a b (more_steps p site.screens site.journal (frames_in site.waiting))))
 
   abbrev events_in : List Turn → List Event
   events_in [] = []
@@ -266,7 +281,7 @@ turns_told _ = []
 
 pub played_settled : (trade : Trade) (sites : List Site) (command : Command) (a b : Luck) → Settled (played trade a sites command) (played trade b sites command)
 unfolding played
-played_settled trade sites (Submit p now sender path message found) a b = submitted_settled trade sites a b p now sender path message found
+played_settled trade sites (Submit p now sender path message) a b = submitted_settled trade sites a b p now sender path message (finds_at sites p message)
 played_settled trade sites (Tick p now) a b = ticked_settled trade sites a b p now
 played_settled trade sites (Round now) a b = λ e. rounded_settled trade now sites a.cuts b.cuts (ap turns_told e)
 played_settled trade sites (Lose from to place) a b = λ e. refl
@@ -278,6 +293,12 @@ played_settled trade sites (Restart p) a b = restarted_settled trade sites a b p
 played_settled trade sites (Book address) a b = λ e. refl
 played_settled trade sites (Mailbox address) a b = λ e. refl
 played_settled trade sites (Show address place) a b = λ e. refl
+played_settled trade sites (Archive address now place) a b =
+    archived_settled trade sites a b (account_home trade address (trade.home address)) now address place
+played_settled trade sites (Upgrade p now) a b = upgraded_settled trade sites a b p now
+played_settled trade sites (Vault address) a b = λ e. refl
+played_settled trade sites (VaultShow address place) a b = λ e. refl
+played_settled trade sites (Screen p place spare) a b = λ e. refl
 
 abbrev first_answer : Answer → List Answer → Answer
 first_answer other [] = other

@@ -8,8 +8,9 @@ use Rattle.std.proofs.lemmas.List.{drop-drop, length-drop, length-map, length-ta
 use Rattle.std.proofs.lemmas.Option.{none-some, slice_get_within}
 use Rattle.pec_types.specs.Bytes.{Bytes}
 use Rattle.pec_types.specs.declared.letters.Letter.{Letter}
-use Rattle.pec_types.specs.declared.turns.ProviderFault.{ProviderFault}
+use Rattle.pec_kinds.specs.declared.turns.ProviderFault.{ProviderFault}
 use Rattle.pec_records.specs.declared.entries.Entry.{Entry}
+use Rattle.pec_screen.specs.Verdicts.{Patterns}
 use Rattle.pec_ledger.specs.Due.{due_letters}
 use Rattle.pec_ledger.specs.Network.{Site}
 use Rattle.pec_ledger.specs.Pairs.{Pair}
@@ -25,16 +26,16 @@ use Rattle.pec_plays.proofs.NextLemmas.{next_undecided}
 
 -- ---- plans
 
-module _ (trade : Trade) (p now : ℕ) (es : List Entry) where
+module _ (trade : Trade) (p now : ℕ) (screens : List Patterns) (es : List Entry) where
   pub pair_first : (pair : Pair) (pairs : List Pair) → undecided trade p es ≡ pair ∷ pairs
-      → plan trade p now es [] ≡ decide trade p now es pair ∷ plan trade p now (journal_after es (decide trade p now es pair)) []
+      → plan trade p now screens es [] ≡ decide trade p now screens es pair ∷ plan trade p now screens (journal_after es (decide trade p now screens es pair)) []
   pair_first pair pairs e =
-      let behind = journal_after es (decide trade p now es pair)
-      in ap (decisions trade p now es) e
-      ∙ ap (λ (left : List Pair). decide trade p now es pair ∷ decisions trade p now behind left) (sym (next_undecided trade p now es pair pairs e))
+      let behind = journal_after es (decide trade p now screens es pair)
+      in ap (decisions trade p now screens es) e
+      ∙ ap (λ (left : List Pair). decide trade p now screens es pair ∷ decisions trade p now screens behind left) (sym (next_undecided trade p now screens es pair pairs e))
 
-  pub none_left : undecided trade p es ≡ [] → plan trade p now es [] ≡ []
-  none_left e = ap (decisions trade p now es) e
+  pub none_left : undecided trade p es ≡ [] → plan trade p now screens es [] ≡ []
+  none_left e = ap (decisions trade p now screens es) e
 
 -- ---- frames that are taken
 

@@ -1,18 +1,27 @@
 -- Worked scripts in the small world of the ledger, with their lucks: what they answer. The provider 0 is alfa, with
 -- alice (0) and anna (1); the provider 1 is beta, with bob (1).
-use Rattle.std.specs.Prelude.{ℕ, zero, suc, false, true, List, [], ◌∷◌, ◌++◌, length, Option, None}
+use Rattle.std.specs.Prelude.{ℕ, zero, suc, false, true, List, [], ◌∷◌, ◌++◌, length, Option, None, Some}
 use Rattle.pec_types.specs.Bytes.{Bytes}
 use Rattle.pec_types.specs.declared.turns.Event.{Event}
-use Rattle.pec_types.specs.declared.turns.ProviderFault.{ProviderFault}
-use Rattle.pec_types.specs.declared.turns.Turn.{Turn}
+use Rattle.pec_kinds.specs.declared.turns.ProviderFault.{ProviderFault}
+use Rattle.pec_kinds.specs.declared.turns.Turn.{Turn}
 use Rattle.pec_ledger.specs.Examples.{alice, anna, bob, morning, to_one}
 use Rattle.pec_ledger.specs.Half.{Half}
 use Rattle.pec_ledger.specs.Network.{Site, at_start, journal_at}
 use Rattle.pec_ledger.specs.SmallWorld.{small}
 use Rattle.pec_ledger.specs.Steps.{half}
-use Rattle.pec_plays.specs.Commands.{Answer, Book, Command, Inject, Luck, Mailbox, Restart, Round, Submit, Swap, Turns}
+use Rattle.pec_plays.specs.Commands.{Answer, Archive, Book, Command, Inject, Luck, Mailbox, Restart, Round, Screen, Submit, Swap, Turns, Upgrade, Vault}
 use Rattle.pec_plays.specs.Scripts.{script}
 use Rattle.pec_plays.specs.Turns.{Cut, Fails, Whole}
+
+-- no provider has a screen
+abbrev pub no_screens : ℕ → List (List Bytes)
+no_screens provider = []
+
+-- beta has one screen, which finds its one pattern in each message
+abbrev pub beta_looks : ℕ → List (List Bytes)
+beta_looks zero = []
+beta_looks (suc provider) = ([] ∷ []) ∷ []
 
 -- no device fails
 abbrev pub calm : Luck
@@ -33,7 +42,7 @@ finding = record { cuts = λ provider. Whole; fails = false; found = true }
 
 -- what alice writes, to this address
 abbrev pub writes_to : Bytes → Command
-writes_to recipient = Submit 0 morning alice (recipient ∷ []) (to_one recipient) false
+writes_to recipient = Submit 0 morning alice (recipient ∷ []) (to_one recipient)
 
 -- a provider's turn as it is told: what came of frames and pairs, how many frames it put for whom, why it ended early
 abbrev pub turn_of : ℕ → List Event → List (ℕ × ℕ) → Option ProviderFault → Turn
@@ -83,6 +92,24 @@ from_outside = Inject 0 1 unsealed ∷ Inject 0 1 [] ∷ Round 1704186001 ∷ Ma
 abbrev pub with_a_fault : List Command
 with_a_fault = writes_to anna ∷ Round 1704186001 ∷ Round 1704186002 ∷ Book alice ∷ Restart 0 ∷ Restart 0 ∷ []
 
+-- ---- an item is archived
+
+-- alice writes to anna, whose item is archived after two rounds, and no item is left for another; alfa's journal is of
+-- version 2 from its start
+abbrev pub put_away : List Command
+put_away =
+    writes_to anna ∷ Round 1704186001 ∷ Round 1704186002 ∷ Archive anna 1704186002 0 ∷ Mailbox anna ∷ Vault anna
+    ∷ Archive anna 1704186002 0 ∷ Upgrade 0 1704186002 ∷ []
+
+-- ---- a virus at the incoming point
+
+-- alice writes to bob, whose provider finds a virus; both mailboxes are shown, and then another screen is put in the place
+-- of that one: there is one spare, and no place 1
+abbrev pub unwelcome : List Command
+unwelcome =
+    writes_to bob ∷ Round 1704186001 ∷ Round 1704186002 ∷ Round 1704186003 ∷ Mailbox alice ∷ Mailbox bob
+    ∷ Screen 1 1 (Some ((9 ∷ []) ∷ [])) ∷ Screen 1 0 (Some ((9 ∷ []) ∷ [])) ∷ Screen 1 0 None ∷ []
+
 -- a luck for each command of a script, with which no device fails
 abbrev pub calmly : List Command → List Luck
 calmly [] = []
@@ -90,7 +117,7 @@ calmly (command ∷ commands) = calm ∷ calmly commands
 
 -- the state behind a script without faults
 abbrev pub left_by : List Command → List Site
-left_by commands = (script small (calmly commands) (at_start small) commands).after
+left_by commands = (script small (calmly commands) (at_start small no_screens) commands).after
 
 -- alfa's half then
 abbrev pub alfa_behind : List Command → Half
@@ -102,4 +129,8 @@ halfway = writes_to anna ∷ Round 1704186001 ∷ Round 1704186002 ∷ []
 
 -- what a script answers from the start, with these lucks
 abbrev pub answers_of : List Luck → List Command → List Answer
-answers_of lucks commands = (script small lucks (at_start small) commands).answers
+answers_of lucks commands = (script small lucks (at_start small no_screens) commands).answers
+
+-- the same without faults, where providers have these screens
+abbrev pub answers_where : (ℕ → List (List Bytes)) → List Command → List Answer
+answers_where screens commands = (script small (calmly commands) (at_start small screens) commands).answers

@@ -1,8 +1,8 @@
 -- Which lucks can be: how a turn may be cut (`MayCut`), what a command may meet (`MayMeet`), and when no device failed
 -- in it (`IsQuiet`). This project's profile.
 use Rattle.std.specs.Prelude.{◌≡◌, ℕ, zero, suc, ◌+◌, ◌<◌, nat_lt, false, true, List, [], ◌∷◌, length, take, slice_get, All, IsSome, Option, Some, None, if◌then◌else◌}
-use Rattle.pec_types.specs.declared.turns.ProviderFault.{ProviderFault}
-use Rattle.pec_types.specs.declared.turns.ProviderFault.TheVariants as faults
+use Rattle.pec_kinds.specs.declared.turns.ProviderFault.{ProviderFault}
+use Rattle.pec_kinds.specs.declared.turns.ProviderFault.TheVariants as faults
 use Rattle.pec_ledger.specs.Network.{Site, interrupted_at, site_at}
 use Rattle.pec_ledger.specs.Trade.{Trade}
 use Rattle.pec_plays.specs.Commands.{Command, Luck, Round, played}
@@ -34,7 +34,7 @@ abbrev pub MayMeet : Trade → Luck → List Site → Command → Type 0
 MayMeet trade luck sites (Round now) =
     (provider : ℕ) → provider < length sites → (site_at sites provider).up ≡ true
     → nat_lt now (last_of trade provider (site_at sites provider).journal) ≡ false
-    → MayCut (plan trade provider now (site_at sites provider).journal (frames_in (site_at sites provider).waiting)) (luck.cuts provider)
+    → MayCut (plan trade provider now (site_at sites provider).screens (site_at sites provider).journal (frames_in (site_at sites provider).waiting)) (luck.cuts provider)
 MayMeet trade luck sites _ = Unit {0}
 
 -- no append failed and no memory was missing
@@ -87,7 +87,7 @@ quiet_cut (step ∷ steps) = if step.full then Full zero else later_cut (quiet_c
 abbrev pub quiet_luck : Trade → List Site → Command → Luck
 quiet_luck trade sites (Round now) = record {
   cuts = λ provider.
-      quiet_cut (plan trade provider now (site_at sites provider).journal (frames_in (site_at sites provider).waiting));
+      quiet_cut (plan trade provider now (site_at sites provider).screens (site_at sites provider).journal (frames_in (site_at sites provider).waiting));
   fails = false;
   found = false;
 }

@@ -1,12 +1,13 @@
 -- Scripts: commands one after another, each with its luck (`script`), and which of them may come (`IsUnforged`). This
 -- project's profile.
-use Rattle.std.specs.Prelude.{ℕ, ◌<◌, ◌≤◌, List, [], ◌∷◌, length}
+use Rattle.std.specs.Prelude.{◌≡◌, ℕ, ◌-◌, ◌<◌, ◌≤◌, List, [], ◌∷◌, length, slice_get, take}
 use Rattle.pec_types.specs.declared.moments.TheConstants.{END_OF_TIME}
+use Rattle.pec_screen.specs.Verdicts.{Patterns}
 use Rattle.pec_records.specs.Entry.{most_addresses}
 use Rattle.pec_ledger.specs.Guarantees.{NoReceiptMissing, NoticeByTheDay, OneDelivery, OneOutcome}
 use Rattle.pec_ledger.specs.Network.{frames_between, IsGenuine, Site, Sound, journals_of}
 use Rattle.pec_ledger.specs.Trade.{Trade}
-use Rattle.pec_plays.specs.Commands.{Answer, Command, Inject, Luck, Round, Submit, Tick, played}
+use Rattle.pec_plays.specs.Commands.{Answer, Archive, Command, Inject, Luck, Round, Screen, Screened, Submit, Tick, Upgrade, played}
 use Rattle.pec_plays.specs.Rounds.{link_size}
 
 -- What a script answers, and the state behind it.
@@ -25,15 +26,38 @@ script trade (luck ∷ lucks) sites [] = record { answers = []; after = sites }
 script trade (luck ∷ lucks) sites (command ∷ commands) =
     onto (played trade luck sites command).answer (script trade lucks (played trade luck sites command).after commands)
 
+-- ---- spares
+
+-- the spares that are left behind an answer: one is used where it told so
+abbrev pub spares_behind : List Patterns → Answer → List Patterns
+spares_behind spares Screened = take (length spares - 1) spares
+spares_behind spares _ = spares
+
+-- In a command another screen is the last spare, if one is left.
+abbrev pub HandsIn : List Patterns → Command → Type 0
+HandsIn spares (Screen provider place spare) = spare ≡ slice_get spares (length spares - 1)
+HandsIn spares _ = Unit {0}
+
+-- So it is in each command of a script that answers so.
+abbrev pub AllHandIn : List Patterns → List Answer → List Command → Type 0
+AllHandIn spares [] commands = Unit {0}
+AllHandIn spares (answer ∷ answers) [] = Unit {0}
+AllHandIn spares (answer ∷ answers) (command ∷ commands) =
+    HandsIn spares command × AllHandIn (spares_behind spares answer) answers commands
+
+-- ---- what may come
+
 -- A command may come: a moment is one that a clock tells, below END_OF_TIME, a path has 1 to 1,000 addresses, and no
 -- forged frame is injected. Where a message stands in an injected frame and opens, that is the text of a licensed
 -- letter or of an item, as the command begins; all other frames are free.
 abbrev pub IsUnforged : Trade → List Site → Command → Type 0
-IsUnforged trade sites (Submit provider moment sender path message found) =
+IsUnforged trade sites (Submit provider moment sender path message) =
     (0 < length path) × (length path ≤ most_addresses) × (moment < END_OF_TIME)
 IsUnforged trade sites (Tick provider moment) = moment < END_OF_TIME
 IsUnforged trade sites (Round moment) = moment < END_OF_TIME
 IsUnforged trade sites (Inject from to frame) = IsGenuine trade (journals_of sites) frame
+IsUnforged trade sites (Archive address moment place) = moment < END_OF_TIME
+IsUnforged trade sites (Upgrade provider moment) = moment < END_OF_TIME
 IsUnforged trade sites _ = Unit {0}
 
 -- Each command along a script may come.

@@ -4,7 +4,7 @@ use Rattle.std.specs.Prelude.{List, [], ◌∷◌}
 use Rattle.std.specs.List.{flat_map}
 use Rattle.pec_types.specs.declared.turns.Event.{Event}
 use Rattle.pec_types.specs.declared.turns.Event.TheVariants as events
-use Rattle.pec_types.specs.declared.turns.Turn.{Turn}
+use Rattle.pec_kinds.specs.declared.turns.Turn.{Turn}
 use Rattle.pec_ledger.specs.Pairs.{Pair, pair_of}
 use Rattle.pec_plays.specs.Commands.{Answer, Turns}
 

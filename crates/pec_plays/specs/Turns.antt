@@ -6,9 +6,10 @@ use Rattle.std.specs.Option.{option_and_then, option_to_list}
 use Rattle.pec_types.specs.Bytes.{Bytes}
 use Rattle.pec_types.specs.declared.letters.Letter.{Letter}
 use Rattle.pec_types.specs.declared.turns.Event.{Event}
-use Rattle.pec_types.specs.declared.turns.ProviderFault.{ProviderFault}
-use Rattle.pec_types.specs.declared.turns.ProviderFault.TheVariants as faults
+use Rattle.pec_kinds.specs.declared.turns.ProviderFault.{ProviderFault}
+use Rattle.pec_kinds.specs.declared.turns.ProviderFault.TheVariants as faults
 use Rattle.pec_records.specs.declared.entries.Entry.{Entry}
+use Rattle.pec_screen.specs.Verdicts.{Patterns}
 use Rattle.pec_ledger.specs.Network.{Site}
 use Rattle.pec_ledger.specs.Pairs.{Pair}
 use Rattle.pec_ledger.specs.Steps.{half}
@@ -20,12 +21,13 @@ use Rattle.pec_plays.specs.Steps.{Step, journal_after}
 
 -- ---- plans
 
-module _ (trade : Trade) (provider now : ℕ) where
+module _ (trade : Trade) (provider now : ℕ) (screens : List Patterns) where
   -- the steps on pairs, each on the journal behind the one before
   abbrev pub decisions : List Entry → List Pair → List Step
   decisions journal [] = []
   decisions journal (pair ∷ pairs) =
-      decide trade provider now journal pair ∷ decisions (journal_after journal (decide trade provider now journal pair)) pairs
+      decide trade provider now screens journal pair
+      ∷ decisions (journal_after journal (decide trade provider now screens journal pair)) pairs
 
   -- The steps on the waiting frames, and then on all taken pairs that are undecided.
   abbrev pub plan : List Entry → List Bytes → List Step
@@ -88,6 +90,7 @@ behind site steps taken = record {
   journal = site.journal ++ entries_of steps;
   up = site.up;
   interrupted = site.interrupted;
+  screens = site.screens;
   waiting = without_first taken site.waiting;
 }
 
@@ -102,7 +105,8 @@ stopped site steps number fault = record {
 
 -- a provider whose append failed: it is down, and whether the entry is on its disk isn't known
 abbrev pub broken : Site → Option Entry → Site
-broken site entry = record { journal = site.journal; up = false; interrupted = entry; waiting = site.waiting }
+broken site entry =
+    record { journal = site.journal; up = false; interrupted = entry; screens = site.screens; waiting = site.waiting }
 
 -- a turn that was planned so, as it went with this cut: what is due is put where all was done, and else nothing
 abbrev pub cut_turn : Trade → ℕ → (ℕ → ℕ) → Site → List Step → Cut → Turned
@@ -135,5 +139,5 @@ turned trade provider now rooms cut site =
     if site.up
     then (if nat_lt now (last_of trade provider site.journal)
     then not_begun site (faults.ClockBack (last_of trade provider site.journal))
-    else cut_turn trade provider rooms site (plan trade provider now site.journal (frames_in site.waiting)) cut)
+    else cut_turn trade provider rooms site (plan trade provider now site.screens site.journal (frames_in site.waiting)) cut)
     else not_begun site faults.Down

@@ -3,6 +3,7 @@ ghost use Rattle.pec_types.specs.Bytes.{Bytes, Path};
 ghost use Rattle.pec_types.specs.Message.{Id};
 ghost use Rattle.pec_types.specs.declared.messages.Cause.{Cause};
 ghost use Rattle.pec_records.specs.declared.entries.Entry.{Entry};
+ghost use Rattle.pec_screen.specs.Verdicts.{Patterns};
 ghost use Rattle.pec_ledger.specs.Half.{Taken};
 ghost use Rattle.pec_ledger.specs.Ledger.{body_at};
 ghost use Rattle.pec_ledger.specs.Lookups.{taken_of};
@@ -21,8 +22,8 @@ use pec_ledger::a_taken_message_has_its_envelope;
 pub fn what_a_provider_takes_is_an_envelope()
     ensures arrivals { (trade : Trade) (provider now : ℕ) (journal : List Entry) (frame : Bytes) (entry : Entry)
         → (arrive trade provider now journal frame).entry ≡ Some entry → HasEnvelope trade entry }
-    ensures decisions { (trade : Trade) (provider now : ℕ) (journal : List Entry) (pair : Pair) (entry : Entry)
-        → (decide trade provider now journal pair).entry ≡ Some entry → HasEnvelope trade entry }
+    ensures decisions { (trade : Trade) (provider now : ℕ) (screens : List Patterns) (journal : List Entry) (pair : Pair) (entry : Entry)
+        → (decide trade provider now screens journal pair).entry ≡ Some entry → HasEnvelope trade entry }
     ensures submissions { (trade : Trade) (cause : Option Cause) (now : ℕ) (sender : Bytes) (path : Path) (message : Bytes)
         → HasEnvelope trade (entry_by cause now sender path message) }
 {}

@@ -4,6 +4,7 @@ ghost use Rattle.pec_types.specs.Message.{Id};
 ghost use Rattle.pec_types.specs.declared.letters.Letter.{Letter as SomeLetter};
 ghost use Rattle.pec_types.specs.declared.letters.Letter.TheVariants as letters;
 ghost use Rattle.pec_records.specs.declared.entries.Entry.{Entry};
+ghost use Rattle.pec_screen.specs.Verdicts.{Patterns};
 ghost use Rattle.pec_ledger.specs.Along.{GoesOnAs};
 ghost use Rattle.pec_ledger.specs.Half.{Known, Taken};
 ghost use Rattle.pec_ledger.specs.Ledger.{Fit, Journals, ledger};
@@ -91,9 +92,9 @@ pub fn due_letters_are_composed()
         → (provider : ℕ) (id : Id) (recipient : Bytes) (row : Known) → known_of (ledger trade journals provider) (pair_of id recipient) ≡ Some row
         → IsSome (composed trade provider (journals provider) (letters.Ack id recipient)) }
     ensures answers { (trade : Trade) → IsTrade trade → (journals : Journals) → Fit trade journals
-        → (provider now : ℕ) (journal : List Entry) (frames : List Bytes)
-        → GoesOnAs (journal ++ entries_of (plan trade provider now journal frames)) (journals provider)
-        → (letter : SomeLetter) → Contains (owed_of (plan trade provider now journal frames)) letter
+        → (provider now : ℕ) (screens : List Patterns) (journal : List Entry) (frames : List Bytes)
+        → GoesOnAs (journal ++ entries_of (plan trade provider now screens journal frames)) (journals provider)
+        → (letter : SomeLetter) → Contains (owed_of (plan trade provider now screens journal frames)) letter
         → IsSome (composed trade provider (journals provider) letter) }
     // and the frames of what is composed are genuine
     ensures frames { (trade : Trade) → IsTrade trade → (journals : Journals) → Fit trade journals

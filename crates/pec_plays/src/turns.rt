@@ -1,8 +1,9 @@
 ghost use Rattle.std.specs.Prelude.{◌≡◌, ◌↔◌, ℕ, ◌+◌, ◌<◌, List, [], ◌∷◌, ◌++◌, length, drop, Contains, slice_index_or, Some};
 ghost use Rattle.pec_types.specs.Bytes.{Bytes};
 ghost use Rattle.pec_types.specs.declared.letters.Letter.{Letter};
-ghost use Rattle.pec_types.specs.declared.turns.ProviderFault.{ProviderFault};
+ghost use Rattle.pec_kinds.specs.declared.turns.ProviderFault.{ProviderFault};
 ghost use Rattle.pec_records.specs.declared.entries.Entry.{Entry};
+ghost use Rattle.pec_screen.specs.Verdicts.{Patterns};
 ghost use Rattle.pec_ledger.specs.Network.{Site};
 ghost use Rattle.pec_ledger.specs.Pairs.{Pair};
 ghost use Rattle.pec_ledger.specs.Trade.{Trade};
@@ -16,17 +17,17 @@ ghost use Rattle.pec_plays.specs.Turns.{Cut, Whole, cut_turn, entries_of, frames
 /// A plan goes step by step: the first waiting frame is received, and where none waits the first undecided pair is
 /// decided; the rest is the plan of the journal behind that step.
 pub fn a_plan_goes_step_by_step()
-    ensures frames { (trade : Trade) (provider now : ℕ) (journal : List Entry) (frame : Bytes) (frames : List Bytes)
-        → plan trade provider now journal (frame ∷ frames)
+    ensures frames { (trade : Trade) (provider now : ℕ) (screens : List Patterns) (journal : List Entry) (frame : Bytes) (frames : List Bytes)
+        → plan trade provider now screens journal (frame ∷ frames)
         ≡ arrive trade provider now journal frame
-        ∷ plan trade provider now (journal_after journal (arrive trade provider now journal frame)) frames }
-    ensures pairs { (trade : Trade) (provider now : ℕ) (journal : List Entry) (pair : Pair) (pairs : List Pair)
+        ∷ plan trade provider now screens (journal_after journal (arrive trade provider now journal frame)) frames }
+    ensures pairs { (trade : Trade) (provider now : ℕ) (screens : List Patterns) (journal : List Entry) (pair : Pair) (pairs : List Pair)
         → undecided trade provider journal ≡ pair ∷ pairs
-        → plan trade provider now journal []
-        ≡ decide trade provider now journal pair
-        ∷ plan trade provider now (journal_after journal (decide trade provider now journal pair)) [] }
-    ensures ends { (trade : Trade) (provider now : ℕ) (journal : List Entry)
-        → undecided trade provider journal ≡ [] → plan trade provider now journal [] ≡ [] }
+        → plan trade provider now screens journal []
+        ≡ decide trade provider now screens journal pair
+        ∷ plan trade provider now screens (journal_after journal (decide trade provider now screens journal pair)) [] }
+    ensures ends { (trade : Trade) (provider now : ℕ) (screens : List Patterns) (journal : List Entry)
+        → undecided trade provider journal ≡ [] → plan trade provider now screens journal [] ≡ [] }
 {}
 
 /// Waiting frames are taken in their order, link by link: those that are left when some were taken are the later ones,

@@ -21,8 +21,8 @@ use Rattle.pec_types.specs.declared.disputes.LetterFault.{LetterFault}
 use Rattle.pec_types.specs.declared.messages.Recipient.{Recipient}
 use Rattle.pec_types.specs.declared.messages.TheConstants.{MESSAGES}
 use Rattle.pec_types.specs.declared.moments.TheConstants.{END_OF_TIME}
-use Rattle.pec_types.specs.declared.receipts.Kind.{Kind}
-use Rattle.pec_types.specs.declared.receipts.Kind.TheVariants as kinds
+use Rattle.pec_kinds.specs.declared.receipts.Kind.{Kind}
+use Rattle.pec_kinds.specs.declared.receipts.Kind.TheVariants as kinds
 use Rattle.pec_heads.specs.Bytes.{IsTrimmed, begins_blank, ends_blank, trimmed}
 use Rattle.pec_heads.specs.FactsOfHeads.{first_value}
 use Rattle.pec_heads.specs.Heads.{IsHead, NamedValue}

@@ -15,8 +15,8 @@ use Rattle.pec_types.specs.declared.messages.Recipient.{Recipient}
 use Rattle.pec_types.specs.declared.messages.Refusal.TheVariants as refusals
 use Rattle.pec_types.specs.declared.messages.TheConstants.{MESSAGES}
 use Rattle.pec_types.specs.declared.messages.Wish.{Wish}
-use Rattle.pec_types.specs.declared.receipts.Kind.{Kind}
-use Rattle.pec_types.specs.declared.receipts.Kind.TheVariants as kinds
+use Rattle.pec_kinds.specs.declared.receipts.Kind.{Kind}
+use Rattle.pec_kinds.specs.declared.receipts.Kind.TheVariants as kinds
 use Rattle.pec_heads.specs.FactsOfHeads.{first_value}
 use Rattle.pec_heads.specs.Heads.{NamedValue}
 use Rattle.pec_cert.specs.HeaderDate.{header_date_of}
@@ -79,6 +79,7 @@ kind_closed kinds.Delivery c = refl
 kind_closed (kinds.DeliveryError refusals.NoMailbox) c = refl
 kind_closed (kinds.DeliveryError refusals.MailboxFull) c = refl
 kind_closed (kinds.DeliveryError refusals.Virus) c = refl
+kind_closed kinds.VirusFound c = refl
 kind_closed kinds.Warning c = refl
 kind_closed kinds.Notice c = refl
 kind_closed kinds.LateNotice c = refl
@@ -279,6 +280,7 @@ none_said (kinds.NonAcceptance cause) e = absurd cc
 none_said kinds.Charge e = absurd cc
 none_said kinds.Delivery e = absurd cc
 none_said (kinds.DeliveryError refusal) e = absurd cc
+none_said kinds.VirusFound e = absurd cc
 none_said kinds.Warning e = absurd cc
 none_said kinds.Notice e = absurd cc
 none_said kinds.LateNotice e = absurd cc

@@ -5,8 +5,8 @@ use Rattle.pec_types.specs.Bytes.{Bytes}
 use Rattle.pec_types.specs.Text.{AllPrintable}
 use Rattle.pec_types.specs.declared.messages.Cause.TheVariants as causes
 use Rattle.pec_types.specs.declared.messages.Refusal.TheVariants as refusals
-use Rattle.pec_types.specs.declared.receipts.Kind.{Kind}
-use Rattle.pec_types.specs.declared.receipts.Kind.TheVariants as kinds
+use Rattle.pec_kinds.specs.declared.receipts.Kind.{Kind}
+use Rattle.pec_kinds.specs.declared.receipts.Kind.TheVariants as kinds
 use Rattle.pec_cert.specs.Stamp.{Instant}
 use Rattle.pec_directory.specs.Directory.{Kept, Provider}
 use Rattle.pec_seal.specs.Seals.{Seals}
@@ -36,6 +36,7 @@ row_words kinds.Delivery = tt
 row_words (kinds.DeliveryError refusals.NoMailbox) = refl
 row_words (kinds.DeliveryError refusals.MailboxFull) = refl
 row_words (kinds.DeliveryError refusals.Virus) = refl
+row_words kinds.VirusFound = refl
 row_words kinds.Warning = refl
 row_words kinds.Notice = refl
 row_words kinds.LateNotice = refl

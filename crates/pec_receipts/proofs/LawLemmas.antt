@@ -12,7 +12,7 @@ use Rattle.pec_types.specs.Text.{AllPrintable}
 use Rattle.pec_types.specs.declared.disputes.LetterFault.{LetterFault}
 use Rattle.pec_types.specs.declared.messages.Recipient.{Recipient}
 use Rattle.pec_types.specs.declared.messages.TheConstants.{MESSAGES}
-use Rattle.pec_types.specs.declared.receipts.Kind.{Kind}
+use Rattle.pec_kinds.specs.declared.receipts.Kind.{Kind}
 use Rattle.pec_types.specs.declared.moments.TheConstants.{END_OF_TIME}
 use Rattle.pec_heads.specs.FactsOfHeads.{first_value}
 use Rattle.pec_cert.specs.Certificate.{IsCert}

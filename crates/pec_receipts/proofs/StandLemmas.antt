@@ -15,8 +15,8 @@ use Rattle.pec_types.specs.Message.{Id}
 use Rattle.pec_types.specs.Options.{◌>>=◌}
 use Rattle.pec_types.specs.Text.{AllPrintable, is_unprintable}
 use Rattle.pec_types.specs.Words.{id_text, seven_digits}
-use Rattle.pec_types.specs.declared.receipts.Kind.{Kind}
-use Rattle.pec_types.specs.declared.receipts.Kind.TheVariants as kinds
+use Rattle.pec_kinds.specs.declared.receipts.Kind.{Kind}
+use Rattle.pec_kinds.specs.declared.receipts.Kind.TheVariants as kinds
 use Rattle.pec_types.specs.declared.messages.Wish.{Wish}
 use Rattle.pec_heads.specs.Bytes.{ends_blank, trimmed}
 use Rattle.pec_heads.specs.BoundedFacts.{IsShortText}
@@ -59,6 +59,7 @@ row_stands (kinds.NonAcceptance cause) = record { tag = refl; tag_short = omega 
 row_stands kinds.Charge = record { tag = refl; tag_short = omega arith; prefix = refl; prefix_short = omega arith }
 row_stands kinds.Delivery = record { tag = refl; tag_short = omega arith; prefix = refl; prefix_short = omega arith }
 row_stands (kinds.DeliveryError refusal) = record { tag = refl; tag_short = omega arith; prefix = refl; prefix_short = omega arith }
+row_stands kinds.VirusFound = record { tag = refl; tag_short = omega arith; prefix = refl; prefix_short = omega arith }
 row_stands kinds.Warning = record { tag = refl; tag_short = omega arith; prefix = refl; prefix_short = omega arith }
 row_stands kinds.Notice = record { tag = refl; tag_short = omega arith; prefix = refl; prefix_short = omega arith }
 row_stands kinds.LateNotice = record { tag = refl; tag_short = omega arith; prefix = refl; prefix_short = omega arith }
@@ -76,6 +77,7 @@ word_stands (kinds.NonAcceptance cause) = record { line = record { printable = r
 word_stands kinds.Charge = record { line = record { printable = refl; short = omega arith }; whole = refl }
 word_stands kinds.Delivery = record { line = record { printable = refl; short = omega arith }; whole = refl }
 word_stands (kinds.DeliveryError refusal) = record { line = record { printable = refl; short = omega arith }; whole = refl }
+word_stands kinds.VirusFound = record { line = record { printable = refl; short = omega arith }; whole = refl }
 word_stands kinds.Warning = record { line = record { printable = refl; short = omega arith }; whole = refl }
 word_stands kinds.Notice = record { line = record { printable = refl; short = omega arith }; whole = refl }
 word_stands kinds.LateNotice = record { line = record { printable = refl; short = omega arith }; whole = refl }

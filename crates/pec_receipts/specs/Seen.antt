@@ -13,8 +13,8 @@ use Rattle.pec_types.specs.declared.disputes.Disputed.TheVariants as disputed
 use Rattle.pec_types.specs.declared.disputes.LetterFault.{LetterFault}
 use Rattle.pec_types.specs.declared.disputes.LetterFault.TheVariants.{NotThis, Disagree}
 use Rattle.pec_types.specs.declared.messages.Wish.{Wish}
-use Rattle.pec_types.specs.declared.receipts.Kind.{Kind}
-use Rattle.pec_types.specs.declared.receipts.Kind.TheVariants.{Ack}
+use Rattle.pec_kinds.specs.declared.receipts.Kind.{Kind}
+use Rattle.pec_kinds.specs.declared.receipts.Kind.TheVariants.{Ack}
 use Rattle.pec_heads.specs.FactsOfHeads.{first_value}
 use Rattle.pec_heads.specs.Heads.{NamedValue}
 use Rattle.pec_cert.specs.HeaderDateReading.{header_stamp_of}

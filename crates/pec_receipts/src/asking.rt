@@ -12,12 +12,13 @@ use crate::kinds::{About, Row, Said, row_of};
 use pec_cert::{CertError, CertKind, CertRecipient};
 use pec_directory::Directory;
 use pec_heads::Head;
+use pec_kinds::Kind;
 use pec_letter_facts::{are_typed, is_sealed_by_issuer, is_wish_marked, marking};
 use pec_letter_parts::{Letter, Marking};
-use pec_types::{Address, Cause, Kind, MsgId, Refusal, Text, Wish};
+use pec_types::{Address, Cause, MsgId, Refusal, Text, Wish};
 
 /// All kinds, each once.
-const KINDS: [Kind; 18] = [
+const KINDS: [Kind; 19] = [
     Kind::Acceptance,
     Kind::NonAcceptance(Cause::Head),
     Kind::NonAcceptance(Cause::From),
@@ -32,6 +33,7 @@ const KINDS: [Kind; 18] = [
     Kind::DeliveryError(Refusal::NoMailbox),
     Kind::DeliveryError(Refusal::MailboxFull),
     Kind::DeliveryError(Refusal::Virus),
+    Kind::VirusFound,
     Kind::Warning,
     Kind::Notice,
     Kind::LateNotice,

@@ -4,7 +4,7 @@ ghost use Rattle.pec_types.specs.declared.disputes.LetterFault.{LetterFault as F
 ghost use Rattle.pec_types.specs.declared.disputes.LetterFault.TheVariants as faults;
 ghost use Rattle.pec_types.specs.declared.messages.TheConstants.{MESSAGES};
 ghost use Rattle.pec_types.specs.declared.moments.TheConstants.{END_OF_TIME};
-ghost use Rattle.pec_types.specs.declared.receipts.Kind.TheVariants as kinds;
+ghost use Rattle.pec_kinds.specs.declared.receipts.Kind.TheVariants as kinds;
 ghost use Rattle.pec_directory.specs.Directory.{Kept, Provider, providers_of};
 ghost use Rattle.pec_directory.specs.Lawful.{IsLawful};
 ghost use Rattle.pec_letter_parts.specs.Letters.{Headed as HeadedShown, IsHeaded, IsLetter, Letter as LetterShown};

@@ -19,6 +19,6 @@ pub use laws::{
     what_is_given_is_seen,
 };
 pub use pec_brief::brief;
-pub use pec_types::Kind;
+pub use pec_kinds::Kind;
 pub use reading::{ReceiptView, a_text_is_one_receipt, read, receipt_in};
 pub use receipts::Receipt;

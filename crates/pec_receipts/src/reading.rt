@@ -18,10 +18,11 @@ use crate::reporting::copied;
 use pec_cert::read_header_date;
 use pec_directory::Directory;
 use pec_heads::Head;
+use pec_kinds::Kind;
 use pec_letter_facts::{id_named, is_dated, is_from_home};
 use pec_letter_parts::{Headed, Letter, Marking, a_head_has_one_letter, a_text_is_one_letter};
 use pec_seal::Sealer;
-use pec_types::{Address, AddressFault, Disputed, Kind, LetterFault, Moment, MsgId};
+use pec_types::{Address, AddressFault, Disputed, LetterFault, Moment, MsgId};
 use std::alloc::{AllocError, Global};
 
 /// What is read of a receipt, a notice or an acknowledgement: its kind, the message, the provider that sealed it, when what it says came

@@ -2,7 +2,8 @@ ghost use Rattle.std.specs.Prelude.{◌≡◌, IfSome};
 ghost use Rattle.std.specs.Option.{option_and_then};
 ghost use Rattle.pec_receipts.specs.Receipts.{has_address, or_nothing, place_among, place_of};
 
-use pec_types::{Address, Facts, Kind, Moment, MsgId, Recipient};
+use pec_kinds::Kind;
+use pec_types::{Address, Facts, Moment, MsgId, Recipient};
 
 /// What a receipt or a notice says: of which kind it is, which message it is about, which provider composes it, when what it says came
 /// to be, the facts of the message, and the recipient, where the kind names one.

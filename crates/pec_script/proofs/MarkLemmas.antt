@@ -13,7 +13,7 @@ use Rattle.pec_types.specs.Bytes.{Bytes}
 use Rattle.pec_types.specs.Message.{Id}
 use Rattle.pec_types.specs.declared.limits.Due.{Due}
 use Rattle.pec_types.specs.declared.limits.Due.TheVariants as dues
-use Rattle.pec_types.specs.declared.mailboxes.Mark.{Mark}
+use Rattle.pec_kinds.specs.declared.mailboxes.Mark.{Mark}
 use Rattle.pec_script.specs.Printed.{IsLineRefusal, IsMark}
 use Rattle.pec_script.specs.Rows.{AreRows, IsRow, IsWord}
 use Rattle.pec_script.specs.Texts.{Row, id_of, mark_rows, mark_word, marked, marks_text, refused_rows, refused_text, text_of}

@@ -7,7 +7,7 @@ use Rattle.std.specs.List.{AllByRecursion, flat_map, join_with_byte, slice_split
 use Rattle.pec_directory.specs.Directory.{Provider}
 use Rattle.pec_types.specs.Bytes.{Bytes, line_feed, space}
 use Rattle.pec_types.specs.declared.turns.Event.{Event}
-use Rattle.pec_types.specs.declared.turns.Turn.{Turn}
+use Rattle.pec_kinds.specs.declared.turns.Turn.{Turn}
 use Rattle.pec_words.specs.Cuts.{IsCut, Lacks, is_at}
 use Rattle.pec_script.specs.Pages.{line_after, only, rest_after, text_after, text_for}
 use Rattle.pec_script.specs.Rows.{AreRows, IsRow, IsWord}

@@ -8,16 +8,16 @@ use Rattle.pec_types.specs.Message.{Id}
 use Rattle.pec_types.specs.declared.letters.Letter.{Letter}
 use Rattle.pec_types.specs.declared.letters.Letter.TheVariants as letters
 use Rattle.pec_types.specs.declared.limits.Due.TheVariants.{Nothing}
-use Rattle.pec_types.specs.declared.mailboxes.ItemLine.{ItemLine}
-use Rattle.pec_types.specs.declared.mailboxes.Mark.{Mark}
+use Rattle.pec_kinds.specs.declared.mailboxes.ItemLine.{ItemLine}
+use Rattle.pec_kinds.specs.declared.mailboxes.Mark.{Mark}
 use Rattle.pec_types.specs.declared.messages.BookLine.{BookLine}
 use Rattle.pec_types.specs.declared.messages.Decision.{Decision}
 use Rattle.pec_types.specs.declared.messages.TheConstants.{MESSAGES}
 use Rattle.pec_types.specs.declared.moments.TheConstants.{END_OF_TIME}
 use Rattle.pec_types.specs.declared.turns.Event.{Event}
 use Rattle.pec_types.specs.declared.turns.Event.TheVariants as events
-use Rattle.pec_types.specs.declared.turns.ProviderFault.{ProviderFault}
-use Rattle.pec_types.specs.declared.turns.ProviderFault.TheVariants as refusals
+use Rattle.pec_kinds.specs.declared.turns.ProviderFault.{ProviderFault}
+use Rattle.pec_kinds.specs.declared.turns.ProviderFault.TheVariants as refusals
 use Rattle.pec_types.specs.declared.turns.Submitted.{Submitted}
 use Rattle.pec_types.specs.declared.turns.Submitted.TheVariants as submitted
 use Rattle.pec_script.specs.Texts.{kind_word, name_of}
@@ -84,6 +84,8 @@ IsRefusal refusals.NoAccount = Unit {0}
 IsRefusal refusals.Full = Unit {0}
 IsRefusal refusals.NoItem = Unit {0}
 IsRefusal refusals.JournalFull = Unit {0}
+IsRefusal refusals.OldJournal = Unit {0}
+IsRefusal refusals.NoNeed = Unit {0}
 IsRefusal refusals.NoMemory = Unit {0}
 
 -- the fault of a line, which has a line of its own; the argument's number is that of a `u8`

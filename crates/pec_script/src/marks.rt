@@ -5,7 +5,8 @@ ghost use Rattle.pec_script.specs.Texts.{mark_rows, mark_word, marks_text};
 
 use crate::pages::Page;
 use pec_directory::Directory;
-use pec_types::{Due, Mark, NoMemory};
+use pec_kinds::Mark;
+use pec_types::{Due, NoMemory};
 use std::alloc::Global;
 
 /// The lines of a clock call: for each mark `warned ID RECIPIENT`, `noticed ID RECIPIENT` or `noticed-late ID RECIPIENT`, and

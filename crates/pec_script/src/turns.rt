@@ -7,7 +7,8 @@ use crate::naming::name_of;
 use crate::pages::Page;
 use crate::refusals::add_named_fault;
 use pec_directory::Directory;
-use pec_types::{Event, Letter, NoMemory, ProviderFault, Turn};
+use pec_kinds::{ProviderFault, Turn};
+use pec_types::{Event, Letter, NoMemory};
 use std::alloc::Global;
 
 /// The lines of a round: for each turn what the provider did and the peers to which it put letters, each line behind the provider's

@@ -10,8 +10,8 @@ use Rattle.pec_types.specs.Bytes.{Bytes, Path}
 use Rattle.pec_types.specs.Message.{Id}
 use Rattle.pec_types.specs.declared.messages.Cause.{Cause}
 use Rattle.pec_types.specs.declared.messages.Facts.{Facts}
-use Rattle.pec_types.specs.declared.receipts.Kind.{Kind}
-use Rattle.pec_types.specs.declared.receipts.Kind.TheVariants as kinds
+use Rattle.pec_kinds.specs.declared.receipts.Kind.{Kind}
+use Rattle.pec_kinds.specs.declared.receipts.Kind.TheVariants as kinds
 use Rattle.pec_cert.specs.CertificateReading.{is_lower}
 use Rattle.pec_directory.specs.Directory.{Kept, Provider, home_of, is_certified, is_number, providers_of}
 use Rattle.pec_seal.specs.Seals.{Seals, line_text, sealed}
@@ -92,6 +92,8 @@ module _ (providers : List Provider) (r : Receipt) where
   named_is kinds.Delivery (Some address) e = one_so address e
   named_is (kinds.DeliveryError refusal) None e = absurd (false≢true e)
   named_is (kinds.DeliveryError refusal) (Some address) e = one_so address e
+  named_is kinds.VirusFound None e = absurd (false≢true e)
+  named_is kinds.VirusFound (Some address) e = one_so address e
   named_is kinds.Warning None e = absurd (false≢true e)
   named_is kinds.Warning (Some address) e = one_so address e
   named_is kinds.Notice None e = absurd (false≢true e)
@@ -117,6 +119,8 @@ module _ (providers : List Provider) (r : Receipt) where
   named_again kinds.Delivery (Some address) is = one_again address is
   named_again (kinds.DeliveryError refusal) None is = absurd is
   named_again (kinds.DeliveryError refusal) (Some address) is = one_again address is
+  named_again kinds.VirusFound None is = absurd is
+  named_again kinds.VirusFound (Some address) is = one_again address is
   named_again kinds.Warning None is = absurd is
   named_again kinds.Warning (Some address) is = one_again address is
   named_again kinds.Notice None is = absurd is

@@ -3,8 +3,8 @@
 use Rattle.std.specs.Prelude.{◌==◌, nat_le, nat_lt, List, Bool, true, false, ◌&&◌, ◌||◌, length, Option, None, Some, is_some}
 use Rattle.pec_types.specs.Bytes.{Bytes}
 use Rattle.pec_types.specs.declared.messages.Recipient.{Recipient}
-use Rattle.pec_types.specs.declared.receipts.Kind.{Kind}
-use Rattle.pec_types.specs.declared.receipts.Kind.TheVariants as kinds
+use Rattle.pec_kinds.specs.declared.receipts.Kind.{Kind}
+use Rattle.pec_kinds.specs.declared.receipts.Kind.TheVariants as kinds
 use Rattle.pec_heads.specs.declared.TheConstants.{TEXT_LIMIT}
 use Rattle.pec_directory.specs.Directory.{Provider, home_of, is_certified, is_number}
 use Rattle.pec_receipts.specs.Kinds.{row_of}
@@ -18,6 +18,7 @@ names_one (kinds.NonAcceptance cause) = false
 names_one kinds.Charge = false
 names_one kinds.Delivery = true
 names_one (kinds.DeliveryError refusal) = true
+names_one kinds.VirusFound = true
 names_one kinds.Warning = true
 names_one kinds.Notice = true
 names_one kinds.LateNotice = true

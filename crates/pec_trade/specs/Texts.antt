@@ -11,7 +11,7 @@ use Rattle.pec_types.specs.Options.{◌>>=◌}
 use Rattle.pec_types.specs.declared.disputes.LetterFault.{LetterFault}
 use Rattle.pec_types.specs.declared.messages.Cause.{Cause}
 use Rattle.pec_types.specs.declared.messages.Facts.{Facts}
-use Rattle.pec_types.specs.declared.receipts.Kind.TheVariants as kinds
+use Rattle.pec_kinds.specs.declared.receipts.Kind.TheVariants as kinds
 use Rattle.pec_cert.specs.CertificateReading.{is_lower}
 use Rattle.pec_directory.specs.Directory.{Kept, Provider, home_of, is_number, providers_of}
 use Rattle.pec_seal.specs.Seals.{Seals}

@@ -7,7 +7,7 @@ ghost use Rattle.pec_types.specs.declared.messages.Cause.{Cause as SomeCause};
 ghost use Rattle.pec_types.specs.declared.messages.Facts.{Facts as SomeFacts};
 ghost use Rattle.pec_types.specs.declared.messages.TheConstants.{MESSAGES};
 ghost use Rattle.pec_types.specs.declared.moments.TheConstants.{END_OF_TIME};
-ghost use Rattle.pec_types.specs.declared.receipts.Kind.TheVariants as kinds;
+ghost use Rattle.pec_kinds.specs.declared.receipts.Kind.TheVariants as kinds;
 ghost use Rattle.pec_directory.specs.Directory.{Kept, Provider, home_of, is_account_of, providers_of};
 ghost use Rattle.pec_directory.specs.Lawful.{IsLawful};
 ghost use Rattle.pec_frames.specs.Frames.{HasFrame, frame_text};

@@ -1,5 +1,5 @@
 use Rattle.std.proofs.Common.{sym, subst}
-use Rattle.pec_types.specs.declared.receipts.Kind.{Kind}
+use Rattle.pec_kinds.specs.declared.receipts.Kind.{Kind}
 use Rattle.pec_plays.specs.Reception.{by_receipt}
 use Rattle.pec_trade.specs.TradeOf.{trade_of}
 use Rattle.pec_reception.proofs.LetterLemmas.{no_letter}
@@ -20,4 +20,4 @@ returns-in_default-clause-exact c = λ seals. λ journal. λ is.
     no_letter (trade_of c.args.directory.now seals) c.args.shelf.now.me c.args.moment journal
     (framed_shown c.args.framed.now) (stated c.args.view.now)
     c.args.view.now.kind c.in_default.not-Charge c.in_default.not-Delivery c.in_default.not-DeliveryError
-    c.in_default.not-Ack
+    c.in_default.not-VirusFound c.in_default.not-Ack

@@ -1,0 +1,55 @@
+ghost use Rattle.std.specs.Prelude.{◌≡◌};
+ghost use Rattle.pec_kinds.specs.declared.turns.ProviderFault.TheVariants as faults;
+
+use pec_types::{Event, Items, Moment, NoMemory};
+use std::alloc::AllocError;
+
+/// Why a provider didn't do what was asked of it.
+#[derive(Clone, Copy, Debug, PartialEq, Eq)]
+pub enum ProviderFault {
+    /// Its disk failed in this call. From then on it is down.
+    DiskFault,
+    /// It is down: its disk failed before, or it crashed.
+    Down,
+    /// The moment is before this one, the greatest in its journal.
+    ClockBack(Moment),
+    /// The address is no account of this provider.
+    NoAccount,
+    /// It has as many messages as a provider may have.
+    Full,
+    /// The mailbox, or the archive, has no item at this place.
+    NoItem,
+    /// The journal has no room for the entry.
+    JournalFull,
+    /// The journal is of version 1, which has no archives.
+    OldJournal,
+    /// The journal is of version 2 already.
+    NoNeed,
+    NoMemory,
+}
+
+impl From<AllocError> for ProviderFault {
+    ghost from_gives = { λ _ fault. fault ≡ faults.NoMemory };
+
+    fn from(_: AllocError) -> Self {
+        ProviderFault::NoMemory
+    }
+}
+
+impl From<NoMemory> for ProviderFault {
+    ghost from_gives = { λ _ fault. fault ≡ faults.NoMemory };
+
+    fn from(_: NoMemory) -> Self {
+        ProviderFault::NoMemory
+    }
+}
+
+/// What one provider did in a round: what came of the frames that waited and of its decisions, in order; the peers to
+/// which it put letters, each with how many; and why its turn ended early, if it did.
+#[derive(Drop)]
+pub struct Turn {
+    pub provider: u32,
+    pub events: Items<Event>,
+    pub sent: Items<(u32, u32)>,
+    pub ended: Option<ProviderFault>,
+}
