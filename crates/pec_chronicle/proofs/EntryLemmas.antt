@@ -43,6 +43,9 @@ body_ends (entries.Acked moment id recipient) = tt
 body_ends (entries.Ticked moment) = tt
 body_ends (entries.Anomaly moment accounts message) =
     behind (9 ∷ number_64 moment) _ message (behind (addresses_field accounts) _ message (behind (number_32 (length message)) message message (ends message)))
+body_ends (entries.StartTwo provider digest) = tt
+body_ends (entries.Upgraded moment) = tt
+body_ends (entries.Archived moment account place) = tt
 
 fits : (bytes last : Bytes) → EndsWith bytes last → length last ≤ length bytes
 fits bytes last end = omega (arith, ap length end.1, length-append end.0 last)
@@ -112,3 +115,6 @@ counts_within (entries.Learned moment id recipient decision decided message) wit
 counts_within (entries.Acked moment id recipient) within = tt
 counts_within (entries.Ticked moment) within = tt
 counts_within (entries.Anomaly moment accounts message) within = (omega (arith, within.0), omega (arith, within.1))
+counts_within (entries.StartTwo provider digest) within = tt
+counts_within (entries.Upgraded moment) within = tt
+counts_within (entries.Archived moment account place) within = tt

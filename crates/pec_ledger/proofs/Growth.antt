@@ -203,6 +203,9 @@ module _ (trade : Trade) where
       (known_stays (ledger trade J id.provider) (ledger trade K id.provider) (pair_of id recipient) row.0 (longer_half J K g id.provider) row.1)
   joint_stays J K g p (entries.Ticked moment) j = tt
   joint_stays J K g p (entries.Anomaly moment accounts message) j = tt
+  joint_stays J K g p (entries.StartTwo number digest) j = tt
+  joint_stays J K g p (entries.Upgraded moment) j = tt
+  joint_stays J K g p (entries.Archived moment account place) j = tt
 
   pub meets_stays : (J K : Journals) → GoOnAs J K → (p : ℕ) (h : Half) (e : Entry) → Meets trade J p h e → Meets trade K p h e
   meets_stays J K g p h e m = record { own = m.own; in_time = m.in_time; in_range = m.in_range; joint = joint_stays J K g p e m.joint }

@@ -26,6 +26,9 @@ begins_on (entries.Learned moment id recipient decision decided message ∷ es) 
 begins_on (entries.Acked moment id recipient ∷ es) more b = absurd b
 begins_on (entries.Ticked moment ∷ es) more b = absurd b
 begins_on (entries.Anomaly moment accounts message ∷ es) more b = absurd b
+begins_on (entries.StartTwo number digest ∷ es) more b = tt
+begins_on (entries.Upgraded moment ∷ es) more b = absurd b
+begins_on (entries.Archived moment account place ∷ es) more b = absurd b
 
 module _ (trade : Trade) where
   pub follows_stays : (J K : Journals) → GoOnAs trade J K → (p : ℕ) (h : Half) (es : List Entry) → Follows trade J p h es → Follows trade K p h es

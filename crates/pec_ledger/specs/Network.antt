@@ -89,10 +89,10 @@ module _ (trade : Trade) where
     pub down : (provider : ℕ) → IsSome (interrupted_at sites provider) → is_up sites provider ≡ false
     pub genuine : (from to : ℕ) → AreGenuine (journals_of sites) (frames_between sites from to)
 
-  -- a provider as it begins: its journal has its Start, it is up, and nothing waits
+  -- a provider as it begins: its journal, of version 2, has its Start, it is up, and nothing waits
   abbrev pub started : ℕ → Site
   started provider = record {
-    journal = entries.Start provider trade.digest ∷ [];
+    journal = entries.StartTwo provider trade.digest ∷ [];
     up = true;
     interrupted = None;
     waiting = replicate trade.providers [];

@@ -20,12 +20,12 @@ use pec_records::Entry;
 use pec_seal::Sealer;
 use pec_shelf::{Placed, Shelf};
 use pec_trade::House;
-use pec_types::{Address, Kind, Moment, MsgId, NoMemory};
+use pec_types::{Address, Kind, Moment, MsgId, NoMemory, Refusal};
 use std::alloc::Global;
 
 /// The bytes of the item at a place of an account's mailbox, counted from 0 (RFC 6109, section 3, within this project's
-/// profile): an envelope as it was taken, a receipt of delivery or of an error as it came, and any other receipt, a
-/// notice and the envelope of an anomaly as this provider composes and seals it. An item of which the provider may
+/// profile): an envelope as it was taken, a receipt of delivery or of an error as it came, and any other receipt, also the
+/// error of a virus, a notice and the envelope of an anomaly as this provider composes and seals it. An item of which the provider may
 /// compose nothing has no byte. `None` comes exactly where there is no such item, or the entries hold none of its
 /// message.
 #[tactic(auto, unfolding(pec_ledger::specs::Items::item_text))]
@@ -117,7 +117,10 @@ fn receipt_of<S: Sealer>(
 {
     match kind {
         Kind::Delivery => held(desk, entry),
-        Kind::DeliveryError(_) => held(desk, entry),
+        Kind::DeliveryError(Refusal::NoMailbox) => held(desk, entry),
+        Kind::DeliveryError(Refusal::MailboxFull) => held(desk, entry),
+        Kind::DeliveryError(Refusal::Virus) => composed(desk, kind, id, recipient, moment),
+        Kind::VirusFound => composed(desk, kind, id, recipient, moment),
         Kind::NonAcceptance(_) => refusal_of(desk, entry, id),
         Kind::Acceptance => composed(desk, kind, id, recipient, moment),
         Kind::Charge => composed(desk, kind, id, recipient, moment),

@@ -6,6 +6,7 @@ ghost use Rattle.pec_ledger.specs.Lookups.{addresses_of, at_home, outcome_kind};
 ghost use Rattle.pec_ledger.specs.OfDirectory.{facts_in};
 ghost use Rattle.pec_plays.specs.Envelopes.{HaveEnvelopes};
 ghost use Rattle.pec_plays.specs.Frames.{composed_by, unless_empty, unless_nobody};
+ghost use Rattle.pec_plays.specs.Paths.{outcome_path};
 ghost use Rattle.pec_trade.specs.Houses.{world_at};
 ghost use Rattle.pec_trade.specs.Texts.{envelope_bytes};
 
@@ -16,7 +17,7 @@ use crate::texts::{envelope_text, receipt_text};
 use pec_letters::Enclosure;
 use pec_receipts::Receipt;
 use pec_seal::Sealer;
-use pec_types::{Address, Decision, Facts, Kind, Letter, Moment, MsgId, NoMemory};
+use pec_types::{Address, Decision, Facts, Kind, Letter, Moment, MsgId, NoMemory, Refusal};
 use std::marker::Model;
 
 /// The path and the text of a letter. Contracts see both.
@@ -143,7 +144,7 @@ fn charge<S: Sealer>(desk: &Desk<'_, S>, id: MsgId, by: u32) -> Result<Option<Ou
     Ok(letter)
 }
 
-/// The receipt on a pair that was decided here, to the message's sender.
+/// The receipt on a pair that was decided here: to the message's sender, or where it is a virus to the sender's provider.
 fn outcome<S: Sealer>(
     desk: &Desk<'_, S>,
     id: MsgId,
@@ -163,7 +164,6 @@ fn outcome<S: Sealer>(
         return Ok(None);
     };
     let Enclosure { facts, original } = found;
-    let path = path_to(desk.alloc, &facts.sender)?;
     let receipt = Receipt {
         kind: outcome_kind(fate.decision()),
         id,
@@ -173,7 +173,8 @@ fn outcome<S: Sealer>(
         recipient: Some(recipient.copy(desk.alloc)?),
     };
     let text = receipt_text(desk, &receipt, original)?;
-    Ok(unless_empty(path, text))
+    let letter = to_addressee(desk, id, fate.decision(), &receipt.facts.sender, text)?;
+    Ok(letter)
 }
 
 /// The acknowledgement of an outcome that is known here, to the recipient's provider.
@@ -216,6 +217,38 @@ fn acknowledgement<S: Sealer>(
     Ok(letter)
 }
 
+/// A letter of this text along the path of an outcome.
+fn to_addressee<S: Sealer>(
+    desk: &Desk<'_, S>,
+    id: MsgId,
+    decision: Decision,
+    sender: &Address,
+    text: Vec<u8>,
+) -> Result<Option<Outgoing>, NoMemory>
+    requires { 0 < length text.items → id.provider < length desk.now.house.now.directory.now }
+    ensures { IfOk result (λ found. found
+        ≡ unless_empty (outcome_path (world_at desk.now.house.now) id decision sender.now) text.items) }
+{
+    match decision {
+        Decision::Placed => to_sender(desk, sender, text),
+        Decision::Refused(Refusal::NoMailbox) => to_sender(desk, sender, text),
+        Decision::Refused(Refusal::MailboxFull) => to_sender(desk, sender, text),
+        Decision::Refused(Refusal::Virus) => to_provider(desk, id.provider, text),
+    }
+}
+
+/// A letter of this text to the sender of a message.
+fn to_sender<S: Sealer>(
+    desk: &Desk<'_, S>,
+    sender: &Address,
+    text: Vec<u8>,
+) -> Result<Option<Outgoing>, NoMemory>
+    ensures { IfOk result (λ found. found ≡ unless_empty (sender.now ∷ []) text.items) }
+{
+    let path = path_to(desk.alloc, sender)?;
+    Ok(unless_empty(path, text))
+}
+
 /// A letter of this text to the address for receipts of a provider, which is there where there is a text.
 fn to_provider<S: Sealer>(
     desk: &Desk<'_, S>,
@@ -245,12 +278,14 @@ fn unless_empty(path: Vec<Address>, text: Vec<u8>) -> Option<Outgoing>
     Some(Outgoing { path, text })
 }
 
-/// The kind of the receipt on a decision.
+/// The kind of the letter that tells a decision.
 fn outcome_kind(decision: Decision) -> Kind
     ensures { result ≡ outcome_kind decision }
 {
     match decision {
         Decision::Placed => Kind::Delivery,
-        Decision::Refused(refusal) => Kind::DeliveryError(refusal),
+        Decision::Refused(Refusal::NoMailbox) => Kind::DeliveryError(Refusal::NoMailbox),
+        Decision::Refused(Refusal::MailboxFull) => Kind::DeliveryError(Refusal::MailboxFull),
+        Decision::Refused(Refusal::Virus) => Kind::VirusFound,
     }
 }

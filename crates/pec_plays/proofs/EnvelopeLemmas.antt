@@ -7,6 +7,7 @@ use Rattle.pec_types.specs.Message.{Id}
 use Rattle.pec_types.specs.declared.messages.Cause.{Cause}
 use Rattle.pec_types.specs.declared.messages.Decision.{Decision}
 use Rattle.pec_types.specs.declared.messages.Decision.TheVariants.{Placed, Refused}
+use Rattle.pec_types.specs.declared.messages.Refusal.TheVariants as refusals
 use Rattle.pec_types.specs.declared.receipts.Kind.{Kind}
 use Rattle.pec_types.specs.declared.receipts.Kind.TheVariants as kinds
 use Rattle.pec_records.specs.declared.entries.Entry.{Entry}
@@ -80,7 +81,10 @@ module _ (trade : Trade) where
     of_receipt f r (kinds.NonAcceptance cause) = others f.message _
     of_receipt f r kinds.Charge = charges f r _ _
     of_receipt f r kinds.Delivery = of_outcome f r Placed r.recipient
-    of_receipt f r (kinds.DeliveryError refusal) = of_outcome f r (Refused refusal) r.recipient
+    of_receipt f r (kinds.DeliveryError refusals.NoMailbox) = of_outcome f r (Refused refusals.NoMailbox) r.recipient
+    of_receipt f r (kinds.DeliveryError refusals.MailboxFull) = of_outcome f r (Refused refusals.MailboxFull) r.recipient
+    of_receipt f r (kinds.DeliveryError refusals.Virus) = others f.message _
+    of_receipt f r kinds.VirusFound = of_outcome f r (Refused refusals.Virus) r.recipient
     of_receipt f r kinds.Warning = others f.message _
     of_receipt f r kinds.Notice = others f.message _
     of_receipt f r kinds.LateNotice = others f.message _

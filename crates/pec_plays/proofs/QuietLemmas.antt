@@ -1,6 +1,6 @@
 -- Runs without faults are one: a turn without faults is cut in one way.
 use Rattle.std.proofs.Common.{◌≡◌, ℕ, zero, suc, ◌+◌, ◌<◌, List, [], ◌∷◌, ◌++◌, Bool, true, false, inl, inr, length, take, refl, ap, sym, subst, ◌∙◌, arith, nat_lt, Option, Some, None}
-use Rattle.std.specs.Prelude.{slice_get, slice_set, slice_index_or, if◌then◌else◌}
+use Rattle.std.specs.Prelude.{slice_get, slice_set, slice_index_or, ◌==◌, if◌then◌else◌}
 use Rattle.std.proofs.lemmas.Bool.{cases_lt, false≢true}
 use Rattle.std.proofs.lemmas.List.Elements.{All-cons, All-head, All-nil, All-tail}
 use Rattle.std.proofs.lemmas.Option.{none-some, same_Some}
@@ -9,13 +9,13 @@ use Rattle.pec_types.specs.declared.messages.TheConstants.{MESSAGES}
 use Rattle.pec_types.specs.declared.turns.ProviderFault.TheVariants as faults
 use Rattle.pec_records.specs.declared.entries.Entry.{Entry}
 use Rattle.pec_records.specs.declared.entries.Entry.TheVariants as entries
-use Rattle.pec_ledger.specs.Books.{book, mailbox_lines}
+use Rattle.pec_ledger.specs.Books.{archive_lines, book, mailbox_lines}
 use Rattle.pec_ledger.specs.Half.{Half, Posted}
 use Rattle.pec_ledger.specs.Items.{item_text}
-use Rattle.pec_ledger.specs.Lookups.{mailbox}
+use Rattle.pec_ledger.specs.Lookups.{archive, mailbox}
 use Rattle.pec_ledger.specs.Network.{Site, chosen, empty_site, frames_between, journal_at, site_at}
 use Rattle.pec_ledger.specs.Trade.{Trade}
-use Rattle.pec_plays.specs.Commands.{Answer, Command, Luck, Played, IsUp, Refuses, Restarted, Turns, Submit, Tick, Round, Lose, Repeat, Swap, Inject, Crash, Restart, Book, Mailbox, Show, Lines, Items, account_home, answers, append, appended, asked, at_work, messages_at, played, put_again, restarted, restarted_site, shown, shown_bytes, stopped_site, submitted, swapped, swapped_at, ticked, with_entry, with_frames, with_site}
+use Rattle.pec_plays.specs.Commands.{Answer, Command, Luck, Played, IsUp, Refuses, Restarted, Turns, Submit, Tick, Round, Lose, Repeat, Swap, Inject, Crash, Restart, Book, Mailbox, Show, Archive, Upgrade, Vault, VaultShow, Lines, Items, Vaults, account_home, answers, append, appended, archived, asked, at_work, items_at, messages_at, played, put_again, restarted, restarted_site, shown, shown_bytes, stopped_site, submitted, swapped, swapped_at, ticked, upgraded, version_at, with_entry, with_frames, with_site}
 use Rattle.pec_plays.specs.Possible.{AllQuiet, HaveRoom, IsCalm, IsFull, IsQuiet, MayCut, MayMeet, NoneInterrupted, later_cut, quiet_cut, quiet_luck, quiet_lucks}
 use Rattle.pec_plays.specs.Rounds.{Rounded, delivered, link_size, outs_of, rooms_of, rounded, told_from, turns_from, turns_of, with_waiting}
 use Rattle.pec_plays.specs.Scripts.{onto, script}
@@ -110,6 +110,20 @@ module _ (trade : Trade) (sites : List Site) (a b : Luck) (quiet_a : IsQuiet a) 
 
   ticked_one : (p now : ℕ) → ticked trade a sites p now ≡ ticked trade b sites p now
   ticked_one p now = work_one p now _ _ (append_one p (entries.Ticked now) _)
+
+  archived_one : (found : Option ℕ) (now : ℕ) (account : Bytes) (place : ℕ)
+      → archived trade a sites found now account place ≡ archived trade b sites found now account place
+  archived_one None now account place = refl
+  archived_one (Some p) now account place =
+      work_one p now _ _
+      (ap (λ (x : Played). if nat_lt place (items_at trade sites p account) then x else answers sites (Refuses faults.NoItem))
+      (ap (λ (x : Played). if version_at trade sites p == 2 then x else answers sites (Refuses faults.OldJournal))
+      (append_one p (entries.Archived now account place) _)))
+
+  upgraded_one : (p now : ℕ) → upgraded trade a sites p now ≡ upgraded trade b sites p now
+  upgraded_one p now =
+      work_one p now _ _
+      (ap (λ (x : Played). if version_at trade sites p == 1 then x else answers sites (Refuses faults.NoNeed)) (append_one p (entries.Upgraded now) _))
 
   -- ---- restarts
 
@@ -208,6 +222,10 @@ module _ (trade : Trade) (sites : List Site) (a b : Luck) (quiet_a : IsQuiet a) 
   played_one (Book address) none may_a may_b = refl
   played_one (Mailbox address) none may_a may_b = refl
   played_one (Show address place) none may_a may_b = refl
+  played_one (Archive address now place) none may_a may_b = archived_one (account_home trade address (trade.home address)) now address place
+  played_one (Upgrade p now) none may_a may_b = upgraded_one p now
+  played_one (Vault address) none may_a may_b = refl
+  played_one (VaultShow address place) none may_a may_b = refl
 
 -- ---- no entry is interrupted by a command without faults
 
@@ -234,6 +252,13 @@ module _ (trade : Trade) (sites : List Site) (luck : Luck) (quiet : IsQuiet luck
   none_work : (p now : ℕ) (done : Played) → NoneInterrupted done.after → NoneInterrupted (at_work trade sites p now done).after
   none_work p now done more =
       none_by (site_at sites p).up _ _ (none_by (nat_lt now (last_of trade p (journal_at sites p))) _ done none more) none
+
+  none_archived : (found : Option ℕ) (now : ℕ) (account : Bytes) (place : ℕ) → NoneInterrupted (archived trade luck sites found now account place).after
+  none_archived None now account place = none
+  none_archived (Some p) now account place =
+      none_work p now _
+      (none_by (nat_lt place (items_at trade sites p account)) _ _
+      (none_by (version_at trade sites p == 2) _ _ (none_append p (entries.Archived now account place) _) none) none)
 
   none_frames : (from to : ℕ) (frames : List Bytes) → NoneInterrupted (with_frames sites from to frames)
   none_frames from to frames = with_none to (with_waiting (site_at sites to) (slice_set (site_at sites to).waiting from frames)) (none to)
@@ -308,6 +333,13 @@ module _ (trade : Trade) (sites : List Site) (luck : Luck) (quiet : IsQuiet luck
   none_behind (Show address place) =
       none_asked (λ (p : ℕ) (h : Half). shown trade sites p (slice_get (mailbox h address) place)) (account_home trade address (trade.home address))
       (λ p h. none_shown p (slice_get (mailbox h address) place))
+  none_behind (Archive address now place) = none_archived (account_home trade address (trade.home address)) now address place
+  none_behind (Upgrade p now) = none_work p now _ (none_by (version_at trade sites p == 1) _ _ (none_append p (entries.Upgraded now) _) none)
+  none_behind (Vault address) =
+      none_asked (λ (p : ℕ) (h : Half). answers sites (Vaults (archive_lines h address))) (account_home trade address (trade.home address)) (λ p h. none)
+  none_behind (VaultShow address place) =
+      none_asked (λ (p : ℕ) (h : Half). shown trade sites p (slice_get (archive h address) place)) (account_home trade address (trade.home address))
+      (λ p h. none_shown p (slice_get (archive h address) place))
 
 -- ---- scripts
 
@@ -343,6 +375,10 @@ quiet_there trade sites (Restart p) = (tt, record { cuts = λ p. tt; works = ref
 quiet_there trade sites (Book address) = (tt, record { cuts = λ p. tt; works = refl })
 quiet_there trade sites (Mailbox address) = (tt, record { cuts = λ p. tt; works = refl })
 quiet_there trade sites (Show address place) = (tt, record { cuts = λ p. tt; works = refl })
+quiet_there trade sites (Archive address now place) = (tt, record { cuts = λ p. tt; works = refl })
+quiet_there trade sites (Upgrade p now) = (tt, record { cuts = λ p. tt; works = refl })
+quiet_there trade sites (Vault address) = (tt, record { cuts = λ p. tt; works = refl })
+quiet_there trade sites (VaultShow address place) = (tt, record { cuts = λ p. tt; works = refl })
 
 pub quiet_along : (trade : Trade) (sites : List Site) (commands : List Command) → AllQuiet trade (quiet_lucks trade sites commands) sites commands
 quiet_along trade sites [] = tt

@@ -1,6 +1,6 @@
 -- An answer settles the state behind it: of two lucks with one answer the state is one.
 use Rattle.std.proofs.Common.{◌≡◌, ℕ, suc, ◌+◌, ◌-◌, ◌≤◌, min, List, [], ◌∷◌, ◌++◌, Bool, true, false, inl, inr, length, take, drop, map, refl, ap, sym, subst, ◌∙◌, arith, nat_lt, Option, Some, None}
-use Rattle.std.specs.Prelude.{if◌then◌else◌}
+use Rattle.std.specs.Prelude.{◌==◌, if◌then◌else◌}
 use Rattle.std.specs.Option.{option_and_then, option_to_list}
 use Rattle.std.proofs.lemmas.Bool.{cases_lt}
 use Rattle.std.proofs.lemmas.List.{drop_all, length-append, length-map, length-take, take_all}
@@ -15,7 +15,7 @@ use Rattle.pec_records.specs.declared.entries.Entry.{Entry}
 use Rattle.pec_records.specs.declared.entries.Entry.TheVariants as entries
 use Rattle.pec_ledger.specs.Network.{Site, chosen, journal_at, site_at}
 use Rattle.pec_ledger.specs.Trade.{Trade}
-use Rattle.pec_plays.specs.Commands.{Answer, Command, Luck, Played, IsUp, Turns, Restarted, Refuses, Submit, Tick, Round, Lose, Repeat, Swap, Inject, Crash, Restart, Book, Mailbox, Show, answers, append, appended, at_work, messages_at, played, restarted, restarted_site, submitted, ticked, with_site}
+use Rattle.pec_plays.specs.Commands.{Answer, Command, Luck, Played, IsUp, Turns, Restarted, Refuses, Submit, Tick, Round, Lose, Repeat, Swap, Inject, Crash, Restart, Book, Mailbox, Show, Archive, Upgrade, Vault, VaultShow, Archived, Upgraded, account_home, answers, append, appended, archived, at_work, items_at, messages_at, played, restarted, restarted_site, submitted, ticked, upgraded, version_at, with_site}
 use Rattle.pec_plays.specs.Reception.{arrive}
 use Rattle.pec_plays.specs.Rounds.{delivered, outs_of, rooms_of, rounded, told_from, turns_from, turns_of}
 use Rattle.pec_plays.specs.Scripts.{script}
@@ -69,6 +69,20 @@ module _ (trade : Trade) (sites : List Site) (a b : Luck) where
 
   ticked_settled : (p now : ℕ) → Settled (ticked trade a sites p now) (ticked trade b sites p now)
   ticked_settled p now = work_settled p now _ _ (append_settled p (entries.Ticked now) _ refl)
+
+  archived_settled : (found : Option ℕ) (now : ℕ) (account : Bytes) (place : ℕ)
+      → Settled (archived trade a sites found now account place) (archived trade b sites found now account place)
+  archived_settled None now account place = λ e. refl
+  archived_settled (Some p) now account place =
+      work_settled p now _ _
+      (settled_by (nat_lt place (items_at trade sites p account)) _ _ (answers sites (Refuses faults.NoItem))
+      (settled_by (version_at trade sites p == 2) _ _ (answers sites (Refuses faults.OldJournal))
+      (append_settled p (entries.Archived now account place) Archived refl)))
+
+  upgraded_settled : (p now : ℕ) → Settled (upgraded trade a sites p now) (upgraded trade b sites p now)
+  upgraded_settled p now =
+      work_settled p now _ _
+      (settled_by (version_at trade sites p == 1) _ _ (answers sites (Refuses faults.NoNeed)) (append_settled p (entries.Upgraded now) Upgraded refl))
 
   -- ---- restarts
 
@@ -278,6 +292,11 @@ played_settled trade sites (Restart p) a b = restarted_settled trade sites a b p
 played_settled trade sites (Book address) a b = λ e. refl
 played_settled trade sites (Mailbox address) a b = λ e. refl
 played_settled trade sites (Show address place) a b = λ e. refl
+played_settled trade sites (Archive address now place) a b =
+    archived_settled trade sites a b (account_home trade address (trade.home address)) now address place
+played_settled trade sites (Upgrade p now) a b = upgraded_settled trade sites a b p now
+played_settled trade sites (Vault address) a b = λ e. refl
+played_settled trade sites (VaultShow address place) a b = λ e. refl
 
 abbrev first_answer : Answer → List Answer → Answer
 first_answer other [] = other

@@ -6,23 +6,23 @@ use Rattle.std.proofs.lemmas.List.{append-nil, append_assoc, map-append, take-ap
 use Rattle.pec_types.specs.Bytes.{Bytes}
 use Rattle.pec_records.specs.declared.entries.Entry.{Entry}
 use Rattle.pec_ledger.specs.Along.{GoesOnAs}
-use Rattle.pec_ledger.specs.Books.{book, mailbox_lines}
+use Rattle.pec_ledger.specs.Books.{archive_lines, book, mailbox_lines}
 use Rattle.pec_ledger.specs.Half.{Half, Posted}
 use Rattle.pec_ledger.specs.Items.{item_text}
 use Rattle.pec_ledger.specs.Ledger.{Fit, Journals}
-use Rattle.pec_ledger.specs.Lookups.{mailbox}
+use Rattle.pec_ledger.specs.Lookups.{archive, mailbox}
 use Rattle.pec_ledger.specs.Network.{FollowsState, IsNext, Site, Sound, frames_between, journal_at, journals_of}
 use Rattle.pec_ledger.specs.Trade.{Trade}
 use Rattle.pec_ledger.specs.TradeLaws.{IsTrade}
-use Rattle.pec_plays.specs.Commands.{Command, Luck, Submit, Tick, Round, Lose, Repeat, Swap, Inject, Crash, Restart, Book, Mailbox, Show, Lines, Items, account_home, answers, played, shown, shown_bytes, swapped_at}
+use Rattle.pec_plays.specs.Commands.{Command, Luck, Submit, Tick, Round, Lose, Repeat, Swap, Inject, Crash, Restart, Book, Mailbox, Show, Archive, Upgrade, Vault, VaultShow, Lines, Items, Vaults, account_home, answers, played, shown, shown_bytes, swapped_at}
 use Rattle.pec_plays.specs.Scripts.{AllUnforged, IsUnforged, LinksAreShort, ShortAlong, SoundAlong, script}
 use Rattle.pec_plays.specs.Steps.{Step}
 use Rattle.pec_plays.specs.Turns.{Cut, Whole, Fails, Full, Stops, cut_turn, entries_of, entry_at, events_of}
-use Rattle.pec_plays.proofs.CommandLemmas.{next_asked, next_crashed, next_injected, next_lost, next_put_again, next_restarted, next_submitted, next_swapped, next_ticked}
+use Rattle.pec_plays.proofs.CommandLemmas.{account_so, next_archived, next_asked, next_crashed, next_injected, next_lost, next_put_again, next_restarted, next_submitted, next_swapped, next_ticked, next_upgraded}
 use Rattle.pec_plays.proofs.FrameLemmas.{TextLaws}
 use Rattle.pec_plays.proofs.PlanLemmas.{parted}
 use Rattle.pec_plays.proofs.RoundLemmas.{next_rounded, short_rounded}
-use Rattle.pec_plays.proofs.ShortLemmas.{short_asked, short_crashed, short_injected, short_lost, short_put_again, short_restarted, short_submitted, short_swapped, short_ticked}
+use Rattle.pec_plays.proofs.ShortLemmas.{short_archived, short_asked, short_crashed, short_injected, short_lost, short_put_again, short_restarted, short_submitted, short_swapped, short_ticked, short_upgraded}
 use Rattle.pec_plays.proofs.SiteLemmas.{StateLaws}
 use Rattle.pec_plays.proofs.StepLemmas.{ArrivalLaws}
 
@@ -65,6 +65,15 @@ module _ (trade : Trade) (world : IsTrade trade) (laws : LedgerLaws trade) where
   next_played luck sites (Show address place) sound given =
       next_asked trade world laws.states sites (λ (p : ℕ) (h : Half). shown trade sites p (slice_get (mailbox h address) place)) (account_home trade address (trade.home address)) sound
       (λ p h. shows_nothing_new sites p (slice_get (mailbox h address) place))
+  next_played luck sites (Archive address now place) sound given =
+      next_archived trade world laws.states luck sites (account_home trade address (trade.home address)) now address place sound given
+      (account_so trade address (trade.home address))
+  next_played luck sites (Upgrade p now) sound given = next_upgraded trade world laws.states luck sites p now sound given
+  next_played luck sites (Vault address) sound given =
+      next_asked trade world laws.states sites (λ (p : ℕ) (h : Half). answers sites (Vaults (archive_lines h address))) (account_home trade address (trade.home address)) sound (λ p h. refl)
+  next_played luck sites (VaultShow address place) sound given =
+      next_asked trade world laws.states sites (λ (p : ℕ) (h : Half). shown trade sites p (slice_get (archive h address) place)) (account_home trade address (trade.home address)) sound
+      (λ p h. shows_nothing_new sites p (slice_get (archive h address) place))
 
   pub sound_played : (luck : Luck) (sites : List Site) (command : Command) → Sound trade sites → IsUnforged trade sites command
       → Sound trade (played trade luck sites command).after
@@ -108,6 +117,14 @@ module _ (trade : Trade) (world : IsTrade trade) (laws : LedgerLaws trade) where
   short_played luck sites (Show address place) sound given short =
       short_asked trade sites short (λ (p : ℕ) (h : Half). shown trade sites p (slice_get (mailbox h address) place)) (account_home trade address (trade.home address))
       (λ p h. shows_nothing_new trade world laws sites p (slice_get (mailbox h address) place))
+  short_played luck sites (Archive address now place) sound given short =
+      short_archived trade sites short luck (account_home trade address (trade.home address)) now address place
+  short_played luck sites (Upgrade p now) sound given short = short_upgraded trade sites short luck p now
+  short_played luck sites (Vault address) sound given short =
+      short_asked trade sites short (λ (p : ℕ) (h : Half). answers sites (Vaults (archive_lines h address))) (account_home trade address (trade.home address)) (λ p h. refl)
+  short_played luck sites (VaultShow address place) sound given short =
+      short_asked trade sites short (λ (p : ℕ) (h : Half). shown trade sites p (slice_get (archive h address) place)) (account_home trade address (trade.home address))
+      (λ p h. shows_nothing_new trade world laws sites p (slice_get (archive h address) place))
 
   pub short_along : (lucks : List Luck) (sites : List Site) (commands : List Command) → Sound trade sites → AllUnforged trade lucks sites commands → LinksAreShort sites
       → ShortAlong trade lucks sites commands

@@ -12,6 +12,7 @@ use Rattle.pec_types.specs.Bytes.{Bytes, Path}
 use Rattle.pec_types.specs.Message.{Id}
 use Rattle.pec_types.specs.declared.messages.Decision.{Decision}
 use Rattle.pec_types.specs.declared.messages.Decision.TheVariants.{Placed, Refused}
+use Rattle.pec_types.specs.declared.messages.Refusal.TheVariants as refusals
 use Rattle.pec_types.specs.declared.receipts.Kind.{Kind}
 use Rattle.pec_types.specs.declared.receipts.Kind.TheVariants as kinds
 use Rattle.pec_types.specs.declared.turns.Event.{Event}
@@ -167,7 +168,7 @@ module _ (trade : Trade) (p now : ℕ) (es : List Entry) where
   by_outcome_tells : (f : Framed) (r : Receipt) (decision : Decision) (recipient : Option Bytes) → TellsStep (by_outcome trade p now es f r decision recipient)
   by_outcome_tells f r decision None = otherwise_tells f
   by_outcome_tells f r decision (Some recipient) =
-      outcome_tells f r recipient decision (outcome_fits trade p now es f r recipient) (known_of (half trade p es) (pair_of r.id recipient))
+      outcome_tells f r recipient decision (outcome_fits trade p now es f r recipient decision) (known_of (half trade p es) (pair_of r.id recipient))
 
   by_ack_tells : (f : Framed) (r : Receipt) (recipient : Option Bytes) → TellsStep (by_ack trade p now es f r recipient)
   by_ack_tells f r None = otherwise_tells f
@@ -177,7 +178,10 @@ module _ (trade : Trade) (p now : ℕ) (es : List Entry) where
   by_receipt_tells : (f : Framed) (r : Receipt) (kind : Kind) → TellsStep (by_receipt trade p now es f r kind)
   by_receipt_tells f r kinds.Charge = charge_tells f r (charge_fits trade p now es f r) (charged_of (half trade p es) r.id r.by)
   by_receipt_tells f r kinds.Delivery = by_outcome_tells f r Placed r.recipient
-  by_receipt_tells f r (kinds.DeliveryError refusal) = by_outcome_tells f r (Refused refusal) r.recipient
+  by_receipt_tells f r (kinds.DeliveryError refusals.NoMailbox) = by_outcome_tells f r (Refused refusals.NoMailbox) r.recipient
+  by_receipt_tells f r (kinds.DeliveryError refusals.MailboxFull) = by_outcome_tells f r (Refused refusals.MailboxFull) r.recipient
+  by_receipt_tells f r (kinds.DeliveryError refusals.Virus) = otherwise_tells f
+  by_receipt_tells f r kinds.VirusFound = by_outcome_tells f r (Refused refusals.Virus) r.recipient
   by_receipt_tells f r kinds.Ack = by_ack_tells f r r.recipient
   by_receipt_tells f r kinds.Acceptance = otherwise_tells f
   by_receipt_tells f r (kinds.NonAcceptance cause) = otherwise_tells f

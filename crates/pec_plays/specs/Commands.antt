@@ -1,7 +1,7 @@
 -- The commands of a script, what they answer, and what they do: `played`. Where a device may fail, a luck says whether
 -- it did; for a given answer there is at most one state. Each answer is a value; lines are made of it elsewhere. This
 -- project's profile.
-use Rattle.std.specs.Prelude.{ℕ, ◌+◌, nat_lt, Bool, true, false, List, [], ◌∷◌, ◌++◌, length, map, take, drop, slice_get, slice_set, if◌then◌else◌, Option, Some, None}
+use Rattle.std.specs.Prelude.{ℕ, ◌+◌, ◌==◌, nat_lt, Bool, true, false, List, [], ◌∷◌, ◌++◌, length, map, take, drop, slice_get, slice_set, if◌then◌else◌, Option, Some, None}
 use Rattle.pec_types.specs.Bytes.{Bytes, Path}
 use Rattle.pec_types.specs.Message.{Id}
 use Rattle.pec_types.specs.declared.mailboxes.ItemLine.{ItemLine}
@@ -17,10 +17,10 @@ use Rattle.pec_types.specs.declared.turns.Submitted.TheVariants as submissions
 use Rattle.pec_types.specs.declared.turns.Turn.{Turn}
 use Rattle.pec_records.specs.declared.entries.Entry.{Entry}
 use Rattle.pec_records.specs.declared.entries.Entry.TheVariants as entries
-use Rattle.pec_ledger.specs.Books.{book, mailbox_lines}
+use Rattle.pec_ledger.specs.Books.{archive_lines, book, mailbox_lines}
 use Rattle.pec_ledger.specs.Half.{Half, Mark, Posted}
 use Rattle.pec_ledger.specs.Items.{item_text}
-use Rattle.pec_ledger.specs.Lookups.{mailbox}
+use Rattle.pec_ledger.specs.Lookups.{archive, mailbox}
 use Rattle.pec_ledger.specs.Network.{Site, chosen, frames_between, journal_at, site_at}
 use Rattle.pec_ledger.specs.Pairs.{id_of}
 use Rattle.pec_ledger.specs.Steps.{half, marks_by}
@@ -29,8 +29,8 @@ use Rattle.pec_plays.specs.Rounds.{link_size, rounded, with_waiting}
 use Rattle.pec_plays.specs.Steps.{has_no_room}
 use Rattle.pec_plays.specs.Turns.{Cut, broken, last_of}
 
--- What a script asks of the network. Providers, and places on a link or in a mailbox, are numbered from 0, and moments
--- are in seconds. A submission says what the provider's screens find in its message: whether one of them finds a rule.
+-- What a script asks of the network. Providers, and places on a link, in a mailbox or in an archive, are numbered from
+-- 0, and moments are in seconds. A submission says what the provider's screens find in its message: whether one of them finds a rule.
 pub data Command : Type 0 where
   Submit : (provider moment : ℕ) (sender : Bytes) (path : Path) (message : Bytes) (found : Bool) → Command
   Tick : (provider moment : ℕ) → Command
@@ -44,6 +44,10 @@ pub data Command : Type 0 where
   Book : (address : Bytes) → Command
   Mailbox : (address : Bytes) → Command
   Show : (address : Bytes) (place : ℕ) → Command
+  Archive : (address : Bytes) (moment place : ℕ) → Command
+  Upgrade : (provider moment : ℕ) → Command
+  Vault : (address : Bytes) → Command
+  VaultShow : (address : Bytes) (place : ℕ) → Command
 
 -- What a command answers: what it did or shows, or why it did nothing. A restart tells how many entries are there.
 pub data Answer : Type 0 where
@@ -58,6 +62,9 @@ pub data Answer : Type 0 where
   Restarted : (entries : ℕ) → Answer
   Lines : (lines : List BookLine) → Answer
   Items : (items : List ItemLine) → Answer
+  Vaults : (items : List ItemLine) → Answer
+  Archived : Answer
+  Upgraded : Answer
   Shown : (bytes : Bytes) → Answer
   Refuses : (fault : ProviderFault) → Answer
   NoFrame : Answer
@@ -246,10 +253,43 @@ abbrev pub shown_bytes : List Site → Option Bytes → Played
 shown_bytes sites None = answers sites (Refuses faults.NoItem)
 shown_bytes sites (Some bytes) = answers sites (Shown bytes)
 
--- the item that was asked for, if the mailbox has it
+-- the item that was asked for, if it is there
 abbrev pub shown : Trade → List Site → ℕ → Option Posted → Played
 shown trade sites provider None = answers sites (Refuses faults.NoItem)
 shown trade sites provider (Some posted) = shown_bytes sites (item_text trade provider (journal_at sites provider) posted)
+
+-- ---- archives
+
+-- the number of items in an account's mailbox at a provider
+abbrev pub items_at : Trade → List Site → ℕ → Bytes → ℕ
+items_at trade sites provider account = length (mailbox (half trade provider (journal_at sites provider)) account)
+
+-- the version of a provider's journal
+abbrev pub version_at : Trade → List Site → ℕ → ℕ
+version_at trade sites provider = (half trade provider (journal_at sites provider)).version
+
+-- an item is archived at this provider
+abbrev pub archived_at : Trade → Luck → List Site → ℕ → ℕ → Bytes → ℕ → Played
+archived_at trade luck sites provider moment account place =
+    at_work trade sites provider moment
+    (if nat_lt place (items_at trade sites provider account)
+    then (if version_at trade sites provider == 2
+    then append trade luck sites provider (entries.Archived moment account place) Archived
+    else answers sites (Refuses faults.OldJournal))
+    else answers sites (Refuses faults.NoItem))
+
+-- What archiving an item does at a moment: the item at a place of an account's mailbox goes to its archive, unless that is
+-- refused. The provider is the account's.
+abbrev pub archived : Trade → Luck → List Site → Option ℕ → ℕ → Bytes → ℕ → Played
+archived trade luck sites None moment account place = answers sites (Refuses faults.NoAccount)
+archived trade luck sites (Some provider) moment account place = archived_at trade luck sites provider moment account place
+
+-- What raising a journal does at a moment: it is of version 2 from then on, unless that is refused.
+abbrev pub upgraded : Trade → Luck → List Site → ℕ → ℕ → Played
+upgraded trade luck sites provider moment =
+    at_work trade sites provider moment
+    (if version_at trade sites provider == 1 then append trade luck sites provider (entries.Upgraded moment) Upgraded
+    else answers sites (Refuses faults.NoNeed))
 
 -- ---- all commands
 
@@ -273,4 +313,12 @@ played trade luck sites (Mailbox address) =
     asked sites (λ provider half. answers sites (Items (mailbox_lines half address))) trade (account_home trade address (trade.home address))
 played trade luck sites (Show address place) =
     asked sites (λ provider half. shown trade sites provider (slice_get (mailbox half address) place)) trade
+    (account_home trade address (trade.home address))
+played trade luck sites (Archive address moment place) =
+    archived trade luck sites (account_home trade address (trade.home address)) moment address place
+played trade luck sites (Upgrade provider moment) = upgraded trade luck sites provider moment
+played trade luck sites (Vault address) =
+    asked sites (λ provider half. answers sites (Vaults (archive_lines half address))) trade (account_home trade address (trade.home address))
+played trade luck sites (VaultShow address place) =
+    asked sites (λ provider half. shown trade sites provider (slice_get (archive half address) place)) trade
     (account_home trade address (trade.home address))

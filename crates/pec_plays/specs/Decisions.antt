@@ -1,9 +1,12 @@
--- Which taken pairs a provider has to decide, `undecided`, and what it does with one, `decide`. RFC 6109, section 3.3,
--- within this project's profile.
-use Rattle.std.specs.Prelude.{ℕ, Bool, false, ◌&&◌, List, [], map, filter, Option, Some, None, is_none}
+-- Which taken pairs a provider has to decide, `undecided`, what it decides, `decision_on`, and what it does with a pair,
+-- `decide`. RFC 6109, section 3.3, within this project's profile.
+use Rattle.std.specs.Prelude.{ℕ, Bool, false, ◌&&◌, List, [], map, filter, Option, Some, None, is_none, if◌then◌else◌}
 use Rattle.std.specs.List.{flat_map, list_any}
 use Rattle.std.specs.Str.{bytes_eq}
 use Rattle.pec_types.specs.Bytes.{Bytes}
+use Rattle.pec_types.specs.declared.messages.Decision.{Decision}
+use Rattle.pec_types.specs.declared.messages.Decision.TheVariants.{Refused}
+use Rattle.pec_types.specs.declared.messages.Refusal.TheVariants as refusals
 use Rattle.pec_types.specs.declared.turns.Event.TheVariants as events
 use Rattle.pec_records.specs.declared.entries.Entry.{Entry}
 use Rattle.pec_records.specs.declared.entries.Entry.TheVariants as entries
@@ -35,7 +38,13 @@ module _ (trade : Trade) (provider : ℕ) where
   undecided journal =
       filter (is_open (half trade provider journal)) (each_once same_pair (pairs_taken (half trade provider journal).taken))
 
-  -- What the provider does with a pair: it decides it.
+  -- What is decided for a recipient, where some screen of the provider finds a rule in the message or none does: a virus
+  -- is told of an account alone.
+  unfoldable pub decision_on : Half → Bytes → Bool → Decision
+  decision_on half recipient found =
+      if trade.is_account provider recipient && found then Refused refusals.Virus else decision_at trade provider half recipient
+
+  -- What the provider does with a pair: it decides it, no screen being asked.
   unfoldable pub decide : ℕ → List Entry → Pair → Step
   decide now journal pair =
       enters trade provider journal

@@ -10,7 +10,7 @@ use Rattle.pec_ledger.specs.Half.{Half}
 use Rattle.pec_ledger.specs.Network.{Site, at_start, journal_at}
 use Rattle.pec_ledger.specs.SmallWorld.{small}
 use Rattle.pec_ledger.specs.Steps.{half}
-use Rattle.pec_plays.specs.Commands.{Answer, Book, Command, Inject, Luck, Mailbox, Restart, Round, Submit, Swap, Turns}
+use Rattle.pec_plays.specs.Commands.{Answer, Archive, Book, Command, Inject, Luck, Mailbox, Restart, Round, Submit, Swap, Turns, Upgrade, Vault}
 use Rattle.pec_plays.specs.Scripts.{script}
 use Rattle.pec_plays.specs.Turns.{Cut, Fails, Whole}
 
@@ -82,6 +82,15 @@ from_outside = Inject 0 1 unsealed ∷ Inject 0 1 [] ∷ Round 1704186001 ∷ Ma
 -- alice writes to anna; after two rounds a book is asked for, and alfa is restarted twice
 abbrev pub with_a_fault : List Command
 with_a_fault = writes_to anna ∷ Round 1704186001 ∷ Round 1704186002 ∷ Book alice ∷ Restart 0 ∷ Restart 0 ∷ []
+
+-- ---- an item is archived
+
+-- alice writes to anna, whose item is archived after two rounds, and no item is left for another; alfa's journal is of
+-- version 2 from its start
+abbrev pub put_away : List Command
+put_away =
+    writes_to anna ∷ Round 1704186001 ∷ Round 1704186002 ∷ Archive anna 1704186002 0 ∷ Mailbox anna ∷ Vault anna
+    ∷ Archive anna 1704186002 0 ∷ Upgrade 0 1704186002 ∷ []
 
 -- a luck for each command of a script, with which no device fails
 abbrev pub calmly : List Command → List Luck

@@ -3,6 +3,7 @@ pub mod Decisions
 pub mod Envelopes
 pub mod Examples
 pub mod Frames
+pub mod Paths
 pub mod Possible
 pub mod Reception
 pub mod ReceptionRows

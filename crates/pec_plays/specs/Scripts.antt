@@ -6,7 +6,7 @@ use Rattle.pec_records.specs.Entry.{most_addresses}
 use Rattle.pec_ledger.specs.Guarantees.{NoReceiptMissing, NoticeByTheDay, OneDelivery, OneOutcome}
 use Rattle.pec_ledger.specs.Network.{frames_between, IsGenuine, Site, Sound, journals_of}
 use Rattle.pec_ledger.specs.Trade.{Trade}
-use Rattle.pec_plays.specs.Commands.{Answer, Command, Inject, Luck, Round, Submit, Tick, played}
+use Rattle.pec_plays.specs.Commands.{Answer, Archive, Command, Inject, Luck, Round, Submit, Tick, Upgrade, played}
 use Rattle.pec_plays.specs.Rounds.{link_size}
 
 -- What a script answers, and the state behind it.
@@ -34,6 +34,8 @@ IsUnforged trade sites (Submit provider moment sender path message found) =
 IsUnforged trade sites (Tick provider moment) = moment < END_OF_TIME
 IsUnforged trade sites (Round moment) = moment < END_OF_TIME
 IsUnforged trade sites (Inject from to frame) = IsGenuine trade (journals_of sites) frame
+IsUnforged trade sites (Archive address moment place) = moment < END_OF_TIME
+IsUnforged trade sites (Upgrade provider moment) = moment < END_OF_TIME
 IsUnforged trade sites _ = Unit {0}
 
 -- Each command along a script may come.

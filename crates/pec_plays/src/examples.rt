@@ -11,8 +11,8 @@ ghost use Rattle.pec_ledger.specs.Examples.{anna, bob, first, open_line, receipt
 ghost use Rattle.pec_ledger.specs.Due.{owed_letters};
 ghost use Rattle.pec_ledger.specs.Network.{at_start, frames_between, Sound};
 ghost use Rattle.pec_ledger.specs.SmallWorld.{small};
-ghost use Rattle.pec_plays.specs.Commands.{Injected, IsUp, Items, Lines, NoFrame, Refuses, Restarted, Submits, Swapped, Turns};
-ghost use Rattle.pec_plays.specs.Examples.{alfa_behind, alfa_turn, answers_of, calm, calmly, failing, finding, from_outside, halfway, idle, left_by, no_such_place, out_of_order, to_the_end, turn_of, with_a_fault};
+ghost use Rattle.pec_plays.specs.Commands.{Archived, Injected, IsUp, Items, Lines, NoFrame, Refuses, Restarted, Submits, Swapped, Turns, Vaults};
+ghost use Rattle.pec_plays.specs.Examples.{alfa_behind, alfa_turn, answers_of, calm, calmly, failing, finding, from_outside, halfway, idle, left_by, no_such_place, out_of_order, put_away, to_the_end, turn_of, with_a_fault};
 ghost use Rattle.pec_plays.specs.Scripts.{AllUnforged};
 
 use crate::soundness::a_network_stays_sound;
@@ -92,6 +92,17 @@ pub fn answers_of_the_examples()
         ∷ Refuses faults.Down
         ∷ Restarted 4
         ∷ IsUp
+        ∷ [] }
+    // An item is archived, and is gone from the mailbox.
+    ensures put_away { answers_of (calmly put_away) put_away
+        ≡ Submits (submissions.Accepted first)
+        ∷ alfa_turn [] ((0, 1) ∷ [])
+        ∷ alfa_turn (events.Took first ∷ events.Decided first anna decisions.Placed ∷ []) ((0, 3) ∷ [])
+        ∷ Archived
+        ∷ Items []
+        ∷ Vaults (record { kind = item_kinds.Envelope; id = Some first; recipient = None } ∷ [])
+        ∷ Refuses faults.NoItem
+        ∷ Refuses faults.NoNeed
         ∷ [] }
 {}
 

@@ -18,7 +18,10 @@ pub use examples::{a_run_is_there, answers_of_the_examples};
 pub use reception::{
     a_frame_is_received_by_its_row, decisions_are_the_table, reception_is_the_table,
 };
-pub use refusals::{clock_calls_are_refused_in_order, submissions_are_refused_in_order};
+pub use refusals::{
+    archiving_is_refused_in_order, clock_calls_are_refused_in_order,
+    submissions_are_refused_in_order, upgrades_are_refused_in_order,
+};
 pub use rounds::a_round_is_its_turns;
 pub use rules::{
     the_next_pairs_are_left, what_a_provider_does_is_its_own, what_a_provider_does_may_follow,

@@ -1,4 +1,4 @@
-ghost use Rattle.std.specs.Prelude.{◌≡◌, ◌↔◌, ℕ, List, [], Some, None};
+ghost use Rattle.std.specs.Prelude.{◌≡◌, ◌↔◌, ℕ, Bool, false, List, [], Some, None};
 ghost use Rattle.pec_types.specs.Bytes.{Bytes};
 ghost use Rattle.pec_types.specs.declared.messages.Decision.{Decision};
 ghost use Rattle.pec_types.specs.declared.turns.Event.TheVariants as events;
@@ -7,8 +7,9 @@ ghost use Rattle.pec_points.specs.Decision.{IsDecision};
 ghost use Rattle.pec_points.specs.Reception.{IsReception};
 ghost use Rattle.pec_points.specs.declared.reception.Reception.{Reception};
 ghost use Rattle.pec_ledger.specs.Half.{Half};
-ghost use Rattle.pec_ledger.specs.Own.{decision_at};
+ghost use Rattle.pec_ledger.specs.Own.{MayDecide, decision_at};
 ghost use Rattle.pec_ledger.specs.Trade.{Framed, Trade};
+ghost use Rattle.pec_plays.specs.Decisions.{decision_on};
 ghost use Rattle.pec_plays.specs.Reception.{accounts_with_room, arrive};
 ghost use Rattle.pec_plays.specs.ReceptionRows.{AreAccounts, IsReceived};
 ghost use Rattle.pec_plays.specs.Steps.{Step, passes};
@@ -38,10 +39,15 @@ pub fn reception_is_the_table()
     a_frame_has_one_reception();
 }
 
-/// What a provider decides on a pair is what the table of decisions decides on what is seen of the recipient.
+/// What a provider decides on a pair, where some screen finds a rule in the message or none does, is what the table of
+/// decisions decides on what is seen of the recipient, and may be decided so.
 pub fn decisions_are_the_table()
-    ensures { (trade : Trade) (provider : ℕ) (half : Half) (recipient : Bytes) (decision : Decision)
-        → (decision_at trade provider half recipient ≡ decision) ↔ IsDecision (mailbox_at trade provider half recipient) decision }
+    ensures table { (trade : Trade) (provider : ℕ) (half : Half) (recipient : Bytes) (found : Bool) (decision : Decision)
+        → (decision_on trade provider half recipient found ≡ decision) ↔ IsDecision (mailbox_at trade provider half recipient found) decision }
+    ensures own { (trade : Trade) (provider : ℕ) (half : Half) (recipient : Bytes) (found : Bool)
+        → MayDecide trade provider half recipient (decision_on trade provider half recipient found) }
+    ensures unscreened { (trade : Trade) (provider : ℕ) (half : Half) (recipient : Bytes)
+        → decision_on trade provider half recipient false ≡ decision_at trade provider half recipient }
 {
     a_recipient_has_one_decision();
 }

@@ -36,6 +36,7 @@ row_words kinds.Delivery = tt
 row_words (kinds.DeliveryError refusals.NoMailbox) = refl
 row_words (kinds.DeliveryError refusals.MailboxFull) = refl
 row_words (kinds.DeliveryError refusals.Virus) = refl
+row_words kinds.VirusFound = refl
 row_words kinds.Warning = refl
 row_words kinds.Notice = refl
 row_words kinds.LateNotice = refl

@@ -17,7 +17,7 @@ use pec_letter_parts::{Letter, Marking};
 use pec_types::{Address, Cause, Kind, MsgId, Refusal, Text, Wish};
 
 /// All kinds, each once.
-const KINDS: [Kind; 18] = [
+const KINDS: [Kind; 19] = [
     Kind::Acceptance,
     Kind::NonAcceptance(Cause::Head),
     Kind::NonAcceptance(Cause::From),
@@ -32,6 +32,7 @@ const KINDS: [Kind; 18] = [
     Kind::DeliveryError(Refusal::NoMailbox),
     Kind::DeliveryError(Refusal::MailboxFull),
     Kind::DeliveryError(Refusal::Virus),
+    Kind::VirusFound,
     Kind::Warning,
     Kind::Notice,
     Kind::LateNotice,

@@ -84,6 +84,8 @@ IsRefusal refusals.NoAccount = Unit {0}
 IsRefusal refusals.Full = Unit {0}
 IsRefusal refusals.NoItem = Unit {0}
 IsRefusal refusals.JournalFull = Unit {0}
+IsRefusal refusals.OldJournal = Unit {0}
+IsRefusal refusals.NoNeed = Unit {0}
 IsRefusal refusals.NoMemory = Unit {0}
 
 -- the fault of a line, which has a line of its own; the argument's number is that of a `u8`

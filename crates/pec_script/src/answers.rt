@@ -27,6 +27,8 @@ pub enum Answer {
     Swapped,
     Injected,
     Crashed,
+    Archived,
+    Upgraded,
     /// The provider is up again, over this many entries.
     Restarted(u64),
     NoFrame,
@@ -109,6 +111,8 @@ fn answer_word(answer: &Answer) -> &'static [u8]
         Answer::Swapped => b"swapped",
         Answer::Injected => b"injected",
         Answer::Crashed => b"crashed",
+        Answer::Archived => b"archived",
+        Answer::Upgraded => b"upgraded",
         Answer::Restarted(_) => b"restarted",
         Answer::NoFrame => b"no-frame",
         Answer::LinkFull => b"link-full",

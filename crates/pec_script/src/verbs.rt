@@ -19,10 +19,14 @@ pub enum Verb {
     Book,
     Mailbox,
     Show,
+    Archive,
+    Upgrade,
+    Vault,
+    VaultShow,
 }
 
 /// All verbs.
-const VERBS: [Verb; 12] = [
+const VERBS: [Verb; 16] = [
     Verb::Submit,
     Verb::Tick,
     Verb::Round,
@@ -35,6 +39,10 @@ const VERBS: [Verb; 12] = [
     Verb::Book,
     Verb::Mailbox,
     Verb::Show,
+    Verb::Archive,
+    Verb::Upgrade,
+    Verb::Vault,
+    Verb::VaultShow,
 ];
 
 impl Verb {
@@ -53,9 +61,10 @@ impl Verb {
     {
         match self {
             Verb::Submit => 5,
-            Verb::Lose | Verb::Repeat | Verb::Swap | Verb::Inject => 3,
-            Verb::Tick | Verb::Show => 2,
-            Verb::Round | Verb::Crash | Verb::Restart | Verb::Book | Verb::Mailbox => 1,
+            Verb::Lose | Verb::Repeat | Verb::Swap | Verb::Inject | Verb::Archive => 3,
+            Verb::Tick | Verb::Show | Verb::Upgrade | Verb::VaultShow => 2,
+            Verb::Round | Verb::Crash | Verb::Restart | Verb::Book | Verb::Mailbox | Verb::Vault =>
+                1,
         }
     }
 
@@ -77,6 +86,10 @@ impl Verb {
             Verb::Book => b"book",
             Verb::Mailbox => b"mailbox",
             Verb::Show => b"show",
+            Verb::Archive => b"archive",
+            Verb::Upgrade => b"upgrade",
+            Verb::Vault => b"vault",
+            Verb::VaultShow => b"vault-show",
         }
     }
 }

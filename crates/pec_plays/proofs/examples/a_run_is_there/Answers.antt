@@ -2,6 +2,7 @@
 use Rattle.std.proofs.Common.{refl, arith}
 use Rattle.pec_types.specs.LimitsReading.{due_of}
 use Rattle.pec_records.specs.Entry.{number_16, number_32, number_64}
+use Rattle.pec_ledger.specs.Boxes.{boxes_of}
 use Rattle.pec_ledger.specs.Due.{due_letters}
 use Rattle.pec_ledger.specs.Network.{at_start}
 use Rattle.pec_ledger.specs.Own.{decision_at}
@@ -25,7 +26,7 @@ may_come = (
 )
 
 pub returns : goal.returns
-unfolding due_of number_16 number_32 number_64 due_letters at_start decision_at half size_of step played decide undecided due_frames frame_of arrive rounded turns_of has_no_room turned
+unfolding due_of boxes_of number_16 number_32 number_64 due_letters at_start decision_at half size_of step played decide undecided due_frames frame_of arrive rounded turns_of has_no_room turned
 returns c = record {
   unforged = may_come;
   sound = c.a_network_stays_sound.ensures.ends small c.a_world_is_there.ensures (calmly to_the_end) (at_start small) to_the_end
