@@ -1,5 +1,7 @@
 -- Replies by their parts, and words of causes.
-use Rattle.std.proofs.Common.{◌≡◌, ◌≤◌, List, ℕ, length, Result, IfOk, ap, subst, ◌∙◌, lit≤}
+use Rattle.std.proofs.Common.{◌≡◌, ◌≤◌, List, ℕ, length, Result, IfOk, ap, subst, ◌∙◌, true, refl, leb→le}
+use Rattle.std.specs.Prelude.{nat_le}
+use Rattle.pec_types.proofs.CauseLemmas.{each_cause}
 use Rattle.pec_types.specs.Bytes.{Bytes}
 use Rattle.pec_types.specs.Words.{cause_word}
 use Rattle.pec_types.specs.declared.messages.Cause.{Cause}
@@ -25,11 +27,6 @@ composed_as answer reply status kind body composed same_status same_kind same_bo
     in subst P same composed
 
 pub cause_short : (cause : Cause) → length (cause_word cause) ≤ 12
-cause_short causes.Head = lit≤ tt
-cause_short causes.From = lit≤ tt
-cause_short causes.To = lit≤ tt
-cause_short causes.ReversePath = lit≤ tt
-cause_short causes.ForwardPath = lit≤ tt
-cause_short causes.Bcc = lit≤ tt
-cause_short causes.Size = lit≤ tt
-cause_short causes.Virus = lit≤ tt
+cause_short cause =
+    leb→le (length (cause_word cause)) 12
+    (each_cause (λ (one : Cause). nat_le (length (cause_word one)) 12) (λ (one : Cause). true) refl cause)

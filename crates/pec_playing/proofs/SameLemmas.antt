@@ -2,6 +2,8 @@
 use Rattle.std.proofs.Common.{◌≡◌, ◌≢◌, ◌⊎◌, inl, inr, ℕ, List, [], ◌∷◌, Bool, true, false, map, get_or, drop, refl, ap}
 use Rattle.std.proofs.Common.{sym, ◌∙◌, Option, Some, None}
 use Rattle.std.proofs.lemmas.Bool.{cases_eq}
+use Rattle.pec_types.specs.Words.{all_causes}
+use Rattle.pec_types.proofs.CauseLemmas.{each_cause}
 use Rattle.pec_types.specs.Bytes.{Bytes}
 use Rattle.pec_types.specs.declared.messages.Cause.{Cause}
 use Rattle.pec_types.specs.declared.messages.Cause.TheVariants as causes
@@ -48,19 +50,10 @@ abbrev bytes_in : Code → ℕ → Bytes
 bytes_in code place = get_or code place []
 
 abbrev cause_back : Bytes → Cause
-cause_back field =
-    get_or (causes.Head ∷ causes.Head ∷ causes.From ∷ causes.To ∷ causes.ReversePath ∷ causes.ForwardPath ∷ causes.Bcc
-    ∷ causes.Size ∷ causes.Virus ∷ []) (get_or field 0 0) causes.Head
+cause_back field = get_or (causes.Head ∷ all_causes) (get_or field 0 0) causes.Head
 
 cause_again : (cause : Cause) → cause_back (cause_field cause) ≡ cause
-cause_again causes.Head = refl
-cause_again causes.From = refl
-cause_again causes.To = refl
-cause_again causes.ReversePath = refl
-cause_again causes.ForwardPath = refl
-cause_again causes.Bcc = refl
-cause_again causes.Size = refl
-cause_again causes.Virus = refl
+cause_again cause = each_cause (λ (one : Cause). cause_back (cause_field one)) (λ (one : Cause). one) refl cause
 
 abbrev decision_back : Bytes → Decision
 decision_back field =

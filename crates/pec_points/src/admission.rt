@@ -14,7 +14,7 @@ ghost use Rattle.pec_points.specs.declared.admission.Admission.TheVariants as an
 
 use pec_directory::Directory;
 use pec_heads::{
-    Head, HeadFault, ListFault, a_head_has_one_account, a_list_has_one_reading,
+    Head, ListFault, a_head_has_one_account, a_list_has_one_reading,
     a_text_has_one_reading, facts_are_bounded,
 };
 use pec_screen::Judge;
@@ -156,10 +156,9 @@ fn admit_message(
 fn read_head(alloc: Global, message: &[u8]) -> Result<Option<Head>, NoMemory>
     ensures { IfOk result (λ found. found ≡ head_in message.now) }
 {
-    match Head::read(alloc, message) {
-        Ok((head, _)) => Ok(Some(head)),
-        Err(HeadFault::NoMemory) => Err(NoMemory),
-        Err(_) => Ok(None),
+    match Head::find(alloc, message)? {
+        Some((head, _)) => Ok(Some(head)),
+        None => Ok(None),
     }
 }
 
@@ -192,6 +191,9 @@ fn admit_head(
     Ok(admission)
 }
 
+/// How many recipients a message may have.
+const MOST_RECIPIENTS: usize = 500;
+
 /// The admission of a message of so many bytes with this head and these facts of it, by its recipients and its size.
 fn admit_facts(limit: u64, path: &[Address], bytes: usize, head: &Head, facts: Facts) -> Admission
     ensures { result ≡ admission_by limit path.now bytes head.now facts }
@@ -202,6 +204,9 @@ fn admit_facts(limit: u64, path: &[Address], bytes: usize, head: &Head, facts: F
     }
     if has_blind_copies(head) {
         return Admission::Not(Cause::Bcc);
+    }
+    if recipients.len() > MOST_RECIPIENTS {
+        return Admission::Not(Cause::TooMany);
     }
     if is_over(limit, bytes, recipients.len()) {
         return Admission::Not(Cause::Size);

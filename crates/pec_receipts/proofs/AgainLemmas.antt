@@ -6,11 +6,12 @@ use Rattle.std.proofs.lemmas.Option.{same_Some}
 use Rattle.std.specs.Cmp.Lexicographic.{bytes_decides}
 use Rattle.std.specs.List.{list_any}
 use Rattle.std.specs.Str.{bytes_eq}
+use Rattle.pec_types.specs.declared.messages.Cause.{Cause}
+use Rattle.pec_types.proofs.CauseLemmas.{each_cause}
 use Rattle.pec_types.specs.Bytes.{Bytes}
 use Rattle.pec_types.specs.Message.{Id}
 use Rattle.pec_types.specs.Words.{wish_word}
 use Rattle.pec_types.specs.declared.disputes.LetterFault.TheVariants.{NotThis}
-use Rattle.pec_types.specs.declared.messages.Cause.TheVariants as causes
 use Rattle.pec_types.specs.declared.messages.Recipient.{Recipient}
 use Rattle.pec_types.specs.declared.messages.Refusal.TheVariants as refusals
 use Rattle.pec_types.specs.declared.messages.TheConstants.{MESSAGES}
@@ -66,14 +67,9 @@ Certifies (Some said) = Unit {0}
 kind_closed : (kind : Kind) → Certifies (row_of kind).said → own_kind (row_of kind).said ≡ Some kind
 unfolding row_of
 kind_closed kinds.Acceptance c = refl
-kind_closed (kinds.NonAcceptance causes.Head) c = refl
-kind_closed (kinds.NonAcceptance causes.From) c = refl
-kind_closed (kinds.NonAcceptance causes.To) c = refl
-kind_closed (kinds.NonAcceptance causes.ReversePath) c = refl
-kind_closed (kinds.NonAcceptance causes.ForwardPath) c = refl
-kind_closed (kinds.NonAcceptance causes.Bcc) c = refl
-kind_closed (kinds.NonAcceptance causes.Size) c = refl
-kind_closed (kinds.NonAcceptance causes.Virus) c = refl
+kind_closed (kinds.NonAcceptance cause) c =
+    each_cause (λ (one : Cause). own_kind (row_of (kinds.NonAcceptance one)).said)
+    (λ (one : Cause). Some (kinds.NonAcceptance one)) refl cause
 kind_closed kinds.Charge c = refl
 kind_closed kinds.Delivery c = refl
 kind_closed (kinds.DeliveryError refusals.NoMailbox) c = refl

@@ -1,9 +1,12 @@
 -- What a receipt is composed of is what its text says.
 use Rattle.std.proofs.Common.{◌≡◌, List, Option, Some, None, sym, ap, subst, refl, ◌∙◌}
 use Rattle.std.specs.Option.{IfSome}
+use Rattle.std.specs.Prelude.{position}
+use Rattle.pec_types.specs.declared.messages.Cause.{Cause}
+use Rattle.pec_types.specs.Words.{cause_word}
+use Rattle.pec_types.proofs.CauseLemmas.{each_cause}
 use Rattle.pec_types.specs.Bytes.{Bytes}
-use Rattle.pec_types.specs.Text.{AllPrintable}
-use Rattle.pec_types.specs.declared.messages.Cause.TheVariants as causes
+use Rattle.pec_types.specs.Text.{AllPrintable, is_unprintable}
 use Rattle.pec_types.specs.declared.messages.Refusal.TheVariants as refusals
 use Rattle.pec_types.specs.declared.receipts.Kind.{Kind}
 use Rattle.pec_types.specs.declared.receipts.Kind.TheVariants as kinds
@@ -23,14 +26,8 @@ HasWords (Some said) = IfSome said.detail AllPrintable
 pub row_words : (kind : Kind) → HasWords (row_of kind).said
 unfolding row_of
 row_words kinds.Acceptance = tt
-row_words (kinds.NonAcceptance causes.Head) = refl
-row_words (kinds.NonAcceptance causes.From) = refl
-row_words (kinds.NonAcceptance causes.To) = refl
-row_words (kinds.NonAcceptance causes.ReversePath) = refl
-row_words (kinds.NonAcceptance causes.ForwardPath) = refl
-row_words (kinds.NonAcceptance causes.Bcc) = refl
-row_words (kinds.NonAcceptance causes.Size) = refl
-row_words (kinds.NonAcceptance causes.Virus) = refl
+row_words (kinds.NonAcceptance cause) =
+    each_cause (λ (one : Cause). position is_unprintable (cause_word one)) (λ (one : Cause). None) refl cause
 row_words kinds.Charge = tt
 row_words kinds.Delivery = tt
 row_words (kinds.DeliveryError refusals.NoMailbox) = refl

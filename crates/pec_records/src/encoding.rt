@@ -358,14 +358,5 @@ fn number_of_decision(decision: Decision) -> u8
 fn number_of_cause(cause: Cause) -> u8
     ensures { result ∷ [] ≡ cause_field cause }
 {
-    match cause {
-        Cause::Head => 1,
-        Cause::From => 2,
-        Cause::To => 3,
-        Cause::ReversePath => 4,
-        Cause::ForwardPath => 5,
-        Cause::Bcc => 6,
-        Cause::Size => 7,
-        Cause::Virus => 8,
-    }
+    cause.number()
 }

@@ -1,19 +1,20 @@
 -- The lines of submissions, of events and of what is refused are of one answer each.
-use Rattle.std.proofs.Common.{◌≡◌, false, List, [], ◌∷◌, codes, Option, Some, refl, sym, ◌∙◌, ap, arith}
+use Rattle.std.proofs.Common.{◌≡◌, false, List, [], ◌∷◌, codes, Option, Some, refl, sym, ◌∙◌, ap, arith, true, ◌&&◌, not, eqb}
 use Rattle.std.proofs.lemmas.Bool.{false≢true}
 use Rattle.std.proofs.lemmas.Option.{same_Some}
 use Rattle.std.proofs.lemmas.Slice.Eq.{bytes_eq-Decides}
 use Rattle.std.specs.Fmt.{decimal}
 use Rattle.std.specs.Prelude.{find}
 use Rattle.std.specs.Str.{bytes_eq}
+use Rattle.std.specs.List.{list_all}
+use Rattle.pec_types.proofs.CauseLemmas.{each_cause}
 use Rattle.pec_directory.specs.Directory.{Provider}
 use Rattle.pec_directory.specs.Lawful.{IsLawful}
 use Rattle.pec_types.specs.Bytes.{Bytes}
-use Rattle.pec_types.specs.Words.{cause_word, decision_word}
+use Rattle.pec_types.specs.Words.{cause_word, decision_word, all_causes}
 use Rattle.pec_types.specs.declared.letters.Letter.{Letter}
 use Rattle.pec_types.specs.declared.letters.Letter.TheVariants as letters
 use Rattle.pec_types.specs.declared.messages.Cause.{Cause}
-use Rattle.pec_types.specs.declared.messages.Cause.TheVariants as causes
 use Rattle.pec_types.specs.declared.turns.Event.{Event}
 use Rattle.pec_types.specs.declared.turns.Event.TheVariants as events
 use Rattle.pec_types.specs.declared.turns.ProviderFault.{ProviderFault}
@@ -46,30 +47,18 @@ rows_apart rows others e test = apart (first_row rows) (first_row others) (ap fi
 -- ---- submissions
 
 cause_is_word : (cause : Cause) → IsWord (cause_word cause)
-cause_is_word causes.Head = text_word (codes "head") refl
-cause_is_word causes.From = text_word (codes "from") refl
-cause_is_word causes.To = text_word (codes "to") refl
-cause_is_word causes.ReversePath = text_word (codes "reverse-path") refl
-cause_is_word causes.ForwardPath = text_word (codes "forward-path") refl
-cause_is_word causes.Bcc = text_word (codes "bcc") refl
-cause_is_word causes.Size = text_word (codes "size") refl
-cause_is_word causes.Virus = text_word (codes "virus") refl
+cause_is_word cause =
+    text_word (cause_word cause)
+    (each_cause (λ (one : Cause). list_all (λ b. not (eqb b 32) && not (eqb b 10)) (cause_word one))
+    (λ (one : Cause). true) refl cause)
 
 cause_of : Bytes → Option Cause
 cause_of word =
-    find (λ cause. bytes_eq word (cause_word cause))
-    (causes.Head ∷ causes.From ∷ causes.To ∷ causes.ReversePath ∷ causes.ForwardPath ∷ causes.Bcc ∷ causes.Size ∷ causes.Virus ∷ [])
+    find (λ cause. bytes_eq word (cause_word cause)) all_causes
 
 cause_again : (cause : Cause) → cause_of (cause_word cause) ≡ Some cause
 unfolding cause_of
-cause_again causes.Head = refl
-cause_again causes.From = refl
-cause_again causes.To = refl
-cause_again causes.ReversePath = refl
-cause_again causes.ForwardPath = refl
-cause_again causes.Bcc = refl
-cause_again causes.Size = refl
-cause_again causes.Virus = refl
+cause_again cause = each_cause (λ (one : Cause). cause_of (cause_word one)) (λ (one : Cause). Some one) refl cause
 
 one_cause : (cause other : Cause) → cause_word cause ≡ cause_word other → cause ≡ other
 one_cause cause other e = same_Some cause other (sym (cause_again cause) ∙ (ap cause_of e ∙ cause_again other))

@@ -1,12 +1,13 @@
 -- How long the parts of a letter are: far less than 2^64 bytes together, where the message has at most 64 MiB.
-use Rattle.std.proofs.Common.{◌≡◌, ℕ, ◌+◌, ◌*◌, ◌<◌, ◌≤◌, ◌^◌, Bool, true, false, cond, List, [], ◌∷◌, ◌++◌, length, map, Option, None, Some, codes, refl, ap, ◌∙◌, arith, append_assoc, length-append}
+use Rattle.std.proofs.Common.{◌≡◌, ℕ, ◌+◌, ◌*◌, ◌<◌, ◌≤◌, ◌^◌, Bool, true, false, cond, List, [], ◌∷◌, ◌++◌, length, map, Option, None, Some, codes, refl, ap, ◌∙◌, arith, append_assoc, length-append, leb→le}
 use Rattle.std.specs.List.{AllByRecursion, flat_map}
 use Rattle.std.specs.Option.{IfSome}
+use Rattle.std.specs.Prelude.{nat_le}
+use Rattle.pec_types.proofs.CauseLemmas.{each_cause}
 use Rattle.pec_types.specs.Bytes.{Bytes}
 use Rattle.pec_types.specs.Message.{Id}
 use Rattle.pec_types.specs.Words.{cause_word, refusal_word}
 use Rattle.pec_types.specs.declared.messages.Cause.{Cause}
-use Rattle.pec_types.specs.declared.messages.Cause.TheVariants as causes
 use Rattle.pec_types.specs.declared.messages.Facts.{Facts}
 use Rattle.pec_types.specs.declared.messages.Refusal.{Refusal}
 use Rattle.pec_types.specs.declared.messages.Refusal.TheVariants as refusals
@@ -271,14 +272,9 @@ bare_parts_small stamp phrase message short m =
 -- ---- words of errors
 
 pub cause_small : (cause : Cause) → length (cause_word cause) ≤ 20
-cause_small causes.Head = omega arith
-cause_small causes.From = omega arith
-cause_small causes.To = omega arith
-cause_small causes.ReversePath = omega arith
-cause_small causes.ForwardPath = omega arith
-cause_small causes.Bcc = omega arith
-cause_small causes.Size = omega arith
-cause_small causes.Virus = omega arith
+cause_small cause =
+    leb→le (length (cause_word cause)) 20
+    (each_cause (λ (one : Cause). nat_le (length (cause_word one)) 20) (λ (one : Cause). true) refl cause)
 
 pub refusal_small : (refusal : Refusal) → length (refusal_word refusal) ≤ 20
 refusal_small refusals.NoMailbox = omega arith

@@ -3,13 +3,14 @@ use Rattle.std.proofs.Common.{◌≡◌, ◌↔◌, ℕ, ◌*◌, ◌<◌, ◌�
 use Rattle.std.specs.List.{AllByRecursion, flat_map}
 use Rattle.std.specs.Option.{IfSome, option_and_then}
 use Rattle.std.proofs.lemmas.List.{length-map}
+use Rattle.std.specs.Prelude.{position}
+use Rattle.pec_types.proofs.CauseLemmas.{each_cause}
 use Rattle.pec_types.specs.Address.{IsLowerAddress}
 use Rattle.pec_types.specs.Bytes.{Bytes}
 use Rattle.pec_types.specs.Message.{Id}
-use Rattle.pec_types.specs.Text.{AllPrintable}
+use Rattle.pec_types.specs.Text.{AllPrintable, is_unprintable}
 use Rattle.pec_types.specs.Words.{cause_word, refusal_word}
 use Rattle.pec_types.specs.declared.messages.Cause.{Cause}
-use Rattle.pec_types.specs.declared.messages.Cause.TheVariants as causes
 use Rattle.pec_types.specs.declared.messages.Class.{Class}
 use Rattle.pec_types.specs.declared.messages.Class.TheVariants as classes
 use Rattle.pec_types.specs.declared.messages.Facts.{Facts}
@@ -94,14 +95,8 @@ IsRight None = Unit {0}
 IsRight (Some said) = Right said
 
 cause_shows : (cause : Cause) → AllPrintable (cause_word cause)
-cause_shows causes.Head = refl
-cause_shows causes.From = refl
-cause_shows causes.To = refl
-cause_shows causes.ReversePath = refl
-cause_shows causes.ForwardPath = refl
-cause_shows causes.Bcc = refl
-cause_shows causes.Size = refl
-cause_shows causes.Virus = refl
+cause_shows cause =
+    each_cause (λ (one : Cause). position is_unprintable (cause_word one)) (λ (one : Cause). None) refl cause
 
 refusal_shows : (refusal : Refusal) → AllPrintable (refusal_word refusal)
 refusal_shows refusals.NoMailbox = refl

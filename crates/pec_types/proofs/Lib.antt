@@ -1,8 +1,9 @@
-pub mod AddressBytes
-pub mod AddressLaws
 mod AddressStepLemmas
 mod DigitLaws
+mod PartLaws
+pub mod AddressBytes
+pub mod AddressLaws
+pub mod CauseLemmas
 pub mod LimitLemmas
 pub mod LowerCase
-mod PartLaws
 pub mod TextLaws

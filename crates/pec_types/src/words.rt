@@ -1,6 +1,6 @@
 ghost use Rattle.std.specs.Prelude.{◌≡◌, ℕ, ◌<◌, ◌++◌, length, OnOk, IfOk};
 ghost use Rattle.pec_types.specs.Bytes.{Bytes};
-ghost use Rattle.pec_types.specs.Words.{cause_word, class_word, decision_word, id_text, last_digit, number_in, refusal_word, seven_digits, wish_word};
+ghost use Rattle.pec_types.specs.Words.{cause_number, cause_word, class_word, decision_word, id_text, last_digit, number_in, refusal_word, seven_digits, wish_word};
 
 use crate::faults::NoMemory;
 use crate::messages::{Cause, Class, Decision, Refusal, Wish};
@@ -64,6 +64,24 @@ impl Cause {
             Cause::Bcc => b"bcc",
             Cause::Size => b"size",
             Cause::Virus => b"virus",
+            Cause::TooMany => b"too-many",
+        }
+    }
+
+    /// The cause's place, from 1, in the order in which causes are looked for. It takes no memory. This project's profile.
+    pub fn number(self) -> u8
+        ensures { result ≡ cause_number self }
+    {
+        match self {
+            Cause::Head => 1,
+            Cause::From => 2,
+            Cause::To => 3,
+            Cause::ReversePath => 4,
+            Cause::ForwardPath => 5,
+            Cause::Bcc => 6,
+            Cause::Size => 7,
+            Cause::Virus => 8,
+            Cause::TooMany => 9,
         }
     }
 }
