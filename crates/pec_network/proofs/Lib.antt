@@ -1,5 +1,6 @@
 pub mod BeginLemmas
 pub mod ChangeLemmas
+pub mod ConcernLemmas
 pub mod CrashLemmas
 pub mod DeliveryLemmas
 pub mod EndLemmas
@@ -13,9 +14,11 @@ pub mod MomentLemmas
 pub mod PassLemmas
 pub mod ProviderLemmas
 pub mod RoundLemmas
+pub mod SeatLemmas
 pub mod ShowLemmas
 pub mod SiteLemmas
 pub mod StartLemmas
 pub mod StepLemmas
 pub mod SummingLemmas
 pub mod TurnLemmas
+pub mod WorkLemmas

@@ -1,13 +1,12 @@
--- The turns of a round, provider by provider: what is true when those before a number were taken (`TurnsSoFar`), and
--- that one turn more keeps it.
-use Rattle.std.proofs.Common.{◌≡◌, ℕ, zero, suc, ◌+◌, ◌-◌, ◌<◌, ◌≤◌, List, [], ◌∷◌, ◌++◌, length, map, take, drop}
+-- The turns of a round, provider by provider: what is true when the workers of those before a number are done
+-- (`WorkedSoFar`, and `TurnsSoFar` where each told its turn), and that one turn more keeps it.
+use Rattle.std.proofs.Common.{◌≡◌, ℕ, zero, suc, ◌+◌, ◌-◌, ◌<◌, ◌≤◌, List, [], ◌∷◌, ◌++◌, length, map}
 use Rattle.std.proofs.Common.{get_or, set, refl, ap, sym, subst, ◌∙◌, inl, inr, arith, Some, Ok, Err}
 use Rattle.std.specs.Prelude.{All, OnErr, Result}
 use Rattle.std.proofs.lemmas.Bool.{cases_eq, cases_lt}
-use Rattle.std.proofs.lemmas.List.{append-nil, drop_all, get_or-map, get_or-set_other, get_or-set_same}
+use Rattle.std.proofs.lemmas.List.{get_or-map, get_or-set_other, get_or-set_same}
 use Rattle.std.proofs.lemmas.List.{get_or_append_left, get_or_default, get_or_past, length-append, length-map}
-use Rattle.std.proofs.lemmas.List.{length-set, take_all}
-use Rattle.std.proofs.lemmas.List.Elements.{All-get_or}
+use Rattle.std.proofs.lemmas.List.{length-set}
 use Rattle.std.proofs.Math.Seq.{get_or-append_seam}
 use Rattle.std.proofs.lemmas.Option.{none-some}
 use Rattle.pec_types.specs.Bytes.{Bytes}
@@ -24,7 +23,7 @@ use Rattle.pec_plays.specs.Turns.{frames_in}
 use Rattle.pec_chronicle.specs.Carrying.{CarriesOn, NothingMay}
 use Rattle.pec_chronicle.specs.CarryingLaws.{carries_nothing}
 use Rattle.pec_chronicle.specs.Chronicle.{ChronicleState, Stands}
-use Rattle.pec_posts.specs.Arrivals.{CanBeDelivered, Waiting, deliveries, room_on, waiting_for, waiting_from}
+use Rattle.pec_posts.specs.Arrivals.{Waiting, deliveries, room_on, waiting_for, waiting_from}
 use Rattle.pec_provider.specs.Following.{MayFollow}
 use Rattle.pec_provider.specs.Provider.{ProviderState, Runs, desk_of, site_of}
 use Rattle.pec_network.specs.Turning.{CarriesFrames, StopsShort, Took, cut_told, room_in, told_of, turn_of}
@@ -33,9 +32,9 @@ use Rattle.pec_network.specs.Carrying.{AllCarryOn, AllStand, NoneFalls}
 use Rattle.pec_network.specs.Network.{IsOfDirectory, sites_of}
 use Rattle.pec_network.specs.Rounds.{AreRooms, BlamesDisks, FramesAreGenuine, IsRound, StopsWithin}
 use Rattle.pec_network.proofs.ProviderLemmas.{whole_at, whole_with}
-use Rattle.pec_network.proofs.RoundLemmas.{AllHad, HadTurn, HaveFronts, can_deliver, front_of, front_short, fronts_more}
+use Rattle.pec_network.proofs.RoundLemmas.{AllHad, HadTurn, HasFront, HaveFronts, front_of, front_short, fronts_more}
 use Rattle.pec_network.proofs.RoundLemmas.{get_push, had_more, is_round, no_turn_yet, stops_within}
-use Rattle.pec_network.proofs.SiteLemmas.{both_change, site_delivered, site_is, sites_count, waiting_at}
+use Rattle.pec_network.proofs.SiteLemmas.{both_change, desk_stays, site_delivered, site_is, sites_count, waiting_at}
 use Rattle.pec_network.proofs.TurnLemmas.{turned_alike}
 
 -- ---- rooms
@@ -65,39 +64,45 @@ module _ {D : Type 0} (Tells : Type 0) (sight : D → Sight) (count : D → ℕ)
   abbrev before : List Site
   before = sites_of old waited
 
-  -- The turns of the providers before a number were taken, and told so.
-  pub record TurnsSoFar (number : ℕ) (now : List (ProviderState D)) (waiting : List Waiting) (turns : List Turn)
-      (outs : List (List (List Bytes))) : Type 0 where
+  -- The workers of the providers before a number are done; the other providers are as they were.
+  pub record WorkedSoFar (number : ℕ) (now : List (ProviderState D)) (waiting : List Waiting) : Type 0 where
     pub whole : IsOfDirectory kept seals now waiting
-    pub told : length turns ≡ number
-    pub puts : length outs ≡ number
     pub next : (k : ℕ) (other : ProviderState D) → number ≤ k → get_or now k other ≡ get_or old k other
     pub waits : (k : ℕ) → number ≤ k → waiting_for waiting k ≡ waiting_for waited k
-    pub had : AllHad trade moment before (sites_of now waiting) turns outs
     pub fronts : HaveFronts trade moment before (sites_of now waiting)
     pub carries : Tells → (journals : Journals) → Fit trade journals → FramesAreGenuine trade journals before
         → AllCarryOn sight trade journals old now
     pub stands : Tells → AllStand sight old → AllStand sight now
-    pub blames : BlamesDisks count turns old now
     pub later : NoneFalls count old now
 
+  -- Their turns were these, and put this.
+  pub record TurnsSoFar (number : ℕ) (now : List (ProviderState D)) (waiting : List Waiting) (turns : List Turn)
+      (outs : List (List (List Bytes))) : Type 0 where
+    pub told : length turns ≡ number
+    pub puts : length outs ≡ number
+    pub had : AllHad trade moment before (sites_of now waiting) turns outs
+    pub blames : BlamesDisks count turns old now
+
   pub begun : IsOfDirectory kept seals old waited
-      → (Tells → (state : ChronicleState D) → CarriesOn sight NothingMay state state)
-      → TurnsSoFar 0 old waited [] []
+      → (Tells → (state : ChronicleState D) → CarriesOn sight NothingMay state state) → WorkedSoFar 0 old waited
   begun whole rests = record {
     whole = whole;
-    told = refl;
-    puts = refl;
     next = λ k other l. refl;
     waits = λ k l. refl;
-    had = λ k turn e. absurd (none-some turn e);
     fronts = no_turn_yet trade moment before;
     carries = λ tells journals fit genuine k other l.
         carries_nothing sight (MayFollow trade journals k) (get_or old k other).chronicle (get_or old k other).chronicle
         (rests tells (get_or old k other).chronicle);
     stands = λ tells stands. stands;
-    blames = λ k turn e ended. absurd (none-some turn e);
     later = λ k other l. omega arith;
+  }
+
+  pub no_turns : TurnsSoFar 0 old waited [] []
+  no_turns = record {
+    told = refl;
+    puts = refl;
+    had = λ k turn e. absurd (none-some turn e);
+    blames = λ k turn e ended. absurd (none-some turn e);
   }
 
   module _ (whole_before : IsOfDirectory kept seals old waited) (all_of : trade.providers ≡ length kept) where
@@ -106,9 +111,8 @@ module _ {D : Type 0} (Tells : Type 0) (sight : D → Sight) (count : D → ℕ)
 
     -- ---- one turn more
 
-    module _ (number : ℕ) (now : List (ProviderState D)) (waiting : List Waiting) (turns : List Turn)
-        (outs : List (List (List Bytes)))
-        (was new : ProviderState D) (links left : Waiting) (so_far : TurnsSoFar number now waiting turns outs)
+    module _ (number : ℕ) (now : List (ProviderState D)) (waiting : List Waiting) (was new : ProviderState D)
+        (links left : Waiting) (so_far : WorkedSoFar number now waiting)
         (within : number < length now) (here : was ≡ get_or now number was)
         (there : links ≡ get_or waiting number links) where
       many : length now ≡ length old
@@ -133,12 +137,6 @@ module _ {D : Type 0} (Tells : Type 0) (sight : D → Sight) (count : D → ℕ)
           sym (site_is old waited number was (let e = many in omega arith) same_before
           ∙ ap (λ (p : ProviderState D). site_of (desk_of p) (waiting_for waited number)) (was_old was)
           ∙ ap (λ (w : Waiting). site_of (desk_of was) w) links_old)
-
-      pub runs_now : Runs kept seals number was
-      runs_now = subst (λ (p : ProviderState D). Runs kept seals number p) (sym here) (so_far.whole.runs number was within)
-
-      pub owes_nothing : was.owed ≡ []
-      owes_nothing = ap (λ (p : ProviderState D). p.owed) here ∙ so_far.whole.nothing_owed number was within
 
       abbrev later_now : List (ProviderState D)
       later_now = set now number new
@@ -203,43 +201,33 @@ module _ {D : Type 0} (Tells : Type 0) (sight : D → Sight) (count : D → ℕ)
           each_more (λ (k : ℕ) (o n : ProviderState D). count o.chronicle.disk ≤ count n.chronicle.disk) so_far.later
           later
 
-      pub stops_more : StopsShort trade number moment (site_of (desk_of was) links) behind
-          → StopsWithin trade moment before (sites_of later_now later_waiting)
-      stops_more short =
-          let size = length-set now number new in
-          let e = many in
-          stops_within trade moment before (sites_of later_now later_waiting)
-          (sites_count later_now later_waiting ∙ size ∙ many ∙ sym (sites_count old waited))
-          (subst (λ (s : List Site). HaveFronts trade moment before s) (sym sites_more)
-          (fronts_more trade moment before (sites_of now waiting) number behind
-          (let m = sites_count now waiting in omega arith) so_far.fronts
-          (front_short trade moment before number (site_of (desk_of was) links) behind stood short)))
+      pub worked_more : HasFront trade moment before number behind → Runs kept seals number new → new.owed ≡ []
+          → length left ≡ length links
+          → (Tells → CarriesFrames trade number moment sight was.chronicle links new.chronicle left)
+          → (Tells → Stands sight was.chronicle → Stands sight new.chronicle)
+          → count was.chronicle.disk ≤ count new.chronicle.disk → WorkedSoFar (number + 1) later_now later_waiting
+      worked_more front runs owed same carries stands later = record {
+        whole = whole_more runs owed same;
+        next = λ k other l. get_or-set_other now number k new other (λ e. absurd (omega (arith, l, e)))
+            ∙ so_far.next k other (omega arith);
+        waits = λ k l. get_or-set_other waiting number k left [] (λ e. absurd (omega (arith, l, e)))
+            ∙ so_far.waits k (omega arith);
+        fronts = subst (λ (s : List Site). HaveFronts trade moment before s) (sym sites_more)
+            (fronts_more trade moment before (sites_of now waiting) number behind
+            (let m = sites_count now waiting in omega arith) so_far.fronts front);
+        carries = carries_more carries;
+        stands = stands_more stands;
+        later = later_more later;
+      }
+
+      -- memory ran out in it
+      pub short_front : StopsShort trade number moment (site_of (desk_of was) links) behind
+          → HasFront trade moment before number behind
+      short_front short = front_short trade moment before number (site_of (desk_of was) links) behind stood short
 
       -- ---- it is told
 
       module _ (turn : Turn) (out : List (List Bytes)) where
-        blames_more : (turn.ended ≡ Some faults.DiskFault
-            → HasRisen (count was.chronicle.disk) (count new.chronicle.disk))
-            → BlamesDisks count (turns ++ turn ∷ []) old later_now
-        blames_more risen = λ k told e ended.
-            elim (get_push turns turn told k e) [
-              | inl front ↦
-                  let apart : k ≡ number → ⊥ = λ same. (let l = front.0 in let m = so_far.told in
-                  absurd (omega arith)) in
-                  λ other. subst (λ (p : ProviderState D). HasRisen (count (get_or old k other).chronicle.disk)
-                  (count p.chronicle.disk))
-                  (sym (get_or-set_other now number k new other apart)) (so_far.blames k told front.1 ended other)
-              | inr last ↦
-                  let place : k ≡ number = last.0 ∙ so_far.told in
-                  λ other. subst (λ (n : ℕ). HasRisen (count (get_or old n other).chronicle.disk)
-                  (count (get_or later_now n other).chronicle.disk)) (sym place)
-                  (subst (λ (p : ProviderState D). HasRisen (count p.chronicle.disk)
-                  (count (get_or later_now number other).chronicle.disk)) (sym (was_old other))
-                  (subst (λ (p : ProviderState D). HasRisen (count was.chronicle.disk) (count p.chronicle.disk))
-                  (sym (get_or-set_same now number new other within))
-                  (risen (ap (λ (t : Turn). t.ended) last.1 ∙ ended))))
-            ]
-
         -- the turn as it was taken, with the rooms of the round
         had_turn : (rooms : List ℕ) → rooms ≡ map (room_on number) waited
             → Took trade number moment (room_in rooms) (site_of (desk_of was) links) (turn_of behind turn out)
@@ -278,85 +266,88 @@ module _ {D : Type 0} (Tells : Type 0) (sight : D → Sight) (count : D → ℕ)
               memory = memory;
             }
 
-        pub taken_more : (rooms : List ℕ) → rooms ≡ map (room_on number) waited
+        pub turn_front : (rooms : List ℕ) → rooms ≡ map (room_on number) waited
             → Took trade number moment (room_in rooms) (site_of (desk_of was) links) (turn_of behind turn out)
             → turn ≡ told_of number (turn_of behind turn out)
             → ((to : ℕ) → length (get_or out to []) ≤ room_in rooms to)
-            → (turn.ended ≡ Some faults.NoMemory → ⊥)
-            → Runs kept seals number new → new.owed ≡ [] → length left ≡ length links
-            → (Tells → CarriesFrames trade number moment sight was.chronicle links new.chronicle left)
-            → (Tells → Stands sight was.chronicle → Stands sight new.chronicle)
-            → (turn.ended ≡ Some faults.DiskFault → HasRisen (count was.chronicle.disk) (count new.chronicle.disk))
-            → count was.chronicle.disk ≤ count new.chronicle.disk
-            → TurnsSoFar (number + 1) later_now later_waiting (turns ++ turn ∷ []) (outs ++ out ∷ [])
-        taken_more rooms are took told fit memory runs owed same carries stands risen later =
-            let had = had_turn rooms are took told fit memory in
-            let place : number < length (sites_of now waiting) = (let m = sites_count now waiting in omega arith) in
-            record {
-              whole = whole_more runs owed same;
-              told = length-append turns (turn ∷ []) ∙ ap (λ (n : ℕ). n + 1) so_far.told;
-              puts = length-append outs (out ∷ []) ∙ ap (λ (n : ℕ). n + 1) so_far.puts;
-              next = λ k other l. get_or-set_other now number k new other (λ e. absurd (omega arith))
-                  ∙ so_far.next k other (omega arith);
-              waits = λ k l. get_or-set_other waiting number k left [] (λ e. absurd (omega arith))
-                  ∙ so_far.waits k (omega arith);
-              had = subst (λ (s : List Site). AllHad trade moment before s (turns ++ turn ∷ []) (outs ++ out ∷ []))
-                  (sym sites_more)
-                  (had_more trade moment before (sites_of now waiting) turns outs number behind turn out so_far.told
-                  so_far.puts place so_far.had had);
-              fronts = subst (λ (s : List Site). HaveFronts trade moment before s) (sym sites_more)
-                  (fronts_more trade moment before (sites_of now waiting) number behind place so_far.fronts
-                  (front_of trade moment before number behind turn out had));
-              carries = carries_more carries;
-              stands = stands_more stands;
-              blames = blames_more risen;
-              later = later_more later;
-            }
+            → (turn.ended ≡ Some faults.NoMemory → ⊥) → HasFront trade moment before number behind
+        turn_front rooms are took told fit memory =
+            front_of trade moment before number behind turn out (had_turn rooms are took told fit memory)
 
-    -- ---- memory ran out between turns
+        -- so many turns before it were told
+        module _ (turns : List Turn) (outs : List (List (List Bytes))) (turns_so_far : TurnsSoFar number now waiting turns outs) where
+          blames_more : (turn.ended ≡ Some faults.DiskFault
+              → HasRisen (count was.chronicle.disk) (count new.chronicle.disk))
+              → BlamesDisks count (turns ++ turn ∷ []) old later_now
+          blames_more risen = λ k told e ended.
+              elim (get_push turns turn told k e) [
+                | inl front ↦
+                    let apart : k ≡ number → ⊥ = λ same. (let l = front.0 in let m = turns_so_far.told in
+                    absurd (omega arith)) in
+                    λ other. subst (λ (p : ProviderState D). HasRisen (count (get_or old k other).chronicle.disk)
+                    (count p.chronicle.disk))
+                    (sym (get_or-set_other now number k new other apart)) (turns_so_far.blames k told front.1 ended other)
+                | inr last ↦
+                    let place : k ≡ number = last.0 ∙ turns_so_far.told in
+                    λ other. subst (λ (n : ℕ). HasRisen (count (get_or old n other).chronicle.disk)
+                    (count (get_or later_now n other).chronicle.disk)) (sym place)
+                    (subst (λ (p : ProviderState D). HasRisen (count p.chronicle.disk)
+                    (count (get_or later_now number other).chronicle.disk)) (sym (was_old other))
+                    (subst (λ (p : ProviderState D). HasRisen (count was.chronicle.disk) (count p.chronicle.disk))
+                    (sym (get_or-set_same now number new other within))
+                    (risen (ap (λ (t : Turn). t.ended) last.1 ∙ ended))))
+              ]
 
-    pub stops_between : (number : ℕ) (now : List (ProviderState D)) (waiting : List Waiting) (turns : List Turn)
-        (outs : List (List (List Bytes)))
-        → TurnsSoFar number now waiting turns outs → StopsWithin trade moment before (sites_of now waiting)
-    stops_between number now waiting turns outs so_far =
-        stops_within trade moment before (sites_of now waiting)
-        (sites_count now waiting ∙ so_far.whole.count ∙ sym whole_before.count ∙ sym (sites_count old waited))
-        so_far.fronts
+          pub taken_more : (rooms : List ℕ) → rooms ≡ map (room_on number) waited
+              → Took trade number moment (room_in rooms) (site_of (desk_of was) links) (turn_of behind turn out)
+              → turn ≡ told_of number (turn_of behind turn out)
+              → ((to : ℕ) → length (get_or out to []) ≤ room_in rooms to)
+              → (turn.ended ≡ Some faults.NoMemory → ⊥)
+              → (turn.ended ≡ Some faults.DiskFault → HasRisen (count was.chronicle.disk) (count new.chronicle.disk))
+              → TurnsSoFar (number + 1) later_now later_waiting (turns ++ turn ∷ []) (outs ++ out ∷ [])
+          taken_more rooms are took told fit memory risen =
+              let had = had_turn rooms are took told fit memory in
+              let place : number < length (sites_of now waiting) = (let m = sites_count now waiting in omega arith) in
+              record {
+                told = length-append turns (turn ∷ []) ∙ ap (λ (n : ℕ). n + 1) turns_so_far.told;
+                puts = length-append outs (out ∷ []) ∙ ap (λ (n : ℕ). n + 1) turns_so_far.puts;
+                had = subst (λ (s : List Site). AllHad trade moment before s (turns ++ turn ∷ []) (outs ++ out ∷ []))
+                    (sym sites_more)
+                    (had_more trade moment before (sites_of now waiting) turns outs number behind turn out
+                    turns_so_far.told turns_so_far.puts place turns_so_far.had had);
+                blames = blames_more risen;
+              }
+
+    -- ---- behind the round, whatever waits
+
+    pub stops_behind : (number : ℕ) (now : List (ProviderState D)) (waiting arrivals : List Waiting)
+        → WorkedSoFar number now waiting → StopsWithin trade moment before (sites_of now arrivals)
+    stops_behind number now waiting arrivals so_far =
+        stops_within trade moment before (sites_of now arrivals)
+        (sites_count now arrivals ∙ so_far.whole.count ∙ sym whole_before.count ∙ sym (sites_count old waited))
+        (λ k.
+        let front = so_far.fronts k in
+        let same = desk_stays now arrivals waiting k in record {
+          cut = front.cut;
+          journal = λ l. same.0 ∙ front.journal l;
+          interrupted = λ l. same.1 ∙ front.interrupted l;
+        })
 
     -- ---- all turns were taken
 
-    module _ (now : List (ProviderState D)) (waiting : List Waiting) (turns : List Turn)
-        (outs : List (List (List Bytes)))
-        (number : ℕ) (all : number ≡ length kept) (so_far : TurnsSoFar number now waiting turns outs) where
+    module _ (now : List (ProviderState D)) (waiting : List Waiting) (turns : List Turn) (outs : List (List (List Bytes)))
+        (number : ℕ) (all : number ≡ length kept) (so_far : WorkedSoFar number now waiting)
+        (turns_so_far : TurnsSoFar number now waiting turns outs) where
       old_count : length before ≡ length kept
       old_count = sites_count old waited ∙ whole_before.count
-
-      told_all : length turns ≡ length before
-      told_all = so_far.told ∙ all ∙ sym old_count
-
-      puts_all : length outs ≡ length before
-      puts_all = so_far.puts ∙ all ∙ sym old_count
 
       now_same : length waiting ≡ length now
       now_same = so_far.whole.links ∙ sym so_far.whole.count
 
-      pub all_can : (rooms : List (List ℕ)) → AreRooms (length kept) waited rooms → CanBeDelivered outs waiting
-      all_can rooms are =
-          let size = old_count in
-          can_deliver trade moment before (sites_of now waiting) turns outs told_all puts_all so_far.had waiting
-          (so_far.whole.links ∙ sym old_count) (all_of ∙ sym old_count)
-          (λ to l. so_far.whole.senders to l ∙ sym old_count)
-          (λ to l. waiting_at now waiting to now_same)
-          (λ from to l m.
-          let short = All-get_or (λ (w : Waiting). length (waiting_from w from) ≤ link_size) waited to []
-          (let e = whole_before.links in omega arith)
-          (are.short from (omega arith)) in
-          let is = ap (λ (w : Waiting). length (waiting_from w from)) (waiting_at old waited to same_before) in
-          omega (arith, short, is))
-
       pub round_so : IsRound trade moment before turns (sites_of now (deliveries outs 0 waiting))
       round_so =
-          is_round trade moment before (sites_of now waiting) turns outs told_all puts_all so_far.had
+          is_round trade moment before (sites_of now waiting) turns outs
+          (turns_so_far.told ∙ all ∙ sym old_count) (turns_so_far.puts ∙ all ∙ sym old_count) turns_so_far.had
           (sites_of now (deliveries outs 0 waiting))
           (sites_count now (deliveries outs 0 waiting) ∙ so_far.whole.count ∙ sym old_count)
           (λ k l. site_delivered now waiting outs 0 k
@@ -367,39 +358,19 @@ module _ {D : Type 0} (Tells : Type 0) (sight : D → Sight) (count : D → ℕ)
 
 -- ---- what was put is delivered
 
-delivered_links : (to : ℕ) (outs : List (List (List Bytes))) (links : Waiting) → length outs ≤ length links
-    → length (delivered_to to outs links) ≡ length links
-delivered_links to [] links l = refl
-delivered_links to (out ∷ outs) [] l = absurd (omega arith)
-delivered_links to (out ∷ outs) (link ∷ links) l = ap suc (delivered_links to outs links (omega arith))
-
 pub deliveries_count : (outs : List (List (List Bytes))) (to : ℕ) (waiting : List Waiting)
     → length (deliveries outs to waiting) ≡ length waiting
 deliveries_count outs to [] = refl
 deliveries_count outs to (links ∷ waiting) = ap suc (deliveries_count outs (to + 1) waiting)
 
-deliveries_links : (outs : List (List (List Bytes))) (to : ℕ) (waiting : List Waiting) (k : ℕ) → k < length waiting
-    → length outs ≤ length (waiting_for waiting k) → length (waiting_for (deliveries outs to waiting) k)
-    ≡ length (waiting_for waiting k)
-deliveries_links outs to [] k l m = absurd (omega arith)
-deliveries_links outs to (links ∷ waiting) zero l m = delivered_links to outs links m
-deliveries_links outs to (links ∷ waiting) (suc k) l m = deliveries_links outs (to + 1) waiting k (omega arith) m
-
-pub whole_delivered : {D : Type 0} {seals : Seals} (kept : List Kept) (providers : List (ProviderState D)) (waiting : List Waiting)
-    (outs : List (List (List Bytes)))
-    → IsOfDirectory kept seals providers waiting → CanBeDelivered outs waiting
-    → IsOfDirectory kept seals providers (deliveries outs 0 waiting)
-whole_delivered kept providers waiting outs whole can =
-    let size = deliveries_count outs 0 waiting in record {
-      fits = whole.fits;
-      count = whole.count;
-      links = size ∙ whole.links;
-      senders = λ to l.
-          let within : to < length waiting = omega arith in
-          deliveries_links outs 0 waiting to within (can.links to within) ∙ whole.senders to within;
-      runs = whole.runs;
-      nothing_owed = whole.nothing_owed;
-    }
+pub deliveries_at : (outs : List (List (List Bytes))) (to : ℕ) (waiting : List Waiting) (k : ℕ) → k < length waiting
+    → waiting_for (deliveries outs to waiting) k ≡ delivered_to (to + k) outs (waiting_for waiting k)
+deliveries_at outs to [] k l = absurd (omega arith)
+deliveries_at outs to (links ∷ waiting) zero l =
+    ap (λ (n : ℕ). delivered_to n outs links) (let here : to ≡ to + 0 = omega arith in here)
+deliveries_at outs to (links ∷ waiting) (suc k) l =
+    deliveries_at outs (to + 1) waiting k (omega arith)
+    ∙ ap (λ (n : ℕ). delivered_to n outs (waiting_for waiting k)) (let there : (to + 1) + k ≡ to + suc k = omega arith in there)
 
 -- ---- rooms of one provider more
 
@@ -436,17 +407,6 @@ rooms_more senders arrivals rooms more so_far is short = record {
       ];
 }
 
--- those of one provider, as they were found
-pub rooms_here : (kept : ℕ) (senders : ℕ) (waited arrivals : List Waiting) (all : List (List ℕ)) (number : ℕ)
-    (one rooms : List ℕ)
-    → AreRooms senders arrivals all → senders ≡ kept → arrivals ≡ waited → number < kept → one ≡ get_or all number one
-    → rooms ≡ one
-    → rooms ≡ map (room_on number) waited
-rooms_here kept senders waited arrivals all number one rooms are count same within found is =
-    let size = are.count in
-    is ∙ found ∙ get_or_default all number one [] (omega arith) ∙ are.is number (omega arith)
-    ∙ ap (λ (a : List Waiting). map (room_on number) a) same
-
 pub rooms_of_all : (kept : ℕ) (senders : ℕ) (waited arrivals : List Waiting) (all : List (List ℕ))
     → AreRooms senders arrivals all → senders ≡ kept → arrivals ≡ waited → AreRooms kept waited all
 rooms_of_all kept senders waited arrivals all are count same =
@@ -457,11 +417,3 @@ rooms_of_all kept senders waited arrivals all are count same =
 pub on_err : {X F P : Type 0} (r : Result X F) → P → OnErr r P
 on_err (Ok x) p = tt
 on_err (Err fault) p = p
-
--- what was written to a part of a list that is all of it
-pub written_whole : {X : Type 0} (old new : List X) (size : ℕ) → size ≡ length old → length new ≡ length old
-    → take size (new ++ drop (length new) old) ≡ new
-written_whole {X} old new size all same =
-    let none = drop_all (length new) old (omega arith) in
-    ap (λ (rest : List X). take size (new ++ rest)) none ∙ ap (λ (l : List X). take size l) (append-nil new)
-    ∙ take_all size new (omega arith)

@@ -12,18 +12,18 @@ use Rattle.pec_types.specs.Bytes.{Bytes}
 use Rattle.pec_types.specs.declared.turns.ProviderFault.TheVariants as faults
 use Rattle.pec_types.specs.declared.turns.Turn.{Turn}
 use Rattle.pec_ledger.specs.Ledger.{Journals}
-use Rattle.pec_ledger.specs.Network.{AreGenuine, IsGenuine, Site, empty_site, frames_between, site_at}
+use Rattle.pec_ledger.specs.Network.{AreGenuine, IsGenuine, Site, empty_site, site_at}
 use Rattle.pec_ledger.specs.Trade.{Trade}
 use Rattle.pec_plays.specs.Commands.{Luck, Played, Turns, played}
 use Rattle.pec_plays.specs.Possible.{MayCut}
-use Rattle.pec_plays.specs.Rounds.{delivered, delivered_to, link_size, outs_of, rooms_of, rounded, told_from}
+use Rattle.pec_plays.specs.Rounds.{delivered, delivered_to, outs_of, rooms_of, rounded, told_from}
 use Rattle.pec_plays.specs.Rounds.{turns_from, turns_of, with_waiting}
 use Rattle.pec_plays.specs.Turns.{Cut, Stops, Turned, frames_in, plan, turned}
-use Rattle.pec_posts.specs.Arrivals.{CanBeDelivered, Waiting, waiting_for, waiting_from}
+use Rattle.pec_posts.specs.Arrivals.{Waiting, waiting_from}
 use Rattle.pec_network.specs.Turning.{StopsShort, Took, cut_told, told_of, turn_of}
 use Rattle.pec_network.specs.Rounds.{IsRound, StopsWithin, cut_of, luck_of_turns}
 use Rattle.pec_network.proofs.DeliveryLemmas.{after_is, after_length, out_at, outs_length, turn_in, turn_is, turns_length}
-use Rattle.pec_network.proofs.TurnLemmas.{puts_few, stops_first, stops_short, waits_shorter}
+use Rattle.pec_network.proofs.TurnLemmas.{stops_first, stops_short}
 
 -- ---- lists
 
@@ -176,32 +176,6 @@ module _ (trade : Trade) (moment : ℕ) (old : List Site) where
           ((had_at k l).took.may up time);
       memory = All-from_get_or (λ (t : Turn). t.ended ≢ Some faults.NoMemory) turns untold
           (λ k within. (had_at k (omega arith)).memory);
-    }
-
-    -- ---- what was put can be delivered
-
-    -- no link held more than it may
-    pub can_deliver : (arrivals : List Waiting) → length arrivals ≡ length old → trade.providers ≡ length old
-        → ((to : ℕ) → to < length arrivals → length (waiting_for arrivals to) ≡ length old)
-        → ((to : ℕ) → to < length arrivals → (site_at new to).waiting ≡ waiting_for arrivals to)
-        → ((from to : ℕ) → from < length old → to < length old → length (frames_between old from to) ≤ link_size)
-        → CanBeDelivered outs arrivals
-    can_deliver arrivals same all_of senders waits short = record {
-      addressees = λ from l.
-          let m : from < length old = omega arith in
-          let few = puts_few trade from moment (rooms_of old from) (cuts from) (site_at old from) in
-          let put = ap (λ (t : Turned). length t.out) (turn_so from m) in
-          omega (arith, few, put);
-      links = λ to l. let e = senders to l in omega arith;
-      room = λ from to l m.
-          let within : from < length old = omega arith in
-          let there : to < length old = omega arith in
-          let fit = (had_at from within).fit to in
-          let less = waits_shorter trade to moment (rooms_of old to) (cuts to) (site_at old to) from in
-          let left = ap (λ (t : Turned). length (get_or t.site.waiting from [])) (turn_so to there) in
-          let now = ap (λ (w : Waiting). length (waiting_from w from)) (waits to m) in
-          let most = short from to within there in
-          omega (arith, fit, less, left, now, most);
     }
 
   -- ---- want of memory

@@ -95,3 +95,16 @@ module _ {D : Type 0} where
       ∙ ap (λ (n : ℕ). with_waiting (site_at (sites_of providers waiting) k)
       (delivered_to n outs (site_at (sites_of providers waiting) k).waiting))
       (let there : (to + 1) + k ≡ to + suc k = omega arith in there)
+
+  -- what waits changes no journal, and nothing that is interrupted
+  pub desk_stays : (providers : List (ProviderState D)) (one other : List Waiting) (k : ℕ)
+      → ((site_at (sites_of providers one) k).journal ≡ (site_at (sites_of providers other) k).journal)
+      × ((site_at (sites_of providers one) k).interrupted ≡ (site_at (sites_of providers other) k).interrupted)
+  desk_stays [] one other k = (refl, refl)
+  desk_stays (provider ∷ providers) [] [] k = (refl, refl)
+  desk_stays (provider ∷ providers) [] (links ∷ other) zero = (refl, refl)
+  desk_stays (provider ∷ providers) [] (links ∷ other) (suc k) = desk_stays providers [] other k
+  desk_stays (provider ∷ providers) (links ∷ one) [] zero = (refl, refl)
+  desk_stays (provider ∷ providers) (links ∷ one) [] (suc k) = desk_stays providers one [] k
+  desk_stays (provider ∷ providers) (links ∷ one) (more ∷ other) zero = (refl, refl)
+  desk_stays (provider ∷ providers) (links ∷ one) (more ∷ other) (suc k) = desk_stays providers one other k

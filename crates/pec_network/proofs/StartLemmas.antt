@@ -4,7 +4,7 @@ use Rattle.std.specs.Prelude.{◌≢◌, ◌++◌}
 use Rattle.std.proofs.lemmas.List.{append-nil}
 use Rattle.pec_types.specs.Bytes.{Bytes}
 use Rattle.pec_outside.specs.DiskModel.{GrowsTo, Rests, Sight, Stays}
-use Rattle.pec_outside.specs.Moments.{grows, grows_at_rest, stays, stays_on}
+use Rattle.pec_outside.specs.Moments.{grows, stays, stays_on}
 use Rattle.pec_outside.specs.Flow.{HasRisen}
 use Rattle.pec_directory.specs.Canonical.{digest_of}
 use Rattle.pec_directory.specs.Directory.{Kept, providers_of}

@@ -8,7 +8,7 @@ use Rattle.pec_ledger.specs.Trade.{Trade}
 use Rattle.pec_posts.specs.Arrivals.{Waiting}
 use Rattle.pec_seal.specs.Seals.{Seals}
 use Rattle.pec_provider.specs.Provider.{ProviderState, Runs}
-use Rattle.pec_provider.specs.Summing.{nothing_yet, plus, summary_of, total_from}
+use Rattle.pec_provider.specs.Summing.{plus, summary_of, total_from}
 use Rattle.pec_provider.specs.Summing.{Summary}
 use Rattle.pec_network.specs.Network.{sites_of}
 use Rattle.pec_network.specs.Summing.{AllRun, total_over}

@@ -11,3 +11,4 @@ pub mod Rounds
 pub mod Starting
 pub mod Summing
 pub mod Turning
+pub mod Working

@@ -6,8 +6,10 @@ use Rattle.pec_types.specs.declared.turns.ProviderFault.TheVariants as faults
 use Rattle.pec_link.specs.declared.faults.LinkFault.{LinkFault}
 use Rattle.pec_link.specs.declared.faults.LinkFault.TheVariants as link_faults
 use Rattle.pec_ledger.specs.Network.{Site}
-use Rattle.pec_plays.specs.Commands.{Answer, LinkFull, Luck, NoFrame, Played, Refuses, answers}
+use Rattle.pec_plays.specs.Commands.{Answer, Command, LinkFull, Luck, NoFrame, Played, Refuses, answers, played}
 use Rattle.pec_provider.specs.Playing.{luck_of}
+use Rattle.pec_seal.specs.Seals.{Seals}
+use Rattle.pec_network.specs.Network.{NetworkState, sites, world_of}
 
 -- A command of a provider was played, and answered so. An append that failed is told by the answer; all other refusals, and
 -- want of memory, leave the state as it was.
@@ -17,6 +19,12 @@ IsPlayed tells play old new (Err faults.DiskFault) =
     play (luck_of true) ≡ record { answer = Refuses faults.DiskFault; after = new }
 IsPlayed tells play old new (Err faults.NoMemory) = new ≡ old
 IsPlayed tells play old new (Err fault) = (play (luck_of false) ≡ answers old (Refuses fault)) × (new ≡ old)
+
+-- A command of a provider was played over a network, in its world, and answered so.
+abbrev pub IsPlayedOver : {D S X : Type 0} → (S → Seals) → (X → Answer) → Command → NetworkState D S
+    → NetworkState D S → Result X ProviderFault → Type 0
+IsPlayedOver seals tells command old new result =
+    IsPlayed tells (λ (luck : Luck). played (world_of seals old) luck (sites old) command) (sites old) (sites new) result
 
 -- A command of a link was played, which answers so where it is done.
 abbrev pub IsPlayedOnLink : Answer → Played → List Site → List Site → Result (Unit {0}) LinkFault → Type 0

@@ -1,18 +1,14 @@
-ghost use Rattle.std.specs.Prelude.{◌≡◌, ℕ, ◌<◌, ◌≤◌, List, length, map, IsErrOf};
-ghost use Rattle.pec_types.specs.declared.turns.ProviderFault.TheVariants as faults;
+ghost use Rattle.std.specs.Prelude.{◌≡◌, ◌<◌, ◌≤◌, length, map};
 ghost use Rattle.pec_directory.specs.Directory.{providers_of};
 ghost use Rattle.pec_records.specs.Entry.{longest_message, most_addresses};
-ghost use Rattle.pec_ledger.specs.Ledger.{Journals};
-ghost use Rattle.pec_plays.specs.Commands.{Marks, Submit, Submits, Tick, played};
+ghost use Rattle.pec_plays.specs.Commands.{Marks, Submit, Submits, Tick};
 ghost use Rattle.pec_points.specs.Case.{case_at};
 ghost use Rattle.pec_provider.specs.Looking.{Looks};
 ghost use Rattle.pec_screen.specs.Screened.{finds_in};
 ghost use Rattle.pec_screen.specs.VerdictReading.{finds};
-ghost use Rattle.pec_network.specs.Carrying.{AllCarryOn, NoneFalls};
-ghost use Rattle.pec_network.specs.Changing.{ChangesOnly, HasRisenAt};
+ghost use Rattle.pec_network.specs.Changing.{ConcernsOne};
 ghost use Rattle.pec_network.specs.Looking.{OnlyLooks};
-ghost use Rattle.pec_network.specs.Network.{sites, world_of};
-ghost use Rattle.pec_network.specs.Playing.{IsPlayed};
+ghost use Rattle.pec_network.specs.Playing.{IsPlayedOver};
 
 use crate::laws::what_rests_carries_on;
 use crate::network::Network;
@@ -42,20 +38,14 @@ impl<D: Disk, S: Sealer> Network<D, S> {
         requires provider { provider < length self.old.kept }
         requires path { (0 < length path.now) × (length path.now ≤ most_addresses) }
         requires message { length message.now ≤ longest_message }
-        ensures plays { IsPlayed Submits
-            (λ luck. played (world_of S.seals self.old) luck (sites self.old)
-            (Submit provider moment sender.now path.now message.now (finds (J.patterns screens.old) message.now)))
-            (sites self.old) (sites self.new) result }
+        ensures plays { IsPlayedOver S.seals Submits (Submit provider moment sender.now path.now message.now
+            (finds (J.patterns screens.old) message.now)) self.old self.new result }
         // Each screen has looked once exactly where the message came to the screens, also where it is refused then.
         ensures looked { Looks (case_at (providers_of self.old.kept) provider sender.now path.now message.now
             (finds (J.patterns screens.old) message.now)) (J.seen screens.old) (J.seen screens.new) result }
         ensures patterns { J.patterns screens.new ≡ J.patterns screens.old }
-        ensures others { ChangesOnly provider self.old self.new }
-        ensures carries { D.tells → (journals : Journals) → AllCarryOn D.sight
-            (world_of S.seals self.old) journals self.old.providers self.new.providers }
-        ensures disk_fault { IsErrOf result faults.DiskFault →
-            HasRisenAt D.faults provider self.old.providers self.new.providers }
-        ensures later { NoneFalls D.faults self.old.providers self.new.providers }
+        // No other provider is touched; the disks carry on; a fault of its disk is told only where that count rose.
+        ensures concerns { ConcernsOne D.sight D.faults D.tells S.seals provider self.old self.new result }
     {
         what_rests_carries_on::<D>();
         let house = House {
@@ -83,22 +73,14 @@ impl<D: Disk, S: Sealer> Network<D, S> {
         requires provider { provider < length self.old.kept }
         requires path { (0 < length path.now) × (length path.now ≤ most_addresses) }
         requires message { length message.now ≤ longest_message }
-        ensures plays { IsPlayed Submits
-            (λ luck. played (world_of S.seals self.old) luck (sites self.old)
-            (Submit provider moment sender.now path.now message.now
-            (finds_in (map J.patterns screens.old) provider message.now)))
-            (sites self.old) (sites self.new) result }
+        ensures plays { IsPlayedOver S.seals Submits (Submit provider moment sender.now path.now message.now
+            (finds_in (map J.patterns screens.old) provider message.now)) self.old self.new result }
         // Of the provider's own screens each has looked once exactly where the message came to them; no other has.
         ensures looked { OnlyLooks provider (case_at (providers_of self.old.kept) provider sender.now path.now
             message.now (finds_in (map J.patterns screens.old) provider message.now))
             (map J.seen screens.old) (map J.seen screens.new) result }
         ensures patterns { map J.patterns screens.new ≡ map J.patterns screens.old }
-        ensures others { ChangesOnly provider self.old self.new }
-        ensures carries { D.tells → (journals : Journals) → AllCarryOn D.sight
-            (world_of S.seals self.old) journals self.old.providers self.new.providers }
-        ensures disk_fault { IsErrOf result faults.DiskFault →
-            HasRisenAt D.faults provider self.old.providers self.new.providers }
-        ensures later { NoneFalls D.faults self.old.providers self.new.providers }
+        ensures concerns { ConcernsOne D.sight D.faults D.tells S.seals provider self.old self.new result }
     {
         let at = provider as usize;
         if at >= screens.len() {
@@ -126,15 +108,9 @@ impl<D: Disk, S: Sealer> Network<D, S> {
         moment: Moment,
     ) -> Result<Vec<Mark>, ProviderFault>
         requires { provider < length self.old.kept }
-        ensures plays { IsPlayed (λ marks. Marks marks.items)
-            (λ luck. played (world_of S.seals self.old) luck (sites self.old)
-            (Tick provider moment)) (sites self.old) (sites self.new) result }
-        ensures others { ChangesOnly provider self.old self.new }
-        ensures carries { D.tells → (journals : Journals) → AllCarryOn D.sight
-            (world_of S.seals self.old) journals self.old.providers self.new.providers }
-        ensures disk_fault { IsErrOf result faults.DiskFault →
-            HasRisenAt D.faults provider self.old.providers self.new.providers }
-        ensures later { NoneFalls D.faults self.old.providers self.new.providers }
+        ensures plays { IsPlayedOver S.seals (λ marks. Marks marks.items) (Tick provider moment)
+            self.old self.new result }
+        ensures concerns { ConcernsOne D.sight D.faults D.tells S.seals provider self.old self.new result }
     {
         what_rests_carries_on::<D>();
         let house = House {

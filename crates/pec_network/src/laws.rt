@@ -19,6 +19,9 @@ use pec_directory::Directory;
 use pec_outside::Disk;
 use pec_provider::what_follows_goes_on;
 
+// In whatever order the puts and takes of the turns of a round come, each link ends as the round leaves it.
+pub use pec_schedules::interleavings;
+
 /// What isn't touched carries on.
 pub(crate) fn what_rests_carries_on<D: Disk>()
     ensures { D.tells → (state : ChronicleState D) → CarriesOn D.sight NothingMay state state }

@@ -5,6 +5,7 @@ mod closing;
 mod commands;
 mod crashing;
 mod faults;
+mod gates;
 mod keeping;
 pub mod laws;
 mod linking;
@@ -17,8 +18,10 @@ mod starting;
 mod steps;
 mod summing;
 mod turns;
+mod working;
 
 pub use faults::{NotFit, RestartFault, StartFault};
+pub use gates::{FreeGate, Gate};
 pub use keeping::a_network_keeps_its_promises;
 pub use network::Network;
 pub use opening::Form;

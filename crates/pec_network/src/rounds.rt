@@ -1,34 +1,43 @@
-ghost use Rattle.std.specs.Prelude.{◌≡◌, length, IfOk, OnErr};
+ghost use Rattle.std.specs.Prelude.{◌≡◌, ◌<◌, [], ◌++◌, length, IfOk, OnErr, vec_len, vec_capacity};
 ghost use Rattle.std.specs.List.{All};
+ghost use Rattle.std.specs.Option.{option_to_list};
 ghost use Rattle.pec_ledger.specs.Ledger.{Fit, Journals};
 ghost use Rattle.pec_trade.specs.TradeOf.{trade_of};
-ghost use Rattle.pec_posts.specs.Arrivals.{CanBeDelivered, Waiting, deliveries};
+ghost use Rattle.pec_posts.specs.Arrivals.{Waiting};
+ghost use Rattle.pec_posts.specs.Parting.{HasRoom, ends_in};
 ghost use Rattle.pec_network.specs.Carrying.{AllCarryOn, AllStand, NoneFalls};
 ghost use Rattle.pec_network.specs.Network.{IsOfDirectory, sites, sites_of, world_of};
 ghost use Rattle.pec_network.specs.Rounds.{AreRooms, BlamesDisks, FramesAreGenuine, IsRound, StopsWithin};
+ghost use Rattle.pec_network.specs.Working.{providers_in, putters_in, rooms_in, takers_in, tolds_in, turns_told};
 
+use crate::gates::Gate;
 use crate::laws::what_rests_carries_on;
 use crate::network::Network;
-use crate::turns::take_turn;
+use crate::working::{Slot, all_work};
 use pec_directory::Directory;
+use pec_link::{Link, Putter, Taker};
 use pec_outside::Disk;
-use pec_posts::{Arrivals, deliver, rooms};
-use pec_provider::{House, Provider};
+use pec_posts::{Arrivals, join, part, rooms, trays};
+use pec_provider::Provider;
+use pec_rows::{Putters, Takers, a_row_is_delivered_link_by_link};
 use pec_seal::Sealer;
-use pec_types::{Frame, Items, Moment, NoMemory, Turn};
+use pec_types::{Items, Moment, NoMemory, Turn};
 use std::alloc::Global;
 use std::thread::Threads;
 
 impl<D: Disk + Send, S: Sealer + Sync> Network<D, S> {
-    /// A round at a moment: each provider has its turn, in the order of the directory, from the state as the round
-    /// began, and then what they put is delivered. The answer is what is told of each turn. Where a journal is full, a
-    /// disk fails, a provider is down or the clock is behind its journal, that turn tells how it ended, and the others
-    /// go on. Where memory runs out nothing is delivered, and each provider has the entries of a front of its turn.
-    pub fn round<X: Threads + Sync>(
+    /// A round at a moment: each provider has its turn, from the state as the round began, and then what they put is
+    /// delivered. Each turn runs in a worker of its own, which holds the provider and its ends of the links, and passes the
+    /// gate first. The answer is what is told of each turn. Where a journal is full, a disk fails, a provider is down or the
+    /// clock is behind its journal, that turn tells how it ended, and the others go on. Where memory runs out in a turn the
+    /// others go on too: each provider has the entries of a front of its turn, and the frames of whole turns are on their
+    /// links.
+    pub fn round<X: Threads + Sync, G: Gate + Sync>(
         &mut self,
-        _rt: &X,
+        rt: &X,
         alloc: Global,
         moment: Moment,
+        gate: &G,
     ) -> Result<Vec<Turn>, NoMemory>
 
         // It is played as the command, with the luck that its turns tell.
@@ -51,45 +60,35 @@ impl<D: Disk + Send, S: Sealer + Sync> Network<D, S> {
             BlamesDisks D.faults turns.items self.old.providers self.new.providers) }
         ensures later { NoneFalls D.faults self.old.providers self.new.providers }
     {
-        let Pass { turns, outs } = take_turns(
+        take_turns(
+            rt,
             alloc,
             &self.directory,
             &self.sealer,
             &mut self.providers,
             &mut self.arrivals,
             moment,
-        )?;
-        deliver(self.arrivals.as_mut_slice(), outs);
-        Ok(turns)
+            gate,
+        )
     }
 }
 
-/// What the providers did in their turns of a round, by number.
-#[derive(Drop)]
-struct Pass {
-    /// What is told of each turn.
-    turns: Vec<Turn>,
-    /// The frames that each put, a list for each provider.
-    outs: Vec<Items<Items<Frame>>>,
-}
-
-/// The turns of all providers in a round, in the order of the directory, each from the state as the round began.
-/// Nothing is delivered yet.
-fn take_turns<D: Disk, S: Sealer>(
+/// The turns of all providers in a round, side by side, each from the state as the round began. All memory of the round
+/// itself is taken before the first move, so want of memory is that of a turn.
+fn take_turns<X: Threads + Sync, D: Disk + Send, S: Sealer + Sync, G: Gate + Sync>(
+    rt: &X,
     alloc: Global,
     directory: &Directory,
     sealer: &S,
     providers: &mut Vec<Provider<D>>,
     arrivals: &mut Vec<Arrivals>,
     moment: Moment,
-) -> Result<Pass, NoMemory>
+    gate: &G,
+) -> Result<Vec<Turn>, NoMemory>
     requires whole { IsOfDirectory directory.now (S.seals sealer.now) providers.old.items arrivals.old.items }
-
-    // It is a round, once what was put is delivered.
-    ensures plays { IfOk result (λ pass. IsRound (trade_of directory.now (S.seals sealer.now)) moment
-        (sites_of providers.old.items arrivals.old.items) pass.turns.items
-        (sites_of providers.new.items (deliveries pass.outs.items 0 arrivals.new.items))) }
-    ensures can { IfOk result (λ pass. CanBeDelivered pass.outs.items arrivals.new.items) }
+    ensures plays { IfOk result (λ turns. IsRound (trade_of directory.now (S.seals sealer.now)) moment
+        (sites_of providers.old.items arrivals.old.items) turns.items
+        (sites_of providers.new.items arrivals.new.items)) }
     ensures stops { OnErr result (StopsWithin (trade_of directory.now (S.seals sealer.now)) moment
         (sites_of providers.old.items arrivals.old.items) (sites_of providers.new.items arrivals.new.items)) }
     ensures whole { IsOfDirectory directory.now (S.seals sealer.now) providers.new.items arrivals.new.items }
@@ -100,35 +99,156 @@ fn take_turns<D: Disk, S: Sealer>(
         → AllCarryOn D.sight (trade_of directory.now (S.seals sealer.now)) journals
         providers.old.items providers.new.items }
     ensures stands { D.tells → AllStand D.sight providers.old.items → AllStand D.sight providers.new.items }
-    ensures disk_fault { IfOk result (λ pass.
-        BlamesDisks D.faults pass.turns.items providers.old.items providers.new.items) }
+    ensures disk_fault { IfOk result (λ turns.
+        BlamesDisks D.faults turns.items providers.old.items providers.new.items) }
     ensures later { NoneFalls D.faults providers.old.items providers.new.items }
 {
     what_rests_carries_on::<D>();
-    let rooms = all_rooms(alloc, directory.count(), arrivals.as_slice())?;
-    let mut turns = Vec::new(alloc);
-    let mut outs = Vec::new(alloc);
-    for me in 0..directory.count() {
-        turns.reserve(1)?;
-        outs.reserve(1)?;
-        let house = House {
-            directory,
-            sealer,
-            me,
-        };
-        let number = me as usize;
-        let taken = take_turn(
-            alloc,
-            &house,
-            &mut providers[number],
-            &mut arrivals[number],
-            moment,
-            rooms[number].as_slice(),
-        )?;
-        turns.push_reserved(taken.turn);
-        outs.push_reserved(taken.out);
+    a_row_is_delivered_link_by_link();
+    let count = directory.count();
+    let Table {
+        rooms,
+        mut rows,
+        taking,
+        linking,
+        mut putters,
+        mut takers,
+        mut turns,
+    } = laid(alloc, count, arrivals.as_slice())?;
+    let mut slots = Vec::with_capacity(alloc, count as usize)?;
+    part(arrivals, rows.as_mut_slice(), taking, &mut takers);
+    seat(providers, rows, &mut takers, rooms, &mut slots);
+    all_work(
+        rt,
+        alloc,
+        directory,
+        sealer,
+        moment,
+        slots.as_mut_slice(),
+        gate,
+    );
+    rise(&mut slots, providers, &mut putters, &mut takers, &mut turns);
+    slots.destroy_empty();
+    join(putters.as_mut_slice(), takers, linking, arrivals);
+    if turns.len() == count as usize {
+        Ok(turns)
+    } else {
+        Err(NoMemory)
     }
-    Ok(Pass { turns, outs })
+}
+
+/// What a round needs beside its workers: the room on the links, by the provider that puts; lists in which links are taken
+/// apart and put together; and what is told.
+#[derive(Drop)]
+struct Table {
+    rooms: Vec<Items<usize>>,
+    rows: Vec<Vec<Putter>>,
+    taking: Vec<Vec<Taker>>,
+    linking: Vec<Vec<Link>>,
+    putters: Vec<Putters>,
+    takers: Vec<Takers>,
+    turns: Vec<Turn>,
+}
+
+/// All memory of a round among so many providers, but that for its workers.
+fn laid(alloc: Global, count: u32, arrivals: &[Arrivals]) -> Result<Table, NoMemory>
+    requires { All (λ (links : Waiting). length links ≡ count) arrivals.now }
+    ensures rooms { IfOk result (λ table. AreRooms count arrivals.now table.rooms.items) }
+    ensures rows { IfOk result (λ table. (length table.rows.items ≡ count) × All (HasRoom count) table.rows.items) }
+    ensures taking { IfOk result (λ table. (length table.taking.items ≡ count) × All (HasRoom count) table.taking.items) }
+    ensures linking { IfOk result (λ table. (length table.linking.items ≡ count) × All (HasRoom count) table.linking.items) }
+    ensures putters { IfOk result (λ table. HasRoom count table.putters) }
+    ensures takers { IfOk result (λ table. HasRoom count table.takers) }
+    ensures turns { IfOk result (λ table. HasRoom count table.turns) }
+{
+    let rooms = all_rooms(alloc, count, arrivals)?;
+    Ok(Table {
+        rooms,
+        rows: trays(alloc, count)?,
+        taking: trays(alloc, count)?,
+        linking: trays(alloc, count)?,
+        putters: Vec::with_capacity(alloc, count as usize)?,
+        takers: Vec::with_capacity(alloc, count as usize)?,
+        turns: Vec::with_capacity(alloc, count as usize)?,
+    })
+}
+
+/// Gives each worker its provider and its ends of links. The lists of providers and of ends are then empty, with as much
+/// room as before. It takes no memory.
+fn seat<D>(
+    providers: &mut Vec<Provider<D>>,
+    rows: Vec<Vec<Putter>>,
+    takers: &mut Vec<Takers>,
+    mut rooms: Vec<Items<usize>>,
+    slots: &mut Vec<Slot<D>>,
+)
+    requires rows { length rows.items ≡ length providers.old.items }
+    requires takers { length takers.old.items ≡ length providers.old.items }
+    requires rooms { length rooms.items ≡ length providers.old.items }
+    requires slots { HasRoom (length providers.old.items) slots.old }
+    ensures providers { providers_in slots.new.items ≡ providers.old.items }
+    ensures putters { putters_in slots.new.items ≡ ends_in rows.items }
+    ensures takers { takers_in slots.new.items ≡ takers.old.items }
+    ensures rooms { rooms_in slots.new.items ≡ rooms.items }
+    ensures providers_room { HasRoom (length providers.old.items) providers.new }
+    ensures takers_room { HasRoom (length providers.old.items) takers.new }
+{
+    for row in rows {
+        let provider = providers.remove(0);
+        let ends = takers.remove(0);
+        let free = rooms.remove(0);
+        slots.push_reserved(Slot {
+            provider,
+            putters: Putters::of(row),
+            takers: ends,
+            rooms: free,
+            told: None,
+        });
+    }
+}
+
+/// Takes from each worker what it held, and what is told of its turn. It takes no memory.
+fn rise<D>(
+    slots: &mut Vec<Slot<D>>,
+    providers: &mut Vec<Provider<D>>,
+    putters: &mut Vec<Putters>,
+    takers: &mut Vec<Takers>,
+    turns: &mut Vec<Turn>,
+)
+    requires providers { HasRoom (length slots.old.items) providers.old }
+    requires putters { HasRoom (length slots.old.items) putters.old }
+    requires takers { HasRoom (length slots.old.items) takers.old }
+    requires turns { HasRoom (length slots.old.items) turns.old }
+    ensures providers { providers.new.items ≡ providers_in slots.old.items }
+    ensures putters { putters.new.items ≡ putters_in slots.old.items }
+    ensures takers { takers.new.items ≡ takers_in slots.old.items }
+    ensures turns { turns.new.items ≡ turns_told (tolds_in slots.old.items) }
+    ensures none { slots.new.items ≡ [] }
+{
+    for _ in 0..slots.len() {
+        let Slot {
+            provider,
+            putters: puts,
+            takers: takes,
+            rooms: _,
+            told,
+        } = slots.remove(0);
+        providers.push_reserved(provider);
+        putters.push_reserved(puts);
+        takers.push_reserved(takes);
+        tell(told, turns);
+    }
+}
+
+/// Puts what is told of a turn behind what is told of others.
+fn tell(told: Option<Turn>, turns: &mut Vec<Turn>)
+    requires { vec_len turns.old < vec_capacity turns.old }
+    ensures turns { turns.new.items ≡ turns.old.items ++ option_to_list told }
+    ensures room { vec_capacity turns.new ≡ vec_capacity turns.old }
+{
+    if let Some(turn) = told {
+        turns.push_reserved(turn);
+    }
 }
 
 /// How many more frames the links from each sender hold, by the provider for which they wait.

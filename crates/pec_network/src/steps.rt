@@ -10,6 +10,7 @@ ghost use Rattle.pec_chronicle.specs.Chronicle.{ChronicleState, Stands};
 ghost use Rattle.pec_provider.specs.Following.{MayFollow};
 ghost use Rattle.pec_provider.specs.Provider.{RunsIn, desk_of};
 ghost use Rattle.pec_provider.specs.Working.{IsAtWork};
+ghost use Rattle.pec_rows.specs.Rows.{knowns, waits};
 ghost use Rattle.pec_network.specs.Turning.{CarriesFrames, Ends, Leads, Waiting};
 
 use pec_outside::Disk;
@@ -17,8 +18,8 @@ use pec_plays::{
     a_plan_goes_step_by_step, frames_are_taken_in_order, the_next_pairs_are_left,
     what_a_provider_does_is_its_own,
 };
-use pec_posts::Arrivals;
 use pec_provider::{Event, House, Provider, ProviderFault, a_house_is_a_trade};
+use pec_rows::Takers;
 use pec_seal::Sealer;
 use pec_types::Moment;
 use std::alloc::Global;
@@ -28,30 +29,31 @@ pub(crate) fn take_frames<D: Disk, S: Sealer>(
     alloc: Global,
     house: &House<'_, S>,
     provider: &mut Provider<D>,
-    arrivals: &mut Arrivals,
+    takers: &mut Takers,
     moment: Moment,
     events: &mut Vec<Event>,
 ) -> Result<(), ProviderFault>
     requires runs { RunsIn house.now provider.old }
     requires works { IsAtWork (world_at house.now) house.now.me moment (desk_of provider.old) }
     ensures leads { OnOk result (Leads (world_at house.now) house.now.me moment
-        (desk_of provider.old) arrivals.old events.old.items (desk_of provider.new) arrivals.new events.new.items) }
-    ensures none { OnOk result (frames_in arrivals.new ≡ []) }
+        (desk_of provider.old) (waits takers.old) events.old.items (desk_of provider.new) (waits takers.new) events.new.items) }
+    ensures none { OnOk result (frames_in (waits takers.new) ≡ []) }
     ensures works { OnOk result (IsAtWork (world_at house.now) house.now.me moment (desk_of provider.new)) }
     ensures ends { IfErr result (λ fault. Ends (world_at house.now) house.now.me moment
-        (desk_of provider.old) arrivals.old events.old.items fault
-        (desk_of provider.new) arrivals.new events.new.items) }
+        (desk_of provider.old) (waits takers.old) events.old.items fault
+        (desk_of provider.new) (waits takers.new) events.new.items) }
     ensures runs { RunsIn house.now provider.new }
-    ensures links { length arrivals.new ≡ length arrivals.old }
+    ensures links { length (waits takers.new) ≡ length (waits takers.old) }
+    ensures kept { knowns takers.new ≡ knowns takers.old }
     ensures carries { D.tells → CarriesFrames (world_at house.now) house.now.me moment D.sight
-        provider.old.chronicle arrivals.old provider.new.chronicle arrivals.new }
+        provider.old.chronicle (waits takers.old) provider.new.chronicle (waits takers.new) }
     ensures stands { D.tells → Stands D.sight provider.old.chronicle → Stands D.sight provider.new.chronicle }
     ensures disk_fault { IsErrOf result faults.DiskFault → HasRisen (D.faults provider.old.chronicle.disk) (D.faults
         provider.new.chronicle.disk) }
     ensures later { D.faults provider.old.chronicle.disk ≤ D.faults provider.new.chronicle.disk }
 {
     what_rests_carries_on::<D>();
-    while take_frame(alloc, house, provider, arrivals, moment, events)? {}
+    while take_frame(alloc, house, provider, takers, moment, events)? {}
     Ok(())
 }
 
@@ -60,25 +62,25 @@ fn take_frame<D: Disk, S: Sealer>(
     alloc: Global,
     house: &House<'_, S>,
     provider: &mut Provider<D>,
-    arrivals: &mut Arrivals,
+    takers: &mut Takers,
     moment: Moment,
     events: &mut Vec<Event>,
 ) -> Result<bool, ProviderFault>
     requires runs { RunsIn house.now provider.old }
     requires works { IsAtWork (world_at house.now) house.now.me moment (desk_of provider.old) }
     ensures leads { OnOk result (Leads (world_at house.now) house.now.me moment
-        (desk_of provider.old) arrivals.old events.old.items (desk_of provider.new) arrivals.new events.new.items) }
-    ensures none { IfOk result (λ more. more ≡ false → frames_in arrivals.new ≡ []) }
-    ensures fewer { IfOk result (λ more. more ≡ true → length (frames_in arrivals.new) < length (frames_in
-        arrivals.old)) }
+        (desk_of provider.old) (waits takers.old) events.old.items (desk_of provider.new) (waits takers.new) events.new.items) }
+    ensures none { IfOk result (λ more. more ≡ false → frames_in (waits takers.new) ≡ []) }
+    ensures fewer { IfOk result (λ more. more ≡ true → length (frames_in (waits takers.new)) < length (frames_in (waits takers.old))) }
     ensures works { OnOk result (IsAtWork (world_at house.now) house.now.me moment (desk_of provider.new)) }
     ensures ends { IfErr result (λ fault. Ends (world_at house.now) house.now.me moment
-        (desk_of provider.old) arrivals.old events.old.items fault
-        (desk_of provider.new) arrivals.new events.new.items) }
+        (desk_of provider.old) (waits takers.old) events.old.items fault
+        (desk_of provider.new) (waits takers.new) events.new.items) }
     ensures runs { RunsIn house.now provider.new }
-    ensures links { length arrivals.new ≡ length arrivals.old }
+    ensures links { length (waits takers.new) ≡ length (waits takers.old) }
+    ensures kept { knowns takers.new ≡ knowns takers.old }
     ensures carries { D.tells → CarriesFrames (world_at house.now) house.now.me moment D.sight
-        provider.old.chronicle arrivals.old provider.new.chronicle arrivals.new }
+        provider.old.chronicle (waits takers.old) provider.new.chronicle (waits takers.new) }
     ensures stands { D.tells → Stands D.sight provider.old.chronicle → Stands D.sight provider.new.chronicle }
     ensures disk_fault { IsErrOf result faults.DiskFault → HasRisen (D.faults provider.old.chronicle.disk) (D.faults
         provider.new.chronicle.disk) }
@@ -89,7 +91,7 @@ fn take_frame<D: Disk, S: Sealer>(
     frames_are_taken_in_order();
     what_a_provider_does_is_its_own();
     what_rests_carries_on::<D>();
-    let Some(frame) = arrivals.take() else {
+    let Some(frame) = takers.take() else {
         return Ok(false);
     };
     events.reserve(1)?;

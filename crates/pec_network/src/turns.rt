@@ -9,13 +9,14 @@ ghost use Rattle.pec_trade.specs.Houses.{world_at};
 ghost use Rattle.pec_chronicle.specs.Chronicle.{Stands};
 ghost use Rattle.pec_provider.specs.Provider.{RunsIn, desk_of, site_of};
 ghost use Rattle.pec_provider.specs.Working.{IsAtWork};
+ghost use Rattle.pec_rows.specs.Rows.{knowns, waits};
 ghost use Rattle.pec_network.specs.Turning.{CarriesFrames, Ends, Leads, StopsShort, Took, room_in, told_of, turn_of};
 
 use crate::putting::{puts, sent};
 use crate::steps::{decide_pairs, take_frames, what_rests_carries_on};
 use pec_outside::Disk;
-use pec_posts::Arrivals;
 use pec_provider::{Event, House, Provider, ProviderFault, a_house_is_a_trade};
+use pec_rows::Takers;
 use pec_seal::Sealer;
 use pec_types::{Frame, Items, Moment, NoMemory, Turn};
 use std::alloc::Global;
@@ -35,7 +36,7 @@ pub fn take_turn<D: Disk, S: Sealer>(
     alloc: Global,
     house: &House<'_, S>,
     provider: &mut Provider<D>,
-    arrivals: &mut Arrivals,
+    takers: &mut Takers,
     moment: Moment,
     rooms: &[usize],
 ) -> Result<Taken, NoMemory>
@@ -46,10 +47,10 @@ pub fn take_turn<D: Disk, S: Sealer>(
 
     // It is a turn of the rounds of pec_plays, cut as it tells.
     ensures took { IfOk result (λ taken. Took (world_at house.now) house.now.me moment
-        (room_in rooms.now) (site_of (desk_of provider.old) arrivals.old) (turn_of (site_of (desk_of provider.new)
-        arrivals.new) taken.turn taken.out)) }
+        (room_in rooms.now) (site_of (desk_of provider.old) (waits takers.old)) (turn_of (site_of (desk_of provider.new)
+        (waits takers.new)) taken.turn taken.out)) }
     ensures told { IfOk result (λ taken. taken.turn ≡ told_of house.now.me (turn_of (site_of (desk_of provider.new)
-        arrivals.new) taken.turn taken.out)) }
+        (waits takers.new)) taken.turn taken.out)) }
 
     // Want of memory is no turn.
     ensures memory { IfOk result (λ taken. taken.turn.ended ≢ Some faults.NoMemory) }
@@ -59,15 +60,16 @@ pub fn take_turn<D: Disk, S: Sealer>(
 
     // On want of memory what was appended is a front of the turn.
     ensures short { OnErr result (StopsShort (world_at house.now) house.now.me moment
-        (site_of (desk_of provider.old) arrivals.old) (site_of (desk_of provider.new) arrivals.new)) }
+        (site_of (desk_of provider.old) (waits takers.old)) (site_of (desk_of provider.new) (waits takers.new))) }
     ensures nothing_owed { provider.new.owed ≡ [] }
     ensures runs { RunsIn house.now provider.new }
-    ensures links { length arrivals.new ≡ length arrivals.old }
+    ensures links { length (waits takers.new) ≡ length (waits takers.old) }
+    ensures kept { knowns takers.new ≡ knowns takers.old }
 
     // At every moment a crash leaves entries that may follow in the ledger of any journals in which the frames are
     // genuine.
     ensures carries { D.tells → CarriesFrames (world_at house.now) house.now.me moment D.sight
-        provider.old.chronicle arrivals.old provider.new.chronicle arrivals.new }
+        provider.old.chronicle (waits takers.old) provider.new.chronicle (waits takers.new) }
 
     // What stands on its disk stands there again, whatever the frames are.
     ensures stands { D.tells → Stands D.sight provider.old.chronicle → Stands D.sight provider.new.chronicle }
@@ -75,7 +77,7 @@ pub fn take_turn<D: Disk, S: Sealer>(
         HasRisen (D.faults provider.old.chronicle.disk) (D.faults provider.new.chronicle.disk)) }
     ensures later { D.faults provider.old.chronicle.disk ≤ D.faults provider.new.chronicle.disk }
 {
-    let taken = turn(alloc, house, provider, arrivals, moment, rooms);
+    let taken = turn(alloc, house, provider, takers, moment, rooms);
     provider.end_turn();
     taken
 }
@@ -85,7 +87,7 @@ fn turn<D: Disk, S: Sealer>(
     alloc: Global,
     house: &House<'_, S>,
     provider: &mut Provider<D>,
-    arrivals: &mut Arrivals,
+    takers: &mut Takers,
     moment: Moment,
     rooms: &[usize],
 ) -> Result<Taken, NoMemory>
@@ -94,18 +96,19 @@ fn turn<D: Disk, S: Sealer>(
     requires rooms { length rooms.now ≡ length house.now.directory.now }
     requires short { (to : ℕ) → room_in rooms.now to ≤ link_size }
     ensures took { IfOk result (λ taken. Took (world_at house.now) house.now.me moment
-        (room_in rooms.now) (site_of (desk_of provider.old) arrivals.old) (turn_of (site_of (desk_of provider.new)
-        arrivals.new) taken.turn taken.out)) }
+        (room_in rooms.now) (site_of (desk_of provider.old) (waits takers.old)) (turn_of (site_of (desk_of provider.new)
+        (waits takers.new)) taken.turn taken.out)) }
     ensures told { IfOk result (λ taken. taken.turn ≡ told_of house.now.me (turn_of (site_of (desk_of provider.new)
-        arrivals.new) taken.turn taken.out)) }
+        (waits takers.new)) taken.turn taken.out)) }
     ensures memory { IfOk result (λ taken. taken.turn.ended ≢ Some faults.NoMemory) }
     ensures fit { IfOk result (λ taken. (to : ℕ) → length (slice_index_or taken.out to []) ≤ room_in rooms.now to) }
     ensures short { OnErr result (StopsShort (world_at house.now) house.now.me moment
-        (site_of (desk_of provider.old) arrivals.old) (site_of (desk_of provider.new) arrivals.new)) }
+        (site_of (desk_of provider.old) (waits takers.old)) (site_of (desk_of provider.new) (waits takers.new))) }
     ensures runs { RunsIn house.now provider.new }
-    ensures links { length arrivals.new ≡ length arrivals.old }
+    ensures links { length (waits takers.new) ≡ length (waits takers.old) }
+    ensures kept { knowns takers.new ≡ knowns takers.old }
     ensures carries { D.tells → CarriesFrames (world_at house.now) house.now.me moment D.sight
-        provider.old.chronicle arrivals.old provider.new.chronicle arrivals.new }
+        provider.old.chronicle (waits takers.old) provider.new.chronicle (waits takers.new) }
     ensures stands { D.tells → Stands D.sight provider.old.chronicle → Stands D.sight provider.new.chronicle }
     ensures disk_fault { IfOk result (λ taken. taken.turn.ended ≡ Some faults.DiskFault →
         HasRisen (D.faults provider.old.chronicle.disk) (D.faults provider.new.chronicle.disk)) }
@@ -117,7 +120,7 @@ fn turn<D: Disk, S: Sealer>(
         return Ok(ended(alloc, house.me, Vec::new(alloc), fault));
     }
     let mut events = Vec::new(alloc);
-    match take_steps(alloc, house, provider, arrivals, moment, &mut events) {
+    match take_steps(alloc, house, provider, takers, moment, &mut events) {
         Ok(()) => whole(alloc, house, provider, rooms, events),
         Err(fault) => cut_off(alloc, house.me, events, fault),
     }
@@ -128,30 +131,31 @@ fn take_steps<D: Disk, S: Sealer>(
     alloc: Global,
     house: &House<'_, S>,
     provider: &mut Provider<D>,
-    arrivals: &mut Arrivals,
+    takers: &mut Takers,
     moment: Moment,
     events: &mut Vec<Event>,
 ) -> Result<(), ProviderFault>
     requires runs { RunsIn house.now provider.old }
     requires works { IsAtWork (world_at house.now) house.now.me moment (desk_of provider.old) }
     ensures leads { OnOk result (Leads (world_at house.now) house.now.me moment
-        (desk_of provider.old) arrivals.old events.old.items (desk_of provider.new) arrivals.new events.new.items) }
-    ensures none { OnOk result (frames_in arrivals.new ≡ []) }
+        (desk_of provider.old) (waits takers.old) events.old.items (desk_of provider.new) (waits takers.new) events.new.items) }
+    ensures none { OnOk result (frames_in (waits takers.new) ≡ []) }
     ensures decided { OnOk result (undecided (world_at house.now) house.now.me
         provider.new.chronicle.entries ≡ []) }
     ensures ends { IfErr result (λ fault. Ends (world_at house.now) house.now.me moment
-        (desk_of provider.old) arrivals.old events.old.items fault
-        (desk_of provider.new) arrivals.new events.new.items) }
+        (desk_of provider.old) (waits takers.old) events.old.items fault
+        (desk_of provider.new) (waits takers.new) events.new.items) }
     ensures runs { RunsIn house.now provider.new }
-    ensures links { length arrivals.new ≡ length arrivals.old }
+    ensures links { length (waits takers.new) ≡ length (waits takers.old) }
+    ensures kept { knowns takers.new ≡ knowns takers.old }
     ensures carries { D.tells → CarriesFrames (world_at house.now) house.now.me moment D.sight
-        provider.old.chronicle arrivals.old provider.new.chronicle arrivals.new }
+        provider.old.chronicle (waits takers.old) provider.new.chronicle (waits takers.new) }
     ensures stands { D.tells → Stands D.sight provider.old.chronicle → Stands D.sight provider.new.chronicle }
     ensures disk_fault { IsErrOf result faults.DiskFault → HasRisen (D.faults provider.old.chronicle.disk) (D.faults
         provider.new.chronicle.disk) }
     ensures later { D.faults provider.old.chronicle.disk ≤ D.faults provider.new.chronicle.disk }
 {
-    take_frames(alloc, house, provider, arrivals, moment, events)?;
+    take_frames(alloc, house, provider, takers, moment, events)?;
     decide_pairs(alloc, house, provider, moment, events)?;
     Ok(())
 }

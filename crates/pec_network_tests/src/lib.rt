@@ -18,3 +18,5 @@ mod providers;
 mod rounds;
 #[cfg(test)]
 mod words;
+#[cfg(test)]
+mod workers;

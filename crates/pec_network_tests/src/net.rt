@@ -5,7 +5,7 @@ ghost use Rattle.std.specs.Prelude.{◌<◌, length, IfOk};
 use crate::words::{link_word, restart_word};
 use pec_directory::Directory;
 use pec_link::LinkFault;
-use pec_network::{Form, Network, StartFault};
+use pec_network::{Form, FreeGate, Network, StartFault};
 use pec_outside::{MemDepot, MemDisk};
 use pec_screen::NoScreens;
 use pec_seal::HmacSealer;
@@ -296,7 +296,7 @@ impl<X: Threads + Sync> Net<'_, X> {
     /// `round MOMENT`
     fn round(&mut self, line: &str) -> Result<Vec<u8>, Fail> {
         let moment = moment_of(line, 1)?;
-        let answer = self.network.round(self.rt, self.alloc, moment);
+        let answer = self.network.round(self.rt, self.alloc, moment, &FreeGate);
         told_turns(self.alloc, answer)
     }
 

@@ -1,2 +1,3 @@
-pub mod DeliveryLemmas
+pub mod JoinLemmas
 pub mod LinkLemmas
+pub mod PartLemmas

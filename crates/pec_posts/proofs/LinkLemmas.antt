@@ -1,4 +1,4 @@
--- Frames on links: those that are taken from the first link on, and two that change places.
+-- Frames on links: two that change places.
 use Rattle.std.proofs.Common.{◌≡◌, ℕ, zero, suc, ◌+◌, ◌-◌, ◌<◌, ◌≤◌, List, [], ◌∷◌, ◌++◌, length, map, take, drop, get_or, set, refl, ap, sym, subst, ◌∙◌, arith, Some}
 use Rattle.std.specs.Prelude.{Result, OnOk}
 use Rattle.std.specs.List.{All, swap}
@@ -12,20 +12,6 @@ use Rattle.pec_types.specs.Bytes.{Bytes}
 use Rattle.pec_plays.specs.Rounds.{link_size}
 use Rattle.pec_posts.specs.Arrivals.{Waiting, room_on, waiting_from}
 use Rattle.pec_plays.specs.Commands.{swapped_at}
-use Rattle.pec_plays.specs.Turns.{without_first}
-
-pub without_none : (links : List (List Bytes)) → without_first 0 links ≡ links
-without_none [] = refl
-without_none (link ∷ links) =
-    let none : 0 - length link ≡ 0 = omega arith in
-    rw none (ap (λ (more : List (List Bytes)). link ∷ more) (without_none links))
-
--- the first frame of the first link
-pub without_one : (frame : Bytes) (link : List Bytes) (links : List (List Bytes))
-    → without_first 1 ((frame ∷ link) ∷ links) ≡ link ∷ links
-without_one frame link links =
-    let none : 1 - length (frame ∷ link) ≡ 0 = omega arith in
-    rw none (ap (λ (more : List (List Bytes)). link ∷ more) (without_none links))
 
 swap_at : (d : Bytes) (frames : List Bytes) (place : ℕ) → place + 1 < length frames
     → set (set frames place (get_or frames (place + 1) d)) (place + 1) (get_or frames place d)

@@ -1,12 +1,14 @@
-ghost use Rattle.std.specs.Prelude.{◌≡◌, ◌+◌, ◌<◌, ◌≤◌, ◌↔◌, [], ◌∷◌, ◌++◌, length, replicate, slice_get, IsNone, IsErrOf, None, Some, OnOk, IfOk, OnErr, IfErr};
+ghost use Rattle.std.specs.Prelude.{◌≡◌, ℕ, ◌+◌, ◌<◌, ◌≤◌, [], ◌∷◌, ◌++◌, length, replicate, slice_get, IsErrOf, None, Some, OnOk, IfOk, OnErr, IfErr};
+ghost use Rattle.std.specs.Prelude.{slice_index_or, vec_len, vec_capacity};
 ghost use Rattle.std.specs.Option.{option_to_list};
 ghost use Rattle.pec_link.specs.declared.faults.LinkFault.TheVariants as faults;
 ghost use Rattle.pec_posts.specs.Arrivals.{waiting_from, with_link, without};
+ghost use Rattle.pec_posts.specs.Parting.{ArePaired, AreShorter, HasRoom, IsJoined, IsParted};
 ghost use Rattle.pec_plays.specs.Commands.{swapped_at};
 ghost use Rattle.pec_plays.specs.Rounds.{link_size};
-ghost use Rattle.pec_plays.specs.Turns.{frames_in, without_first};
 
-use pec_link::{Link, LinkFault};
+use pec_link::{Link, LinkFault, Putter, Taker};
+use pec_rows::{Putters, Takers};
 use pec_types::{Frame, NoMemory};
 use std::alloc::Global;
 use std::marker::Model;
@@ -45,17 +47,6 @@ impl Arrivals {
         ensures { result + length (waiting_from self.now from) ≡ link_size }
     {
         self.links[from as usize].room()
-    }
-
-    /// Takes the frame that is next, from the first provider from which one waits; none exactly where none waits. It takes
-    /// no memory.
-    pub fn take(&mut self) -> Option<Frame>
-        ensures taken { frames_in self.old ≡ option_to_list result ++ frames_in self.new }
-        ensures left { self.new ≡ without_first 1 self.old }
-        ensures none { IsNone result ↔ (frames_in self.old ≡ []) }
-        ensures links { length self.new ≡ length self.old }
-    {
-        next_frame(self.links.as_mut_slice())
     }
 
     /// Loses the frame at a place of the link from a provider, counted from 0. `NoFrame` exactly where no frame waits
@@ -117,38 +108,37 @@ impl Arrivals {
         }
     }
 
-    /// Puts frames behind those that wait on the link from a provider. It takes no memory, and copies no frame.
-    pub(crate) fn put(&mut self, from: usize, frames: Vec<Frame>)
-        requires link { from < length self.old }
-        requires room { length (waiting_from self.old from) + length frames.items ≤ link_size }
-        ensures { self.new ≡ with_link self.old from (waiting_from self.old from ++ frames.items) }
+    /// Takes its links apart. The end that puts on each goes behind those of the row of its provider, and the ends that take
+    /// go into an empty list. It takes no memory.
+    pub(crate) fn part(self, rows: &mut [Vec<Putter>], mut takers: Vec<Taker>) -> Takers
+        requires rows { length rows.old ≡ length self }
+        requires room { (from : ℕ) (row : _) → from < length rows.old
+            → vec_len (slice_index_or rows.old from row) < vec_capacity (slice_index_or rows.old from row) }
+        requires takers { HasRoom (length self) takers }
+        ensures { IsParted self rows.old rows.new result }
     {
-        put_all(&mut self.links[from], frames);
-    }
-}
-
-/// The next frame that waits on one of these links, from the first link on.
-fn next_frame(links: &mut [Link]) -> Option<Frame>
-    ensures taken { frames_in links.old ≡ option_to_list result ++ frames_in links.new }
-    ensures left { links.new ≡ without_first 1 links.old }
-    ensures none { IsNone result ↔ (frames_in links.old ≡ []) }
-    ensures links { length links.new ≡ length links.old }
-{
-    let (first, others) = links.split_first_mut()?;
-    match first.take() {
-        Some(frame) => Some(frame),
-        None => next_frame(others),
-    }
-}
-
-/// Puts frames behind those that wait on a link, in their order.
-fn put_all(link: &mut Link, frames: Vec<Frame>)
-    requires { length link.old + length frames.items ≤ link_size }
-    ensures { link.new ≡ link.old ++ frames.items }
-{
-    for frame in frames {
-        if link.put(frame).is_err() {
-            unreachable!();
+        let Arrivals { links } = self;
+        for link in links {
+            let (putter, taker) = link.into_ends();
+            rows[takers.len()].push_reserved(putter);
+            takers.push_reserved(taker);
         }
+        Takers::of(takers)
+    }
+
+    /// Puts links together, each of the first end of the row of its provider, which then lacks it, and of an end that takes.
+    /// They go into an empty list. It takes no memory.
+    pub(crate) fn join(rows: &mut [Putters], takers: Takers, mut links: Vec<Link>) -> Arrivals
+        requires rows { length takers ≤ length rows.old }
+        requires paired { ArePaired rows.old takers }
+        requires links { HasRoom (length takers) links }
+        ensures links { IsJoined rows.old takers result }
+        ensures shorter { AreShorter rows.old (length takers) rows.new }
+    {
+        for taker in takers.into_ends() {
+            let putter = rows[links.len()].take_first();
+            links.push_reserved(Link::of(putter, taker));
+        }
+        Arrivals { links }
     }
 }

@@ -1,8 +1,11 @@
-//! The links of a network, by the provider for which the frames on them wait.
+//! The links of a network, by the provider for which the frames on them wait. For a round they are taken apart, and behind it put
+//! together again.
 #![tactic(auto)]
 
 mod arrivals;
-mod delivering;
+mod counting;
+mod parting;
 
 pub use arrivals::Arrivals;
-pub use delivering::{deliver, rooms};
+pub use counting::rooms;
+pub use parting::{join, part, trays};

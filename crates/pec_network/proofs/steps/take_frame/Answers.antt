@@ -8,12 +8,13 @@ use Rattle.pec_provider.specs.Provider.{desk_of}
 use Rattle.pec_network.specs.Turning.{Far, Waiting}
 use Rattle.pec_network.proofs.FrameLemmas.{none_left}
 use Rattle.pec_network.proofs.StepLemmas.{frame_ends, frame_leads, frame_works, frames_rest, genuine_parts}
+use Rattle.pec_rows.specs.Rows.{waits}
 use Rattle.pec_network.proofs.steps.take_frame.Goals as goal
 
 pub returns-in_default-clause-leads : goal.returns-in_default-clause-leads
 returns-in_default-clause-leads g c = λ begun waiting far.
     let trade = world_at c.args.house.now in
-    let same = c.in_default.ensures.left ∙ none_left c.args.arrivals.now 1 (c.in_default.ensures.none.0 refl) in
+    let same = c.in_default.ensures.left ∙ none_left (waits c.args.takers.now) 1 (c.in_default.ensures.none.0 refl) in
     subst (λ (left : Waiting). Far trade c.args.house.now.me c.args.moment begun waiting
     (desk_of c.args.provider.now) left c.args.events.now.items) (sym same) far
 
@@ -24,47 +25,47 @@ returns-in_err-reserve-clause-ends g c =
     (frame_ends (world_at c.args.house.now)
     c.args.house.now.me c.args.moment c.frames_are_taken_in_order.ensures.more (desk_of c.args.provider.now)
     (desk_of c.args.provider.now)
-    c.args.arrivals.now c.take.new.self c.args.events.now.items c.in-Some.frame faults.NoMemory c.requires.works
+    (waits c.args.takers.now) (waits c.take.new.self) c.args.events.now.items c.in-Some.frame faults.NoMemory c.requires.works
     c.in-Some.ensures.taken
     c.in-Some.ensures.left (c.requires.works, refl))
 
 pub returns-in_err-reserve-clause-carries : goal.returns-in_err-reserve-clause-carries
 returns-in_err-reserve-clause-carries g c = λ tells.
     let trade = world_at c.args.house.now in
-    frames_rest g.D.Disk.sight trade c.args.house.now.me c.args.moment c.args.provider.now.chronicle c.args.arrivals.now
-    c.take.new.self c.in-Some.frame
+    frames_rest g.D.Disk.sight trade c.args.house.now.me c.args.moment c.args.provider.now.chronicle (waits c.args.takers.now)
+    (waits c.take.new.self) c.in-Some.frame
     c.in-Some.ensures.taken (c.what_rests_carries_on.ensures tells c.args.provider.now.chronicle)
 
 pub returns-in_err-event-clause-ends : goal.returns-in_err-event-clause-ends
 returns-in_err-event-clause-ends g c =
     let p = err_from_is_err_and c.from_residual-in_err-event.result c.from_residual-in_err-event.ensures.1 in
-    let next : frames_in c.args.arrivals.now ≡ c.bytes.result.now ∷ frames_in c.take.new.self =
-    c.in-Some.ensures.taken ∙ ap (λ (f : Bytes). f ∷ frames_in c.take.new.self) (sym c.bytes.ensures) in
+    let next : frames_in (waits c.args.takers.now) ≡ c.bytes.result.now ∷ frames_in (waits c.take.new.self) =
+    c.in-Some.ensures.taken ∙ ap (λ (f : Bytes). f ∷ frames_in (waits c.take.new.self)) (sym c.bytes.ensures) in
     rw (p.1, p.2, c.in_ok-reserve.ensures.items)
     (frame_ends (world_at c.args.house.now)
     c.args.house.now.me c.args.moment c.frames_are_taken_in_order.ensures.more (desk_of c.args.provider.now)
     (desk_of c.arrive.new.self)
-    c.args.arrivals.now c.take.new.self c.args.events.now.items c.bytes.result.now c.in_err-event.field-0.0
+    (waits c.args.takers.now) (waits c.take.new.self) c.args.events.now.items c.bytes.result.now c.in_err-event.field-0.0
     c.requires.works next
     c.in-Some.ensures.left c.in_err-event.ensures.arrives)
 
 pub returns-in_err-event-clause-carries : goal.returns-in_err-event-clause-carries
 returns-in_err-event-clause-carries g c = λ tells journals fit genuine.
     let trade = world_at c.args.house.now in
-    let next : frames_in c.args.arrivals.now ≡ c.bytes.result.now ∷ frames_in c.take.new.self =
-    c.in-Some.ensures.taken ∙ ap (λ (f : Bytes). f ∷ frames_in c.take.new.self) (sym c.bytes.ensures) in
-    let parts = genuine_parts trade journals c.args.arrivals.now c.take.new.self c.bytes.result.now next genuine in
+    let next : frames_in (waits c.args.takers.now) ≡ c.bytes.result.now ∷ frames_in (waits c.take.new.self) =
+    c.in-Some.ensures.taken ∙ ap (λ (f : Bytes). f ∷ frames_in (waits c.take.new.self)) (sym c.bytes.ensures) in
+    let parts = genuine_parts trade journals (waits c.args.takers.now) (waits c.take.new.self) c.bytes.result.now next genuine in
     (c.in_err-event.ensures.carries tells journals fit parts.0, parts.1)
 
 pub returns-clause-leads : goal.returns-clause-leads
 returns-clause-leads g c =
-    let next : frames_in c.args.arrivals.now ≡ c.bytes.result.now ∷ frames_in c.take.new.self =
-    c.in-Some.ensures.taken ∙ ap (λ (f : Bytes). f ∷ frames_in c.take.new.self) (sym c.bytes.ensures) in
+    let next : frames_in (waits c.args.takers.now) ≡ c.bytes.result.now ∷ frames_in (waits c.take.new.self) =
+    c.in-Some.ensures.taken ∙ ap (λ (f : Bytes). f ∷ frames_in (waits c.take.new.self)) (sym c.bytes.ensures) in
     rw (c.push_reserved.ensures.items, c.in_ok-reserve.ensures.items)
     (frame_leads (world_at c.args.house.now)
     c.args.house.now.me c.args.moment c.frames_are_taken_in_order.ensures.more (desk_of c.args.provider.now)
     (desk_of c.arrive.new.self)
-    c.args.arrivals.now c.take.new.self c.args.events.now.items c.bytes.result.now c.in_ok-event.event next
+    (waits c.args.takers.now) (waits c.take.new.self) c.args.events.now.items c.bytes.result.now c.in_ok-event.event next
     c.in-Some.ensures.left
     c.in_ok-event.ensures.arrives)
 
@@ -79,7 +80,7 @@ returns-clause-works g c =
 pub returns-clause-carries : goal.returns-clause-carries
 returns-clause-carries g c = λ tells journals fit genuine.
     let trade = world_at c.args.house.now in
-    let next : frames_in c.args.arrivals.now ≡ c.bytes.result.now ∷ frames_in c.take.new.self =
-    c.in-Some.ensures.taken ∙ ap (λ (f : Bytes). f ∷ frames_in c.take.new.self) (sym c.bytes.ensures) in
-    let parts = genuine_parts trade journals c.args.arrivals.now c.take.new.self c.bytes.result.now next genuine in
+    let next : frames_in (waits c.args.takers.now) ≡ c.bytes.result.now ∷ frames_in (waits c.take.new.self) =
+    c.in-Some.ensures.taken ∙ ap (λ (f : Bytes). f ∷ frames_in (waits c.take.new.self)) (sym c.bytes.ensures) in
+    let parts = genuine_parts trade journals (waits c.args.takers.now) (waits c.take.new.self) c.bytes.result.now next genuine in
     (c.in_ok-event.ensures.carries tells journals fit parts.0, parts.1)

@@ -5,23 +5,25 @@ use Rattle.pec_chronicle.specs.Chronicle.{Stands}
 use Rattle.pec_provider.specs.Provider.{RunsIn, desk_of}
 use Rattle.pec_provider.specs.Working.{IsAtWork}
 use Rattle.pec_network.specs.Turning.{CarriesFrames, Leads}
+use Rattle.pec_rows.specs.Rows.{knowns, waits}
 use Rattle.pec_network.proofs.steps.take_frames.Given as goal
 
 abbrev pub invariant-loop : goal.invariant-loop
 invariant-loop g l =
     let trade = world_at l.house in
     record {
-      leads : Leads trade l.house.me l.moment (desk_of l.fn.provider) l.fn.arrivals l.fn.events.items
-          (desk_of l.provider) l.arrivals l.events.items;
+      leads : Leads trade l.house.me l.moment (desk_of l.fn.provider) (waits l.fn.takers) l.fn.events.items
+          (desk_of l.provider) (waits l.takers) l.events.items;
       works : IsAtWork trade l.house.me l.moment (desk_of l.provider);
       runs : RunsIn l.house l.provider;
-      links : length l.arrivals ≡ length l.fn.arrivals;
+      links : length (waits l.takers) ≡ length (waits l.fn.takers);
+      kept : knowns l.takers ≡ knowns l.fn.takers;
       carries : g.D.Disk.tells → CarriesFrames trade l.house.me l.moment g.D.Disk.sight l.fn.provider.chronicle
-          l.fn.arrivals l.provider.chronicle l.arrivals;
+          (waits l.fn.takers) l.provider.chronicle (waits l.takers);
       stands : g.D.Disk.tells → Stands g.D.Disk.sight l.fn.provider.chronicle
           → Stands g.D.Disk.sight l.provider.chronicle;
       later : g.D.Counted.faults l.fn.provider.chronicle.disk ≤ g.D.Counted.faults l.provider.chronicle.disk;
     }
 
 abbrev pub decreases-loop : goal.decreases-loop
-decreases-loop g l = length (frames_in l.arrivals)
+decreases-loop g l = length (frames_in (waits l.takers))

@@ -10,6 +10,7 @@ use Rattle.pec_network.specs.Turning.{Far, room_in}
 use Rattle.pec_network.proofs.StepLemmas.{begin_far}
 use Rattle.pec_network.proofs.EndLemmas.{disk_early, memory_early, memory_refused, memory_whole, short_early}
 use Rattle.pec_network.proofs.EndLemmas.{short_whole, took_early, took_refused, took_whole}
+use Rattle.pec_rows.specs.Rows.{waits}
 use Rattle.pec_network.proofs.turns.turn.Goals as goal
 
 pub returns-in-Err-clause-took : goal.returns-in-Err-clause-took
@@ -17,7 +18,7 @@ returns-in-Err-clause-took g c =
     rw (c.ended.ensures.turn, c.ended.ensures.out, c.new.ensures.items)
     (took_refused (world_at c.args.house.now)
     c.args.house.now.me c.args.moment (room_in c.args.rooms.now)
-    (desk_of c.args.provider.now) c.args.arrivals.now c.in-Err.fault
+    (desk_of c.args.provider.now) (waits c.args.takers.now) c.in-Err.fault
     (c.in-Err.ensures.works c.args.house.now.directory.now (g.S.Sealer.seals c.args.house.now.sealer.now) c.args.house.now.me _ c.requires.runs
     c.a_house_is_a_trade.ensures.of))
 
@@ -25,13 +26,13 @@ pub returns-in-Ok-clause-took : goal.returns-in-Ok-clause-took
 returns-in-Ok-clause-took g c =
     let trade = world_at c.args.house.now in
     let begun = subst (λ (events : List Event). Far trade c.args.house.now.me c.args.moment
-    (desk_of c.args.provider.now) c.args.arrivals.now (desk_of c.args.provider.now) c.args.arrivals.now events)
+    (desk_of c.args.provider.now) (waits c.args.takers.now) (desk_of c.args.provider.now) (waits c.args.takers.now) events)
     (sym c.new-events.ensures.items)
-    (begin_far trade c.args.house.now.me c.args.moment (desk_of c.args.provider.now) c.args.arrivals.now) in
-    let far = c.in-Ok.ensures.leads (desk_of c.args.provider.now) c.args.arrivals.now begun in
+    (begin_far trade c.args.house.now.me c.args.moment (desk_of c.args.provider.now) (waits c.args.takers.now)) in
+    let far = c.in-Ok.ensures.leads (desk_of c.args.provider.now) (waits c.args.takers.now) begun in
     took_whole trade c.args.house.now.me c.args.moment (room_in c.args.rooms.now)
-    (desk_of c.args.provider.now) c.args.arrivals.now
-    (desk_of c.take_steps.new.provider) c.take_steps.new.arrivals c.take_steps.new.events.items _ c.whole.result
+    (desk_of c.args.provider.now) (waits c.args.takers.now)
+    (desk_of c.take_steps.new.provider) (waits c.take_steps.new.takers) c.take_steps.new.events.items _ c.whole.result
     (c.in_default.ensures.works c.args.house.now.directory.now (g.S.Sealer.seals c.args.house.now.sealer.now) c.args.house.now.me trade c.requires.runs
     c.a_house_is_a_trade.ensures.of)
     c.requires.nothing_owed (sym (length-map c.args.house.now.directory.now (λ (one : Kept). one.provider))) far
@@ -42,13 +43,13 @@ pub returns-in-Ok-clause-short : goal.returns-in-Ok-clause-short
 returns-in-Ok-clause-short g c =
     let trade = world_at c.args.house.now in
     let begun = subst (λ (events : List Event). Far trade c.args.house.now.me c.args.moment
-    (desk_of c.args.provider.now) c.args.arrivals.now (desk_of c.args.provider.now) c.args.arrivals.now events)
+    (desk_of c.args.provider.now) (waits c.args.takers.now) (desk_of c.args.provider.now) (waits c.args.takers.now) events)
     (sym c.new-events.ensures.items)
-    (begin_far trade c.args.house.now.me c.args.moment (desk_of c.args.provider.now) c.args.arrivals.now) in
-    let far = c.in-Ok.ensures.leads (desk_of c.args.provider.now) c.args.arrivals.now begun in
+    (begin_far trade c.args.house.now.me c.args.moment (desk_of c.args.provider.now) (waits c.args.takers.now)) in
+    let far = c.in-Ok.ensures.leads (desk_of c.args.provider.now) (waits c.args.takers.now) begun in
     short_whole trade c.args.house.now.me c.args.moment (room_in c.args.rooms.now)
-    (desk_of c.args.provider.now) c.args.arrivals.now
-    (desk_of c.take_steps.new.provider) c.take_steps.new.arrivals c.take_steps.new.events.items c.whole.result
+    (desk_of c.args.provider.now) (waits c.args.takers.now)
+    (desk_of c.take_steps.new.provider) (waits c.take_steps.new.takers) c.take_steps.new.events.items c.whole.result
     (c.in_default.ensures.works c.args.house.now.directory.now (g.S.Sealer.seals c.args.house.now.sealer.now) c.args.house.now.me trade c.requires.runs
     c.a_house_is_a_trade.ensures.of) far
 
@@ -56,32 +57,32 @@ pub returns-in-Err-take_steps-clause-took : goal.returns-in-Err-take_steps-claus
 returns-in-Err-take_steps-clause-took g c =
     let trade = world_at c.args.house.now in
     let begun = subst (λ (events : List Event). Far trade c.args.house.now.me c.args.moment
-    (desk_of c.args.provider.now) c.args.arrivals.now (desk_of c.args.provider.now) c.args.arrivals.now events)
+    (desk_of c.args.provider.now) (waits c.args.takers.now) (desk_of c.args.provider.now) (waits c.args.takers.now) events)
     (sym c.new-events.ensures.items)
-    (begin_far trade c.args.house.now.me c.args.moment (desk_of c.args.provider.now) c.args.arrivals.now) in
+    (begin_far trade c.args.house.now.me c.args.moment (desk_of c.args.provider.now) (waits c.args.takers.now)) in
     took_early trade c.args.house.now.me c.args.moment (room_in c.args.rooms.now)
-    (desk_of c.args.provider.now) c.args.arrivals.now
-    (desk_of c.take_steps.new.provider) c.take_steps.new.arrivals c.take_steps.new.events.items
+    (desk_of c.args.provider.now) (waits c.args.takers.now)
+    (desk_of c.take_steps.new.provider) (waits c.take_steps.new.takers) c.take_steps.new.events.items
     c.in-Err-take_steps.fault c.cut_off.result
     (c.in_default.ensures.works c.args.house.now.directory.now (g.S.Sealer.seals c.args.house.now.sealer.now) c.args.house.now.me trade c.requires.runs
     c.a_house_is_a_trade.ensures.of) (c.in-Err-take_steps.ensures.ends
-    (desk_of c.args.provider.now) c.args.arrivals.now begun)
+    (desk_of c.args.provider.now) (waits c.args.takers.now) begun)
     c.cut_off.ensures.other c.cut_off.ensures.out c.cut_off.ensures.turn
 
 pub returns-in-Err-take_steps-clause-short : goal.returns-in-Err-take_steps-clause-short
 returns-in-Err-take_steps-clause-short g c =
     let trade = world_at c.args.house.now in
     let begun = subst (λ (events : List Event). Far trade c.args.house.now.me c.args.moment
-    (desk_of c.args.provider.now) c.args.arrivals.now (desk_of c.args.provider.now) c.args.arrivals.now events)
+    (desk_of c.args.provider.now) (waits c.args.takers.now) (desk_of c.args.provider.now) (waits c.args.takers.now) events)
     (sym c.new-events.ensures.items)
-    (begin_far trade c.args.house.now.me c.args.moment (desk_of c.args.provider.now) c.args.arrivals.now) in
+    (begin_far trade c.args.house.now.me c.args.moment (desk_of c.args.provider.now) (waits c.args.takers.now)) in
     short_early trade c.args.house.now.me c.args.moment (room_in c.args.rooms.now)
-    (desk_of c.args.provider.now) c.args.arrivals.now
-    (desk_of c.take_steps.new.provider) c.take_steps.new.arrivals c.take_steps.new.events.items
+    (desk_of c.args.provider.now) (waits c.args.takers.now)
+    (desk_of c.take_steps.new.provider) (waits c.take_steps.new.takers) c.take_steps.new.events.items
     c.in-Err-take_steps.fault c.cut_off.result
     (c.in_default.ensures.works c.args.house.now.directory.now (g.S.Sealer.seals c.args.house.now.sealer.now) c.args.house.now.me trade c.requires.runs
     c.a_house_is_a_trade.ensures.of) (c.in-Err-take_steps.ensures.ends
-    (desk_of c.args.provider.now) c.args.arrivals.now begun) c.cut_off.ensures.no_memory
+    (desk_of c.args.provider.now) (waits c.args.takers.now) begun) c.cut_off.ensures.no_memory
 
 pub returns-in-Err-take_steps-clause-disk_fault : goal.returns-in-Err-take_steps-clause-disk_fault
 returns-in-Err-take_steps-clause-disk_fault g c =

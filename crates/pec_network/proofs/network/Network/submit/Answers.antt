@@ -4,8 +4,8 @@ use Rattle.pec_plays.specs.Commands.{Submit, Submits, played}
 use Rattle.pec_screen.specs.VerdictReading.{finds}
 use Rattle.pec_trade.specs.TradeOf.{trade_of}
 use Rattle.pec_network.specs.Network.{NetworkState}
-use Rattle.pec_network.proofs.ChangeLemmas.{carries_from, falls_from, number_within, plays_from, risen_from, runs_from, whole_from}
-use Rattle.pec_network.proofs.CrashLemmas.{changes_only}
+use Rattle.pec_network.proofs.ChangeLemmas.{number_within, plays_from, runs_from, whole_from}
+use Rattle.pec_network.proofs.ConcernLemmas.{concerns_one}
 use Rattle.pec_network.proofs.network.Network.submit.Goals as goal
 
 pub index_mut-requires : goal.index_mut-requires
@@ -40,8 +40,8 @@ returns-clause-plays g c =
     (λ (told : Submitted). Submits told) (λ luck sites. played (trade_of c.self.inside.directory (g.S.Sealer.seals c.self.inside.sealer)) luck sites (Submit c.args.provider c.args.moment c.args.sender.now c.args.path.now c.args.message.now (finds (g.J.Judge.patterns c.args.screens.now) c.args.message.now)))
     c.self.inside.arrivals.items (c.self.invariant.links ∙ sym c.self.invariant.count) c.submit.result c.submit.ensures.plays)
 
-pub returns-clause-others : goal.returns-clause-others
-returns-clause-others g c =
+pub returns-clause-concerns : goal.returns-clause-concerns
+returns-clause-concerns g c =
     let within = number_within _ c.args.self.now c.self.view_is c.self.invariant c.args.provider c.requires.provider in
     let was : NetworkState g.row.D.Denot g.row.S.Denot = record {
       kept = c.self.inside.directory;
@@ -49,28 +49,10 @@ returns-clause-others g c =
       providers = c.self.inside.providers.items;
       waiting = c.self.inside.arrivals.items;
     } in
-    rw (← c.self.view_is) (changes_only was c.args.provider c.submit.new.self within)
-
-pub returns-clause-carries : goal.returns-clause-carries
-returns-clause-carries g c = λ tells journals.
-    let within = number_within _ c.args.self.now c.self.view_is c.self.invariant c.args.provider c.requires.provider in
     rw (← c.self.view_is)
-    (carries_from c.self.inside.providers.items c.args.provider c.index_mut.result.now c.submit.new.self within c.index_mut.ensures.value
-    g.D.Disk.sight (trade_of c.self.inside.directory (g.S.Sealer.seals c.self.inside.sealer)) journals (c.what_rests_carries_on.ensures tells) (c.submit.ensures.carries tells journals))
-
-pub returns-clause-disk_fault : goal.returns-clause-disk_fault
-returns-clause-disk_fault g c = λ failed.
-    let within = number_within _ c.args.self.now c.self.view_is c.self.invariant c.args.provider c.requires.provider in
-    rw (← c.self.view_is)
-    (risen_from c.self.inside.providers.items c.args.provider c.index_mut.result.now c.submit.new.self within c.index_mut.ensures.value
-    g.D.Counted.faults (c.submit.ensures.disk_fault failed))
-
-pub returns-clause-later : goal.returns-clause-later
-returns-clause-later g c =
-    let within = number_within _ c.args.self.now c.self.view_is c.self.invariant c.args.provider c.requires.provider in
-    rw (← c.self.view_is)
-    (falls_from c.self.inside.providers.items c.args.provider c.index_mut.result.now c.submit.new.self within c.index_mut.ensures.value
-    g.D.Counted.faults c.submit.ensures.later)
+    (concerns_one was c.args.provider c.index_mut.result.now c.submit.new.self within c.index_mut.ensures.value
+    g.D.Disk.sight g.D.Counted.faults g.D.Disk.tells g.S.Sealer.seals c.submit.result c.what_rests_carries_on.ensures
+    c.submit.ensures.carries c.submit.ensures.disk_fault c.submit.ensures.later)
 
 pub returns-clause-looked : goal.returns-clause-looked
 returns-clause-looked g c = rw (← c.self.view_is) c.submit.ensures.looked

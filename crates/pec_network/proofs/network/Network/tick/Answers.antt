@@ -3,8 +3,8 @@ use Rattle.pec_types.specs.declared.mailboxes.Mark.{Mark}
 use Rattle.pec_plays.specs.Commands.{Marks, Tick, played}
 use Rattle.pec_trade.specs.TradeOf.{trade_of}
 use Rattle.pec_network.specs.Network.{NetworkState}
-use Rattle.pec_network.proofs.ChangeLemmas.{carries_from, falls_from, number_within, plays_from, risen_from, runs_from, whole_from}
-use Rattle.pec_network.proofs.CrashLemmas.{changes_only}
+use Rattle.pec_network.proofs.ChangeLemmas.{number_within, plays_from, runs_from, whole_from}
+use Rattle.pec_network.proofs.ConcernLemmas.{concerns_one}
 use Rattle.pec_network.proofs.network.Network.tick.Goals as goal
 
 pub index_mut-requires : goal.index_mut-requires
@@ -33,8 +33,8 @@ returns-clause-plays g c =
     (λ (marks : Vec Mark Global). Marks marks.items) (λ luck sites. played (trade_of c.self.inside.directory (g.S.Sealer.seals c.self.inside.sealer)) luck sites (Tick c.args.provider c.args.moment))
     c.self.inside.arrivals.items (c.self.invariant.links ∙ sym c.self.invariant.count) c.tick.result c.tick.ensures.plays)
 
-pub returns-clause-others : goal.returns-clause-others
-returns-clause-others g c =
+pub returns-clause-concerns : goal.returns-clause-concerns
+returns-clause-concerns g c =
     let within = number_within _ c.args.self.now c.self.view_is c.self.invariant c.args.provider c.requires in
     let was : NetworkState g.row.D.Denot g.row.S.Denot = record {
       kept = c.self.inside.directory;
@@ -42,25 +42,7 @@ returns-clause-others g c =
       providers = c.self.inside.providers.items;
       waiting = c.self.inside.arrivals.items;
     } in
-    rw (← c.self.view_is) (changes_only was c.args.provider c.tick.new.self within)
-
-pub returns-clause-carries : goal.returns-clause-carries
-returns-clause-carries g c = λ tells journals.
-    let within = number_within _ c.args.self.now c.self.view_is c.self.invariant c.args.provider c.requires in
     rw (← c.self.view_is)
-    (carries_from c.self.inside.providers.items c.args.provider c.index_mut.result.now c.tick.new.self within c.index_mut.ensures.value
-    g.D.Disk.sight (trade_of c.self.inside.directory (g.S.Sealer.seals c.self.inside.sealer)) journals (c.what_rests_carries_on.ensures tells) (c.tick.ensures.carries tells journals))
-
-pub returns-clause-disk_fault : goal.returns-clause-disk_fault
-returns-clause-disk_fault g c = λ failed.
-    let within = number_within _ c.args.self.now c.self.view_is c.self.invariant c.args.provider c.requires in
-    rw (← c.self.view_is)
-    (risen_from c.self.inside.providers.items c.args.provider c.index_mut.result.now c.tick.new.self within c.index_mut.ensures.value
-    g.D.Counted.faults (c.tick.ensures.disk_fault failed))
-
-pub returns-clause-later : goal.returns-clause-later
-returns-clause-later g c =
-    let within = number_within _ c.args.self.now c.self.view_is c.self.invariant c.args.provider c.requires in
-    rw (← c.self.view_is)
-    (falls_from c.self.inside.providers.items c.args.provider c.index_mut.result.now c.tick.new.self within c.index_mut.ensures.value
-    g.D.Counted.faults c.tick.ensures.later)
+    (concerns_one was c.args.provider c.index_mut.result.now c.tick.new.self within c.index_mut.ensures.value
+    g.D.Disk.sight g.D.Counted.faults g.D.Disk.tells g.S.Sealer.seals c.tick.result c.what_rests_carries_on.ensures
+    c.tick.ensures.carries c.tick.ensures.disk_fault c.tick.ensures.later)

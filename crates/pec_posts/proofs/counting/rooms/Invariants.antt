@@ -2,7 +2,7 @@ use Rattle.std.proofs.Common.{◌≡◌, ◌≤◌, length, map, take}
 use Rattle.std.specs.List.{All}
 use Rattle.pec_plays.specs.Rounds.{link_size}
 use Rattle.pec_posts.specs.Arrivals.{Waiting, room_on, waiting_from}
-use Rattle.pec_posts.proofs.delivering.rooms.Given as goal
+use Rattle.pec_posts.proofs.counting.rooms.Given as goal
 
 abbrev pub invariant-loop-links : goal.invariant-loop-links
 invariant-loop-links l = record {

@@ -1,5 +1,5 @@
 use Rattle.pec_posts.proofs.LinkLemmas.{rooms_more}
-use Rattle.pec_posts.proofs.delivering.rooms.Goals as goal
+use Rattle.pec_posts.proofs.counting.rooms.Goals as goal
 
 pub loop-links-preserved : goal.loop-links-preserved
 loop-links-preserved c =

@@ -1,0 +1,34 @@
+-- What the command of one provider leaves of a network, from what it leaves of that provider.
+use Rattle.std.proofs.Common.{◌≡◌, ℕ, ◌<◌, ◌≤◌, length, get_or, set}
+use Rattle.std.specs.Prelude.{Result, IsErrOf}
+use Rattle.pec_types.specs.declared.turns.ProviderFault.{ProviderFault}
+use Rattle.pec_types.specs.declared.turns.ProviderFault.TheVariants as refusals
+use Rattle.pec_outside.specs.DiskModel.{Sight}
+use Rattle.pec_outside.specs.Flow.{HasRisen}
+use Rattle.pec_ledger.specs.Ledger.{Journals}
+use Rattle.pec_chronicle.specs.Carrying.{CarriesOn, NothingMay}
+use Rattle.pec_chronicle.specs.Chronicle.{ChronicleState}
+use Rattle.pec_provider.specs.Following.{MayFollow}
+use Rattle.pec_provider.specs.Provider.{ProviderState}
+use Rattle.pec_seal.specs.Seals.{Seals}
+use Rattle.pec_network.specs.Changing.{ConcernsOne}
+use Rattle.pec_network.specs.Network.{NetworkState, world_of}
+use Rattle.pec_network.proofs.ChangeLemmas.{carries_from, falls_from, risen_from}
+use Rattle.pec_network.proofs.CrashLemmas.{changes_only}
+
+pub concerns_one : {D S X : Type 0} (was : NetworkState D S) (number : ℕ) (old new : ProviderState D)
+    (within : number < length was.providers) → old ≡ get_or was.providers number old
+    → (sight : D → Sight) (count : D → ℕ) (tells : Type 0) (seals : S → Seals) (result : Result X ProviderFault)
+    → (tells → (state : ChronicleState D) → CarriesOn sight NothingMay state state)
+    → (tells → (journals : Journals)
+    → CarriesOn sight (MayFollow (world_of seals was) journals number) old.chronicle new.chronicle)
+    → (IsErrOf result refusals.DiskFault → HasRisen (count old.chronicle.disk) (count new.chronicle.disk))
+    → count old.chronicle.disk ≤ count new.chronicle.disk
+    → ConcernsOne sight count tells seals number was (record was { providers = set was.providers number new }) result
+concerns_one was number old new within here sight count tells seals result rests carries risen later = record {
+  others = changes_only was number new within;
+  carries = λ told journals. carries_from was.providers number old new within here sight (world_of seals was) journals
+      (rests told) (carries told journals);
+  disk_fault = λ failed. risen_from was.providers number old new within here count (risen failed);
+  later = falls_from was.providers number old new within here count later;
+}
