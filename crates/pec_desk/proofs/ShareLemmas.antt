@@ -25,10 +25,10 @@ use Rattle.pec_ledger.specs.Lookups.{mailbox}
 use Rattle.pec_ledger.specs.Network.{Site, journal_at, site_at}
 use Rattle.pec_ledger.specs.Steps.{half, size_of}
 use Rattle.pec_ledger.specs.Trade.{Trade}
-use Rattle.pec_plays.specs.Commands.{Answer, Book, Items, Lines, Luck, Mailbox, Played, Refuses, Show, Shown, Submit, Submits, answers, append, appended, asked, at_work, played, shown, shown_bytes}
+use Rattle.pec_plays.specs.Commands.{Answer, Book, Items, Lines, Luck, Mailbox, Played, Refuses, Show, Shown, Submit, Submits, answers, asked, played, shown, shown_bytes}
 use Rattle.pec_plays.specs.Commands as plays
 use Rattle.pec_plays.specs.Steps.{has_no_room, longest_journal}
-use Rattle.pec_trade.specs.TradeOf.{trade_of}
+use Rattle.pec_service.specs.OfTrades.{trade_of}
 use Rattle.pec_network.specs.OfProviders.{luck_of}
 use Rattle.pec_network.specs.Playing.{IsPlayed}
 use Rattle.pec_http.specs.Desks.{IsItemFault, IsLookFault, IsSubmitFault}
@@ -36,7 +36,7 @@ use Rattle.pec_http.specs.declared.demands.Look.{Look}
 use Rattle.pec_http.specs.declared.demands.Look.TheVariants as looks
 use Rattle.pec_script.specs.Texts.{book_text, items_text}
 use Rattle.pec_desk.specs.Desks.{IsSeen, as_they_are, bytes_shown, items_shown, lines_shown}
-use Rattle.pec_service.specs.Own.{Share, entry_for, numbered, patterns_at, said_by, share_at, shown_to, text_or_none}
+use Rattle.pec_service.specs.Own.{Share, entry_for, numbered, said_by, share_at, shown_to, text_or_none}
 use Rattle.pec_service.specs.ShareLaws.{found_at}
 
 -- ---- answers, and what they tell

@@ -1,6 +1,6 @@
 -- The desk of a network at a moment: what it answers, `answers_of`, in the words of what the network plays and shows. Its
 -- accounts are those of the directory, whichever provider they are at. This project's profile.
-use Rattle.std.specs.Prelude.{◌≡◌, ℕ, ◌<◌, ◌≤◌, false, List, [], Option, None, Some, Result, Ok, Err, IsErrOf, is_some, length, slice_get, if◌then◌else◌}
+use Rattle.std.specs.Prelude.{◌≡◌, ℕ, ◌<◌, ◌≤◌, false, List, [], Option, None, Some, Result, Ok, Err, is_some, length, slice_get}
 use Rattle.pec_types.specs.Bytes.{Bytes, Path}
 use Rattle.pec_types.specs.declared.mailboxes.ItemLine.{ItemLine}
 use Rattle.pec_types.specs.declared.messages.BookLine.{BookLine}
@@ -8,19 +8,17 @@ use Rattle.pec_types.specs.declared.turns.ProviderFault.{ProviderFault}
 use Rattle.pec_types.specs.declared.turns.ProviderFault.TheVariants as faults
 use Rattle.pec_types.specs.declared.turns.Submitted.{Submitted}
 use Rattle.pec_outside.specs.DiskModel.{Sight}
-use Rattle.pec_directory.specs.Directory.{Kept, Provider, account_home, first_domain, providers_of}
+use Rattle.pec_directory.specs.Directory.{Provider, account_home, first_domain, providers_of}
 use Rattle.pec_records.specs.Entry.{most_addresses}
 use Rattle.pec_screen.specs.Screened.{finds_in}
 use Rattle.pec_screen.specs.Verdicts.{Patterns}
 use Rattle.pec_seal.specs.Seals.{Seals}
-use Rattle.pec_ledger.specs.Ledger.{Journals}
 use Rattle.pec_ledger.specs.Network.{Site}
 use Rattle.pec_plays.specs.Commands.{Answer, Book, Items, Lines, Mailbox, Played, Refuses, Show, Shown, Submit, Submits, answers, played}
 use Rattle.pec_network.specs.OfProviders.{ProviderState, luck_of}
-use Rattle.pec_network.specs.Carrying.{AllCarryOn, NoneFalls}
-use Rattle.pec_network.specs.Changing.{ChangesOnly, HasRisenAt}
+use Rattle.pec_network.specs.Changing.{ConcernsOne}
 use Rattle.pec_network.specs.Network.{NetworkState, sites, world_of}
-use Rattle.pec_network.specs.Playing.{IsPlayed}
+use Rattle.pec_network.specs.Playing.{IsPlayedOver}
 use Rattle.pec_http.specs.Desks.{Answers}
 use Rattle.pec_service.specs.Passes.{pass_of}
 use Rattle.pec_script.specs.Texts.{book_text, items_text}
@@ -62,15 +60,9 @@ pub record HandsIn {D S : Type 0} (sight : D → Sight) (count : D → ℕ) (tel
   pub moment : new.moment ≡ old.moment
   pub screens : new.screens ≡ old.screens
   pub path : (0 < length addresses) × (length addresses ≤ most_addresses)
-  pub plays : IsPlayed Submits
-      (λ luck. played (world_of seals old.network) luck (sites old.network)
-      (Submit number old.moment address addresses message (finds_in old.screens number message)))
-      (sites old.network) (sites new.network) said
-  pub others : ChangesOnly number old.network new.network
-  pub carries : tells → (journals : Journals)
-      → AllCarryOn sight (world_of seals old.network) journals old.network.providers new.network.providers
-  pub disk_fault : IsErrOf said faults.DiskFault → HasRisenAt count number old.network.providers new.network.providers
-  pub later : NoneFalls count old.network.providers new.network.providers
+  pub plays : IsPlayedOver seals Submits
+      (Submit number old.moment address addresses message (finds_in old.screens number message)) old.network new.network said
+  pub concerns : ConcernsOne sight count tells seals number old.network new.network said
 
 -- What was answered to a command that shows something is written so.
 pub record IsWritten {X : Type 0} (tells : X → Answer) (text : X → Bytes) (asked : Played) (state : List Site) (bytes : Bytes) : Type 0 where

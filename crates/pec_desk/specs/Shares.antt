@@ -1,5 +1,5 @@
 -- The share of the desk that an account has (`Share` of pec_service), and that of who asks. This project's profile.
-use Rattle.std.specs.Prelude.{List, Option, Result}
+use Rattle.std.specs.Prelude.{Option, Result}
 use Rattle.std.specs.Option.{option_and_then}
 use Rattle.pec_types.specs.Bytes.{Bytes}
 use Rattle.pec_directory.specs.Directory.{providers_of}

@@ -1,5 +1,5 @@
 -- Where all that is attested is decided so, all that is attested of a pair is one decision.
-use Rattle.std.proofs.Common.{◌≡◌, ℕ, List, [], ◌∷◌, Bool, true, false, not, filter, map, ◌⊎◌, inl, inr, refl, ap, sym, subst, ◌∙◌, cond, true≢false, Option, None, Some}
+use Rattle.std.proofs.Common.{◌≡◌, ℕ, List, [], ◌∷◌, Bool, true, false, not, filter, map, ◌⊎◌, inl, inr, refl, ap, sym, subst, ◌∙◌, cond, true≢false, None, Some}
 use Rattle.std.specs.Prelude.{All}
 use Rattle.std.specs.List.{list_all}
 use Rattle.std.specs.Str.{bytes_eq}
@@ -13,7 +13,6 @@ use Rattle.pec_ledger.specs.Ledger.{IsDecidedSo, Journals, decided_in}
 use Rattle.pec_ledger.specs.Pairs.{Pair, pair_of}
 use Rattle.pec_ledger.specs.Trade.{Trade}
 use Rattle.pec_check.specs.Findings.{Attested, agreed, decisions_on, each_once, finding_on, findings, is_decision, is_pair}
-use Rattle.pec_check.specs.declared.dossiers.Finding.{Finding}
 use Rattle.pec_check.specs.declared.pairs.PairKey.{PairKey}
 use Rattle.pec_dossier.specs.Conflicts.{TellsTheDecision}
 use Rattle.pec_dossier.proofs.PairLemmas.{pair_again, same_pairs}

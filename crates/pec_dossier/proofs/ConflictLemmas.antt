@@ -1,5 +1,5 @@
 -- What genuine letters attest is decided so, where each is the text of a licensed letter or of an item.
-use Rattle.std.proofs.Common.{◌≡◌, ℕ, List, [], ◌∷◌, map, Option, None, Some, Result, Ok, Err, refl, ap, sym, subst, ◌∙◌}
+use Rattle.std.proofs.Common.{◌≡◌, List, [], ◌∷◌, map, Option, None, Some, Ok, Err, refl, ap, sym, subst, ◌∙◌}
 use Rattle.std.specs.Prelude.{All}
 use Rattle.std.specs.List.{cons_option, filter_map}
 use Rattle.std.specs.Result.{result_ok}
@@ -33,7 +33,7 @@ use Rattle.pec_dossier.specs.Conflicts.{TellsTheDecision, findings_in}
 use Rattle.pec_dossier.specs.Tallies.{reports_in, tally_of}
 use Rattle.pec_dossier.specs.Texts.{Told}
 use Rattle.pec_dossier.proofs.AgreementLemmas.{IsTold, none_conflicts}
-use Rattle.pec_dossier.proofs.ReportLemmas.{OfReceipt, report_is}
+use Rattle.pec_dossier.proofs.ReportLemmas.{report_is}
 
 -- a kind that tells a decision is that of the receipt on it
 kind_so : (kind : Kind) (decision : Decision) → decision_told (saved.Receipt kind) ≡ Some decision

@@ -1,6 +1,6 @@
 -- What a line is, by its number and what it says, and how a dossier ends at one.
 use Rattle.std.proofs.Common.{◌≡◌, ◌≢◌, ℕ, ◌+◌, ◌<◌, ◌≤◌, Bool, true, false, List, [], ◌∷◌, inl, inr, refl, ap, sym, ◌∙◌, arith, length}
-use Rattle.std.proofs.Common.{nat_lt, codes, Option, None}
+use Rattle.std.proofs.Common.{nat_lt, codes, Option}
 use Rattle.std.specs.Prelude.{if◌then◌else◌}
 use Rattle.std.specs.Fmt.{decimal}
 use Rattle.std.proofs.lemmas.Bool.{cases_lt, le-ltb, lt-ltb}

@@ -11,12 +11,12 @@ use Rattle.pec_input.specs.Parts.{Parts, parts_of}
 use Rattle.pec_input.specs.declared.opening.TheConstants.{LONGEST_DIRECTORY}
 use Rattle.pec_runs.specs.Endings.{End}
 use Rattle.pec_runs.specs.Endings as ends
-use Rattle.pec_runs.specs.Plays.{Ends, Finish, Stops}
+use Rattle.pec_runs.specs.Plays.{Ends, Stops}
 use Rattle.pec_runs.specs.Ran.{Blames, Counts, TellsAs, status_at}
 use Rattle.pec_runs.specs.Statuses.{Status, status_of}
 use Rattle.pec_runs.specs.Statuses as statuses
 use Rattle.pec_runs.specs.Transcripts.{NoFaults, StoodStill}
-use Rattle.pec_dossier.specs.Checks.{CheckRan, Checked, Dossier, IsOfCheck, by_directory, by_lines, checked_finish, checked_text, dossier_in, end_in, saved_finish, saved_text}
+use Rattle.pec_dossier.specs.Checks.{CheckRan, Checked, Dossier, IsOfCheck, by_directory, by_lines, checked_finish, checked_text, dossier_in, end_in, saved_text}
 use Rattle.pec_dossier.specs.Lines.{Line, PassedOver, Saves, SavesNone, TooLong, TooMany, behind_line, said_by, saved_in}
 
 abbrev Had : Type 0

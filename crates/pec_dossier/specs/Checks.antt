@@ -17,7 +17,7 @@ use Rattle.pec_runs.specs.Endings.{End, end_text}
 use Rattle.pec_runs.specs.Endings as ends
 use Rattle.pec_runs.specs.Plays.{Ends, Finish, Stops}
 use Rattle.pec_runs.specs.Ran.{Blames, Counts, IsInput, NoneFell, TellsAs}
-use Rattle.pec_runs.specs.Statuses.{Status, status_of}
+use Rattle.pec_runs.specs.Statuses.{Status}
 use Rattle.pec_runs.specs.Statuses as statuses
 use Rattle.pec_dossier.specs.Lines.{Saved, saved_in}
 use Rattle.pec_dossier.specs.Tallies.{summary_text, tally_of}

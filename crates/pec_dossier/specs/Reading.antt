@@ -1,6 +1,6 @@
 -- What the program's own values stand for while the lines of a dossier are read: `IsSaid`, of what was found at a line.
 -- This project's profile.
-use Rattle.std.specs.Prelude.{◌≡◌, ◌≢◌, ℕ, ◌<◌, ◌≤◌, nat_lt, List, [], ◌∷◌, length, if◌then◌else◌, Result, Ok, Err, IsErrOf}
+use Rattle.std.specs.Prelude.{◌≡◌, ◌≢◌, ℕ, ◌<◌, ◌≤◌, nat_lt, List, ◌∷◌, length, if◌then◌else◌, Result, Ok, Err, IsErrOf}
 use Rattle.pec_types.specs.Bytes.{Bytes}
 use Rattle.pec_outside.specs.Flow.{HasRisen}
 use Rattle.pec_directory.specs.Directory.{Provider}

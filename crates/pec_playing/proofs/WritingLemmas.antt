@@ -1,5 +1,5 @@
 -- A command that was played, and whose lines were written, is an act of a run.
-use Rattle.std.proofs.Common.{◌≡◌, ℕ, ◌≤◌, List, [], ◌∷◌, ◌++◌, inl, inr, refl, ap, sym, subst, ◌∙◌, Option, None, Some}
+use Rattle.std.proofs.Common.{◌≡◌, ℕ, ◌≤◌, List, [], ◌∷◌, inl, inr, refl, ap, sym, subst, ◌∙◌, Option, None, Some}
 use Rattle.std.proofs.Common.{Result, Err}
 use Rattle.std.proofs.lemmas.List.{append-nil}
 use Rattle.pec_outside.specs.DiskModel.{Sight}
@@ -12,7 +12,7 @@ use Rattle.pec_network.specs.Network.{NetworkState, sites}
 use Rattle.pec_runs.specs.AnswerLines.{answer_text}
 use Rattle.pec_runs.specs.Plays.{MayStray}
 use Rattle.pec_runs.specs.Ran.{LeavesOff}
-use Rattle.pec_runs.specs.Steps.{Goes, IsCall, IsWritten, NoneFell, NoMemory, Plays, Point, ReadFault, WriteFault}
+use Rattle.pec_runs.specs.Steps.{Goes, IsCall, IsWritten, NoneFell, NoMemory, Plays, Point, WriteFault}
 use Rattle.pec_runs.specs.Steps as runs
 use Rattle.pec_playing.specs.Doing.{Keeps}
 use Rattle.pec_playing.specs.Playing.{HasPlayed, HasStopped}

@@ -1,8 +1,11 @@
--- How often the screens of providers look while a command is played: `LooksBy`. This project's profile.
-use Rattle.std.specs.Prelude.{◌≡◌, ◌⊎◌, ℕ, List, [], slice_index_or, slice_set}
+-- How often the screens of providers look while a command is played, and that they keep what they look for: `LooksBy`,
+-- `ScreensLook`. This project's profile.
+use Rattle.std.specs.Prelude.{◌≡◌, ◌⊎◌, ℕ, List, [], map, slice_index_or, slice_set}
 use Rattle.pec_directory.specs.Directory.{Provider}
 use Rattle.pec_plays.specs.Commands.{Command, Submit}
 use Rattle.pec_network.specs.OfProviders.{Case, Looked, case_at}
+use Rattle.pec_screen.specs.Screened.{Finds, finds_in}
+use Rattle.pec_screen.specs.Verdicts.{Patterns}
 
 -- Of the lists of screens, one for each provider from 0 on, none looks; or that of this provider alone, each screen once
 -- where the message comes to them.
@@ -16,3 +19,9 @@ abbrev pub LooksBy : List Provider → Command → List (List ℕ) → List (Lis
 LooksBy providers (Submit provider moment sender path message found) before after =
     MayLook provider (case_at providers provider sender path message found) before after
 LooksBy providers _ before after = after ≡ before
+
+-- Screens look so at this command, which is one by what they find, and keep what they look for.
+pub record ScreensLook {J : Type 0} (looks_for : J → List Patterns) (seen : J → List ℕ) (providers : List Provider)
+    (command : Finds → Command) (old new : List J) : Type 0 where
+  pub looked : LooksBy providers (command (finds_in (map looks_for old))) (map seen old) (map seen new)
+  pub patterns : map looks_for new ≡ map looks_for old

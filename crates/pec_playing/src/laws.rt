@@ -3,6 +3,7 @@ ghost use Rattle.pec_types.specs.Bytes.{Bytes};
 ghost use Rattle.pec_types.specs.declared.turns.ProviderFault.{ProviderFault as SomeFault};
 ghost use Rattle.pec_types.specs.declared.turns.ProviderFault.TheVariants as faults;
 ghost use Rattle.pec_directory.specs.Directory.{Kept, providers_of};
+ghost use Rattle.pec_ledger.specs.Trade.{Trade};
 ghost use Rattle.pec_plays.specs.Commands.{Refuses};
 ghost use Rattle.pec_network.specs.OfProviders.{ProviderState};
 ghost use Rattle.pec_network.specs.Carrying.{NoneFalls};
@@ -12,9 +13,12 @@ ghost use Rattle.pec_script.specs.LinesReading.{command_of};
 ghost use Rattle.pec_script.specs.declared.commands.Command.{Command as Written};
 ghost use Rattle.pec_runs.specs.ScriptLines.{longest_line};
 ghost use Rattle.pec_runs.specs.Plays.{RoseBy, faults_at};
-ghost use Rattle.pec_playing.specs.Doing.{Keeps};
+ghost use Rattle.pec_runs.specs.Steps.{IsMoment};
+ghost use Rattle.pec_playing.specs.Doing.{Carries, Keeps};
 ghost use Rattle.pec_playing.specs.Playing.{CanPlay, counts_in};
+ghost use Rattle.pec_playing.specs.Points.{state_in};
 
+use pec_network::laws::a_call_leaves_what_follows;
 use pec_outside::Disk;
 use pec_script::a_line_has_one_reading;
 use pec_seal::Sealer;
@@ -45,3 +49,13 @@ pub fn what_is_kept_is_kept_on<D: Disk, S: Sealer>()
     ensures one { (old mid new : NetworkState D S) → Keeps D.sight D.faults D.tells old mid
         → Keeps D.sight D.faults D.tells mid new → Keeps D.sight D.faults D.tells old new }
 {}
+
+/// Where the providers of a network carry on, a crash leaves at each moment of that what may follow, as a run says it of a
+/// step.
+pub fn what_carries_on_is_a_moment<D: Disk, S: Sealer>()
+    ensures { D.tells → (trade : Trade) (old new : NetworkState D S) → length new.providers ≡ length old.providers
+        → Carries D.sight D.tells trade old new → (elsewhere : ℕ → ℕ)
+        → IsMoment trade D.sight (state_in D.faults elsewhere old) (state_in D.faults elsewhere new) }
+{
+    a_call_leaves_what_follows::<D>();
+}

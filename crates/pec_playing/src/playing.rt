@@ -1,17 +1,14 @@
-ghost use Rattle.std.specs.Prelude.{◌≡◌, ℕ, ◌≤◌, [], ◌∷◌, length, map, IsErrOf};
+ghost use Rattle.std.specs.Prelude.{◌≡◌, ◌≤◌, length, map, IsErrOf};
 ghost use Rattle.pec_outside.specs.Depots.{Alike};
 ghost use Rattle.pec_outside.specs.Flow.{HasRisen};
 ghost use Rattle.pec_directory.specs.Directory.{providers_of};
-ghost use Rattle.pec_network.specs.Carrying.{AllStand};
 ghost use Rattle.pec_network.specs.Network.{world_of};
-ghost use Rattle.pec_plays.specs.Commands.{Restart};
 ghost use Rattle.pec_runs.specs.ScriptLines.{command_in};
-ghost use Rattle.pec_runs.specs.Steps.{Goes, Plays};
 ghost use Rattle.pec_screen.specs.Screened.{finds_in};
 ghost use Rattle.pec_playing.specs.Doing.{Carries, Does, Keeps};
-ghost use Rattle.pec_playing.specs.Looking.{LooksBy};
+ghost use Rattle.pec_playing.specs.Looking.{LooksBy, ScreensLook};
 ghost use Rattle.pec_playing.specs.Playing.{CanPlay};
-ghost use Rattle.pec_playing.specs.Points.{point_of, stop_in};
+ghost use Rattle.pec_playing.specs.Points.{GoesBy, stop_in};
 
 use crate::accounts::{book, mailbox, show};
 use crate::crashes::{crash, restart};
@@ -50,13 +47,10 @@ pub fn play_and_write<
     out: &mut W,
 ) -> Result<(), Stop>
     requires can { CanPlay (length network.old.kept) command }
-    // All that is asked: for a restart, where disks tell what they hold, each provider stands on its own.
-    ensures goes { ((provider : ℕ) → command_in (finds_in (map J.patterns screens.old)) command ≡ Restart provider
-        → P.tells × D.tells → AllStand D.sight network.old.providers) → (elsewhere : ℕ → ℕ)
-        → Goes (world_of S.seals network.old) (providers_of network.old.kept) (P.tells × D.tells) D.sight
-        (Plays (command_in (finds_in (map J.patterns screens.old)) command) ∷ [])
-        (point_of D.faults elsewhere network.old (W.held out.old) (W.faults out.old))
-        (point_of D.faults elsewhere network.new (W.held out.new) (W.faults out.new)) (stop_in result) }
+    // A run goes by the command alone: it is played, and the lines of its answer are written, or a front of them.
+    ensures goes { GoesBy (P.tells × D.tells) D.sight D.faults S.seals
+        (command_in (finds_in (map J.patterns screens.old)) command) network.old network.new
+        (W.held out.old) (W.held out.new) (W.faults out.old) (W.faults out.new) (stop_in result) }
     ensures keeps { Keeps D.sight D.faults D.tells network.old network.new }
     // At every moment a crash leaves of each disk what may follow, also where memory ran out or the output failed.
     ensures carries { Carries D.sight D.tells (world_of S.seals network.old) network.old network.new }
@@ -65,10 +59,8 @@ pub fn play_and_write<
     ensures later { (P.faults depot.old ≤ P.faults depot.new) × (W.faults out.old ≤ W.faults out.new) }
     ensures write_fault { IsErrOf result Stop.WriteFault → HasRisen (W.faults out.old) (W.faults out.new) }
     // Screens look at submissions alone, each once at most, and keep what they look for.
-    ensures looked { LooksBy (providers_of network.old.kept)
-        (command_in (finds_in (map J.patterns screens.old)) command)
-        (map J.seen screens.old) (map J.seen screens.new) }
-    ensures patterns { map J.patterns screens.new ≡ map J.patterns screens.old }
+    ensures screens { ScreensLook J.patterns J.seen (providers_of network.old.kept)
+        (λ finds. command_in finds command) screens.old screens.new }
 {
     an_act_is_done::<P>();
     a_call_leaves_what_follows::<D>();

@@ -37,15 +37,13 @@ pub(crate) fn submit<D: Disk, S: Sealer, J: Judge>(
     message: &[u8],
 ) -> Result<Vec<u8>, NoMemory>
     requires provider { provider < length network.old.kept }
-    requires some { 0 < length path.now }
-    requires few { length path.now ≤ most_addresses }
-    requires short { length message.now ≤ longest_message }
+    requires path { (0 < length path.now) × (length path.now ≤ most_addresses) }
+    requires message { length message.now ≤ longest_message }
     ensures does { Does D.sight D.faults D.tells (world_of S.seals network.old)
         (Submit provider moment sender.now path.now message.now
         (finds_in (map J.patterns screens.old) provider message.now)) network.old network.new result }
     ensures carries { Carries D.sight D.tells (world_of S.seals network.old) network.old network.new }
-    ensures looked { LooksBy (providers_of network.old.kept)
-        (Submit provider moment sender.now path.now message.now
+    ensures looked { LooksBy (providers_of network.old.kept) (Submit provider moment sender.now path.now message.now
         (finds_in (map J.patterns screens.old) provider message.now))
         (map J.seen screens.old) (map J.seen screens.new) }
     ensures patterns { map J.patterns screens.new ≡ map J.patterns screens.old }

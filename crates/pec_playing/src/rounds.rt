@@ -3,8 +3,8 @@ ghost use Rattle.pec_playing.specs.Doing.{Carries, Does};
 ghost use Rattle.pec_network.specs.Network.{world_of};
 
 use crate::providers::as_many_providers;
-use pec_network::Network;
 use pec_network::laws::waiting_frames_are_genuine;
+use pec_network::{FreeGate, Network};
 use pec_outside::Disk;
 use pec_script::turns_text;
 use pec_seal::Sealer;
@@ -25,7 +25,7 @@ pub(crate) fn round<X: Threads + Sync, D: Disk + Send, S: Sealer + Sync>(
 {
     waiting_frames_are_genuine();
     as_many_providers(network);
-    let outcome = network.round(rt, alloc, moment);
+    let outcome = network.round(rt, alloc, moment, &FreeGate);
     as_many_providers(network);
     match outcome {
         Ok(turns) => {

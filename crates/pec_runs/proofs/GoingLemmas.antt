@@ -20,7 +20,7 @@ use Rattle.pec_runs.specs.Steps.{text_by, text_of}
 -- ---- steps
 
 module _ {D : Type 0} where
-  behind_append : (here : State D) (steps more : List (Step D))
+  pub behind_append : (here : State D) (steps more : List (Step D))
       → state_behind here (steps ++ more) ≡ state_behind (state_behind here steps) more
   behind_append here [] more = refl
   behind_append here (step ∷ steps) more = behind_append step.behind steps more
@@ -50,7 +50,7 @@ module _ (trade : Trade) {D : Type 0} (sight : D → Sight) where
   moments_append here [] more are then = then
   moments_append here (step ∷ steps) more are then = (are.0, moments_append step.behind steps more are.1 then)
 
-  moments_joined : (first here there : State D) (steps more : List (Step D)) → here ≡ state_behind first steps
+  pub moments_joined : (first here there : State D) (steps more : List (Step D)) → here ≡ state_behind first steps
       → AllMoments trade sight first here steps → AllMoments trade sight here there more
       → AllMoments trade sight first there (steps ++ more)
   moments_joined first here there steps more state went goes = record {

@@ -8,7 +8,10 @@ pub mod InputLemmas
 pub mod LeavingLemmas
 pub mod LineLemmas
 pub mod MomentLemmas
+pub mod MoveLemmas
 pub mod NextLemmas
+pub mod PassedLemmas
+pub mod PassingLemmas
 pub mod PlaceLemmas
 pub mod PlayedLemmas
 pub mod QuietLemmas
@@ -21,4 +24,5 @@ pub mod StatusLemmas
 pub mod StepLemmas
 pub mod TextLemmas
 pub mod ThereLemmas
+pub mod ThroughLemmas
 pub mod TranscriptLemmas

@@ -1,21 +1,23 @@
 -- A run that is killed at a moment of a step.
-use Rattle.std.proofs.Common.{◌≡◌, ℕ, zero, suc, ◌<◌, ◌≤◌, ◌⊎◌, inl, inr, List, [], ◌∷◌, ◌++◌, Bool, length, ap, sym, subst, ◌∙◌, arith, Option, Some}
+use Rattle.std.proofs.Common.{◌≡◌, ℕ, zero, suc, ◌<◌, ◌≤◌, inl, inr, List, [], ◌∷◌, ◌++◌, length, ap, sym, subst, ◌∙◌, arith, Option, Some}
 use Rattle.std.specs.Prelude.{slice_index_or}
 use Rattle.std.proofs.lemmas.List.{append-nil}
 use Rattle.std.proofs.lemmas.Option.{same_Some}
 use Rattle.pec_types.specs.Bytes.{Bytes}
-use Rattle.pec_outside.specs.DiskModel.{LeavesOnly, Sight}
+use Rattle.pec_outside.specs.DiskModel.{Sight}
 use Rattle.pec_records.specs.declared.entries.Entry.{Entry}
 use Rattle.pec_ledger.specs.Ledger.{Fit}
-use Rattle.pec_ledger.specs.Network.{FollowsState, Site, Sound, chosen, interrupted_at, journal_at, journals_in}
+use Rattle.pec_ledger.specs.Network.{FollowsState, Site, Sound, chosen, journal_at, journals_in}
 use Rattle.pec_ledger.specs.Trade.{Trade}
 use Rattle.pec_chronicle.specs.Carrying.{FollowsSo}
 use Rattle.pec_chronicle.specs.Chronicle.{ChronicleState, IsJournalOf, Stands}
 use Rattle.pec_plays.specs.Commands.{Command, Luck, played}
 use Rattle.pec_plays.specs.Scripts.{IsUnforged}
+use Rattle.pec_ledger.specs.TradeLaws.{IsTrade}
+use Rattle.pec_runs.specs.Moves.{KeepSound}
 use Rattle.pec_runs.specs.Moments.{AllStandIn, AreHonest, IsHonestAct, IsKilledIn, state_at}
-use Rattle.pec_runs.specs.Steps.{Act, AllMoments, AreMoments, AreSeen, AreSteps, Hands, IsMoment, IsStep, Moments, Plays}
-use Rattle.pec_runs.specs.Steps.{State, Step, Writes, state_behind}
+use Rattle.pec_runs.specs.Steps.{Act, AllMoments, AreSeen, AreSteps, Hands, IsMoment, IsStep, Plays}
+use Rattle.pec_runs.specs.Steps.{State, Step, Writes}
 
 -- what pec_plays says of commands, in one world
 abbrev pub StaysSound : Trade → Type 0
@@ -57,7 +59,7 @@ module _ (trade : Trade) {D : Type 0} (sight : D → Sight) where
       in came.stands (stand provider came.was came.is)
 
   module _ (stays : StaysSound trade) where
-    sound_on : (here behind : State D) (act : Act) (luck : Luck) → IsStep trade here act luck behind → Sound trade here.sites
+    pub sound_on : (here behind : State D) (act : Act) (luck : Luck) → IsStep trade here act luck behind → Sound trade here.sites
         → IsHonestAct trade here.sites act → Sound trade behind.sites
     sound_on here behind (Plays command) luck is sound honest =
         subst (λ (s : List Site). Sound trade s) (sym is.state) (stays luck here.sites command sound honest)
@@ -76,6 +78,16 @@ module _ (trade : Trade) {D : Type 0} (sight : D → Sight) where
         sound_at number step.behind there steps are.1 (record { each = all.each.1; last = all.last }) honest.1
         (sound_on here step.behind step.act step.luck are.0 sound honest.0)
         (stands_on here step.behind all.each.0 sound stand) (omega (arith, within))
+
+  -- where each step keeps the state Sound
+  pub keeps_at : IsTrade trade → (number : ℕ) (here there : State D) (steps : List (Step D)) → KeepSound trade here steps
+      → AllMoments trade sight here there steps → Sound trade here.sites → AllStandIn sight here → number ≤ length steps
+      → Sound trade (state_at number here there steps).sites × AllStandIn sight (state_at number here there steps)
+  keeps_at is_trade zero here there steps keep all sound stand within = (sound, stand)
+  keeps_at is_trade (suc number) here there [] keep all sound stand within = absurd (omega (arith, within))
+  keeps_at is_trade (suc number) here there (step ∷ steps) keep all sound stand within =
+      keeps_at is_trade number step.behind there steps keep.1 (record { each = all.each.1; last = all.last })
+      (keep.0 is_trade sound) (stands_on here step.behind all.each.0 sound stand) (omega (arith, within))
 
   -- ---- a kill
 

@@ -4,7 +4,10 @@ pub mod Examples
 pub mod Happened
 pub mod Headline
 pub mod Moments
+pub mod Moves
+pub mod OfTrades
 pub mod Openings
+pub mod Passing
 pub mod Plays
 pub mod Ran
 pub mod Reaching

@@ -7,6 +7,8 @@ mod headline;
 mod inputs;
 mod leaving;
 mod moments;
+mod moving;
+mod passing;
 mod quiet;
 mod reading;
 mod resuming;
@@ -20,6 +22,11 @@ pub use headline::the_books_belong_to_the_ledger;
 pub use inputs::a_line_is_one_thing;
 pub use leaving::{a_journal_that_is_there_survives, a_run_leaves_its_journals};
 pub use moments::a_run_may_be_killed_at_any_moment;
+pub use moving::moves_are_joined;
+pub use passing::{
+    a_run_passes_its_disks_on, disks_are_passed_on, runs_go_on_from_one_another,
+    what_is_passed_on_fits,
+};
 pub use quiet::{
     a_run_without_faults_has_one_transcript, a_run_without_faults_is_there,
     a_script_without_faults_is_one,

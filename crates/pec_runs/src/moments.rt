@@ -45,8 +45,13 @@ pub fn a_run_may_be_killed_at_any_moment<P: Depot>()
     a_disk_is_so::<P::D>();
 }
 
-/// Since this moment of a disk there is no other.
-fn a_disk_is_so<D: Disk>()
-    ensures { D.tells → (disk : D) (image : Bytes) → (D.sight disk).left_since (D.sight disk).moment image
+/// The laws of every disk, for proofs that speak of two values over it.
+pub(crate) fn a_disk_is_so<D: Disk>()
+    // This moment is one of those since an earlier one, and since this moment there is no other.
+    ensures counts { D.tells → (disk : D) (t : ℕ) (image : Bytes) → t ≤ (D.sight disk).moment
+        → (D.sight disk).may_leave image → (D.sight disk).left_since t image }
+    ensures now { D.tells → (disk : D) (image : Bytes) → (D.sight disk).left_since (D.sight disk).moment image
         → (D.sight disk).may_leave image }
+    // A disk as it reads is one of its images.
+    ensures reads { D.tells → (disk : D) → (D.sight disk).may_leave (D.sight disk).seen }
 {}

@@ -1,18 +1,23 @@
 -- A run that goes by clock calls: its steps are calls, and it can't stray.
-use Rattle.std.proofs.Common.{◌≡◌, ◌≢◌, ℕ, zero, suc, ◌+◌, ◌≤◌, inl, inr, List, [], ◌∷◌, ◌++◌, map, refl, ap, sym, subst, ◌∙◌, Option, Some, None}
+use Rattle.std.proofs.Common.{◌≡◌, ◌≢◌, ℕ, zero, suc, ◌+◌, ◌<◌, ◌≤◌, inl, inr, List, [], ◌∷◌, ◌++◌, map, refl, ap, sym, subst, ◌∙◌, Option, Some, None}
 use Rattle.std.specs.Prelude.{slice_get}
 use Rattle.pec_types.specs.Bytes.{Bytes}
 use Rattle.pec_outside.specs.DiskModel.{Sight}
 use Rattle.pec_outside.specs.Flow.{WrotePart, followed_by}
 use Rattle.pec_directory.specs.Directory.{Provider}
+use Rattle.pec_types.specs.declared.moments.TheConstants.{END_OF_TIME}
+use Rattle.pec_ledger.specs.Network.{Site, Sound}
 use Rattle.pec_ledger.specs.Trade.{Trade}
+use Rattle.pec_ledger.specs.TradeLaws.{IsTrade}
 use Rattle.pec_plays.specs.Commands.{Command, Luck, Restart, played}
+use Rattle.pec_plays.specs.Scripts.{IsUnforged}
 use Rattle.pec_runs.specs.AnswerLines.{answer_text}
+use Rattle.pec_runs.specs.Moves.{KeepSound, Moves, MovesOn}
 use Rattle.pec_runs.specs.Ran.{LeavesOff}
 use Rattle.pec_runs.specs.Steps.{Act, AreSteps, EndsSo, Goes, GoesAstray, Hands, IsStep, Plays, Point, Step, Stop, Writes}
 use Rattle.pec_runs.specs.Steps.{acts_of, next_of, text_of}
 use Rattle.pec_runs.specs.Steps as steps
-use Rattle.pec_service.specs.Calls.{AreCalls, CallsEnd, ClockWent, State, calls_by, calls_text}
+use Rattle.pec_service.specs.Calls.{AllMayCome, AreCalls, CallsEnd, ClockWent, State, calls_by, calls_text}
 use Rattle.pec_service.specs.Calls.{clock_from, commands_of, seen, state_behind}
 
 -- ---- steps are calls
@@ -127,11 +132,62 @@ module _ (trade : Trade) (providers : List Provider) (tells : Type 0) {D : Type 
         (behind_is (commands_of (calls_by some)) front.unplayed (subst NoRestart (sym front.plays) none))
         (sym (ap next_of front.left_is) ∙ astray.strays.restarts)
 
-  pub went : (stop : Option Stop) → Goes trade providers tells sight (map Plays due) here there stop
-      → ClockWent trade providers due here there stop
-  went stop goes =
+  -- ---- moments
+
+  module _ (stays : IsTrade trade → (luck : Luck) (sites : List Site) (command : Command) → Sound trade sites
+      → IsUnforged trade sites command → Sound trade (played trade luck sites command).after) where
+    step_sound : (at behind : steps.State D) (act : Act) (luck : Luck) (command : Command) → act ≡ Plays command
+        → IsStep trade at act luck behind → ((sites : List Site) → IsUnforged trade sites command) → IsTrade trade
+        → Sound trade at.sites → Sound trade behind.sites
+    step_sound at behind act luck command same is may is_trade sound =
+        let call = subst (λ (a : Act). IsStep trade at a luck behind) same is
+        in subst (λ (s : List Site). Sound trade s) (sym call.state)
+        (stays is_trade luck at.sites command sound (may at.sites))
+
+    keep_sound : (at : steps.State D) (some : List (Step D)) (left : List Act) (commands : List Command)
+        → acts_of some ++ left ≡ map Plays commands → AreSteps trade at some → AllMayCome trade commands
+        → KeepSound trade at some
+    keep_sound at [] left commands is are may = tt
+    keep_sound at (step ∷ some) left [] is are may = cc
+    keep_sound at (step ∷ some) left (command ∷ commands) is are may =
+        let act : step.act ≡ Plays command = cc
+        in let rest : acts_of some ++ left ≡ map Plays commands = cc
+        in (
+          step_sound at step.behind step.act step.luck command act are.0 may.0,
+          keep_sound step.behind some left commands rest are.1 may.1,
+        )
+
+    moves_of : (stop : Option Stop) (goes : Goes trade providers tells sight (map Plays due) here there stop)
+        → AllMayCome trade due → Moves trade tells sight here.state there.state
+    moves_of stop goes may = record {
+      steps = goes.steps;
+      sound = keep_sound here.state goes.steps goes.left due goes.acts_are goes.each may;
+      moments = goes.moments;
+    }
+
+    moves_on_of : (goes : Goes trade providers tells sight (map Plays due) here there None) → AllMayCome trade due
+        → MovesOn trade tells sight here.state there.state
+    unfolding moves_of
+    moves_on_of goes may =
+        let front = front_of trade providers here.state goes.steps goes.left due goes.acts_are goes.each
+        in record {
+          moves = moves_of None goes may;
+          whole = elim goes.ends [
+            | inl ends ↦ ends.1
+            | inr astray ↦ absurd (not_astray goes.steps goes.left front goes.since astray)
+          ];
+        }
+
+  pub went : (stays : IsTrade trade → (luck : Luck) (sites : List Site) (command : Command) → Sound trade sites
+      → IsUnforged trade sites command → Sound trade (played trade luck sites command).after)
+      → (stop : Option Stop) → Goes trade providers tells sight (map Plays due) here there stop
+      → ClockWent trade providers tells sight due here there stop
+  went stays stop goes =
       let front = front_of trade providers here.state goes.steps goes.left due goes.acts_are goes.each
       in record {
+        moves = λ may. moves_of stays stop goes may;
+        moves_on = λ may none. moves_on_of stays
+            (subst (λ (s : Option Stop). Goes trade providers tells sight (map Plays due) here there s) none goes) may;
         calls = calls_by goes.steps;
         unplayed = front.unplayed;
         plays = front.plays;
@@ -144,7 +200,16 @@ module _ (trade : Trade) (providers : List Provider) (tells : Type 0) {D : Type 
 
 pub clock_went : (trade : Trade) (providers : List Provider) (tells : Type 0) {D : Type 0} (sight : D → Sight)
     (more from moment : ℕ) (here there : Point D) (stop : Option Stop)
+    → (IsTrade trade → (luck : Luck) (sites : List Site) (command : Command) → Sound trade sites
+    → IsUnforged trade sites command → Sound trade (played trade luck sites command).after)
     → Goes trade providers tells sight (map Plays (clock_from more from moment)) here there stop
-    → ClockWent trade providers (clock_from more from moment) here there stop
-clock_went trade providers tells sight more from moment here there stop goes =
-    went trade providers tells sight (clock_from more from moment) (clock_is more from moment) here there stop goes
+    → ClockWent trade providers tells sight (clock_from more from moment) here there stop
+clock_went trade providers tells sight more from moment here there stop stays goes =
+    went trade providers tells sight (clock_from more from moment) (clock_is more from moment) here there stays stop goes
+
+-- clock calls and a round at a moment that a clock tells may come in any state
+pub clock_may_come : (trade : Trade) (more from moment : ℕ) → moment < END_OF_TIME
+    → AllMayCome trade (clock_from more from moment)
+clock_may_come trade zero from moment in_time = (λ sites. in_time, tt)
+clock_may_come trade (suc more) from moment in_time =
+    (λ sites. in_time, clock_may_come trade more (from + 1) moment in_time)

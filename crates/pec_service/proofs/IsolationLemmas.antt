@@ -16,7 +16,7 @@ use Rattle.pec_seal.specs.Seals.{Seals}
 use Rattle.pec_ledger.specs.Network.{Site}
 use Rattle.pec_ledger.specs.Trade.{Trade}
 use Rattle.pec_plays.specs.Commands.{Answer, Command, Luck, Refuses, Submit, played}
-use Rattle.pec_trade.specs.TradeOf.{trade_of}
+use Rattle.pec_runs.specs.OfTrades.{trade_of}
 use Rattle.pec_runs.specs.Plays.{RoseBy, faults_by}
 use Rattle.pec_http.specs.Asking.{Asks, Question, See, Submit as Submission}
 use Rattle.pec_http.specs.Replies.{Reply, memory_reply, shown_reply, stop_reply, submitted_reply}

@@ -1,13 +1,17 @@
 -- Commands that a service plays, one after another, each with what devices did in it: `AreCalls`; and what a run comes to
 -- that goes by clock calls: `ClockWent`. This project's profile.
 use Rattle.std.specs.Prelude.{◌≡◌, ℕ, zero, suc, ◌+◌, ◌≤◌, List, [], ◌∷◌, ◌++◌, map, slice_get, Option, None, Some}
+use Rattle.std.specs.List.{AllByRecursion}
 use Rattle.pec_types.specs.Bytes.{Bytes}
+use Rattle.pec_outside.specs.DiskModel.{Sight}
 use Rattle.pec_outside.specs.Flow.{WrotePart, followed_by}
 use Rattle.pec_directory.specs.Directory.{Provider}
 use Rattle.pec_ledger.specs.Network.{Site}
 use Rattle.pec_ledger.specs.Trade.{Trade}
 use Rattle.pec_plays.specs.Commands.{Answer, Command, Luck, Round, Tick, played}
+use Rattle.pec_plays.specs.Scripts.{IsUnforged}
 use Rattle.pec_runs.specs.AnswerLines.{answer_text}
+use Rattle.pec_runs.specs.Moves.{Moves, MovesOn}
 use Rattle.pec_runs.specs.Ran.{LeavesOff}
 use Rattle.pec_runs.specs.Steps.{Act, Hands, Plays, Point, Step, Stop, Writes}
 use Rattle.pec_runs.specs.Steps as steps
@@ -59,6 +63,10 @@ abbrev pub clock_from : ℕ → ℕ → ℕ → List Command
 clock_from zero provider moment = Round moment ∷ []
 clock_from (suc more) provider moment = Tick provider moment ∷ clock_from more (provider + 1) moment
 
+-- each may come, in whichever state
+abbrev pub AllMayCome : Trade → List Command → Type 0
+AllMayCome trade due = AllByRecursion (λ (command : Command). (sites : List Site) → IsUnforged trade sites command) due
+
 -- ---- steps of a run
 
 -- a network as a service sees it, without its disks
@@ -94,10 +102,14 @@ module _ (trade : Trade) (providers : List Provider) {D : Type 0} where
       × (there.held ≡ followed_by before (calls_text trade providers here calls))
       × ((provider : ℕ) → (state_behind here calls).counts provider ≤ there.state.counts provider)
 
-  -- Of the commands that are due some were played from here, one after another.
-  pub record ClockWent (due : List Command) (here there : Point D) (stop : Option Stop) : Type 0 where
+  -- Of the commands that are due some were played from here, one after another; and what a crash leaves at each moment of
+  -- that is said, where each of the commands may come in any state.
+  pub record ClockWent (tells : Type 0) (sight : D → Sight) (due : List Command) (here there : Point D) (stop : Option Stop)
+      : Type 0 where
     pub calls : List Call
     pub unplayed : List Command
     pub plays : commands_of calls ++ unplayed ≡ due
     pub are : AreCalls trade (seen here.state) calls
     pub ends : CallsEnd (seen here.state) calls unplayed here.held there stop
+    pub moves : AllMayCome trade due → Moves trade tells sight here.state there.state
+    pub moves_on : AllMayCome trade due → stop ≡ None → MovesOn trade tells sight here.state there.state

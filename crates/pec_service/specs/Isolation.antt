@@ -10,7 +10,7 @@ use Rattle.pec_directory.specs.Directory.{Kept, account_home, providers_of}
 use Rattle.pec_screen.specs.Verdicts.{Patterns}
 use Rattle.pec_seal.specs.Seals.{Seals}
 use Rattle.pec_ledger.specs.Network.{Site}
-use Rattle.pec_trade.specs.TradeOf.{trade_of}
+use Rattle.pec_runs.specs.OfTrades.{trade_of}
 use Rattle.pec_http.specs.Asking.{Question, Submit, See}
 use Rattle.pec_http.specs.Replies.{Reply, fault_reply, memory_reply}
 use Rattle.pec_http.specs.declared.stops.Stop.{Stop}

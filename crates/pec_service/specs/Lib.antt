@@ -1,8 +1,11 @@
+pub mod Calling
 pub mod Calls
 pub mod Connections
 pub mod Isolation
+pub mod OfTrades
 pub mod Own
 pub mod Passes
 pub mod Runs
 pub mod Services
 pub mod ShareLaws
+pub mod Through

@@ -25,7 +25,7 @@ use Rattle.pec_ledger.specs.Steps.{half, size_of}
 use Rattle.pec_ledger.specs.Trade.{Trade}
 use Rattle.pec_plays.specs.Commands.{entry_by, screened_cause, told_by}
 use Rattle.pec_plays.specs.Steps.{longest_journal}
-use Rattle.pec_trade.specs.TradeOf.{cause_at}
+use Rattle.pec_runs.specs.OfTrades.{cause_at}
 use Rattle.pec_http.specs.Asking.{Question, Submit, See}
 use Rattle.pec_http.specs.Replies.{Reply, fault_reply, memory_reply, shown_reply, stop_reply, submitted_reply}
 use Rattle.pec_http.specs.Serving.{kind_of}

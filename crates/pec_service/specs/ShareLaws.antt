@@ -20,7 +20,7 @@ use Rattle.pec_ledger.specs.Steps.{half, size_of}
 use Rattle.pec_ledger.specs.Trade.{Trade}
 use Rattle.pec_plays.specs.Commands.{Answer, Luck, Refuses, Submit, Submits, answers, appended, played}
 use Rattle.pec_plays.specs.Steps.{has_no_room, longest_journal}
-use Rattle.pec_trade.specs.TradeOf.{trade_of}
+use Rattle.pec_runs.specs.OfTrades.{trade_of}
 use Rattle.pec_service.specs.Connections.{said_in}
 use Rattle.pec_service.specs.Own.{Share, entry_for, numbered, patterns_at, patterns_by, said_by, share_at}
 

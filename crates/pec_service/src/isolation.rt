@@ -13,7 +13,7 @@ ghost use Rattle.pec_service.specs.Isolation.{IsDeviceReply, IsOwn, IsOwnInRun, 
 ghost use Rattle.pec_service.specs.Passes.{pass_of};
 ghost use Rattle.pec_service.specs.Runs.{AllCounts, Asked, Begins, Outside, ServiceRanOver, stage_of};
 ghost use Rattle.pec_service.specs.Services.{connections_of};
-ghost use Rattle.pec_trade.specs.TradeOf.{trade_of};
+ghost use Rattle.pec_runs.specs.OfTrades.{trade_of};
 
 use pec_http::a_request_asks_one_thing;
 use pec_outside::Depot;

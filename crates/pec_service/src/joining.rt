@@ -1,15 +1,17 @@
-ghost use Rattle.std.specs.Prelude.{◌≡◌, ◌≤◌, ℕ, List, [], ◌∷◌, ◌++◌, map, Option};
+ghost use Rattle.std.specs.Prelude.{◌≡◌, ◌<◌, ◌≤◌, ℕ, List, [], ◌∷◌, ◌++◌, map, Option};
+ghost use Rattle.pec_types.specs.declared.moments.TheConstants.{END_OF_TIME};
 ghost use Rattle.pec_directory.specs.Directory.{Kept, Provider};
 ghost use Rattle.pec_screen.specs.Screened.{Finds};
 ghost use Rattle.pec_ledger.specs.Trade.{Trade};
 ghost use Rattle.pec_runs.specs.AnswerLines.{answer_text};
 ghost use Rattle.pec_runs.specs.Steps.{Goes, Plays, Point, Stop};
-ghost use Rattle.pec_service.specs.Calls.{AreCalls, Call, ClockWent, IsCall, State, answer_of, calls_text};
+ghost use Rattle.pec_service.specs.Calls.{AllMayCome, AreCalls, Call, ClockWent, IsCall, State, answer_of, calls_text};
 ghost use Rattle.pec_service.specs.Calls.{clock_from, commands_of, state_behind};
 ghost use Rattle.pec_service.specs.Connections.{Connection, IsConnection, Place, connection_text};
 ghost use Rattle.pec_service.specs.Services.{AreConnections, connections_text, place_behind};
 
-use pec_outside::Depot;
+use pec_outside::{Depot, Disk};
+use pec_plays::a_network_stays_sound;
 
 /// How a loop over calls climbs: one more stands behind those so far, and so do its lines.
 pub fn calls_are_joined()
@@ -43,11 +45,15 @@ pub fn calls_are_joined()
 /// What a run comes to that goes by the clock calls of so many providers, from one on, and a round: they are calls, one
 /// after another, and it can't stray, for none of them is a restart.
 pub fn acts_are_calls<P: Depot>()
-    ensures { (trade : Trade) (providers : List Provider) (more from moment : ℕ) (here there : Point P.D)
+    ensures went { (trade : Trade) (providers : List Provider) (more from moment : ℕ) (here there : Point P.D)
         (stop : Option Stop)
         → Goes trade providers (P.tells × P.D.tells) P.D.sight (map Plays (clock_from more from moment)) here there stop
-        → ClockWent trade providers (clock_from more from moment) here there stop }
-{}
+        → ClockWent trade providers (P.tells × P.D.tells) P.D.sight (clock_from more from moment) here there stop }
+    ensures may_come { (trade : Trade) (more from moment : ℕ) → moment < END_OF_TIME
+        → AllMayCome trade (clock_from more from moment) }
+{
+    a_network_stays_sound();
+}
 
 /// How a loop over connections climbs.
 pub fn connections_are_joined()

@@ -1,5 +1,5 @@
 -- The clock calls and the round behind an answer, one after another.
-use Rattle.std.proofs.Common.{◌≡◌, ℕ, zero, suc, ◌+◌, ◌-◌, ◌<◌, List, [], ◌∷◌, ◌++◌, map, refl, ap, arith, Option, None, Some, Result, Ok, Err}
+use Rattle.std.proofs.Common.{◌≡◌, ℕ, zero, suc, ◌+◌, ◌-◌, ◌<◌, List, [], ◌∷◌, ◌++◌, map, ap, arith, Option, None, Some, Result, Ok, Err}
 use Rattle.pec_plays.specs.Commands.{Command, Restart, Round, Tick}
 use Rattle.pec_runs.specs.Steps.{Act, NoMemory, Plays, WriteFault}
 use Rattle.pec_runs.specs.Steps as runs

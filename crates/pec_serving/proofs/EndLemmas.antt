@@ -74,13 +74,13 @@ module _ {D S : Type 0} (sight : D → Sight) (count : D → ℕ) (disks : Type 
         line_broke trade start.kept (finds_in screens) laws joins here at served before mid going left moment told
         (comes_so (came.Served moment told) comes) wanted (omega (arith, few)) after part
 
-    module _ (keeps_again : Keeps sight count disks start again) (last : NetworkState D S) (line_held after : Option Bytes)
+    module _ (all : Type 0) (keeps_again : Keeps sight count disks start again) (last : NetworkState D S) (line_held after : Option Bytes)
         (from upto : ℕ) (line : line_held ≡ followed_by mid (served_line told)) where
       abbrev network_left : State
       network_left = state_of count elsewhere last
 
       abbrev Went : Trade → List Kept → Option Stop → Type 0
-      Went t k stop = ClockWent t (providers_of k) (clock_from (length k) 0 moment)
+      Went t k stop = ClockWent t (providers_of k) all sight (clock_from (length k) 0 moment)
           (point_of count elsewhere again line_held from) (point_of count elsewhere last after upto) stop
 
       -- the clock calls, in the world of the beginning

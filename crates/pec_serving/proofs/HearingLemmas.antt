@@ -21,7 +21,7 @@ use Rattle.pec_http.specs.Asking as asking
 use Rattle.pec_http.specs.Desks.{Answers}
 use Rattle.pec_http.specs.Input.{IsInput}
 use Rattle.pec_http.specs.Replies.{Reply, reply_text, shown_reply, submitted_reply}
-use Rattle.pec_http.specs.Serving.{IsAnswer, IsAnswered, RestsUnread, Replies, Sends, Serves, Stays, kind_of}
+use Rattle.pec_http.specs.Serving.{IsAnswer, IsAnswered, Sends, Serves, kind_of}
 use Rattle.pec_http.specs.Serving as serving
 use Rattle.pec_http.specs.Statuses.{number_of}
 use Rattle.pec_http.specs.declared.demands.Look.{Look}
@@ -48,7 +48,7 @@ told (Ok submitted) = Submits submitted
 told (Err fault) = Refuses fault
 
 -- A command was played, and told so.
-record Called (play : Luck → Played) (new : List Site) (said : Result Submitted ProviderFault) : Type 0 where
+pub record Called (play : Luck → Played) (new : List Site) (said : Result Submitted ProviderFault) : Type 0 where
   pub luck : Luck
   pub answer : (play luck).answer ≡ told said
   pub after : new ≡ (play luck).after
@@ -68,7 +68,7 @@ module _ (play : Luck → Played) (old new : List Site) where
   }
 
   -- It was played, or memory ran out and nothing changed.
-  called_or : (said : Result Submitted ProviderFault) → IsPlayed Submits play old new said
+  pub called_or : (said : Result Submitted ProviderFault) → IsPlayed Submits play old new said
       → Called play new said ⊎ ((said ≡ Err faults.NoMemory) × (new ≡ old))
   called_or (Ok submitted) is = inl (played_as (luck_of false) (Ok submitted) is)
   called_or (Err faults.NoMemory) is = inr (refl, is)
@@ -188,10 +188,10 @@ module _ {D S : Type 0} (sight : D → Sight) (count : D → ℕ) (tells : Type 
         → (IsErrOf said faults.DiskFault → HasRisenAt count number network.providers after.network.providers)
         → (provider : ℕ) → RoseBy (faults_at provider number (told said)) (here.counts provider) (there.counts provider)
     rose (Ok submitted) risen provider =
-        let l = counted.later network.providers after.network.providers many elsewhere handed_in_so.later provider
+        let l = counted.later network.providers after.network.providers many elsewhere handed_in_so.concerns.later provider
         in (l, λ low. omega (arith, l))
     rose (Err fault) risen provider =
-        counted.refused network.providers after.network.providers many elsewhere handed_in_so.later number within fault
+        counted.refused network.providers after.network.providers many elsewhere handed_in_so.concerns.later number within fault
         (λ is. risen (ap (λ (f : ProviderFault). (let r : Result Submitted ProviderFault = Err f in r)) is)) provider
 
     reply_to_said : reply ≡ submitted_reply (first_domain (providers_of network.kept) number) submits.said
@@ -209,7 +209,7 @@ module _ {D S : Type 0} (sight : D → Sight) (count : D → ℕ) (tells : Type 
         memory = subst HasMemory (sym called.answer) (told_memory submits.said);
         counts = λ provider.
             subst (λ (a : Answer). RoseBy (faults_at provider number a) (here.counts provider) (there.counts provider))
-            (sym called.answer) (rose submits.said handed_in_so.disk_fault provider);
+            (sym called.answer) (rose submits.said handed_in_so.concerns.disk_fault provider);
         state = called.after;
       }
 
@@ -232,7 +232,7 @@ module _ {D S : Type 0} (sight : D → Sight) (count : D → ℕ) (tells : Type 
     handed_comes = elim (called_or play here.sites there.sites submits.said handed_in_so.plays) [
       | inl called ↦ stored called
       | inr lack ↦ idle input reply connections.Lacks tt refl lack.1
-          (λ provider. counted.later network.providers after.network.providers many elsewhere handed_in_so.later provider)
+          (λ provider. counted.later network.providers after.network.providers many elsewhere handed_in_so.concerns.later provider)
           (reply_to_said ∙ ap (λ (said : Result Submitted ProviderFault).
           submitted_reply (first_domain (providers_of network.kept) number) said) lack.0)
     ]

@@ -64,7 +64,7 @@ module _ {D S : Type 0} (sight : D → Sight) (count : D → ℕ) (disks : Type 
     holds_by input reply (inl answer) = holds_answered answer.asked reply answer.answered
     holds_by input reply (inr stays) = holds_same stays.same
 
-    holds_served : (left held held_then : Option Bytes) (told : Served)
+    pub holds_served : (left held held_then : Option Bytes) (told : Served)
         → Serves desk_answers left held desk after held_then told → Holds after
     holds_served left held held_then (served.Answered code) replies = holds_by replies.input replies.reply replies.is_answer
     holds_served left held held_then served.WriteFault replies = holds_by replies.input replies.reply replies.is_answer
@@ -79,7 +79,7 @@ module _ {D S : Type 0} (sight : D → Sight) (count : D → ℕ) (disks : Type 
     keeps_handed whole whole_after address path message said handed =
         elim (slice_get_cases desk.network.providers handed.number).1 [
           | inl there ↦
-              let only = handed.others there.0
+              let only = handed.concerns.others there.0
               in let kept : after.network.kept ≡ desk.network.kept = ap (λ (n : NetworkState D S). n.kept) only
               in let many : length after.network.providers ≡ length desk.network.providers =
               whole_after ∙ ap (λ (k : List Kept). length k) kept ∙ sym whole
@@ -89,8 +89,8 @@ module _ {D S : Type 0} (sight : D → Sight) (count : D → ℕ) (disks : Type 
                 seals = ap (λ (n : NetworkState D S). n.sealer) only;
                 stands = λ told all number other within.
                     (let below : number < length desk.network.providers = omega (arith, within, many)
-                    in (handed.carries told (λ p. []) number other below).stands (all number other below));
-                later = handed.later;
+                    in (handed.concerns.carries told (λ p. []) number other below).stands (all number other below));
+                later = handed.concerns.later;
               }
           | inr past ↦ absurd (omega (arith, past.0, handed.within, whole))
         ]

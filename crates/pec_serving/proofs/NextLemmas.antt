@@ -15,7 +15,7 @@ use Rattle.pec_http.specs.Replies.{reply_text}
 use Rattle.pec_http.specs.declared.serving.Served.{Served}
 use Rattle.pec_http.specs.declared.serving.Served.TheVariants as served
 use Rattle.pec_service.specs.Calls.{AreCalls, Call, state_behind}
-use Rattle.pec_service.specs.Connections.{Connection, Hearing, IsConnection, IsReplied, Place, answered_by, outcome_line}
+use Rattle.pec_service.specs.Connections.{Hearing, IsReplied, Place, answered_by, outcome_line}
 use Rattle.pec_service.specs.Connections as connections
 use Rattle.pec_serving.specs.Hearing.{Hears, IsServed}
 use Rattle.pec_serving.specs.Serving.{IsServedNext, served_line}

@@ -15,7 +15,7 @@ use Rattle.pec_http.specs.declared.serving.Served.{Served}
 use Rattle.pec_runs.specs.Ran.{Behind, LeavesOff}
 use Rattle.pec_service.specs.Calls.{AreCalls, Call, State, calls_text, clock_from, commands_of, state_behind}
 use Rattle.pec_service.specs.Connections.{Connection, IsConnection, IsWhole, Place, connection_text}
-use Rattle.pec_service.specs.Services.{AllServed, AreConnections, Halted, IsService, NoConnection, NoMoment, Service, connections_text, next_in, place_behind}
+use Rattle.pec_service.specs.Services.{AllServed, AreConnections, Halted, NoConnection, NoMoment, Service, connections_text, next_in, place_behind}
 use Rattle.pec_service.specs.Services as services
 use Rattle.pec_serving.specs.Serving.{IsServedNext, ServesSo, served_line}
 use Rattle.pec_serving.specs.declared.serving.Ending.TheVariants as endings

@@ -8,7 +8,7 @@ pub use Rattle.pec_playing.specs.OfNetworks.{journals_had, reopened_as, rested, 
 pub use Rattle.pec_playing.specs.OfNetworks.{Summary, total_of, waiting_for, world_of}
 pub use Rattle.pec_playing.specs.Doing.{Keeps}
 pub use Rattle.pec_playing.specs.Playing.{CanPlay, count_or, counts_in}
-pub use Rattle.pec_playing.specs.Points.{point_of, stop_in}
+pub use Rattle.pec_playing.specs.Points.{point_of, state_in, stop_in}
 pub use Rattle.pec_playing.specs.OfNetworks.faults as faults
 pub use Rattle.pec_playing.specs.OfNetworks.reasons as reasons
 pub use Rattle.pec_playing.specs.OfNetworks.ways as ways

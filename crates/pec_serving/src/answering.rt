@@ -1,16 +1,20 @@
-ghost use Rattle.std.specs.Prelude.{◌≡◌, ℕ, ◌≤◌, length, map};
+ghost use Rattle.std.specs.Prelude.{◌≡◌, ℕ, ◌<◌, ◌≤◌, length, map};
+ghost use Rattle.pec_types.specs.declared.moments.TheConstants.{END_OF_TIME};
 ghost use Rattle.pec_outside.specs.Flow.{HasRisen};
 ghost use Rattle.pec_http.specs.declared.serving.Served.TheVariants as served;
 ghost use Rattle.pec_screen.specs.Screened.{finds_in};
 ghost use Rattle.pec_playing.specs.Doing.{Keeps};
 ghost use Rattle.pec_playing.specs.OfNetworks.{world_of};
+ghost use Rattle.pec_playing.specs.Points.{state_in};
+ghost use Rattle.pec_runs.specs.Moves.{MovesOn};
 ghost use Rattle.pec_serving.specs.Hearing.{Hears};
 ghost use Rattle.pec_serving.specs.Playing.{state_of};
 
 use pec_desk::{NetworkDesk, an_account_sees_its_own};
 use pec_http::{Served, serve_one};
 use pec_outside::{Disk, Sink, Source};
-use pec_playing::{Network, what_is_told_was_counted};
+use pec_playing::{Network, what_carries_on_is_a_moment, what_is_told_was_counted};
+use pec_plays::a_network_stays_sound;
 use pec_screen::Judge;
 use pec_seal::{HmacSealer, Sealer};
 use pec_types::Moment;
@@ -31,6 +35,10 @@ pub(crate) fn answer<D: Disk, J: Judge, C: Source + Sink>(
         (state_of D.faults elsewhere network) (state_of D.faults elsewhere result.0)
         (C.left connection.old) (C.held connection.old) (C.held connection.new) result.2 }
     ensures keeps { Keeps D.sight D.faults D.tells network result.0 }
+    // What a crash may leave at any moment of it.
+    ensures moves { (elsewhere : ℕ → ℕ) → moment < END_OF_TIME
+        → MovesOn (world_of (⟦<HmacSealer as Sealer>⟧.seals) network) D.tells D.sight
+        (state_in D.faults elsewhere network) (state_in D.faults elsewhere result.0) }
     // Screens keep what they look for.
     ensures patterns { map J.patterns result.1.items ≡ map J.patterns screens.items }
     ensures read_fault { result.2 ≡ served.ReadFault → HasRisen (C.faults connection.old) (C.faults connection.new) }
@@ -38,6 +46,8 @@ pub(crate) fn answer<D: Disk, J: Judge, C: Source + Sink>(
 {
     an_account_sees_its_own::<D, HmacSealer>();
     what_is_told_was_counted::<D>();
+    what_carries_on_is_a_moment::<D, HmacSealer>();
+    a_network_stays_sound();
     as_many_providers(&network);
     let mut desk = NetworkDesk::open(network, moment, screens);
     let told = serve_one(alloc, connection, &mut desk);

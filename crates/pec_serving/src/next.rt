@@ -3,6 +3,8 @@ ghost use Rattle.pec_outside.specs.Flow.{HasRisen};
 ghost use Rattle.pec_screen.specs.Screened.{finds_in};
 ghost use Rattle.pec_playing.specs.Doing.{Keeps};
 ghost use Rattle.pec_playing.specs.OfNetworks.{world_of};
+ghost use Rattle.pec_playing.specs.Points.{state_in};
+ghost use Rattle.pec_runs.specs.Moves.{MovesOn};
 ghost use Rattle.pec_serving.specs.Serving.{ComesNext, place_of};
 
 use crate::answering::answer;
@@ -40,6 +42,9 @@ pub(crate) fn next<D: Disk, J: Judge, T: Ticks, R: Door>(
         (place_of D.faults elsewhere network (T.coming ticks.old) (R.requests door.old) (R.replies door.old))
         (place_of D.faults elsewhere result.0 (T.coming ticks.new) (R.requests door.new) (R.replies door.new)) result.2 }
     ensures keeps { Keeps D.sight D.faults D.tells network result.0 }
+    // What a crash may leave at any moment of it.
+    ensures moves { (elsewhere : ℕ → ℕ) → MovesOn (world_of (⟦<HmacSealer as Sealer>⟧.seals) network) D.tells D.sight
+        (state_in D.faults elsewhere network) (state_in D.faults elsewhere result.0) }
     ensures patterns { map J.patterns result.1.items ≡ map J.patterns screens.items }
     ensures no_moment { result.2 ≡ Came.NoMoment → HasRisen (T.faults ticks.old) (T.faults ticks.new) }
     ensures no_connection { result.2 ≡ Came.NoConnection → HasRisen (R.faults door.old) (R.faults door.new) }

@@ -4,6 +4,8 @@ ghost use Rattle.pec_outside.specs.Flow.{HasRisen};
 ghost use Rattle.pec_screen.specs.Screened.{finds_in};
 ghost use Rattle.pec_playing.specs.Doing.{Keeps};
 ghost use Rattle.pec_playing.specs.OfNetworks.{world_of};
+ghost use Rattle.pec_playing.specs.Points.{state_in};
+ghost use Rattle.pec_runs.specs.Moves.{Moves};
 ghost use Rattle.pec_serving.specs.Serving.{ServesSo, place_of};
 
 use crate::clock::play_clock;
@@ -11,9 +13,10 @@ use crate::lines::write_outcome;
 use crate::next::{Came, next};
 use pec_outside::{Depot, Disk, Door, Sink, Ticks};
 use pec_playing::{Network, Stop};
+use pec_runs::moves_are_joined;
 use pec_screen::Judge;
 use pec_seal::{HmacSealer, Sealer};
-use pec_service::{calls_are_joined, connections_are_joined};
+use pec_service::{acts_are_calls, calls_are_joined, connections_are_joined};
 use std::alloc::Global;
 use std::thread::Threads;
 
@@ -62,6 +65,10 @@ pub fn serve<
         (place_of D.faults elsewhere result.0 (T.coming ticks.new) (R.requests door.new) (R.replies door.new))
         (W.held out.old) (W.held out.new) result.1 }
     ensures keeps { Keeps D.sight D.faults D.tells network result.0 }
+    // What a crash may leave at any moment of it.
+    ensures moves { (elsewhere : ℕ → ℕ)
+        → Moves (world_of (⟦<HmacSealer as Sealer>⟧.seals) network) (P.tells × D.tells) D.sight
+        (state_in D.faults elsewhere network) (state_in D.faults elsewhere result.0) }
     ensures home { P.tells → Alike (P.home depot.old) (P.home depot.new) }
     ensures last { Alike (P.last depot.old) (P.last depot.new) }
     ensures depot_later { P.faults depot.old ≤ P.faults depot.new }
@@ -76,6 +83,8 @@ pub fn serve<
 {
     calls_are_joined();
     connections_are_joined();
+    acts_are_calls::<P>();
+    moves_are_joined::<P>();
     let mut network = network;
     let mut screens = screens;
     for served in 0..wanted {

@@ -14,18 +14,15 @@ returns-clause-handed g c = record {
   screens = c.submit_screened-said.ensures.patterns;
   path = c.requires.path;
   plays = c.submit_screened-said.ensures.plays;
-  others = c.submit_screened-said.ensures.others;
-  carries = c.submit_screened-said.ensures.carries;
-  disk_fault = c.submit_screened-said.ensures.disk_fault;
-  later = c.submit_screened-said.ensures.later;
+  concerns = c.submit_screened-said.ensures.concerns;
 }
 
 pub returns-clause-same : goal.returns-clause-same
 returns-clause-same g c =
     let within : c.args.number < length c.args.network.now.providers =
     omega (arith, c.as_many_providers.ensures, c.requires.within) in (
-      kept_stays c.args.network.now c.submit_screened-said.new.self c.args.number within c.submit_screened-said.ensures.others,
-      sealer_stays c.args.network.now c.submit_screened-said.new.self c.args.number within c.submit_screened-said.ensures.others,
+      kept_stays c.args.network.now c.submit_screened-said.new.self c.args.number within c.submit_screened-said.ensures.concerns.others,
+      sealer_stays c.args.network.now c.submit_screened-said.new.self c.args.number within c.submit_screened-said.ensures.concerns.others,
     )
 
 pub returns-clause-refusals : goal.returns-clause-refusals
@@ -38,18 +35,18 @@ pub returns-clause-later : goal.returns-clause-later
 returns-clause-later g c =
     let within : c.args.number < length c.args.network.now.providers =
     omega (arith, c.as_many_providers.ensures, c.requires.within) in
-    let kept = kept_stays c.args.network.now c.submit_screened-said.new.self c.args.number within c.submit_screened-said.ensures.others in
+    let kept = kept_stays c.args.network.now c.submit_screened-said.new.self c.args.number within c.submit_screened-said.ensures.concerns.others in
     let many : length c.submit_screened-said.new.self.providers ≡ length c.args.network.now.providers =
     c.as_many_providers-2.ensures ∙ ap (λ (k : List Kept). length k) kept ∙ sym c.as_many_providers.ensures in
     counts_stay_or_rise g.D.Counted.faults c.args.network.now.providers c.submit_screened-said.new.self.providers many
-    c.submit_screened-said.ensures.later
+    c.submit_screened-said.ensures.concerns.later
 
 pub returns-clause-cause : goal.returns-clause-cause
 returns-clause-cause g c = λ is.
     let within : c.args.number < length c.args.network.now.providers =
     omega (arith, c.as_many_providers.ensures, c.requires.within) in
-    let kept = kept_stays c.args.network.now c.submit_screened-said.new.self c.args.number within c.submit_screened-said.ensures.others in
+    let kept = kept_stays c.args.network.now c.submit_screened-said.new.self c.args.number within c.submit_screened-said.ensures.concerns.others in
     let many : length c.submit_screened-said.new.self.providers ≡ length c.args.network.now.providers =
     c.as_many_providers-2.ensures ∙ ap (λ (k : List Kept). length k) kept ∙ sym c.as_many_providers.ensures in
     count_rises g.D.Counted.faults c.args.network.now.providers c.submit_screened-said.new.self.providers many c.args.number within
-    (c.submit_screened-said.ensures.disk_fault is)
+    (c.submit_screened-said.ensures.concerns.disk_fault is)

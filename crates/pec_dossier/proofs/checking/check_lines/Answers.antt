@@ -1,5 +1,5 @@
 -- From line to line, and to each exit.
-use Rattle.std.proofs.Common.{◌∙◌, ap, arith, sym}
+use Rattle.std.proofs.Common.{◌∙◌, ap, arith}
 use Rattle.std.proofs.lemmas.Result.{err_from_is_err_and}
 use Rattle.pec_outside.specs.Flow.{behind, followed_by}
 use Rattle.pec_directory.specs.Directory.{providers_of}

@@ -1,5 +1,5 @@
 -- What was told of the messages so far, and of the devices that no count fell.
-use Rattle.std.proofs.Common.{◌≡◌, ◌+◌, ◌-◌, ◌≤◌}
+use Rattle.std.proofs.Common.{◌+◌, ◌-◌, ◌≤◌}
 use Rattle.pec_outside.specs.Flow.{behind}
 use Rattle.pec_directory.specs.Directory.{providers_of}
 use Rattle.pec_runs.specs.ScriptLines.{most_lines}

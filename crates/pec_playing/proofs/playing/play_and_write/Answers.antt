@@ -109,3 +109,12 @@ returns-clause-goes g c = λ stands elsewhere.
     (play_says g.D.Disk.sight g.D.Counted.faults g.P.Depot.tells g.D.Disk.tells trade command old new stands
     (Ok c.in_ok-text.text) does elsewhere)
     (c.in_ok-write_all.ensures.ok ∙ ap (followed_by before) c.deref.ensures.value)
+
+pub returns-in_err-text-clause-screens : goal.returns-in_err-text-clause-screens
+returns-in_err-text-clause-screens g c = record { looked = c.play_command.ensures.looked; patterns = c.play_command.ensures.patterns }
+
+pub returns-in_err-write_all-clause-screens : goal.returns-in_err-write_all-clause-screens
+returns-in_err-write_all-clause-screens g c = record { looked = c.play_command.ensures.looked; patterns = c.play_command.ensures.patterns }
+
+pub returns-clause-screens : goal.returns-clause-screens
+returns-clause-screens g c = record { looked = c.play_command.ensures.looked; patterns = c.play_command.ensures.patterns }

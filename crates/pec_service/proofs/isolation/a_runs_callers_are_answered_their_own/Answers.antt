@@ -1,8 +1,8 @@
-use Rattle.std.proofs.Common.{List, ◌∷◌, ◌++◌, refl, subst}
-use Rattle.pec_screen.specs.Screened.{Finds, finds_in}
+use Rattle.std.proofs.Common.{List, refl, subst}
+use Rattle.pec_screen.specs.Screened.{Finds}
 use Rattle.pec_service.specs.Connections.{Connection, IsConnection}
 use Rattle.pec_service.specs.Runs.{first_place, world}
-use Rattle.pec_service.specs.Services.{AreConnections, connections_of, place_behind}
+use Rattle.pec_service.specs.Services.{AreConnections, place_behind}
 use Rattle.pec_service.proofs.IsolationLemmas.{connection_at}
 use Rattle.pec_service.proofs.RunLemmas.{serves_on}
 use Rattle.pec_service.proofs.isolation.a_runs_callers_are_answered_their_own.Goals as goal

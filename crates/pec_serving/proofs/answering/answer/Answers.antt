@@ -12,7 +12,10 @@ use Rattle.pec_playing.specs.Doing.{Keeps}
 use Rattle.pec_serving.specs.Hearing.{Hears}
 use Rattle.pec_serving.specs.Playing.{state_of}
 use Rattle.pec_serving.proofs.HearingLemmas.{opened_is, serves_hear}
+use Rattle.pec_playing.specs.Points.{state_in}
+use Rattle.pec_runs.specs.Moves.{MovesOn}
 use Rattle.pec_serving.proofs.KeepLemmas.{serves_keep, serves_look}
+use Rattle.pec_serving.proofs.MoveLemmas.{serves_move}
 use Rattle.pec_serving.proofs.answering.answer.Goals as goal
 
 abbrev seals_of : HmacSealer → Seals
@@ -89,3 +92,32 @@ returns-clause-patterns g c =
     c.serve_one-told.new.desk held_then c.serve_one-told.result)
     (opened_is c.open-desk.result c.args.network c.args.moment screens c.open-desk.ensures.network c.open-desk.ensures.moment
     c.open-desk.ensures.screens) c.serve_one-told.ensures.serves)
+
+pub returns-clause-moves : goal.returns-clause-moves
+returns-clause-moves g c = λ elsewhere in_time.
+    let X = DeskState g.row.D.Denot HmacSealer in
+    let screens : List (List Patterns) = map g.J.Judge.patterns c.args.screens.items in
+    let start : X = record { network = c.args.network; moment = c.args.moment; screens = screens } in
+    let after : X = c.serve_one-told.new.desk in
+    let left = g.C.Stream.left c.args.connection.now in
+    let held = g.C.Stream.held c.args.connection.now in
+    let held_then = g.C.Stream.held c.serve_one-told.new.connection in
+    let trade = world_of seals_of c.args.network in
+    let serves : Serves (answers_of g.D.Disk.sight g.D.Counted.faults g.D.Disk.tells seals_of) left held start after held_then
+    c.serve_one-told.result =
+    subst (λ (d : X). Serves (answers_of g.D.Disk.sight g.D.Counted.faults g.D.Disk.tells seals_of) left held d after
+    held_then c.serve_one-told.result)
+    (opened_is c.open-desk.result c.args.network c.args.moment screens c.open-desk.ensures.network c.open-desk.ensures.moment
+    c.open-desk.ensures.screens)
+    c.serve_one-told.ensures.serves in
+    let closed : c.close-network.result.0 ≡ after.network = c.close-network.ensures.is in
+    let keeps = returns-clause-keeps g c in
+    let many : length after.network.providers ≡ length c.args.network.providers =
+    subst (λ (n : NetworkState g.row.D.Denot HmacSealer). length n.providers ≡ length c.args.network.providers) closed
+    keeps.many in
+    subst (λ (n : NetworkState g.row.D.Denot HmacSealer). MovesOn trade g.D.Disk.tells g.D.Disk.sight
+    (state_in g.D.Counted.faults elsewhere c.args.network) (state_in g.D.Counted.faults elsewhere n)) (sym closed)
+    (serves_move g.D.Disk.sight g.D.Counted.faults g.D.Disk.tells seals_of start after elsewhere in_time many
+    (c.a_network_stays_sound.ensures.commands trade)
+    (λ told carries. c.what_carries_on_is_a_moment.ensures told trade c.args.network after.network many carries elsewhere)
+    left held held_then c.serve_one-told.result serves)

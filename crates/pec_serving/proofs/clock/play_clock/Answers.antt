@@ -68,7 +68,7 @@ loop-provider-preserved g c =
       last = λ k. c.play_and_write.ensures.last k ∙ so.last k;
       depot_later = omega (arith, so.depot_later, c.play_and_write.ensures.later.0);
       later = omega (arith, so.later, c.play_and_write.ensures.later.1);
-      patterns = c.play_and_write.ensures.patterns ∙ so.patterns;
+      patterns = c.play_and_write.ensures.screens.patterns ∙ so.patterns;
       within = omega (arith, below);
     }
 
@@ -103,7 +103,7 @@ returns-in_err-play_and_write-clause-clock g c = λ elsewhere.
     let stop = c.in_err-play_and_write.field-0.0 in
     let p = err_from_is_err_and c.from_residual.result
     c.from_residual.ensures.1 in
-    rw (p.1, p.2) (c.acts_are_calls.ensures trade providers size 0 moment first there _
+    rw (p.1, p.2) (c.acts_are_calls.ensures.went trade providers size 0 moment first there _
     (by_stop (λ (o : Option Stop). Goes trade providers tells g.D.Disk.sight (Plays (Tick number moment) ∷ []) here
     there o)
     (λ (o : Option Stop). Goes trade providers tells g.D.Disk.sight due first there o)
@@ -139,7 +139,7 @@ returns-clause-clock g c = λ elsewhere.
     (last_due size moment c.loop-provider.provider last) (so.climbs elsewhere) in
     let goes = rw (so.keeps.directory, so.keeps.seals) at c.play_and_write-2.ensures.goes
     (λ other restarts. absurd (round_calm moment other restarts)) elsewhere in
-    c.acts_are_calls.ensures trade providers size 0 moment first there (stop_in c.play_and_write-2.result)
+    c.acts_are_calls.ensures.went trade providers size 0 moment first there (stop_in c.play_and_write-2.result)
     (by_result (λ (o : Option Stop). Goes trade providers tells g.D.Disk.sight (Plays (Round moment) ∷ []) here there o)
     (λ (o : Option Stop). Goes trade providers tells g.D.Disk.sight due first there o)
     (λ one. c.acts_are_joined.ensures.ends trade providers due first there

@@ -2,8 +2,12 @@ use Rattle.std.proofs.Common.{◌∙◌, ap, sym, refl, map, ℕ, List, Option}
 use Rattle.pec_outside.specs.Doors.{Reply, in_front, replied}
 use Rattle.pec_screen.specs.Screened.{finds_in}
 use Rattle.pec_seal.specs.Hmac.{hmac_seals}
-use Rattle.pec_playing.specs.OfNetworks.{trade_of}
+use Rattle.pec_seal.specs.Seals.{Seals}
+use Rattle.pec_seal.specs.declared.hmac.HmacSealer.{HmacSealer}
+use Rattle.pec_playing.specs.OfNetworks.{trade_of, world_of}
+use Rattle.pec_playing.specs.Points.{state_in}
 use Rattle.pec_serving.specs.Serving.{place_of}
+use Rattle.pec_serving.proofs.MoveLemmas.{moves_none}
 use Rattle.pec_serving.proofs.NextLemmas.{served_next, unserved_replies}
 use Rattle.pec_serving.proofs.next.next.Goals as goal
 
@@ -35,3 +39,19 @@ returns-in-Err-now-clause-comes g c = λ elsewhere. record {
       ∙ unserved_replies (g.R.Door.replies c.args.door.now) (g.R.C.Stream.held c.in-Ok.connection)
       (g.R.C.Counted.faults c.in-Ok.connection) c.in-Ok.ensures.empty c.in-Ok.ensures.fresh;
 }
+
+abbrev seals_of : HmacSealer → Seals
+seals_of sealer = hmac_seals sealer.names.items sealer.keys.items
+
+pub returns-in-Err-clause-moves : goal.returns-in-Err-clause-moves
+returns-in-Err-clause-moves g c = λ elsewhere.
+    moves_none g.D.Disk.sight g.D.Disk.tells (world_of seals_of c.args.network)
+    (state_in g.D.Counted.faults elsewhere c.args.network)
+
+pub returns-in-Err-now-clause-moves : goal.returns-in-Err-now-clause-moves
+returns-in-Err-now-clause-moves g c = λ elsewhere.
+    moves_none g.D.Disk.sight g.D.Disk.tells (world_of seals_of c.args.network)
+    (state_in g.D.Counted.faults elsewhere c.args.network)
+
+pub returns-clause-moves : goal.returns-clause-moves
+returns-clause-moves g c = λ elsewhere. c.answer-network.ensures.moves elsewhere c.in-Ok-now.ensures.bound

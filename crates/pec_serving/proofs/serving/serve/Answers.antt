@@ -1,5 +1,5 @@
-use Rattle.std.proofs.Common.{◌≡◌, ◌∙◌, List, length, map, ap, sym, subst, refl, arith, Err}
-use Rattle.pec_directory.specs.Directory.{Kept, providers_of}
+use Rattle.std.proofs.Common.{◌≡◌, ◌∙◌, List, length, map, ap, subst, refl, arith, Err}
+use Rattle.pec_directory.specs.Directory.{providers_of}
 use Rattle.pec_screen.specs.Screened.{finds_in}
 use Rattle.pec_screen.specs.Verdicts.{Patterns}
 use Rattle.pec_seal.specs.Hmac.{hmac_seals}
@@ -11,7 +11,9 @@ use Rattle.pec_serving.specs.Serving.{ComesNext, place_of}
 use Rattle.pec_serving.specs.declared.next.Came.{Came}
 use Rattle.pec_playing.specs.declared.stops.Stop.{Stop}
 use Rattle.pec_serving.proofs.EndLemmas.{risen_since, ends_broken, ends_lacking, ends_stopped, ends_unmet, ends_untold, ends_written}
+use Rattle.pec_playing.specs.Points.{state_in}
 use Rattle.pec_serving.proofs.KeepLemmas.{given_back, keeps_all, keeps_on}
+use Rattle.pec_serving.proofs.MoveLemmas.{MoveLaws, moves_again, moves_last, moves_stopped, served_in_time}
 use Rattle.pec_serving.proofs.ServiceLemmas.{CallLaws, ConnectionLaws, all_served, goes_none}
 use Rattle.pec_serving.proofs.serving.serve.Goals as goal
 use Rattle.pec_playing.specs.OfNetworks.{world_of}
@@ -26,6 +28,8 @@ loop-served-init g c = record {
       (finds_in (map g.J.Judge.patterns c.args.screens.items))
       (place_of g.D.Counted.faults elsewhere c.args.network (g.T.Ticks.coming c.args.ticks.now)
       (g.R.Door.requests c.args.door.now) (g.R.Door.replies c.args.door.now)) (g.W.Stream.held c.args.out.now);
+  moves = λ elsewhere. c.moves_are_joined.ensures.none (world_of seals_of c.args.network)
+      (state_in g.D.Counted.faults elsewhere c.args.network);
   patterns = refl;
   keeps = keeps_all g.D.Disk.sight g.D.Counted.faults g.D.Disk.tells c.args.network;
   home = λ told k. refl;
@@ -210,12 +214,12 @@ returns-in-Err-WriteFault-clause-serves g c = λ elsewhere.
     (place_of g.D.Counted.faults elsewhere again (g.T.Ticks.coming c.next-again.new.ticks)
     (g.R.Door.requests c.next-again.new.door) (g.R.Door.replies c.next-again.new.door)) came) c.in-Served.is
     (c.next-again.ensures.comes elsewhere))
-    (keeps_on g.D.Disk.sight g.D.Counted.faults g.D.Disk.tells c.args.network c.loop-served.network c.next-again.result.0
+    (g.P.Depot.tells × g.D.Disk.tells) (keeps_on g.D.Disk.sight g.D.Counted.faults g.D.Disk.tells c.args.network c.loop-served.network c.next-again.result.0
     c.loop-served.invariant.keeps c.next-again.ensures.keeps) c.play_clock.new.network (g.W.Stream.held c.write_outcome.new.out)
     (g.W.Stream.held c.play_clock.new.out) (g.W.Counted.faults c.write_outcome.new.out)
     (g.W.Counted.faults c.play_clock.new.out) c.in_default.ensures.ok
     (subst (λ (stop : Stop). ClockWent (world_of seals_of again) (providers_of again.kept)
-    (clock_from (length again.kept) 0 c.in-Served.moment)
+    (g.P.Depot.tells × g.D.Disk.tells) g.D.Disk.sight (clock_from (length again.kept) 0 c.in-Served.moment)
     (point_of g.D.Counted.faults elsewhere again (g.W.Stream.held c.write_outcome.new.out) (g.W.Counted.faults c.write_outcome.new.out))
     (point_of g.D.Counted.faults elsewhere c.play_clock.new.network (g.W.Stream.held c.play_clock.new.out)
     (g.W.Counted.faults c.play_clock.new.out)) (stop_in {T = Unit {0}} (Err stop))) c.in-Err-WriteFault.field-0-is (c.in-Err-WriteFault.ensures.clock elsewhere))
@@ -262,12 +266,12 @@ returns-in-Err-NoMemory-clause-serves g c = λ elsewhere.
     (place_of g.D.Counted.faults elsewhere again (g.T.Ticks.coming c.next-again.new.ticks)
     (g.R.Door.requests c.next-again.new.door) (g.R.Door.replies c.next-again.new.door)) came) c.in-Served.is
     (c.next-again.ensures.comes elsewhere))
-    (keeps_on g.D.Disk.sight g.D.Counted.faults g.D.Disk.tells c.args.network c.loop-served.network c.next-again.result.0
+    (g.P.Depot.tells × g.D.Disk.tells) (keeps_on g.D.Disk.sight g.D.Counted.faults g.D.Disk.tells c.args.network c.loop-served.network c.next-again.result.0
     c.loop-served.invariant.keeps c.next-again.ensures.keeps) c.play_clock.new.network (g.W.Stream.held c.write_outcome.new.out)
     (g.W.Stream.held c.play_clock.new.out) (g.W.Counted.faults c.write_outcome.new.out)
     (g.W.Counted.faults c.play_clock.new.out) c.in_default.ensures.ok
     (subst (λ (stop : Stop). ClockWent (world_of seals_of again) (providers_of again.kept)
-    (clock_from (length again.kept) 0 c.in-Served.moment)
+    (g.P.Depot.tells × g.D.Disk.tells) g.D.Disk.sight (clock_from (length again.kept) 0 c.in-Served.moment)
     (point_of g.D.Counted.faults elsewhere again (g.W.Stream.held c.write_outcome.new.out) (g.W.Counted.faults c.write_outcome.new.out))
     (point_of g.D.Counted.faults elsewhere c.play_clock.new.network (g.W.Stream.held c.play_clock.new.out)
     (g.W.Counted.faults c.play_clock.new.out)) (stop_in {T = Unit {0}} (Err stop))) c.in-Err-NoMemory.field-0-is (c.in-Err-NoMemory.ensures.clock elsewhere))
@@ -318,10 +322,32 @@ loop-served-preserved g c =
           (place_of g.D.Counted.faults elsewhere again (g.T.Ticks.coming c.next-again.new.ticks)
           (g.R.Door.requests c.next-again.new.door) (g.R.Door.replies c.next-again.new.door)) came) c.in-Served.is
           (c.next-again.ensures.comes elsewhere))
-          (keeps_on g.D.Disk.sight g.D.Counted.faults g.D.Disk.tells c.args.network c.loop-served.network c.next-again.result.0
+          (g.P.Depot.tells × g.D.Disk.tells) (keeps_on g.D.Disk.sight g.D.Counted.faults g.D.Disk.tells c.args.network c.loop-served.network c.next-again.result.0
           c.loop-served.invariant.keeps c.next-again.ensures.keeps) c.play_clock.new.network (g.W.Stream.held c.write_outcome.new.out)
           (g.W.Stream.held c.play_clock.new.out) (g.W.Counted.faults c.write_outcome.new.out)
           (g.W.Counted.faults c.play_clock.new.out) c.in_default.ensures.ok (c.in-Ok.ensures.clock elsewhere);
+      moves = λ elsewhere.
+          let tells = g.P.Depot.tells × g.D.Disk.tells in
+          let trade = world_of seals_of c.args.network in
+          let laws : MoveLaws trade g.D.Disk.tells tells g.D.Disk.sight = record {
+            on = c.moves_are_joined.ensures.on trade;
+            part = c.moves_are_joined.ensures.part trade;
+            told = c.moves_are_joined.ensures.told trade;
+          } in
+          let again = c.next-again.result.0 in
+          let now = c.loop-served.network in
+          let in_time = served_in_time (world_of seals_of now) now.kept (finds_in (map g.J.Judge.patterns c.loop-served.screens.items))
+          (place_of g.D.Counted.faults elsewhere now (g.T.Ticks.coming c.loop-served.ticks) (g.R.Door.requests c.loop-served.door)
+          (g.R.Door.replies c.loop-served.door))
+          (place_of g.D.Counted.faults elsewhere again (g.T.Ticks.coming c.next-again.new.ticks)
+          (g.R.Door.requests c.next-again.new.door) (g.R.Door.replies c.next-again.new.door)) c.in-Served.moment c.in-Served.told
+          c.next-again.result.2 c.in-Served.is (c.next-again.ensures.comes elsewhere) in
+          let may = c.acts_are_calls.ensures.may_come (world_of seals_of again) (length again.kept) 0 c.in-Served.moment in_time in
+          let keeps_again = keeps_on g.D.Disk.sight g.D.Counted.faults g.D.Disk.tells c.args.network now again
+          c.loop-served.invariant.keeps c.next-again.ensures.keeps in
+          moves_last g.D.Disk.sight g.D.Counted.faults g.D.Disk.tells tells seals_of c.args.network now again elsewhere laws
+          c.loop-served.invariant.keeps (c.loop-served.invariant.moves elsewhere) (c.next-again.ensures.moves elsewhere)
+          keeps_again c.play_clock.new.network ((c.in-Ok.ensures.clock elsewhere).moves_on may refl);
       patterns = given_back c.next-again.result.1.items c.play_clock.new.screens c.next-again.result.1.len
           g.J.Judge.patterns c.next-again.result.1.ok.0
           (c.play_clock.ensures.patterns ∙ ap (map g.J.Judge.patterns) c.as_mut_slice.ensures.value)
@@ -363,3 +389,93 @@ returns-clause-serves g c = λ elsewhere.
     omega (arith, c.loop-served-test.false, c.loop-served.auto.served-end) in
     all_served trade start.kept (finds_in screens) laws joins here there c.loop-served.served (g.W.Stream.held c.args.out.now)
     (g.W.Stream.held c.loop-served.out) (c.loop-served.invariant.going elsewhere) c.args.wanted all
+
+pub returns-in-NoConnection-clause-moves : goal.returns-in-NoConnection-clause-moves
+returns-in-NoConnection-clause-moves g c = λ elsewhere.
+    let tells = g.P.Depot.tells × g.D.Disk.tells in
+    let trade = world_of seals_of c.args.network in
+    let laws : MoveLaws trade g.D.Disk.tells tells g.D.Disk.sight = record {
+      on = c.moves_are_joined.ensures.on trade;
+      part = c.moves_are_joined.ensures.part trade;
+      told = c.moves_are_joined.ensures.told trade;
+    } in
+    (moves_again g.D.Disk.sight g.D.Counted.faults g.D.Disk.tells tells seals_of c.args.network c.loop-served.network
+    c.next-again.result.0 elsewhere laws c.loop-served.invariant.keeps (c.loop-served.invariant.moves elsewhere)
+    (c.next-again.ensures.moves elsewhere)).moves
+
+pub returns-in-NoMoment-clause-moves : goal.returns-in-NoMoment-clause-moves
+returns-in-NoMoment-clause-moves g c = λ elsewhere.
+    let tells = g.P.Depot.tells × g.D.Disk.tells in
+    let trade = world_of seals_of c.args.network in
+    let laws : MoveLaws trade g.D.Disk.tells tells g.D.Disk.sight = record {
+      on = c.moves_are_joined.ensures.on trade;
+      part = c.moves_are_joined.ensures.part trade;
+      told = c.moves_are_joined.ensures.told trade;
+    } in
+    (moves_again g.D.Disk.sight g.D.Counted.faults g.D.Disk.tells tells seals_of c.args.network c.loop-served.network
+    c.next-again.result.0 elsewhere laws c.loop-served.invariant.keeps (c.loop-served.invariant.moves elsewhere)
+    (c.next-again.ensures.moves elsewhere)).moves
+
+pub returns-in-Err-clause-moves : goal.returns-in-Err-clause-moves
+returns-in-Err-clause-moves g c = λ elsewhere.
+    let tells = g.P.Depot.tells × g.D.Disk.tells in
+    let trade = world_of seals_of c.args.network in
+    let laws : MoveLaws trade g.D.Disk.tells tells g.D.Disk.sight = record {
+      on = c.moves_are_joined.ensures.on trade;
+      part = c.moves_are_joined.ensures.part trade;
+      told = c.moves_are_joined.ensures.told trade;
+    } in
+    (moves_again g.D.Disk.sight g.D.Counted.faults g.D.Disk.tells tells seals_of c.args.network c.loop-served.network
+    c.next-again.result.0 elsewhere laws c.loop-served.invariant.keeps (c.loop-served.invariant.moves elsewhere)
+    (c.next-again.ensures.moves elsewhere)).moves
+
+pub returns-in-Err-WriteFault-clause-moves : goal.returns-in-Err-WriteFault-clause-moves
+returns-in-Err-WriteFault-clause-moves g c = λ elsewhere.
+    let tells = g.P.Depot.tells × g.D.Disk.tells in
+    let trade = world_of seals_of c.args.network in
+    let laws : MoveLaws trade g.D.Disk.tells tells g.D.Disk.sight = record {
+      on = c.moves_are_joined.ensures.on trade;
+      part = c.moves_are_joined.ensures.part trade;
+      told = c.moves_are_joined.ensures.told trade;
+    } in
+    let again = c.next-again.result.0 in
+    let now = c.loop-served.network in
+    let in_time = served_in_time (world_of seals_of now) now.kept (finds_in (map g.J.Judge.patterns c.loop-served.screens.items))
+    (place_of g.D.Counted.faults elsewhere now (g.T.Ticks.coming c.loop-served.ticks) (g.R.Door.requests c.loop-served.door)
+    (g.R.Door.replies c.loop-served.door))
+    (place_of g.D.Counted.faults elsewhere again (g.T.Ticks.coming c.next-again.new.ticks)
+    (g.R.Door.requests c.next-again.new.door) (g.R.Door.replies c.next-again.new.door)) c.in-Served.moment c.in-Served.told
+    c.next-again.result.2 c.in-Served.is (c.next-again.ensures.comes elsewhere) in
+    let may = c.acts_are_calls.ensures.may_come (world_of seals_of again) (length again.kept) 0 c.in-Served.moment in_time in
+    let keeps_again = keeps_on g.D.Disk.sight g.D.Counted.faults g.D.Disk.tells c.args.network now again
+    c.loop-served.invariant.keeps c.next-again.ensures.keeps in
+    moves_stopped g.D.Disk.sight g.D.Counted.faults g.D.Disk.tells tells seals_of c.args.network now again elsewhere laws
+    c.loop-served.invariant.keeps (c.loop-served.invariant.moves elsewhere) (c.next-again.ensures.moves elsewhere) keeps_again
+    c.play_clock.new.network ((c.in-Err-WriteFault.ensures.clock elsewhere).moves may)
+
+pub returns-in-Err-NoMemory-clause-moves : goal.returns-in-Err-NoMemory-clause-moves
+returns-in-Err-NoMemory-clause-moves g c = λ elsewhere.
+    let tells = g.P.Depot.tells × g.D.Disk.tells in
+    let trade = world_of seals_of c.args.network in
+    let laws : MoveLaws trade g.D.Disk.tells tells g.D.Disk.sight = record {
+      on = c.moves_are_joined.ensures.on trade;
+      part = c.moves_are_joined.ensures.part trade;
+      told = c.moves_are_joined.ensures.told trade;
+    } in
+    let again = c.next-again.result.0 in
+    let now = c.loop-served.network in
+    let in_time = served_in_time (world_of seals_of now) now.kept (finds_in (map g.J.Judge.patterns c.loop-served.screens.items))
+    (place_of g.D.Counted.faults elsewhere now (g.T.Ticks.coming c.loop-served.ticks) (g.R.Door.requests c.loop-served.door)
+    (g.R.Door.replies c.loop-served.door))
+    (place_of g.D.Counted.faults elsewhere again (g.T.Ticks.coming c.next-again.new.ticks)
+    (g.R.Door.requests c.next-again.new.door) (g.R.Door.replies c.next-again.new.door)) c.in-Served.moment c.in-Served.told
+    c.next-again.result.2 c.in-Served.is (c.next-again.ensures.comes elsewhere) in
+    let may = c.acts_are_calls.ensures.may_come (world_of seals_of again) (length again.kept) 0 c.in-Served.moment in_time in
+    let keeps_again = keeps_on g.D.Disk.sight g.D.Counted.faults g.D.Disk.tells c.args.network now again
+    c.loop-served.invariant.keeps c.next-again.ensures.keeps in
+    moves_stopped g.D.Disk.sight g.D.Counted.faults g.D.Disk.tells tells seals_of c.args.network now again elsewhere laws
+    c.loop-served.invariant.keeps (c.loop-served.invariant.moves elsewhere) (c.next-again.ensures.moves elsewhere) keeps_again
+    c.play_clock.new.network ((c.in-Err-NoMemory.ensures.clock elsewhere).moves may)
+
+pub returns-clause-moves : goal.returns-clause-moves
+returns-clause-moves g c = λ elsewhere. (c.loop-served.invariant.moves elsewhere).moves

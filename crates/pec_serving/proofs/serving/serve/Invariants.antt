@@ -4,6 +4,8 @@ use Rattle.pec_screen.specs.Screened.{finds_in}
 use Rattle.pec_seal.specs.Hmac.{hmac_seals}
 use Rattle.pec_playing.specs.OfNetworks.{trade_of}
 use Rattle.pec_playing.specs.Doing.{Keeps}
+use Rattle.pec_playing.specs.Points.{state_in}
+use Rattle.pec_runs.specs.Moves.{MovesOn}
 use Rattle.pec_serving.specs.Serving.{place_of}
 use Rattle.pec_serving.proofs.ServiceLemmas.{Going}
 use Rattle.pec_serving.proofs.serving.serve.Given as goal
@@ -19,6 +21,10 @@ invariant-loop-served g l = record {
       (place_of g.D.Counted.faults elsewhere l.network (g.T.Ticks.coming l.ticks) (g.R.Door.requests l.door)
       (g.R.Door.replies l.door))
       l.served (g.W.Stream.held l.fn.out) (g.W.Stream.held l.out);
+  moves : (elsewhere : ℕ → ℕ)
+      → MovesOn (trade_of l.fn.network.kept (hmac_seals l.fn.network.sealer.names.items l.fn.network.sealer.keys.items))
+      (g.P.Depot.tells × g.D.Disk.tells) g.D.Disk.sight (state_in g.D.Counted.faults elsewhere l.fn.network)
+      (state_in g.D.Counted.faults elsewhere l.network);
   patterns : map g.J.Judge.patterns l.screens.items ≡ map g.J.Judge.patterns l.fn.screens.items;
   keeps : Keeps g.D.Disk.sight g.D.Counted.faults g.D.Disk.tells l.fn.network l.network;
   home : g.P.Depot.tells → Alike (g.P.Depot.home l.fn.depot) (g.P.Depot.home l.depot);

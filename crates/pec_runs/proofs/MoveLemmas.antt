@@ -1,0 +1,51 @@
+-- Moves one behind another.
+use Rattle.std.proofs.Common.{List, [], ◌∷◌, ◌++◌, refl, ap, inl, sym, subst, ◌∙◌}
+use Rattle.pec_outside.specs.DiskModel.{Sight}
+use Rattle.pec_ledger.specs.Trade.{Trade}
+use Rattle.pec_runs.specs.Moves.{KeepSound, Moves, MovesOn}
+use Rattle.pec_runs.specs.Steps.{State, Step, state_behind}
+use Rattle.pec_runs.proofs.GoingLemmas.{behind_append, moments_joined}
+
+sound_append : {D : Type 0} (trade : Trade) (here : State D) (steps more : List (Step D)) → KeepSound trade here steps
+    → KeepSound trade (state_behind here steps) more → KeepSound trade here (steps ++ more)
+sound_append trade here [] more keep then = then
+sound_append trade here (step ∷ steps) more keep then = (keep.0, sound_append trade step.behind steps more keep.1 then)
+
+module _ (trade : Trade) (tells : Type 0) {D : Type 0} (sight : D → Sight) where
+  pub moves_none : (here : State D) → MovesOn trade tells sight here here
+  moves_none here = record {
+    moves = record { steps = []; sound = tt; moments = λ told. record { each = tt; last = inl refl } };
+    whole = refl;
+  }
+
+  pub moves_part : (first here there : State D) → MovesOn trade tells sight first here
+      → Moves trade tells sight here there → Moves trade tells sight first there
+  moves_part first here there went goes = record {
+    steps = went.moves.steps ++ goes.steps;
+    sound = sound_append trade first went.moves.steps goes.steps went.moves.sound
+        (subst (λ (s : State D). KeepSound trade s goes.steps) went.whole goes.sound);
+    moments = λ told. moments_joined trade sight first here there went.moves.steps goes.steps went.whole
+        (went.moves.moments told) (goes.moments told);
+  }
+
+  pub moves_on : (first here there : State D) → MovesOn trade tells sight first here
+      → MovesOn trade tells sight here there → MovesOn trade tells sight first there
+  unfolding moves_part
+  moves_on first here there went goes = record {
+    moves = moves_part first here there went goes.moves;
+    whole = goes.whole
+        ∙ (ap (λ (s : State D). state_behind s goes.moves.steps) went.whole
+        ∙ sym (behind_append first went.moves.steps goes.moves.steps));
+  }
+
+-- a premise that says more
+pub moves_told : {D : Type 0} (trade : Trade) (tells more : Type 0) (sight : D → Sight) (here there : State D)
+    → (more → tells) → MovesOn trade tells sight here there → MovesOn trade more sight here there
+moves_told trade tells more sight here there tells_so moves = record {
+  moves = record {
+    steps = moves.moves.steps;
+    sound = moves.moves.sound;
+    moments = λ told. moves.moves.moments (tells_so told);
+  };
+  whole = moves.whole;
+}

@@ -1,0 +1,152 @@
+-- How a network moves on while a connection is answered: not at all, or by a submission that was played, or for which memory
+-- ran out.
+use Rattle.std.proofs.Common.{◌≡◌, false, inl, inr, ℕ, ◌<◌, ◌⊎◌, List, [], ◌∷◌, length, refl, sym, subst, Option, Result, Err}
+use Rattle.pec_types.specs.Bytes.{Bytes}
+use Rattle.pec_types.specs.declared.moments.TheConstants.{END_OF_TIME}
+use Rattle.pec_types.specs.declared.turns.ProviderFault.{ProviderFault}
+use Rattle.pec_types.specs.declared.turns.ProviderFault.TheVariants as faults
+use Rattle.pec_types.specs.declared.turns.Submitted.{Submitted}
+use Rattle.pec_outside.specs.DiskModel.{Sight}
+use Rattle.pec_seal.specs.Seals.{Seals}
+use Rattle.pec_ledger.specs.Network.{Site, Sound, journals_of}
+use Rattle.pec_ledger.specs.Trade.{Trade}
+use Rattle.pec_ledger.specs.TradeLaws.{IsTrade}
+use Rattle.pec_plays.specs.Commands.{Command, Luck, Submit, played}
+use Rattle.pec_plays.specs.Scripts.{IsUnforged}
+use Rattle.pec_plays.specs.Turns.{Whole}
+use Rattle.pec_directory.specs.Directory.{Kept}
+use Rattle.pec_screen.specs.Screened.{Finds, finds_in}
+use Rattle.pec_playing.specs.Doing.{Carries, Keeps}
+use Rattle.pec_playing.specs.OfNetworks.{NetworkState, sites, world_of}
+use Rattle.pec_playing.specs.Points.{state_in}
+use Rattle.pec_http.specs.Serving.{Serves}
+use Rattle.pec_http.specs.declared.serving.Served.{Served}
+use Rattle.pec_desk.specs.Desks.{DeskState, HandsIn, answers_of}
+use Rattle.pec_runs.specs.Moves.{Moves, MovesOn}
+use Rattle.pec_runs.specs.Steps.{IsMoment, State, Writes}
+use Rattle.pec_serving.proofs.HearingLemmas.{Called, called_or}
+use Rattle.pec_service.specs.Connections.{Place}
+use Rattle.pec_serving.specs.Serving.{ComesNext}
+use Rattle.pec_serving.specs.declared.next.Came.{Came}
+use Rattle.pec_serving.specs.declared.next.Came.TheVariants as came_variants
+use Rattle.pec_serving.proofs.KeepLemmas.{as_begun, holds_served}
+
+module _ {D : Type 0} (sight : D → Sight) (tells : Type 0) (trade : Trade) where
+  pub moves_none : (here : State D) → MovesOn trade tells sight here here
+  moves_none here = record {
+    moves = record { steps = []; sound = tt; moments = λ told. record { each = tt; last = inl refl } };
+    whole = refl;
+  }
+
+  -- one move, whatever it is called
+  moves_one : (luck : Luck) (here there : State D) → (IsTrade trade → Sound trade here.sites → Sound trade there.sites)
+      → (tells → IsMoment trade sight here there) → MovesOn trade tells sight here there
+  moves_one luck here there sound moment = record {
+    moves = record {
+      steps = record { act = Writes []; luck = luck; behind = there } ∷ [];
+      sound = (sound, tt);
+      moments = λ told. record { each = (moment told, tt); last = inl refl };
+    };
+    whole = refl;
+  }
+
+module _ {D S : Type 0} (sight : D → Sight) (count : D → ℕ) (tells : Type 0) (seals : S → Seals)
+    (desk after : DeskState D S) (elsewhere : ℕ → ℕ) (in_time : desk.moment < END_OF_TIME)
+    (many : length after.network.providers ≡ length desk.network.providers)
+    (stays : IsTrade (world_of seals desk.network) → (luck : Luck) (state : List Site) (command : Command)
+    → Sound (world_of seals desk.network) state → IsUnforged (world_of seals desk.network) state command
+    → Sound (world_of seals desk.network) (played (world_of seals desk.network) luck state command).after)
+    (moment : tells → Carries sight tells (world_of seals desk.network) desk.network after.network
+    → IsMoment (world_of seals desk.network) sight (state_in count elsewhere desk.network)
+    (state_in count elsewhere after.network)) where
+  abbrev trade : Trade
+  trade = world_of seals desk.network
+
+  abbrev MovesTo : DeskState D S → Type 0
+  MovesTo to = MovesOn trade tells sight (state_in count elsewhere desk.network) (state_in count elsewhere to.network)
+
+  handed_moves : (address : Bytes) (path : List Bytes) (message : Bytes) (said : Result Submitted ProviderFault)
+      → HandsIn sight count tells seals desk address path message said after → MovesTo after
+  handed_moves address path message said handed =
+      moves_one sight tells trade quiet (state_in count elsewhere desk.network) (state_in count elsewhere after.network)
+      sound_so (λ told. moment told (λ again sound. handed.concerns.carries again (journals_of (sites desk.network))))
+    where
+      command : Command
+      command = Submit handed.number desk.moment address path message (finds_in desk.screens handed.number message)
+
+      quiet : Luck
+      quiet = record { cuts = λ provider. Whole; fails = false; found = false }
+
+      by_call : IsTrade trade → Sound trade (sites desk.network)
+          → Called (λ luck. played trade luck (sites desk.network) command) (sites after.network) said
+          ⊎ ((said ≡ Err faults.NoMemory) × (sites after.network ≡ sites desk.network))
+          → Sound trade (sites after.network)
+      by_call is_trade sound (inl called) =
+          subst (λ (s : List Site). Sound trade s) (sym called.after)
+          (stays is_trade called.luck (sites desk.network) command sound (handed.path.0, handed.path.1, in_time))
+      by_call is_trade sound (inr lack) = subst (λ (s : List Site). Sound trade s) (sym lack.1) sound
+
+      sound_so : IsTrade trade → Sound trade (sites desk.network) → Sound trade (sites after.network)
+      sound_so is_trade sound = by_call is_trade sound
+          (called_or (λ luck. played trade luck (sites desk.network) command) (sites desk.network) (sites after.network) said
+          handed.plays)
+
+  pub serves_move : (left held held_then : Option Bytes) (told : Served)
+      → Serves (answers_of sight count tells seals) left held desk after held_then told → MovesTo after
+  serves_move left held held_then told serves =
+      holds_served sight count tells seals desk after MovesTo
+      (moves_none sight tells trade (state_in count elsewhere desk.network)) handed_moves left held held_then told serves
+
+-- ---- a service
+
+-- what is known of moves that are joined
+pub record MoveLaws {D : Type 0} (trade : Trade) (disks all : Type 0) (sight : D → Sight) : Type 0 where
+  pub on : (first here there : State D) → MovesOn trade all sight first here → MovesOn trade all sight here there
+      → MovesOn trade all sight first there
+  pub part : (first here there : State D) → MovesOn trade all sight first here → Moves trade all sight here there
+      → Moves trade all sight first there
+  pub told : (here there : State D) → MovesOn trade disks sight here there → MovesOn trade all sight here there
+
+module _ {D S : Type 0} (sight : D → Sight) (count : D → ℕ) (disks all : Type 0) (seals : S → Seals)
+    (start now again : NetworkState D S) (elsewhere : ℕ → ℕ) (laws : MoveLaws (world_of seals start) disks all sight)
+    (keeps : Keeps sight count disks start now)
+    (going : MovesOn (world_of seals start) all sight (state_in count elsewhere start) (state_in count elsewhere now))
+    (next : MovesOn (world_of seals now) disks sight (state_in count elsewhere now) (state_in count elsewhere again)) where
+  -- the next connection
+  pub moves_again : MovesOn (world_of seals start) all sight (state_in count elsewhere start) (state_in count elsewhere again)
+  moves_again =
+      laws.on (state_in count elsewhere start) (state_in count elsewhere now) (state_in count elsewhere again) going
+      (laws.told (state_in count elsewhere now) (state_in count elsewhere again)
+      (as_begun sight count disks seals start now keeps
+      (λ (t : Trade) (k : List Kept). MovesOn t disks sight (state_in count elsewhere now) (state_in count elsewhere again))
+      next))
+
+  module _ (keeps_again : Keeps sight count disks start again) (last : NetworkState D S) where
+    -- and its clock calls, all of them
+    pub moves_last : MovesOn (world_of seals again) all sight (state_in count elsewhere again)
+        (state_in count elsewhere last)
+        → MovesOn (world_of seals start) all sight (state_in count elsewhere start) (state_in count elsewhere last)
+    moves_last clock =
+        laws.on (state_in count elsewhere start) (state_in count elsewhere again) (state_in count elsewhere last) moves_again
+        (as_begun sight count disks seals start again keeps_again
+        (λ (t : Trade) (k : List Kept). MovesOn t all sight (state_in count elsewhere again) (state_in count elsewhere last))
+        clock)
+
+    -- or some
+    pub moves_stopped : Moves (world_of seals again) all sight (state_in count elsewhere again)
+        (state_in count elsewhere last)
+        → Moves (world_of seals start) all sight (state_in count elsewhere start) (state_in count elsewhere last)
+    moves_stopped clock =
+        laws.part (state_in count elsewhere start) (state_in count elsewhere again) (state_in count elsewhere last)
+        moves_again
+        (as_begun sight count disks seals start again keeps_again
+        (λ (t : Trade) (k : List Kept). Moves t all sight (state_in count elsewhere again) (state_in count elsewhere last))
+        clock)
+
+-- a connection that was served came at a moment that a clock tells
+pub served_in_time : (trade : Trade) (kept : List Kept) (finds : Finds) (here there : Place) (moment : ℕ) (told : Served)
+    (came : Came) → came ≡ came_variants.Served moment told → ComesNext trade kept finds here there came
+    → moment < END_OF_TIME
+served_in_time trade kept finds here there moment told came is comes =
+    let next = subst (λ (c : Came). ComesNext trade kept finds here there c) is comes in
+    subst (λ (m : ℕ). m < END_OF_TIME) next.moment_is next.is.in_time
