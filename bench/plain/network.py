@@ -67,8 +67,8 @@ class Network:
         self.decided = [[] for _ in self.numbers]
         self.items = {one.address: [] for house in directory.houses for one in house.accounts}
         self.view = {}
-        # writes of journals are counted, and these fail; so many did
-        self.writes, self.failing, self.faults = 0, (), 0
+        # writes of each journal are counted, and these fail, by provider and number; so many did
+        self.writes, self.failing, self.faults = [0] * count, (), 0
 
     # What is read of the map.
 
@@ -127,8 +127,8 @@ class Network:
     def append(self, provider, tag, at, fields):
         """Two writes; where one fails the provider is down, and nothing else changes."""
         for _ in range(2):
-            self.writes += 1
-            if self.writes in self.failing:
+            self.writes[provider] += 1
+            if (provider, self.writes[provider]) in self.failing:
                 self.faults += 1
                 self.down[provider] = True
                 raise Refused("fault disk")

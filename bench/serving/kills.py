@@ -1,5 +1,6 @@
-"""Kills the service at random moments, between its requests and within them, serves again on the same files, and looks
-whether what was answered stands, whether anything stands twice, and whether books and mailboxes come out whole."""
+"""Kills the service at random moments, between its requests and within them, while it opens its journals and while it
+ends, serves again on the same files, and looks whether what was answered stands, whether anything stands twice, and whether
+books and mailboxes come out whole."""
 
 import base64
 import hmac
@@ -14,6 +15,7 @@ from service import PEOPLE, Service, look, submission
 
 SESSIONS = 12  # runs over one folder, each of which is killed
 MOST = 100_000  # connections: more than any run gets
+AT_ONCE = 40  # messages handed in and not carried on: a link has 64 places, and many more of them hold each other up
 
 
 class Differs(Exception):
@@ -105,6 +107,35 @@ def session(folder, past, chance, length):
     if service.child.wait() != -9:
         raise Differs(f"the program ended with status {service.child.returncode}")
     return seen
+
+
+def edge(folder, past, ends, chance):
+    """One run that is killed while it opens its journals, or while it ends behind the last connection that it serves."""
+    service = Service(folder, 1 if ends else MOST)
+    if ends:
+        past.hand_in(service)
+        time.sleep(chance.uniform(0, 0.005))
+    else:
+        time.sleep(chance.uniform(0, 0.02))
+    return service.kill() == -9
+
+
+def edges(wanted, chance):
+    """How many of so many runs were killed before they had ended: as they opened, and as they ended."""
+    counts = []
+    for ends in (False, True):
+        early = 0
+        for begun in range(0, wanted, AT_ONCE):
+            with tempfile.TemporaryDirectory() as folder:
+                past = Past()
+                service = Service(folder, 1)
+                past.hand_in(service)
+                service.ended()
+                for _ in range(min(AT_ONCE, wanted - begun)):
+                    early += edge(folder, past, ends, chance)
+                whole(folder, past)
+        counts.append(early)
+    return counts
 
 
 def none_made(folder, past, status):
@@ -200,4 +231,9 @@ def play(wanted=200, seed=1):
         f"{kills} runs over {folders} folders were killed, {time.monotonic() - begin:.0f} s: {answered} submissions were "
         f"answered 201, and each stands once, with its rows, letters and receipts; of {cut} that weren't answered "
         f"{unanswered} stand once and the others not at all; all books were also looked at in {looked} of the runs"
+    )
+    opened, ended = edges(wanted, chance)
+    print(
+        f"{wanted} runs were killed as they opened their journals, {opened} of them before they had ended, and {wanted} as "
+        f"they ended, {ended} before they had: what was answered stands"
     )

@@ -8,10 +8,10 @@ import sys
 TOP = os.path.dirname(os.path.dirname(os.path.dirname(os.path.realpath(__file__))))
 
 
-def listed():
+def listed(top):
     """The lines of crates.txt by the names of their crates, and what each crate stands on."""
     lines, libraries = {}, {}
-    with open(os.path.join(TOP, "crates.txt"), encoding="utf-8") as file:
+    with open(os.path.join(top, "crates.txt"), encoding="utf-8") as file:
         for line in file:
             name, colon, rest = line.partition(":")
             if colon and not line.startswith("#"):
@@ -38,16 +38,16 @@ def linked(source, to):
         shutil.copy2(source, to)
 
 
-def built(folder, name, uses, files):
-    """The program of this name, made of these files of its crate over these libraries, as an executable in the folder. It
-    is proved where it is built, and so is each crate below it of which nothing is kept; that takes long. It runs once
-    with no word."""
-    lines, libraries = listed()
+def built(folder, name, uses, files, top=TOP):
+    """The program of this name, made of these files of its crate over these libraries of a clone, as an executable in the
+    folder. It is proved where it is built, and so is each crate below it of which nothing is kept; that takes long. It
+    runs once with no word."""
+    lines, libraries = listed(top)
     crates = os.path.join(folder, "crates")
     needed = below(uses, libraries)
     for crate in needed:
         for part in ("src", "specs", "proofs", "out/rlib"):
-            there = os.path.join(TOP, "crates", crate, part)
+            there = os.path.join(top, "crates", crate, part)
             if os.path.isdir(there):
                 shutil.copytree(there, os.path.join(crates, crate, part), copy_function=linked)
     at = os.path.join(crates, name)

@@ -8,7 +8,6 @@ use Rattle.pec_runs.specs.Endings as ends
 use Rattle.pec_runs.specs.Plays as plays
 use Rattle.pec_runs.specs.Ran.{TellsAs}
 use Rattle.pec_runs.specs.Statuses.{Status, status_of}
-use Rattle.pec_runs.specs.Statuses as statuses
 use Rattle.pec_top.specs.Shown.{end_shown, result_shown, stop_shown}
 use Rattle.pec_top.specs.declared.ending.End.{End as Last}
 use Rattle.pec_top.specs.declared.ending.Stop.{Stop}

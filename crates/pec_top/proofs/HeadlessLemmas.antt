@@ -1,8 +1,7 @@
 -- A disk that came to nothing, and whether it begins as a journal does.
-use Rattle.std.proofs.Common.{◌≡◌, ℕ, ◌<◌, ◌⊎◌, inl, inr, Bool, true, false, eqb, List, [], refl, sym, subst, ◌∙◌, length, Option, Some, None, Result, Ok, Err}
+use Rattle.std.proofs.Common.{◌≡◌, ℕ, ◌<◌, Bool, true, false, eqb, List, refl, sym, subst, ◌∙◌, length, Option, Some, None, Result, Ok, Err}
 use Rattle.std.specs.Prelude.{IfOk, if◌then◌else◌}
 use Rattle.pec_outside.specs.declared.streams.Failed.{Failed}
-use Rattle.std.proofs.lemmas.Option.{none-some, same_Some}
 use Rattle.pec_types.specs.Bytes.{Bytes}
 use Rattle.pec_outside.specs.DiskModel.{Sight}
 use Rattle.pec_serving.specs.OfNetworks.reasons as reasons
@@ -13,7 +12,7 @@ use Rattle.pec_runs.specs.Openings.{Disks, Fails, Stops, Unfits, disks_at}
 use Rattle.pec_runs.specs.Plays as plays
 use Rattle.pec_directory.specs.Directory.{Provider}
 use Rattle.pec_service.specs.Runs.{IsLookedAt, finish_at}
-use Rattle.pec_top.specs.Opened.{Finishes, IsLookedAgain, IsUnfit, MayHold, asked_again, headless_of, next_by, provider_named}
+use Rattle.pec_top.specs.Opened.{Finishes, IsLookedAgain, MayHold, asked_again, next_by, provider_named}
 use Rattle.pec_top.specs.Surveys.{HoldsSo}
 use Rattle.pec_top.specs.declared.opening.Journals.{Journals}
 use Rattle.pec_top.specs.declared.opening.Journals.TheVariants as journals

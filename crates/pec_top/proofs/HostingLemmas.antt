@@ -3,22 +3,22 @@ use Rattle.std.proofs.Common.{◌≡◌, ℕ, ◌+◌, ◌<◌, ◌≤◌, Bool,
 use Rattle.std.proofs.Common.{replicate, Option, Some, None, Result, Ok, Err}
 use Rattle.std.specs.Prelude.{IfErr, IfSome, IsErrOf, if◌then◌else◌}
 use Rattle.std.proofs.lemmas.Bool.{le-ltb, lt-ltb}
-use Rattle.std.proofs.lemmas.List.{length-map, length-replicate}
+use Rattle.std.proofs.lemmas.List.{length-replicate}
 use Rattle.pec_types.specs.Bytes.{Bytes}
 use Rattle.pec_outside.specs.Flow.{HasRisen}
-use Rattle.pec_directory.specs.Directory.{Kept, Provider, providers_of}
+use Rattle.pec_directory.specs.Directory.{Provider}
 use Rattle.pec_input.specs.Directory.{Refusal, directory_in}
 use Rattle.pec_input.specs.declared.opening.TheConstants.{LONGEST_DIRECTORY}
 use Rattle.pec_runs.specs.Endings.{End, end_text}
 use Rattle.pec_runs.specs.Endings as ends
 use Rattle.pec_runs.specs.Happened.{IsSetting, Setting, providers_in, trade_in}
-use Rattle.pec_runs.specs.Openings.{AreUntouched, Disks, Form, Next, NoMore, Holds, Unfits, Fails, Stops, next_of}
+use Rattle.pec_runs.specs.Openings.{AreUntouched, Disks, Form, Next, NoMore, Holds, Unfits, Fails, Stops}
 use Rattle.pec_runs.specs.Plays.{Finish, finish_text}
 use Rattle.pec_runs.specs.Plays as plays
 use Rattle.pec_runs.specs.Ran.{TellsAs}
 use Rattle.pec_runs.specs.Statuses.{Status}
 use Rattle.pec_service.specs.Runs.{AllCounts, Asked, Begins, Blames, Course, GoesOn, Halts, Happened, HasJournals, HasServed}
-use Rattle.pec_service.specs.Runs.{IsAt, IsChosen, Outside, Over, ServesNone, TellsService, by_directory, finish_at, stage_of}
+use Rattle.pec_service.specs.Runs.{IsAt, IsChosen, Outside, Over, ServesNone, TellsService, by_directory, stage_of}
 use Rattle.pec_service.specs.Runs.{status_at}
 use Rattle.pec_service.specs.Services.{Halted}
 use Rattle.pec_service.specs.Services as services
@@ -27,14 +27,11 @@ use Rattle.pec_serving.specs.declared.serving.Ending.{Ending}
 use Rattle.pec_serving.specs.declared.serving.Ending.TheVariants as endings
 use Rattle.pec_top.specs.Blaming.{BlamesDevices, BlamesRefusal, HaveDisksRisen}
 use Rattle.pec_top.specs.Hosting.{CountsGo, counts_of, ended_as}
-use Rattle.pec_top.specs.Opened.{Finishes, IsUnopened}
-use Rattle.pec_top.specs.Opened as opened
 use Rattle.pec_top.specs.Shown.{end_shown, result_shown}
 use Rattle.pec_top.specs.declared.ending.End.{End as Last}
 use Rattle.pec_top.specs.declared.ending.End.TheVariants as lasts
 use Rattle.pec_top.specs.declared.ending.Stop.{Stop}
 use Rattle.pec_top.specs.declared.ending.Stop.TheVariants as stops
-use Rattle.pec_top.specs.declared.opening.Journals.TheVariants as journals
 use Rattle.pec_top.specs.declared.opening.Refusal.{Refusal as Shut}
 use Rattle.pec_top.specs.declared.opening.Refusal.TheVariants as refusals
 use Rattle.pec_top.proofs.RunningLemmas.{nobody, same_ok}
@@ -149,10 +146,10 @@ stage_read directory short told reads =
     (le-ltb LONGEST_DIRECTORY (length directory) short)
     ∙ ap by_directory reads
 
-over_not : (end : End) → Over end ≡ Begins → ⊥
+pub over_not : (end : End) → Over end ≡ Begins → ⊥
 over_not end e = cc
 
-halts_not : Halts ≡ Begins → ⊥
+pub halts_not : Halts ≡ Begins → ⊥
 halts_not e = cc
 
 -- an input, as far as it is told
@@ -173,7 +170,7 @@ module _ (asked : Asked) (status : Status) (unread before after : Option Bytes) 
     (from upto : ℕ → ℕ) where
   module _ (untouched_ : AreUntouched old new) (same : there ≡ here) where
     -- It is over.
-    pub served_over : (directory : Bytes) (end : End) → stage_of false directory ≡ Over end
+    unfoldable pub served_over : (directory : Bytes) (end : End) → stage_of false directory ≡ Over end
         → IfSome unread (λ text. directory ≡ text) → TellsAs status before after (end_text [] end) (plays.Ends end)
         → HasServed asked status unread before after old new here there from upto
     served_over directory end stage input told =
@@ -193,7 +190,7 @@ module _ (asked : Asked) (status : Status) (unread before after : Option Bytes) 
         }
 
     -- It was halted before a disk was asked for.
-    pub served_halted : TellsAs status before after [] plays.Stops
+    unfoldable pub served_halted : TellsAs status before after [] plays.Stops
         → HasServed asked status unread before after old new here there from upto
     served_halted told =
         let text = text_there unread
@@ -216,7 +213,7 @@ module _ (asked : Asked) (status : Status) (unread before after : Option Bytes) 
   module _ (bytes : Bytes) (short : length bytes ≤ LONGEST_DIRECTORY) (setting : Setting)
       (reads : directory_in bytes ≡ Ok (providers_in setting)) (is_setting : IsSetting (providers_in setting) setting)
       (input : IfSome unread (λ text. bytes ≡ text)) where
-    begun_with : (form : Option Form) (course : Course)
+    unfoldable pub begun_with : (form : Option Form) (course : Course)
         → IsAt asked status before after old new here there from upto
         (record { directory = bytes; early = false; setting = setting; form = form; course = course }) Begins
         → HasServed asked status unread before after old new here there from upto
@@ -239,19 +236,19 @@ module _ (asked : Asked) (status : Status) (unread before after : Option Bytes) 
         }
 
     -- A disk couldn't be looked at.
-    pub served_unlooked : AreUntouched old new → there ≡ here → TellsAs status before after [] plays.Fails
+    unfoldable pub served_unlooked : AreUntouched old new → there ≡ here → TellsAs status before after [] plays.Fails
         → HasServed asked status unread before after old new here there from upto
     served_unlooked untouched_ same told =
         begun_with None no_course (record { told = told; disks = untouched_; outside = same })
 
     -- The disks were looked at.
-    pub served_begun : (form : Form) (course : Course) → IsChosen old (trade_in setting).providers form
+    unfoldable pub served_begun : (form : Form) (course : Course) → IsChosen old (trade_in setting).providers form
         → HasJournals asked status before after old new here there from upto setting course form
         → HasServed asked status unread before after old new here there from upto
     served_begun form course chosen journals = begun_with (Some form) course (chosen, journals)
 
 -- A run that was to serve and whose journals can't all be had: nobody is let in.
-goes_next : (asked : Asked) (status : Status) (before after : Option Bytes) (old new : Disks) (here : Outside) (from upto : ℕ → ℕ)
+pub goes_next : (asked : Asked) (status : Status) (before after : Option Bytes) (old new : Disks) (here : Outside) (from upto : ℕ → ℕ)
     (setting : Setting) (course : Course) (form : Form) (next : Next) → (next ≡ NoMore → ⊥)
     → ServesNone asked status before after old new here here from upto setting course form
     → GoesOn asked status before after old new here here from upto setting course form next
@@ -260,44 +257,6 @@ goes_next asked status before after old new here from upto setting course form H
 goes_next asked status before after old new here from upto setting course form (Unfits unfit) some none = none
 goes_next asked status before after old new here from upto setting course form Fails some none = none
 goes_next asked status before after old new here from upto setting course form Stops some none = none
-
-pub served_unopened : (asked : Asked) (status : Status) (unread before after : Option Bytes) (old new : Disks) (here : Outside)
-    (from upto : ℕ → ℕ) (bytes : Bytes) → length bytes ≤ LONGEST_DIRECTORY → (kept : List Kept)
-    → directory_in bytes ≡ Ok (providers_of kept) → IfSome unread (λ text. bytes ≡ text) → (refusal : Shut)
-    → ((providers : List Provider) (finish : Finish) → Finishes providers refusal finish
-    → TellsAs status before after (finish_text providers finish) finish)
-    → IsUnopened journals.Chosen kept old new refusal
-    → HasServed asked status unread before after old new here here from upto
-served_unopened asked status unread before after old new here from upto bytes short kept reads input refusal told
-    (opened.Halted none untouched) =
-    served_halted asked status unread before after old new here here from upto untouched refl
-    (told [] plays.Stops (subst (λ (r : Shut). Finishes [] r plays.Stops) (sym none) refl))
-served_unopened asked status unread before after old new here from upto bytes short kept reads input refusal told
-    (opened.Unlooked seals chosen failed is_setting untouched) =
-    served_unlooked asked status unread before after old new here here from upto bytes short
-    (record { kept = kept; seals = seals }) reads is_setting input untouched refl
-    (told [] plays.Fails (subst (λ (r : Shut). Finishes [] r plays.Fails) (sym failed) refl))
-served_unopened asked status unread before after old new here from upto bytes short kept reads input refusal told
-    (opened.Refused seals at) =
-    let setting : Setting = record { kept = kept; seals = seals }
-    in let course : Course = record {
-      opening = at.opening;
-      holds = at.holds;
-      service = record { whole = []; part = None; ending = Halted };
-    }
-    in let none : ServesNone asked status before after old new here here from upto setting course at.form = record {
-      told = told (providers_of kept) (finish_at at.holds (next_of at.opening) at.opening.next) at.finishes;
-      outside = refl;
-      disks = at.left;
-    }
-    in let many = length-map kept (λ (one : Kept). one.provider)
-    in let chosen = subst (λ (count : ℕ). IsChosen old count at.form) (sym many) at.is_form
-    in served_begun asked status unread before after old new here here from upto bytes short setting reads at.is_setting input
-    at.form course chosen (record {
-      opening = at.is_opening;
-      looked_at = at.may_hold;
-      goes_on = goes_next asked status before after old new here from upto setting course at.form at.opening.next at.some none;
-    })
 
 -- an input that is too long for a directory
 pub long_text : (most : ℕ) (unread : Option Bytes) → IfSome unread (λ text. most < length text)

@@ -1,5 +1,5 @@
 -- The journals of a network were had, or not all: from what is said of the call that begins it.
-use Rattle.std.proofs.Common.{◌≡◌, ◌≢◌, ℕ, ◌<◌, ◌≤◌, ◌⊎◌, inl, inr, Bool, List, [], refl, sym, subst, ◌∙◌, length, Option, None, arith, map}
+use Rattle.std.proofs.Common.{◌≡◌, ℕ, ◌<◌, ◌≤◌, ◌⊎◌, inl, inr, Bool, List, refl, sym, subst, ◌∙◌, length, Option, None, arith}
 use Rattle.std.specs.Prelude.{◌-◌, ◌^◌}
 use Rattle.std.proofs.lemmas.Bool.{cases_lt}
 use Rattle.std.proofs.lemmas.List.{length-map}
@@ -18,10 +18,11 @@ use Rattle.pec_serving.specs.OfNetworks.{world_of}
 use Rattle.pec_serving.specs.OfNetworks.faults as faults
 use Rattle.pec_runs.specs.Happened.{IsSetting}
 use Rattle.pec_runs.specs.Openings.{AreLeft, Disks, IsOpening, Next, NoMore, Holds, Unfits, Fails, Stops, disks_at, opened_all}
+use Rattle.pec_runs.specs.Through.{AreHadFrom}
 use Rattle.pec_service.specs.Runs.{IsLookedAt, finish_at}
 use Rattle.pec_top.specs.Blaming.{HaveDisksRisen}
 use Rattle.pec_top.specs.Opened.{Came, Finishes, IsFormOf, IsOpened, IsRefusedAt, IsRefusedSo, IsUnfit, MayHold, next_by}
-use Rattle.pec_top.specs.Opened.{provider_named}
+use Rattle.pec_top.specs.Opened.{disks_of, provider_named}
 use Rattle.pec_top.specs.Shown.{form_shown, way_of}
 use Rattle.pec_top.specs.Surveys.{AreAsTheyWere}
 use Rattle.pec_top.specs.declared.forms.Form.{Form}
@@ -30,11 +31,18 @@ use Rattle.pec_top.specs.declared.opening.Journals.{Journals}
 use Rattle.pec_top.specs.declared.opening.Journals.TheVariants as journals
 use Rattle.pec_top.specs.declared.opening.Refusal.{Refusal}
 use Rattle.pec_top.proofs.CountLemmas.{fell_so}
+use Rattle.pec_top.proofs.HadFromLemmas.{all_begun, all_refused, all_since, all_until}
 use Rattle.pec_top.proofs.HadLemmas.{begins_so, left_part, opening_part, opening_whole}
 use Rattle.pec_top.proofs.RefusedLemmas.{names_next, not_all}
 use Rattle.pec_top.proofs.RestLemmas.{home_rest, leaves_back, left_failing, left_since, left_until, opening_failing, opening_since}
 use Rattle.pec_top.proofs.RestLemmas.{reads_back, reads_on}
 use Rattle.pec_top.proofs.WholeLemmas.{left_whole}
+
+-- what is said of each disk: this moment is one of those since an earlier one
+abbrev pub CountsNow : {D : Type 0} → Type 0 → (D → Sight) → Type 0
+CountsNow {D} reads sight =
+    reads → (disk : D) (t : ℕ) (bytes : Bytes) → t ≤ (sight disk).moment → (sight disk).may_leave bytes
+    → (sight disk).left_since t bytes
 
 -- ---- all are had
 
@@ -51,12 +59,13 @@ pub opened_so : {D S : Type 0} (tells reads : Type 0) (sight : D → Sight) (sea
     (how : Journals) (form : Form) (home looked left : ℕ → Option D) (last mid later : ℕ → ℕ) (network : NetworkState D S)
     → Known tells reads sight seals how form home looked network.providers network.kept network.sealer
     → (tells → AreAsTheyWere reads sight home looked)
-    → (reads → (disk : D) → (sight disk).may_leave (sight disk).seen)
+    → (reads → (disk : D) → (sight disk).may_leave (sight disk).seen) → CountsNow reads sight
     → sites network ≡ all_rested (journals_had network.providers)
     → (tells → AllAt (λ (p : ProviderState D). None) looked left network.providers)
     → NoneFell count mid network.providers → Alike mid later → ((k : ℕ) → last k ≤ mid k)
     → IsOpened tells reads sight seals count how home left last later network
-opened_so {D} {S} tells reads sight seals count how form home looked left last mid later network known rest reads_so rests out
+opened_so {D} {S} tells reads sight seals count how form home looked left last mid later network known rest reads_so counts_now rests
+    out
     fell alike sooner =
     let kept = network.kept
     in let world = world_of seals network
@@ -75,6 +84,8 @@ opened_so {D} {S} tells reads sight seals count how form home looked left last m
           known.begun);
       begins = begins_so world journals (sites network) (size ∙ sym many) rests;
       stands = λ told k other within. (known.begun k other within).stands told.1;
+      had = all_since tells reads sight counts_now (form_shown form) world home looked (disks_of network.providers) rest
+          (all_begun tells reads sight kept (seals network.sealer) looked form network.providers known.begun);
       counts = λ k.
           let later_so : NoneFell count later network.providers = λ n other within.
           let l = fell n other within in let e = alike n in omega (arith, l, e)
@@ -219,15 +230,15 @@ held_since journals.Chosen old mid on number holds Stops held = tt
 pub refused_at : {D : Type 0} (tells reads : Type 0) (sight : D → Sight) (kept : List Kept) (seals : Seals)
     (of : IsOf kept (trade_of kept seals)) (how : Journals) (home looked mid new : ℕ → Option D) (form : Form)
     (fault : StartFault) (refusal : Refusal) (refused : IsRefused tells reads sight kept (way_of form) looked mid fault)
-    → (reads → (disk : D) → (sight disk).may_leave (sight disk).seen)
+    → (reads → (disk : D) → (sight disk).may_leave (sight disk).seen) → CountsNow reads sight
     → (tells → AreAsTheyWere reads sight home looked) → (tells → AreAsTheyWere reads sight mid new)
     → IsFormOf (disks_at (tells × reads) sight home) (length kept) how (form_shown form)
     → IsSetting (providers_of kept) (record { kept = kept; seals = seals })
     → IsRefusedSo how (providers_of kept) fault (disks_at (tells × reads) sight mid) refusal
     → IsRefusedAt how (record { kept = kept; seals = seals }) (providers_of kept) (disks_at (tells × reads) sight home)
-    (disks_at (tells × reads) sight new) refusal
-refused_at {D} tells reads sight kept seals of how home looked mid new form fault refusal refused reads_so first again is_form
-    is_setting so =
+    (disks_at (tells × reads) sight new) (λ way trade. AreHadFrom sight (tells × reads) way trade home new) refusal
+refused_at {D} tells reads sight kept seals of how home looked mid new form fault refusal refused reads_so counts_now first again
+    is_form is_setting so =
     let old : Disks = disks_at (tells × reads) sight home
     in let seen : Disks = disks_at (tells × reads) sight looked
     in let back : Disks = disks_at (tells × reads) sight mid
@@ -253,6 +264,9 @@ refused_at {D} tells reads sight kept seals of how home looked mid new form faul
           (left_until seen back now (reads_back tells reads sight mid new again) (leaves_back tells reads sight mid new again)
           (form_shown form) (record { journals = journals; next = so.next }) (opened_all world journals)
           (leaves tells reads sight kept seals of looked mid new form fault refused reads_so again so.next so.is_next));
+      went = all_until tells reads sight counts_now (form_shown form) world home mid new again
+          (all_since tells reads sight counts_now (form_shown form) world home looked mid first
+          (all_refused tells reads sight kept seals looked form mid fault refused));
       finishes = subst (λ (k : ℕ). Finishes (providers_of kept) refusal (finish_at so.holds k so.next)) number
           (so.finishes (length refused.providers));
     }

@@ -14,14 +14,15 @@ use Rattle.pec_ledger.specs.Trade.{Trade}
 use Rattle.pec_serving.specs.OfNetworks.{IsAbout, IsRefused, StartFault}
 use Rattle.pec_serving.specs.OfNetworks.faults as faults
 use Rattle.pec_runs.specs.Happened.{Asked, Happened, Setting, by_next, trade_in}
-use Rattle.pec_runs.specs.Openings.{Disks, Next, NoMore, Holds, Unfits, Fails, Stops, Opening, form_in, next_of, opened_all}
+use Rattle.pec_runs.specs.Openings.{Disks, Next, NoMore, Holds, Unfits, Fails, Stops, Opening, disks_at, form_in, next_of, opened_all}
 use Rattle.pec_runs.specs.Openings as runs
 use Rattle.pec_runs.specs.Plays.{Finish, Stopped, finish_text}
 use Rattle.pec_runs.specs.Plays as plays
 use Rattle.pec_runs.specs.Ran.{Behind, Counts, LeavesOff, PlaysOn, Tells, TellsAs, command_in_hand}
 use Rattle.pec_runs.specs.ScriptLines.{Script, script_of}
 use Rattle.pec_runs.specs.Statuses.{Status}
-use Rattle.pec_top.specs.Running.{RanSo, disk_counts, parts_behind}
+use Rattle.pec_runs.specs.Through.{AreHadFrom}
+use Rattle.pec_top.specs.Running.{RanSoOver, disk_counts, parts_behind}
 use Rattle.pec_top.specs.Shown.{form_shown, way_of}
 use Rattle.pec_service.specs.Runs.{finish_at}
 use Rattle.pec_top.specs.Opened.{Finishes, Halted, IsUnopened, Refused, Unlooked, next_by, provider_named}
@@ -30,7 +31,7 @@ use Rattle.pec_top.specs.declared.forms.Form.TheVariants as forms
 use Rattle.pec_top.specs.declared.opening.Journals.TheVariants as journals
 use Rattle.pec_top.specs.declared.opening.Refusal.{Refusal}
 use Rattle.pec_top.proofs.LineReadLemmas.{lines_there}
-use Rattle.pec_top.proofs.RunningLemmas.{ran_begun, ran_halted}
+use Rattle.pec_top.proofs.ThroughLemmas.{halted_through, stopped_through}
 
 -- a refusal is of the next provider
 pub names_next : (form : Form) (me : ℕ) (fault : StartFault) → IsAbout (way_of form) me fault
@@ -86,25 +87,26 @@ plays_next tells old_disks new_disks old new happened script Fails some = tt
 plays_next tells old_disks new_disks old new happened script Stops some = tt
 
 -- A run in a form that plays a script whose journals can't all be had.
-pub ran_unopened : (asked : Asked) (way : Form) → form_in asked.words ≡ Some (form_shown way) → (bytes : Bytes)
+pub ran_unopened : {D : Type 0} (asked : Asked) (way : Form) → form_in asked.words ≡ Some (form_shown way) → (bytes : Bytes)
     → length bytes ≤ LONGEST_DIRECTORY → (kept : List Kept) → directory_in bytes ≡ Ok (providers_of kept)
-    → (refusal : Refusal) (status : Status) (unread behind before after : Option Bytes) (tells : Type 0) (old new : Disks)
-    (from upto : ℕ → ℕ) → parts_left unread ≡ parts_behind bytes behind
+    → (refusal : Refusal) (status : Status) (unread behind before after : Option Bytes) (tells : Type 0) (sight : D → Sight)
+    (home left : ℕ → Option D) (from upto : ℕ → ℕ) → parts_left unread ≡ parts_behind bytes behind
     → ((providers : List Provider) (finish : Finish) → Finishes providers refusal finish
     → TellsAs status before after (finish_text providers finish) finish)
-    → IsUnopened (journals.As way) kept old new refusal
-    → RanSo asked status unread before after tells old new from upto
-ran_unopened asked way is bytes short kept opens refusal status unread behind before after tells old new from upto input told
-    (Halted none untouched) =
-    ran_halted asked unread before after tells old new from upto untouched (form_shown way) status is
+    → IsUnopened (journals.As way) kept (disks_at tells sight home) (disks_at tells sight left)
+    (λ form trade. AreHadFrom sight tells form trade home left) refusal
+    → RanSoOver tells sight asked status unread before after home left from upto
+ran_unopened asked way is bytes short kept opens refusal status unread behind before after tells sight home left from upto input
+    told (Halted none untouched went) =
+    halted_through asked unread before after tells sight home left from upto untouched went (form_shown way) status is
     (told [] plays.Stops (subst (λ (r : Refusal). Finishes [] r plays.Stops) (sym none) refl))
-ran_unopened asked way is bytes short kept opens refusal status unread behind before after tells old new from upto input told
-    (Unlooked seals chosen failed setting untouched) = absurd (apart chosen)
+ran_unopened asked way is bytes short kept opens refusal status unread behind before after tells sight home left from upto input
+    told (Unlooked seals chosen failed setting untouched went) = absurd (apart chosen)
   where
     apart : journals.As way ≡ journals.Chosen → ⊥
     apart e = cc
-ran_unopened asked way is bytes short kept opens refusal status unread behind before after tells old new from upto input told
-    (Refused seals at) =
+ran_unopened asked way is bytes short kept opens refusal status unread behind before after tells sight home left from upto input
+    told (Refused seals at) =
     let setting : Setting = record { kept = kept; seals = seals }
     in let trade = trade_in setting
     in let providers = providers_of kept
@@ -120,13 +122,14 @@ ran_unopened asked way is bytes short kept opens refusal status unread behind be
     }
     in let finish = subst (λ (h : Bool). Finishes providers refusal (finish_at h (next_of at.opening) at.opening.next))
     at.may_hold at.finishes
-    in ran_begun asked at.form (is ∙ ap (λ (f : runs.Form). Some f) (sym at.is_form)) bytes short setting opens at.is_setting
-    lines.0 at.opening [] Stopped status unread behind before after tells old new from upto
+    in stopped_through asked at.form (is ∙ ap (λ (f : runs.Form). Some f) (sym at.is_form)) bytes short setting opens at.is_setting
+    tells sight home left from upto lines.0 at.opening [] Stopped status unread behind before after
     (opened_all trade at.opening.journals) input lines.1 at.is_opening
-    (plays_next tells old new (disk_counts from) (disk_counts upto) happened script at.opening.next at.some)
+    (plays_next tells (disks_at tells sight home) (disks_at tells sight left) (disk_counts from) (disk_counts upto) happened
+    script at.opening.next at.some)
     (leaves_next trade providers at.opening script status at.opening.next at.some) at.left
     (tells_next trade providers at.opening script status before after at.opening.next at.some
-    (told providers (finish_at false (next_of at.opening) at.opening.next) finish))
+    (told providers (finish_at false (next_of at.opening) at.opening.next) finish)) at.some at.went
 
 -- each disk that was at home is at home again
 module _ {D : Type 0} (home_tells reads : Type 0) (sight : D → Sight) (kept : List Kept) (form : Form)

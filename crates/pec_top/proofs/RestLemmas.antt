@@ -3,22 +3,35 @@ use Rattle.std.proofs.Common.{◌≡◌, ◌≢◌, ℕ, ◌+◌, ◌<◌, ◌�
 use Rattle.std.proofs.lemmas.Bool.{cases_lt}
 use Rattle.std.proofs.lemmas.Option.{none-some, same_Some}
 use Rattle.pec_types.specs.Bytes.{Bytes}
-use Rattle.pec_outside.specs.DiskModel.{Sight}
+use Rattle.pec_outside.specs.DiskModel.{Sight, Stays}
+use Rattle.pec_outside.specs.Moments.{stays_and}
 use Rattle.pec_records.specs.declared.entries.Entry.{Entry}
 use Rattle.pec_ledger.specs.Network.{Site}
 use Rattle.pec_ledger.specs.Trade.{Trade}
 use Rattle.pec_serving.specs.OfNetworks.{IsUnchanged}
 use Rattle.pec_runs.specs.Openings.{AreLeft, AreUntouched, Disks, Form, Run, Resume, IsHad, IsNext, IsOpening, IsUntouched, Next, NoMore, Holds, Unfits, Fails, Stops, Opening, disks_at, next_of}
-use Rattle.pec_top.specs.Surveys.{AreAsTheyWere, HoldsSo, IsAsBefore}
+use Rattle.pec_top.specs.Surveys.{AreAsTheyWere, HoldsSo, IsAsBefore, IsStill}
 use Rattle.pec_top.proofs.RunningLemmas.{untouched_by}
 
 module _ {D : Type 0} (reads : Type 0) (sight : D → Sight) where
+  pub still_on : (a b c : D) → IsStill reads sight a b → IsStill reads sight b c → IsStill reads sight a c
+  still_on a b c (inl same) other = subst (λ (d : D). IsStill reads sight d c) same other
+  still_on a b c (inr stays) (inl same) = inr (subst (λ (d : D). Stays (sight a) (sight d)) (sym same) stays)
+  still_on a b c (inr stays) (inr other) = inr (stays_and (sight a) (sight b) (sight c) stays other)
+
+  pub unchanged : (a b : D) → IsStill reads sight a b → IsUnchanged (sight a) (sight b)
+  unchanged a b (inl same) = record {
+    seen = ap (λ (d : D). (sight d).seen) same;
+    crash = λ image leaves. subst (λ (d : D). (sight d).may_leave image) same leaves;
+  }
+  unchanged a b (inr stays) = record { seen = stays.seen; crash = stays.crash }
+
   pub rest_none : (home : ℕ → Option D) → AreAsTheyWere reads sight home home
   rest_none home k = so (home k)
     where
       so : (here : Option D) → IsAsBefore reads sight here here
       so None = refl
-      so (Some disk) = (disk, refl, λ told. record { seen = refl; crash = λ image leaves. leaves })
+      so (Some disk) = (disk, refl, λ told. inl refl)
 
   pub rest_on : (old mid new : ℕ → Option D) → AreAsTheyWere reads sight old mid → AreAsTheyWere reads sight mid new
       → AreAsTheyWere reads sight old new
@@ -30,10 +43,7 @@ module _ {D : Type 0} (reads : Type 0) (sight : D → Sight) where
           let x = subst (λ (o : Option D). IsAsBefore reads sight o c) f.1 s in (
             x.0,
             x.1,
-            λ told. record {
-              seen = (x.2 told).seen ∙ (f.2 told).seen;
-              crash = λ image leaves. (f.2 told).crash image ((x.2 told).crash image leaves);
-            },
+            λ told. still_on was f.0 x.0 (f.2 told) (x.2 told),
           )
 
 module _ {D : Type 0} (home_tells reads : Type 0) (sight : D → Sight) (old new : ℕ → Option D)
@@ -47,20 +57,25 @@ module _ {D : Type 0} (home_tells reads : Type 0) (sight : D → Sight) (old new
   pub reads_on : (k : ℕ) (bytes : Bytes) → Old.reads k bytes → New.reads k bytes
   reads_on k bytes read =
       let at = subst (λ (o : Option D). IsAsBefore reads sight o (new k)) read.1.1 (rest read.0.0 k)
-      in (read.0, (at.0, at.1, (at.2 read.0.1).seen ∙ read.1.2))
+      in (read.0, (at.0, at.1, (unchanged reads sight read.1.0 at.0 (at.2 read.0.1)).seen ∙ read.1.2))
 
-  before_it : (k : ℕ) (now : D) → home_tells → new k ≡ Some now
-      → (was : D) × (old k ≡ Some was) × (reads → IsUnchanged (sight was) (sight now))
-  before_it k now told is = so (old k) refl (rest told k)
+  pub still_before : (k : ℕ) (now : D) → home_tells → new k ≡ Some now
+      → (was : D) × (old k ≡ Some was) × (reads → IsStill reads sight was now)
+  still_before k now told is = so (old k) refl (rest told k)
     where
       so : (o : Option D) → old k ≡ o → IsAsBefore reads sight o (new k)
-          → (was : D) × (old k ≡ Some was) × (reads → IsUnchanged (sight was) (sight now))
+          → (was : D) × (old k ≡ Some was) × (reads → IsStill reads sight was now)
       so None e at = absurd (none-some now (sym at ∙ is))
       so (Some was) e at = (
         was,
         e,
-        subst (λ (d : D). reads → IsUnchanged (sight was) (sight d)) (same_Some at.0 now (sym at.1 ∙ is)) at.2,
+        subst (λ (d : D). reads → IsStill reads sight was d) (same_Some at.0 now (sym at.1 ∙ is)) at.2,
       )
+
+  before_it : (k : ℕ) (now : D) → home_tells → new k ≡ Some now
+      → (was : D) × (old k ≡ Some was) × (reads → IsUnchanged (sight was) (sight now))
+  before_it k now told is =
+      let b = still_before k now told is in (b.0, b.1, λ read. unchanged reads sight b.0 now (b.2 read))
 
   pub reads_back : (k : ℕ) (bytes : Bytes) → New.reads k bytes → Old.reads k bytes
   reads_back k bytes read =

@@ -78,16 +78,16 @@ nothing parts early = record {
   rest = Stopped;
 }
 
-over_not_begun : (end : End) (form : Form) (script : Script) → Over end ≡ Begun form script → ⊥
+pub over_not_begun : (end : End) (form : Form) (script : Script) → Over end ≡ Begun form script → ⊥
 over_not_begun end form script e = cc
 
-halted_not_begun : (form : Form) (script : Script) → Halted ≡ Begun form script → ⊥
+pub halted_not_begun : (form : Form) (script : Script) → Halted ≡ Begun form script → ⊥
 halted_not_begun form script e = cc
 
 module _ (asked : Asked) (unread before after : Option Bytes) (tells : Type 0) (old new : Disks)
     (from upto : ℕ → ℕ) (untouched_ : AreUntouched old new) where
   -- It is over.
-  pub ran_over : (parts : Parts) (early : Bool) (end : End) (status : Status)
+  unfoldable pub ran_over : (parts : Parts) (early : Bool) (end : End) (status : Status)
       → stage_of asked early parts ≡ Over end → IsInput unread parts
       → TellsAs status before after (end_text [] end) (plays.Ends end)
       → RanSo asked status unread before after tells old new from upto
@@ -105,7 +105,7 @@ module _ (asked : Asked) (unread before after : Option Bytes) (tells : Type 0) (
   }
 
   -- It was halted before a disk was asked for, and nothing was written.
-  pub ran_halted : (form : Form) (status : Status) → form_in asked.words ≡ Some form
+  unfoldable pub ran_halted : (form : Form) (status : Status) → form_in asked.words ≡ Some form
       → TellsAs status before after [] plays.Stops → RanSo asked status unread before after tells old new from upto
   unfolding outcome_of stage_of
   ran_halted form status is told =
@@ -194,14 +194,14 @@ module _ (asked : Asked) (form : Form) (is : form_in asked.words ≡ Some form) 
   abbrev outcome_had : Outcome
   outcome_had = by_next (trade_in setting) opening lucks rest script_had opening.next
 
-  begun_so : stage_of asked false parts_had ≡ Begun form script_had
+  pub begun_so : stage_of asked false parts_had ≡ Begun form script_had
   begun_so = stage_read asked form parts_had is short lines refl (Ok (providers_in setting)) reads
 
-  outcome_so : outcome_of asked happened_so ≡ outcome_had
+  pub outcome_so : outcome_of asked happened_so ≡ outcome_had
   unfolding outcome_of
   outcome_so = ap (outcome_at happened_so) begun_so
 
-  pub ran_begun : (status : Status) (unread behind before after : Option Bytes) (tells : Type 0) (old new : Disks)
+  unfoldable pub ran_begun : (status : Status) (unread behind before after : Option Bytes) (tells : Type 0) (old new : Disks)
       (from upto : ℕ → ℕ)
       (left : List Site) → parts_left unread ≡ parts_behind bytes behind → AreLinesLeft behind lines
       → IsOpening (trade_in setting) old form opening
@@ -233,7 +233,7 @@ module _ (asked : Asked) (form : Form) (is : form_in asked.words ≡ Some form) 
 
 -- ---- the whole run
 
-pub ran_whole : (asked : Asked) (status : Status) (unread before after : Option Bytes) (tells : Type 0)
+unfoldable pub ran_whole : (asked : Asked) (status : Status) (unread before after : Option Bytes) (tells : Type 0)
     (old_disks new_disks : Disks) (old new : Counts) → Blames status old new → NoneFell old new
     → RanSo asked status unread before after tells old_disks new_disks old.disks new.disks
     → Ran asked status unread before after tells old_disks new_disks old new

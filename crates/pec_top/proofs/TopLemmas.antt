@@ -1,24 +1,23 @@
 -- What a status blames, by what stopped the run; and which task words are.
-use Rattle.std.proofs.Common.{◌≡◌, ℕ, ◌≤◌, Bool, true, false, List, Option, Some, None, Result, Ok, Err, refl, ap, sym, subst, ◌∙◌}
+use Rattle.std.proofs.Common.{◌≡◌, ℕ, Bool, true, false, List, Option, Some, None, Result, Ok, Err, refl, ap, sym, subst, ◌∙◌}
 use Rattle.std.specs.Prelude.{IfErr, IfOk, IsErrOf, if◌then◌else◌}
 use Rattle.pec_types.specs.Bytes.{Bytes}
 use Rattle.pec_outside.specs.Flow.{HasRisen}
 use Rattle.pec_input.specs.Finding.{IsAtEnd}
 use Rattle.pec_dossier.specs.Checks.{asks_check}
 use Rattle.pec_dossier.specs.Exports.{asks_ldif}
-use Rattle.pec_runs.specs.Happened.{Asked}
-use Rattle.pec_runs.specs.Openings.{Disks, Form, form_in}
-use Rattle.pec_runs.specs.Ran.{Blames, Counts, Ran}
+use Rattle.pec_load_runs.specs.Loading.{loads_in}
+use Rattle.pec_runs.specs.Openings.{Form, form_in}
+use Rattle.pec_runs.specs.Ran.{Blames, Counts}
+use Rattle.pec_runs.specs.Statuses as statuses
 use Rattle.pec_service.specs.Runs.{wanted_in}
 use Rattle.pec_top.specs.Blaming.{BlamesDevices, BlamesDisks}
-use Rattle.pec_top.specs.Running.{RanSo}
 use Rattle.pec_top.specs.Shown.{end_shown, result_shown, stop_shown}
-use Rattle.pec_top.specs.Tasks.{Checks, Exports, NoForm, Plays, Serves, Task, plays_or, serves_or, task_in}
+use Rattle.pec_top.specs.Tasks.{Checks, Exports, NoForm, Plays, loads_or, plays_or, serves_or, task_in}
 use Rattle.pec_top.specs.declared.ending.End.{End}
 use Rattle.pec_top.specs.declared.ending.End.TheVariants as ends
 use Rattle.pec_top.specs.declared.ending.Stop.{Stop}
 use Rattle.pec_top.specs.declared.ending.Stop.TheVariants as stops
-use Rattle.pec_top.proofs.RunningLemmas.{ran_whole}
 
 pub blames_stop : (stop : Stop) (old new : Counts)
     → BlamesDevices {T = End} (Err stop) old.source new.source old.sink new.sink
@@ -57,19 +56,6 @@ pub blames_result : (result : Result End Stop) (old new : Counts)
 blames_result (Ok end) old new devices disks = blames_end end old new
 blames_result (Err stop) old new devices disks = blames_stop stop old new devices disks
 
--- a run, with the counts of its devices
-pub ran_counted : (result : Result End Stop) (asked : Asked) (unread before after : Option Bytes) (tells : Type 0)
-    (old_disks new_disks : Disks) (old new : Counts)
-    → BlamesDevices result old.source new.source old.sink new.sink
-    → BlamesDisks result old.depot new.depot old.disks new.disks → old.depot ≤ new.depot
-    → ((provider : ℕ) → old.disks provider ≤ new.disks provider)
-    → RanSo asked (result_shown result) unread before after tells old_disks new_disks old.disks new.disks
-    → Ran asked (result_shown result) unread before after tells old_disks new_disks old new
-ran_counted result asked unread before after tells old_disks new_disks old new devices disks depot last ran =
-    ran_whole asked (result_shown result) unread before after tells old_disks new_disks old new
-    (blames_result result old new devices disks)
-    (record { source = devices.1.1.0; sink = devices.1.1.1; depot = depot; disks = last }) ran
-
 -- ---- how it ended
 
 same_end : (a b : End) → ended a ≡ ended b → a ≡ b
@@ -81,6 +67,21 @@ pub ended_read : (result : Result End Stop) (left : Option Bytes) → result ≡
 ended_read (Ok end) left is read = read (same_end end ends.Done is)
 ended_read (Err stop) left is read = cc
 
+-- only a run that ended as done has that status
+pub done_only : (run : Result End Stop) → result_shown run ≡ statuses.Done → run ≡ Ok ends.Done
+done_only (Ok ends.Done) e = refl
+done_only (Ok ends.Usage) e = cc
+done_only (Ok ends.Refused) e = cc
+done_only (Ok ends.NotEmpty) e = cc
+done_only (Ok ends.NotFit) e = cc
+done_only (Ok ends.TooLong) e = cc
+done_only (Err stops.NoMemory) e = cc
+done_only (Err stops.ReadFault) e = cc
+done_only (Err stops.WriteFault) e = cc
+done_only (Err stops.StartFault) e = cc
+done_only (Err stops.ClockFault) e = cc
+done_only (Err stops.DoorFault) e = cc
+
 pub usage_undone : (P : Type 0) (result : Result End Stop) → result ≡ Ok ends.Done
     → IfOk result (λ end. (end ≡ ends.Usage) × P) → ⊥
 usage_undone P (Ok end) is ok = apart (sym (same_end end ends.Done is) ∙ ok.0)
@@ -91,30 +92,36 @@ usage_undone P (Err stop) is ok = cc
 
 -- ---- tasks
 
-plays_form : (ldif check : Bool) (wanted : Option ℕ) (found : Option Form) (form : Form)
+plays_form : (ldif check : Bool) (loads wanted : Option ℕ) (found : Option Form) (form : Form)
     → Plays form
-    ≡ (if ldif then Exports else (if check then Checks else serves_or wanted (plays_or found NoForm)))
+    ≡ (if ldif then Exports
+    else (if check then Checks else loads_or loads (serves_or wanted (plays_or found NoForm))))
     → found ≡ Some form
-plays_form true check wanted found form e = cc
-plays_form false true wanted found form e = cc
-plays_form false false (Some number) found form e = cc
-plays_form false false None (Some other) form e = cc
-plays_form false false None None form e = cc
+plays_form true check loads wanted found form e = cc
+plays_form false true loads wanted found form e = cc
+plays_form false false (Some count) wanted found form e = cc
+plays_form false false None (Some number) found form e = cc
+plays_form false false None None (Some other) form e = cc
+plays_form false false None None None form e = cc
 
 -- words that ask to play say the form
 pub form_played : (words : List Bytes) (form : Form) → Plays form ≡ task_in words → form_in words ≡ Some form
 form_played words form e =
-    plays_form (asks_ldif words) (asks_check words) (wanted_in words) (form_in words) form e
+    plays_form (asks_ldif words) (asks_check words) (loads_in words) (wanted_in words) (form_in words) form e
 
-lacks_form : (ldif check : Bool) (wanted : Option ℕ) (found : Option Form)
-    → NoForm ≡ (if ldif then Exports else (if check then Checks else serves_or wanted (plays_or found NoForm)))
+lacks_form : (ldif check : Bool) (loads wanted : Option ℕ) (found : Option Form)
+    → NoForm
+    ≡ (if ldif then Exports
+    else (if check then Checks else loads_or loads (serves_or wanted (plays_or found NoForm))))
     → found ≡ None
-lacks_form true check wanted found e = cc
-lacks_form false true wanted found e = cc
-lacks_form false false (Some number) found e = cc
-lacks_form false false None (Some other) e = cc
-lacks_form false false None None e = refl
+lacks_form true check loads wanted found e = cc
+lacks_form false true loads wanted found e = cc
+lacks_form false false (Some count) wanted found e = cc
+lacks_form false false None (Some number) found e = cc
+lacks_form false false None None (Some other) e = cc
+lacks_form false false None None None e = refl
 
 -- words that ask for nothing are no form
 pub form_none : (words : List Bytes) → NoForm ≡ task_in words → form_in words ≡ None
-form_none words e = lacks_form (asks_ldif words) (asks_check words) (wanted_in words) (form_in words) e
+form_none words e =
+    lacks_form (asks_ldif words) (asks_check words) (loads_in words) (wanted_in words) (form_in words) e

@@ -6,7 +6,6 @@ use Rattle.pec_seal.specs.Seals.{Seals}
 use Rattle.pec_types.specs.Bytes.{Bytes}
 use Rattle.pec_outside.specs.Depots.{Alike}
 use Rattle.pec_outside.specs.DiskModel.{Sight}
-use Rattle.pec_directory.specs.Directory.{Provider}
 use Rattle.pec_input.specs.Directory.{directory_in}
 use Rattle.pec_input.specs.Opening.{parts_left}
 use Rattle.pec_input.specs.declared.opening.TheConstants.{LONGEST_DIRECTORY}
@@ -21,7 +20,6 @@ use Rattle.pec_runs.specs.Openings.{AreLeft, Disks, Form, IsLeft, IsOpening, IsU
 use Rattle.pec_runs.specs.Plays.{MayPlay, Rest, RoseAlong, RoseBy, outcome_from}
 use Rattle.pec_runs.specs.Ran.{LeavesOff, Tells, command_in_hand}
 use Rattle.pec_runs.specs.ScriptLines.{Script, script_of}
-use Rattle.pec_screen.specs.Screened.{Finds}
 use Rattle.pec_runs.specs.Statuses.{Status}
 use Rattle.pec_top.specs.Running.{RanSo, parts_behind}
 use Rattle.pec_runs.specs.Steps.{Point, lucks_in}
@@ -56,7 +54,7 @@ rose_along trade (luck ∷ lucks) sites (command ∷ commands) earlier from upto
       second rose.2,
 )
 
-may_between : (tells : Type 0) (trade : Trade) (sites : List Site) (earlier from upto later : ℕ → ℕ) (script : Script)
+pub may_between : (tells : Type 0) (trade : Trade) (sites : List Site) (earlier from upto later : ℕ → ℕ) (script : Script)
     (lucks : List Luck) (rest : Rest) → ((k : ℕ) → earlier k ≤ from k) → ((k : ℕ) → upto k ≤ later k)
     → MayPlay trade tells sites from upto script lucks rest → MayPlay trade tells sites earlier later script lucks rest
 may_between tells trade sites earlier from upto later script lucks rest first second may = record {
@@ -69,7 +67,7 @@ may_between tells trade sites earlier from upto later script lucks rest first se
 
 -- ---- disks that are kept again
 
-site_is : {D : Type 0} (providers : List (ProviderState D)) (waiting : List Waiting) (number : ℕ)
+pub site_is : {D : Type 0} (providers : List (ProviderState D)) (waiting : List Waiting) (number : ℕ)
     (other : ProviderState D)
     → number < length providers → length waiting ≡ length providers
     → site_at (sites_of providers waiting) number
@@ -83,7 +81,7 @@ site_is (provider ∷ providers) (links ∷ waiting) (suc number) other l e =
 module _ {D S : Type 0} {seals : Seals} (home_tells reads : Type 0) (sight : D → Sight) (network : NetworkState D S)
     (whole : IsOfDirectory network.kept seals network.providers network.waiting) (mid new : ℕ → Option D)
     (kept : home_tells → AllAt (λ (p : ProviderState D). Some p.chronicle.disk) mid new network.providers) where
-  at_home : home_tells → (k : ℕ) → k < length network.kept
+  pub at_home : home_tells → (k : ℕ) → k < length network.kept
       → (x : ProviderState D) × ((new k ≡ Some x.chronicle.disk)
       × ((get_or network.providers k x ≡ x) × (k < length network.providers)))
   at_home told k within =
@@ -157,7 +155,7 @@ module _ {D : Type 0} (tells : Type 0) (sight : D → Sight)
     others = λ k far was before. untouched_at k (omega (arith, size, far)) was before;
   }
 
-pub ran_script : {D : Type 0} (asked : Asked) (form : Form) → form_in asked.words ≡ Some form → (bytes : Bytes)
+unfoldable pub ran_script : {D : Type 0} (asked : Asked) (form : Form) → form_in asked.words ≡ Some form → (bytes : Bytes)
     → length bytes ≤ LONGEST_DIRECTORY
     → (setting : Setting) → directory_in bytes ≡ Ok (providers_in setting)
     → IsSetting (providers_in setting) setting

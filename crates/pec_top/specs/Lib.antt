@@ -1,8 +1,10 @@
 pub mod Blaming
+pub mod Calling
 pub mod Checking
 pub mod Hosting
 pub mod Inputs
 pub mod LoopLaws
+pub mod Reporting
 pub mod Running
 pub mod Scripts
 pub mod Shown

@@ -1,10 +1,11 @@
 -- What the journals of a directory's providers come to, as they are made or opened: `IsOpened`, that all are had; and
 -- `IsUnopened`, how a run ends that hasn't all. This project's profile.
-use Rattle.std.specs.Prelude.{◌≡◌, ◌≢◌, ◌⊎◌, ℕ, ◌<◌, ◌≤◌, ◌==◌, Bool, false, List, [], length, Option, Some, None, MatchBool, if◌then◌else◌}
+use Rattle.std.specs.Prelude.{◌≡◌, ◌≢◌, ◌⊎◌, ℕ, ◌<◌, ◌≤◌, ◌==◌, Bool, false, List, [], length, slice_get, Option, Some, None, option_map, MatchBool, if◌then◌else◌}
 use Rattle.pec_types.specs.Bytes.{Bytes}
 use Rattle.pec_outside.specs.DiskModel.{Sight}
 use Rattle.pec_directory.specs.Directory.{Kept, Provider, providers_of}
 use Rattle.pec_ledger.specs.Network.{Site}
+use Rattle.pec_ledger.specs.Trade.{Trade}
 use Rattle.pec_runs.specs.Endings.{end_text}
 use Rattle.pec_runs.specs.Endings as ends
 use Rattle.pec_runs.specs.Happened.{IsSetting, Setting, trade_in}
@@ -13,9 +14,11 @@ use Rattle.pec_runs.specs.Openings.{Opening, disks_at, next_of, opened_all}
 use Rattle.pec_runs.specs.Openings as runs
 use Rattle.pec_runs.specs.Plays.{Finish}
 use Rattle.pec_runs.specs.Plays as plays
+use Rattle.pec_runs.specs.Through.{AreHadFrom}
 use Rattle.pec_script.specs.declared.answers.Unfit.{Unfit}
 use Rattle.pec_service.specs.Runs.{IsChosen, IsLookedAt, finish_at}
-use Rattle.pec_serving.specs.OfNetworks.{AllStand, NetworkState, StartFault, counts_in, journals_had, sites, world_of}
+use Rattle.pec_serving.specs.OfNetworks.{AllStand, ChronicleState, NetworkState, ProviderState, StartFault, counts_in}
+use Rattle.pec_serving.specs.OfNetworks.{journals_had, sites, world_of}
 use Rattle.pec_serving.specs.OfNetworks.faults as faults
 use Rattle.pec_serving.specs.OfNetworks.reasons as reasons
 use Rattle.pec_seal.specs.Seals.{Seals}
@@ -31,6 +34,12 @@ abbrev pub IsFormOf : Disks → ℕ → Journals → runs.Form → Type 0
 IsFormOf disks count (journals.As way) form = form ≡ form_shown way
 IsFormOf disks count journals.Chosen form = IsChosen disks count form
 
+-- the disks of providers of a network, by number
+abbrev pub disks_of : {D : Type 0} → List (ProviderState D) → ℕ → Option D
+disks_of {D} providers number =
+    option_map (λ (one : ChronicleState D). one.disk)
+    (option_map (λ (provider : ProviderState D). provider.chronicle) (slice_get providers number))
+
 -- ---- all are had
 
 module _ {D S : Type 0} (tells reads : Type 0) (sight : D → Sight) (seals : S → Seals) (count : D → ℕ) where
@@ -45,6 +54,8 @@ module _ {D S : Type 0} (tells reads : Type 0) (sight : D → Sight) (seals : S 
         (record { journals = journals_had network.providers; next = NoMore })
     pub begins : sites network ≡ opened_all (world_of seals network) (journals_had network.providers)
     pub stands : tells × reads → AllStand sight network.providers
+    -- what each disk went through
+    pub had : AreHadFrom sight (tells × reads) form (world_of seals network) home (disks_of network.providers)
     pub counts : (provider : ℕ) → last provider ≤ counts_in count network.providers later provider
     -- Once its disks are kept again in some state, the disks are those that the opening leaves in that state.
     pub leaves : (state after : List Site) (new : ℕ → Option D) → (tells × reads → after ≡ state)
@@ -117,9 +128,9 @@ pub record IsRefusedSo (how : Journals) (providers : List Provider) (fault : Sta
   pub may_hold : (other : ℕ) → MayHold how disks (provider_named other fault) holds next
   pub finishes : (other : ℕ) → Finishes providers refusal (finish_at holds (provider_named other fault) next)
 
--- A disk came to nothing, behind those whose journals were had.
-pub record IsRefusedAt (how : Journals) (setting : Setting) (providers : List Provider) (old new : Disks) (refusal : Refusal)
-    : Type 0 where
+-- A disk came to nothing, behind those whose journals were had. `Went` says what disks went through.
+pub record IsRefusedAt (how : Journals) (setting : Setting) (providers : List Provider) (old new : Disks)
+    (Went : runs.Form → Trade → Type 0) (refusal : Refusal) : Type 0 where
   pub form : runs.Form
   pub is_form : IsFormOf old (length setting.kept) how form
   pub is_setting : IsSetting providers setting
@@ -129,15 +140,18 @@ pub record IsRefusedAt (how : Journals) (setting : Setting) (providers : List Pr
   pub may_hold : MayHold how old (next_of opening) holds opening.next
   pub is_opening : IsOpening (trade_in setting) old form opening
   pub left : AreLeft old new form opening (opened_all (trade_in setting) opening.journals)
+  pub went : Went form (trade_in setting)
   pub finishes : Finishes providers refusal (finish_at holds (next_of opening) opening.next)
 
 -- Not all journals are had: memory ran out before a disk was asked for; or, where it was to be chosen, a disk couldn't be
--- looked at; or one came to nothing.
-pub data IsUnopened (how : Journals) (kept : List Kept) (old new : Disks) (refusal : Refusal) : Type 0 where
-  Halted : refusal ≡ refusals.NoMemory → AreUntouched old new → IsUnopened how kept old new refusal
+-- looked at; or one came to nothing. Only in the last case was something written, if at all.
+pub data IsUnopened (how : Journals) (kept : List Kept) (old new : Disks) (Went : runs.Form → Trade → Type 0)
+    (refusal : Refusal) : Type 0 where
+  Halted : refusal ≡ refusals.NoMemory → AreUntouched old new → ((trade : Trade) → Went runs.Resume trade)
+      → IsUnopened how kept old new Went refusal
   Unlooked : (seals : Seals) → how ≡ journals.Chosen → refusal ≡ refusals.StartFault
       → IsSetting (providers_of kept) (record { kept = kept; seals = seals })
-      → AreUntouched old new → IsUnopened how kept old new refusal
+      → AreUntouched old new → ((trade : Trade) → Went runs.Resume trade) → IsUnopened how kept old new Went refusal
   Refused : (seals : Seals)
-      → IsRefusedAt how (record { kept = kept; seals = seals }) (providers_of kept) old new refusal
-      → IsUnopened how kept old new refusal
+      → IsRefusedAt how (record { kept = kept; seals = seals }) (providers_of kept) old new Went refusal
+      → IsUnopened how kept old new Went refusal

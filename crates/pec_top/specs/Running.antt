@@ -11,6 +11,7 @@ use Rattle.pec_runs.specs.Openings.{Disks, Form, disks_at}
 use Rattle.pec_runs.specs.Ran.{Counts, IsAt, IsInput, Tells}
 use Rattle.pec_runs.specs.ScriptLines.{Script}
 use Rattle.pec_runs.specs.Statuses.{Status}
+use Rattle.pec_runs.specs.Through.{DisksWent}
 
 -- counts of faults of disks alone
 abbrev pub disk_counts : (ℕ → ℕ) → Counts
@@ -34,11 +35,11 @@ pub record RanSo (asked : Asked) (status : Status) (unread before after : Option
   pub is_at : IsAt tells old_disks new_disks (disk_counts from) (disk_counts upto) happened status asked
       (stage_of asked happened.early happened.parts)
 
--- The same over a depot that had these disks at home, by provider, and has those.
-abbrev pub RanSoOver : {D : Type 0} → Type 0 → (D → Sight) → Asked → Status → (unread before after : Option Bytes)
-    → (home left : ℕ → Option D) → (from upto : ℕ → ℕ) → Type 0
-RanSoOver tells sight asked status unread before after home left from upto =
-    RanSo asked status unread before after tells (disks_at tells sight home) (disks_at tells sight left) from upto
+-- The same over a depot that had these disks at home, by provider, and has those; and what they went through between.
+pub record RanSoOver {D : Type 0} (tells : Type 0) (sight : D → Sight) (asked : Asked) (status : Status)
+    (unread before after : Option Bytes) (home left : ℕ → Option D) (from upto : ℕ → ℕ) : Type 0 where
+  pub so : RanSo asked status unread before after tells (disks_at tells sight home) (disks_at tells sight left) from upto
+  pub through : DisksWent tells sight home left from upto asked so.happened
 
 -- Each disk that was at home is at home again.
 abbrev pub AreHomeAgain : {D : Type 0} → (old new : ℕ → Option D) → Type 0

@@ -1,5 +1,5 @@
 -- What the program's own values stand for in the words of a run.
-use Rattle.std.specs.Prelude.{Option, Some, None, Result, Ok, Err, codes, if◌then◌else◌}
+use Rattle.std.specs.Prelude.{◌≤◌, Option, Some, None, Result, Ok, Err, codes, if◌then◌else◌}
 use Rattle.std.specs.Str.{bytes_eq}
 use Rattle.pec_types.specs.Bytes.{Bytes}
 use Rattle.pec_input.specs.declared.buffers.InputFault.{InputFault}
@@ -12,6 +12,7 @@ use Rattle.pec_serving.specs.OfNetworks.{Stop as PlayStop}
 use Rattle.pec_serving.specs.OfNetworks.play_stops as play_stops
 use Rattle.pec_script.specs.declared.answers.Unfit.{Unfit}
 use Rattle.pec_script.specs.declared.answers.Unfit.TheVariants as unfits
+use Rattle.pec_load.specs.declared.generating.TheConstants.{MOST_MESSAGES}
 use Rattle.pec_runs.specs.Openings as runs
 use Rattle.pec_runs.specs.Statuses as statuses
 use Rattle.pec_top.specs.declared.ending.End.{End}
@@ -71,6 +72,11 @@ abbrev pub played_stop : PlayStop → Stop
 played_stop play_stops.NoMemory = stops.NoMemory
 played_stop play_stops.WriteFault = stops.WriteFault
 
+-- what stops a load whose run was stopped so: it reads from memory and writes to it, so all but a disk is want of memory
+abbrev pub loaded_stop : Stop → Stop
+loaded_stop stops.StartFault = stops.StartFault
+loaded_stop _ = stops.NoMemory
+
 -- ---- forms
 
 abbrev pub form_shown : Form → runs.Form
@@ -88,7 +94,13 @@ task_shown (asked.Play form) = tasks.Plays (form_shown form)
 task_shown (asked.Serve wanted) = tasks.Serves wanted
 task_shown asked.Export = tasks.Exports
 task_shown asked.Check = tasks.Checks
+task_shown (asked.Load count) = tasks.Loads count
 task_shown asked.NoForm = tasks.NoForm
+
+-- no more messages are asked for than a load has
+abbrev pub AsksFew : Task → Type 0
+AsksFew (asked.Load count) = count ≤ MOST_MESSAGES
+AsksFew _ = Unit {0}
 
 -- how a network begins in this form
 abbrev pub way_of : Form → Way

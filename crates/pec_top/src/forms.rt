@@ -1,12 +1,14 @@
-ghost use Rattle.std.specs.Prelude.{◌≡◌, codes, map, None, option_map, string_bytes, if◌then◌else◌};
+ghost use Rattle.std.specs.Prelude.{◌≡◌, ◌≤◌, codes, map, None, IfSome, option_map, string_bytes, if◌then◌else◌};
 ghost use Rattle.std.specs.Str.{bytes_eq};
 ghost use Rattle.pec_dossier.specs.Checks.{asks_check};
 ghost use Rattle.pec_dossier.specs.Exports.{asks_ldif};
+ghost use Rattle.pec_load_runs.specs.Loading.{loads_in, number_loaded};
 ghost use Rattle.pec_runs.specs.Openings.{form_in};
 ghost use Rattle.pec_service.specs.Runs.{number_wanted, wanted_in};
-ghost use Rattle.pec_top.specs.Shown.{form_named, form_shown, task_shown, way_of};
+ghost use Rattle.pec_top.specs.Shown.{AsksFew, form_named, form_shown, task_shown, way_of};
 ghost use Rattle.pec_top.specs.Tasks.{task_in};
 
+use pec_load::MOST_MESSAGES;
 use pec_serving::Form as Way;
 use pec_words::number_below;
 
@@ -24,19 +26,25 @@ pub(crate) enum Task {
     Export,
     /// To check a dossier of saved letters.
     Check,
+    /// To play a load of so many messages.
+    Load(u64),
     /// The words are none of the program's forms.
     NoForm,
 }
 
 impl Task {
     pub(crate) fn of(words: &[String]) -> Task
-        ensures { task_shown result ≡ task_in (map string_bytes words.now) }
+        ensures shown { task_shown result ≡ task_in (map string_bytes words.now) }
+        ensures few { AsksFew result }
     {
         if asks_ldif(words) {
             return Task::Export;
         }
         if asks_check(words) {
             return Task::Check;
+        }
+        if let Some(count) = loaded(words) {
+            return Task::Load(count);
         }
         if let Some(wanted) = wanted(words) {
             return Task::Serve(wanted);
@@ -110,6 +118,31 @@ fn asks_check(words: &[String]) -> bool
         [word] => word.as_str() == "check",
         _ => false,
     }
+}
+
+/// How many messages the words ask for, where they are `load N`.
+fn loaded(words: &[String]) -> Option<u64>
+    ensures shown { result ≡ loads_in (map string_bytes words.now) }
+    ensures few { IfSome result (λ count. count ≤ MOST_MESSAGES) }
+{
+    match words {
+        [word, number] => loaded_of(word.as_str(), number.as_bytes()),
+        _ => None,
+    }
+}
+
+fn loaded_of(word: &str, number: &[u8]) -> Option<u64>
+    ensures shown { result ≡ if bytes_eq word.now (codes "load") then number_loaded number.now else None }
+    ensures few { IfSome result (λ count. count ≤ MOST_MESSAGES) }
+{
+    if word != "load" {
+        return None;
+    }
+    let number = number_below(number, MOST_MESSAGES + 1)?;
+    if number == 0 {
+        return None;
+    }
+    Some(number)
 }
 
 /// How many connections the words ask for, where they are `serve N`.

@@ -2,10 +2,8 @@ ghost use Rattle.std.specs.Prelude.{◌≡◌, ℕ, Ok, Option, map};
 ghost use Rattle.pec_types.specs.Bytes.{Bytes};
 ghost use Rattle.pec_directory.specs.Directory.{providers_of};
 ghost use Rattle.pec_input.specs.Finding.{IsAtEnd};
-ghost use Rattle.pec_runs.specs.Openings.{disks_at};
 ghost use Rattle.pec_screen.specs.Screened.{finds_in};
-ghost use Rattle.pec_service.specs.Runs.{HasServed};
-ghost use Rattle.pec_top.specs.Hosting.{CountsGo, counts_of, ended_as};
+ghost use Rattle.pec_top.specs.Hosting.{CountsGo, HasServedOver, counts_of, ended_as};
 ghost use Rattle.pec_top.specs.Inputs.{IsWholeTaken};
 ghost use Rattle.pec_top.specs.Running.{AreHomeAgain};
 ghost use Rattle.pec_top.specs.Shown.{result_shown};
@@ -42,10 +40,10 @@ pub(crate) fn serve_form<
     door: &mut R,
     screens: Vec<J>,
 ) -> Result<End, Stop>
-    ensures served { HasServed (record { wanted = wanted; finds = finds_in (map J.patterns screens.items) })
+    ensures served { HasServedOver (P.tells × P.D.tells) P.D.sight
+        (record { wanted = wanted; finds = finds_in (map J.patterns screens.items) })
         (result_shown result) (S.left input.old) (W.held out.old) (W.held out.new)
-        (disks_at (P.tells × P.D.tells) P.D.sight (P.home depot.old))
-        (disks_at (P.tells × P.D.tells) P.D.sight (P.home depot.new))
+        (P.home depot.old) (P.home depot.new)
         (record { moments = T.coming ticks.old; requests = R.requests door.old; replies = R.replies door.old })
         (record { moments = T.coming ticks.new; requests = R.requests door.new; replies = R.replies door.new })
         (P.last depot.old) (P.last depot.new) }
@@ -81,10 +79,10 @@ fn serve_opened<X: Threads + Sync, W: Sink, P: Depot, T: Ticks, R: Door, J: Judg
     screens: Vec<J>,
 ) -> Result<End, Stop>
     ensures served { (unread left : Option Bytes) → IsWholeTaken unread left (providers_of directory)
-        → HasServed (record { wanted = wanted; finds = finds_in (map J.patterns screens.items) })
+        → HasServedOver (P.tells × P.D.tells) P.D.sight
+        (record { wanted = wanted; finds = finds_in (map J.patterns screens.items) })
         (result_shown result) unread (W.held out.old) (W.held out.new)
-        (disks_at (P.tells × P.D.tells) P.D.sight (P.home depot.old))
-        (disks_at (P.tells × P.D.tells) P.D.sight (P.home depot.new))
+        (P.home depot.old) (P.home depot.new)
         (record { moments = T.coming ticks.old; requests = R.requests door.old; replies = R.replies door.old })
         (record { moments = T.coming ticks.new; requests = R.requests door.new; replies = R.replies door.new })
         (P.last depot.old) (P.last depot.new) }

@@ -1,10 +1,12 @@
-ghost use Rattle.std.specs.Prelude.{List};
+ghost use Rattle.std.specs.Prelude.{ℕ, ◌≤◌, List};
+ghost use Rattle.pec_types.specs.Bytes.{Bytes};
 ghost use Rattle.pec_directory.specs.Directory.{Provider};
 ghost use Rattle.pec_ledger.specs.Trade.{Trade};
 ghost use Rattle.pec_serving.specs.OfNetworks.{IsOfDirectory};
 ghost use Rattle.pec_screen.specs.Screened.{Finds};
 ghost use Rattle.pec_top.specs.LoopLaws.{LoopLaws};
 
+pub use crate::calling::four_calls_go_on_from_one_another;
 pub use pec_dossier::no_conflict;
 use pec_input::lines_are_the_text;
 use pec_outside::{Depot, Disk};
@@ -19,9 +21,16 @@ pub(crate) fn a_network_is_whole<D, H: Sealer>(network: &Network<D, H>)
     network.directory();
 }
 
-/// A disk as it reads is one of its images.
-pub(crate) fn a_disk_reads_as_an_image<D: Disk>()
-    ensures { D.tells → (disk : D) → (D.sight disk).may_leave (D.sight disk).seen }
+/// The laws of every disk, for proofs that speak of values of it.
+pub(crate) fn a_disk_is_so<D: Disk>()
+    // This moment is one of those since an earlier one.
+    ensures counts { D.tells → (disk : D) (t : ℕ) (image : Bytes) → t ≤ (D.sight disk).moment
+        → (D.sight disk).may_leave image → (D.sight disk).left_since t image }
+    // Since this moment there is no other.
+    ensures now { D.tells → (disk : D) (image : Bytes) → (D.sight disk).left_since (D.sight disk).moment image
+        → (D.sight disk).may_leave image }
+    // A disk as it reads is one of its images.
+    ensures reads { D.tells → (disk : D) → (D.sight disk).may_leave (D.sight disk).seen }
 {}
 
 /// What is said of a loop over the lines of a script, in every world.

@@ -2,6 +2,7 @@
 //! journals that are left.
 #![tactic(auto)]
 
+mod calling;
 mod checking;
 mod ending;
 mod exporting;
@@ -9,7 +10,9 @@ mod forms;
 mod hosting;
 mod input;
 pub mod laws;
+mod loading;
 mod opening;
+mod reporting;
 mod run;
 mod said;
 mod script;

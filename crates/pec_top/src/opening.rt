@@ -4,6 +4,7 @@ ghost use Rattle.pec_directory.specs.Directory.{Provider, providers_of};
 ghost use Rattle.pec_runs.specs.Openings.{Unfits, disks_at};
 ghost use Rattle.pec_runs.specs.Plays.{Finish, finish_text};
 ghost use Rattle.pec_runs.specs.Ran.{TellsAs};
+ghost use Rattle.pec_runs.specs.Through.{AreHadFrom};
 ghost use Rattle.pec_service.specs.Runs.{finish_at, is_headless};
 ghost use Rattle.pec_serving.specs.OfNetworks.faults as faults;
 ghost use Rattle.pec_top.specs.Blaming.{BlamesRefusal, HaveDisksRisen};
@@ -16,7 +17,7 @@ ghost use Rattle.pec_top.specs.declared.opening.Refusal.TheVariants as refusals;
 
 use crate::ending::{End, Stop};
 use crate::forms::Form;
-use crate::laws::{a_disk_reads_as_an_image, a_network_is_whole};
+use crate::laws::{a_disk_is_so, a_network_is_whole};
 use crate::run::write_last;
 use crate::survey::{choose_form, holds_something};
 use crate::texts::{not_empty_text, not_fit_text};
@@ -71,7 +72,9 @@ pub(crate) fn open<P: Depot>(
         how (P.home depot.old) (P.home depot.new) (P.last depot.old) (P.last depot.new) network) }
     ensures refused { IfErr result (λ refusal. IsUnopened how directory
         (disks_at (P.tells × P.D.tells) P.D.sight (P.home depot.old))
-        (disks_at (P.tells × P.D.tells) P.D.sight (P.home depot.new)) refusal) }
+        (disks_at (P.tells × P.D.tells) P.D.sight (P.home depot.new))
+        (λ form trade. AreHadFrom P.D.sight (P.tells × P.D.tells) form trade (P.home depot.old) (P.home depot.new))
+        refusal) }
     ensures home { P.tells → OnErr result (AreHomeAgain (P.home depot.old) (P.home depot.new)) }
     ensures blame { IfErr result (λ refusal. refusal ≡ Refusal.StartFault
         → HaveDisksRisen (P.faults depot.old) (P.faults depot.new) (P.last depot.old) (P.last depot.new)) }
@@ -80,7 +83,7 @@ pub(crate) fn open<P: Depot>(
 {
     a_trade_says_what_its_parts_say();
     the_texts_are_a_trade::<HmacSealer>();
-    a_disk_reads_as_an_image::<P::D>();
+    a_disk_is_so::<P::D>();
     // (a directory is lawful, and its zones are by its rules)
     let count = directory.count();
     let sealer = sealer_of(alloc, &directory)?;

@@ -8,7 +8,8 @@ ghost use Rattle.pec_runs.specs.Openings.{form_in};
 ghost use Rattle.pec_screen.specs.Screened.{finds_in};
 ghost use Rattle.pec_top.specs.Blaming.{BlamesDevices, DisksGo};
 ghost use Rattle.pec_top.specs.Inputs.{IsTaken};
-ghost use Rattle.pec_top.specs.Running.{AreHomeAgain, RanSoOver};
+ghost use Rattle.pec_top.specs.Reporting.{RanReporting};
+ghost use Rattle.pec_top.specs.Running.{AreHomeAgain};
 ghost use Rattle.pec_top.specs.Shown.{form_shown, result_shown};
 
 use crate::ending::{End, Stop};
@@ -16,6 +17,7 @@ use crate::forms::Form;
 use crate::input::Input;
 use crate::laws::a_network_is_whole;
 use crate::opening::{Journals, end_refused, open};
+use crate::reporting::Report;
 use crate::script::play_script;
 use pec_directory::Directory;
 use pec_input::Buffer;
@@ -33,11 +35,13 @@ pub(crate) fn run_form<X: Threads + Sync, S: Source, W: Sink, P: Depot, J: Judge
     out: &mut W,
     depot: &mut P,
     screens: &mut [J],
+    report: &mut Report,
 ) -> Result<End, Stop>
     ensures ran { (words : List Bytes) → form_in words ≡ Some (form_shown form)
-        → RanSoOver (P.tells × P.D.tells) P.D.sight
+        → RanReporting (P.tells × P.D.tells) P.D.sight
         (record { words = words; finds = finds_in (map J.patterns screens.old) }) (result_shown result) (S.left input.old)
-        (W.held out.old) (W.held out.new) (P.home depot.old) (P.home depot.new) (P.last depot.old) (P.last depot.new) }
+        (W.held out.old) (W.held out.new) (P.home depot.old) (P.home depot.new) (P.last depot.old) (P.last depot.new)
+        report.old report.new }
     ensures all_read { IfOk result (λ end. end ≡ End.Done → IsAtEnd (S.left input.new)) }
     ensures blame { BlamesDevices result (S.faults input.old) (S.faults input.new)
         (W.faults out.old) (W.faults out.new) }
@@ -57,6 +61,7 @@ pub(crate) fn run_form<X: Threads + Sync, S: Source, W: Sink, P: Depot, J: Judge
                 out,
                 depot,
                 screens,
+                report,
             )
         }
         Input::Ends(text, end) => write_last(out, &text, end),
@@ -74,12 +79,14 @@ fn run_opened<X: Threads + Sync, S: Source, W: Sink, P: Depot, J: Judge>(
     out: &mut W,
     depot: &mut P,
     screens: &mut [J],
+    report: &mut Report,
 ) -> Result<End, Stop>
     ensures ran { (words : List Bytes) (unread : Option Bytes) → form_in words ≡ Some (form_shown form)
         → IsTaken unread (behind buffer.old (S.left source.old)) (providers_of directory)
-        → RanSoOver (P.tells × P.D.tells) P.D.sight
+        → RanReporting (P.tells × P.D.tells) P.D.sight
         (record { words = words; finds = finds_in (map J.patterns screens.old) }) (result_shown result) unread
-        (W.held out.old) (W.held out.new) (P.home depot.old) (P.home depot.new) (P.last depot.old) (P.last depot.new) }
+        (W.held out.old) (W.held out.new) (P.home depot.old) (P.home depot.new) (P.last depot.old) (P.last depot.new)
+        report.old report.new }
     ensures all_read { IfOk result (λ end. end ≡ End.Done → IsAtEnd (behind buffer.new (S.left source.new))) }
     ensures blame { BlamesDevices result (S.faults source.old) (S.faults source.new)
         (W.faults out.old) (W.faults out.new) }
@@ -91,6 +98,7 @@ fn run_opened<X: Threads + Sync, S: Source, W: Sink, P: Depot, J: Judge>(
             let mut network = network;
             a_network_is_whole(&network);
             let result = play_script(rt, alloc, &mut network, depot, screens, source, buffer, out);
+            *report = report.of(&network);
             a_network_is_whole(&network);
             network.close(depot);
             result

@@ -1,13 +1,11 @@
-ghost use Rattle.std.specs.Prelude.{◌≡◌, ℕ, ◌≤◌, map, IfOk, IsErrOf};
+ghost use Rattle.std.specs.Prelude.{◌≡◌, ◌≤◌, map, IfOk, IsErrOf};
 ghost use Rattle.pec_outside.specs.Depots.{Alike};
 ghost use Rattle.pec_outside.specs.Flow.{behind};
-ghost use Rattle.pec_directory.specs.Directory.{providers_of};
 ghost use Rattle.pec_input.specs.Finding.{IsAtEnd};
-ghost use Rattle.pec_runs.specs.Reading.{IsRead};
 ghost use Rattle.pec_screen.specs.Screened.{finds_in};
-ghost use Rattle.pec_serving.specs.OfNetworks.{AllStand, Keeps, point_of, world_of};
+ghost use Rattle.pec_serving.specs.OfNetworks.{Keeps};
 ghost use Rattle.pec_top.specs.Blaming.{BlamesDevices};
-ghost use Rattle.pec_top.specs.Scripts.{at_first};
+ghost use Rattle.pec_top.specs.Scripts.{ReadsOver};
 ghost use Rattle.pec_top.specs.Shown.{result_shown};
 
 use crate::ending::{End, Stop};
@@ -40,12 +38,10 @@ pub(crate) fn play_script<
     buffer: &mut Buffer,
     out: &mut W,
 ) -> Result<End, Stop>
-    ensures read { (P.tells × D.tells → AllStand D.sight network.old.providers) → (elsewhere : ℕ → ℕ)
-        → IsRead (world_of H.seals network.old) (finds_in (map J.patterns screens.old))
-        (providers_of network.old.kept) (P.tells × D.tells) D.sight
-        (at_first (point_of D.faults elsewhere network.old (W.held out.old) (W.faults out.old))
-        (behind buffer.old (S.left source.old)))
-        (point_of D.faults elsewhere network.new (W.held out.new) (W.faults out.new)) (result_shown result) }
+    // The script that is left was read, line by line, and its commands were played and written.
+    ensures read { ReadsOver (P.tells × D.tells) D.sight D.faults H.seals (finds_in (map J.patterns screens.old))
+        network.old network.new (behind buffer.old (S.left source.old))
+        (W.held out.old) (W.held out.new) (W.faults out.old) (W.faults out.new) (result_shown result) }
     ensures keeps { Keeps D.sight D.faults D.tells network.old network.new }
     ensures home { P.tells → Alike (P.home depot.old) (P.home depot.new) }
     ensures last { Alike (P.last depot.old) (P.last depot.new) }

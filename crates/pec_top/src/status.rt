@@ -1,4 +1,4 @@
-ghost use Rattle.std.specs.Prelude.{◌≡◌, Ok};
+ghost use Rattle.std.specs.Prelude.{◌≡◌};
 ghost use Rattle.pec_runs.specs.Statuses.{code_of};
 ghost use Rattle.pec_top.specs.Shown.{end_shown, result_shown, status_shown, stop_shown};
 
@@ -57,7 +57,6 @@ impl Status {
 /// The status of a run that ended, or was stopped.
 pub(crate) fn status_of(run: Result<End, Stop>) -> Status
     ensures shown { status_shown result ≡ result_shown run }
-    ensures done { result ≡ Status.Done → run ≡ Ok End.Done }
 {
     match run {
         Ok(end) => end_status(end),

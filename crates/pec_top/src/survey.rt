@@ -7,6 +7,7 @@ ghost use Rattle.pec_top.specs.Shown.{form_shown};
 ghost use Rattle.pec_top.specs.Surveys.{AreAsTheyWere, HoldsSo};
 
 use crate::forms::Form;
+use crate::laws::a_disk_is_so;
 use pec_outside::{Depot, Disk, Failed};
 
 /// How the providers of so many disks come to their journals where connections are served: they are made where all disks are
@@ -40,6 +41,7 @@ pub(crate) fn holds_something<P: Depot>(depot: &mut P, provider: u32) -> Result<
     ensures cause { OnErr result (HasRisen (P.faults depot.old) (P.faults depot.new)
         ⊎ HasRisen (P.last depot.old provider) (P.last depot.new provider)) }
 {
+    a_disk_is_so::<P::D>();
     let mut disk = depot.disk(provider)?;
     let size = disk.size();
     depot.keep(provider, disk);

@@ -22,6 +22,8 @@ mod ldif;
 #[cfg(test)]
 mod letters;
 #[cfg(test)]
+mod loading;
+#[cfg(test)]
 mod refusals;
 #[cfg(test)]
 mod running;

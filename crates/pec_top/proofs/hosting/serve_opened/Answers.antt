@@ -1,11 +1,11 @@
 -- All journals are had, and connections are served; or not all are.
-use Rattle.std.proofs.Common.{map, ◌≡◌, ◌∙◌, ℕ, inl, inr, arith, refl, sym, subst, List, length, false}
+use Rattle.std.proofs.Common.{map, ◌<◌, ◌∙◌, ℕ, inl, inr, ap, arith, refl, sym, subst, List, length, false}
 use Rattle.std.proofs.lemmas.Bool.{cases_lt}
 use Rattle.std.proofs.lemmas.List.{length-map}
 use Rattle.pec_directory.specs.Directory.{Kept, providers_of}
 use Rattle.pec_ledger.specs.Network.{Site}
 use Rattle.pec_seal.specs.Hmac.{hmac_seals}
-use Rattle.pec_serving.specs.OfNetworks.{counts_in, journals_had, sites}
+use Rattle.pec_serving.specs.OfNetworks.{counts_in, journals_had, sites, state_in}
 use Rattle.pec_runs.specs.Happened.{Setting, trade_in}
 use Rattle.pec_runs.specs.Openings.{NoMore, disks_at}
 use Rattle.pec_runs.specs.Statuses.{Status}
@@ -18,7 +18,9 @@ use Rattle.pec_top.specs.Inputs.{IsWholeTaken}
 use Rattle.pec_top.specs.Scripts.{AreKept}
 use Rattle.pec_top.specs.Shown.{result_shown}
 use Rattle.pec_top.proofs.CountLemmas.{closed_so, counts_later}
-use Rattle.pec_top.proofs.HostingLemmas.{blames_ended, refused_counts, served_begun, served_unopened, told_as}
+use Rattle.pec_top.proofs.HostingLemmas.{blames_ended, refused_counts, told_as}
+use Rattle.pec_top.proofs.ServedLemmas.{served_through, unopened_through}
+use Rattle.pec_top.proofs.ThroughLemmas.{all_kept, all_seen, all_stand}
 use Rattle.pec_top.proofs.WholeLemmas.{all_kept_so, none_gone}
 use Rattle.pec_top.proofs.hosting.serve_opened.Goals as goal
 
@@ -72,7 +74,11 @@ returns-in-Ok-clause-served g c = λ unread rest whole.
     (λ told. keeps.stands told.1 (opened.stands told)) c.serve-network.ensures.home) in
     let many = length-map kept (λ (one : Kept). one.provider) in
     let chosen = subst (λ (count : ℕ). IsChosen (disks_at tells sight old) count opened.form) (sym many) opened.is_form in
-    served_begun asked (result_shown c.ended.result) unread before after (disks_at tells sight old) (disks_at tells sight new)
+    let at_home = λ (told : tells) (k : ℕ) (within : k < (trade_in setting).providers).
+    all_kept g.P.Depot.tells g.P.D.Disk.tells sight served c.a_network_is_whole-in-Ok.ensures
+    (g.P.Depot.home c.serve-network.new.depot) new c.close.ensures.kept told.0 k
+    (let same = ap (λ (k : List Kept). length k) keeps.directory in omega (arith, many, same, within)) in
+    served_through asked (result_shown c.ended.result) unread before after tells sight old new
     here there from upto taken.bytes taken.short setting taken.reads opened.setting taken.input opened.form course chosen
     (record {
       opening = opened.opening;
@@ -94,6 +100,18 @@ returns-in-Ok-clause-served g c = λ unread rest whole.
         later = λ k. let e = closed k in omega (arith, e);
         disks = opened.leaves (sites served) (sites served) new (λ told. refl) kept_so;
       };
+    })
+    refl
+    (record {
+      first = state_in faults mid_last network;
+      last = state_in faults mid_last served;
+      begins = opened.begins;
+      seen = all_seen g.P.Depot.tells g.P.D.Disk.tells sight network c.a_network_is_whole.ensures;
+      stand = λ told. all_stand g.P.Depot.tells g.P.D.Disk.tells sight network c.a_network_is_whole.ensures
+          (opened.stands told);
+      had = opened.had;
+      moves = c.serve-network.ensures.moves mid_last;
+      kept = at_home;
     })
 
 pub returns-in-Ok-clause-counts : goal.returns-in-Ok-clause-counts
@@ -151,9 +169,9 @@ returns-in-Err-clause-served g c = λ unread rest taken.
       requests = g.R.Door.requests c.args.door.now;
       replies = g.R.Door.replies c.args.door.now;
     } in
-    served_unopened asked (result_shown c.end_refused.result) unread (g.W.Stream.held c.args.out.now)
-    (g.W.Stream.held c.end_refused.new.out) (disks_at tells sight (g.P.Depot.home c.args.depot.now))
-    (disks_at tells sight (g.P.Depot.home c.open.new.depot)) here (g.P.Depot.last c.args.depot.now)
+    unopened_through asked (result_shown c.end_refused.result) unread (g.W.Stream.held c.args.out.now)
+    (g.W.Stream.held c.end_refused.new.out) tells sight (g.P.Depot.home c.args.depot.now)
+    (g.P.Depot.home c.open.new.depot) here (g.P.Depot.last c.args.depot.now)
     (g.P.Depot.last c.open.new.depot) taken.bytes taken.short c.args.directory taken.reads taken.input c.in-Err.refusal
     c.end_refused.ensures.told c.in-Err.ensures.refused
 

@@ -1,5 +1,4 @@
 -- A form that was said is had without a look.
-use Rattle.std.proofs.Common.{refl}
 use Rattle.pec_top.proofs.RestLemmas.{rest_none}
 use Rattle.pec_top.proofs.opening.form_of.Goals as goal
 

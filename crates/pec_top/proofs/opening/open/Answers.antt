@@ -7,9 +7,10 @@ use Rattle.pec_seal.specs.Seals.{Seals}
 use Rattle.pec_seal.specs.declared.hmac.HmacSealer.{HmacSealer}
 use Rattle.pec_serving.specs.OfNetworks.{AllBegun, Form as Way, IsRefused}
 use Rattle.pec_runs.specs.Happened.{IsSetting}
-use Rattle.pec_runs.specs.Openings.{disks_at}
+use Rattle.pec_runs.specs.Openings.{Resume, disks_at}
 use Rattle.pec_top.specs.Opened.{Halted, IsFormOf, IsRefusedSo, Refused, Unlooked}
 use Rattle.pec_top.specs.Shown.{form_shown}
+use Rattle.pec_top.proofs.HadFromLemmas.{had_none, had_rest}
 use Rattle.pec_top.proofs.OpenedLemmas.{Known, begun_blames, opened_so, refused_at}
 use Rattle.pec_top.proofs.RefusedLemmas.{home_again}
 use Rattle.pec_top.proofs.RestLemmas.{home_rest, untouched_rest}
@@ -19,8 +20,10 @@ use Rattle.pec_top.proofs.opening.open.Goals as goal
 pub returns-in_err-sealer-clause-refused : goal.returns-in_err-sealer-clause-refused
 returns-in_err-sealer-clause-refused g c =
     let p = err_from_is_err_and c.from_residual.result c.from_residual.ensures.1 in
-    rw (p.1, p.2) (Halted refl (untouched (g.P.Depot.tells × g.P.D.Disk.tells) g.P.D.Disk.sight
-    (g.P.Depot.home c.args.depot.now)))
+    let tells = g.P.Depot.tells × g.P.D.Disk.tells in
+    let home = g.P.Depot.home c.args.depot.now in
+    rw (p.1, p.2) (Halted refl (untouched tells g.P.D.Disk.sight home)
+    (λ trade. had_none tells g.P.D.Disk.sight Resume trade home))
 
 pub returns-in_default-clause-refused : goal.returns-in_default-clause-refused
 returns-in_default-clause-refused g c =
@@ -36,6 +39,8 @@ returns-in_default-clause-refused g c =
     } in
     Unlooked seals c.in_default.ensures.chosen refl setting
     (untouched_rest g.P.Depot.tells g.P.D.Disk.tells g.P.D.Disk.sight (g.P.Depot.home c.args.depot.now)
+    (g.P.Depot.home c.form_of.new.depot) c.form_of.ensures.rest)
+    (λ trade. had_rest g.P.Depot.tells g.P.D.Disk.tells g.P.D.Disk.sight Resume trade (g.P.Depot.home c.args.depot.now)
     (g.P.Depot.home c.form_of.new.depot) c.form_of.ensures.rest)
 
 pub returns-in_default-clause-home : goal.returns-in_default-clause-home
@@ -80,7 +85,7 @@ returns-in-Ok-begin-clause-opened g c =
     known) in
     opened_so tells reads sight seals_of g.P.D.Counted.faults how form home looked (g.P.Depot.home c.begin.new.depot)
     (g.P.Depot.last c.args.depot.now) (g.P.Depot.last c.form_of.new.depot) (g.P.Depot.last c.begin.new.depot) network
-    of_its_own c.form_of.ensures.rest c.a_disk_reads_as_an_image.ensures c.in-Ok-begin.ensures.rests
+    of_its_own c.form_of.ensures.rest c.a_disk_is_so.ensures.reads c.a_disk_is_so.ensures.counts c.in-Ok-begin.ensures.rests
     (λ told. c.in-Ok-begin.ensures.out told) c.in-Ok-begin.ensures.counts c.in-Ok-begin.ensures.last c.form_of.ensures.last
 
 pub returns-in-Ok-begin-clause-last : goal.returns-in-Ok-begin-clause-last
@@ -116,8 +121,8 @@ returns-in-Err-clause-refused g c =
     c.refuse.result) c.in-Err.ensures.given_back c.refuse.ensures.refused in
     Refused seals (refused_at tells reads sight kept seals
     (c.a_trade_says_what_its_parts_say.ensures.directory kept seals) how home looked mid
-    (g.P.Depot.home c.refuse.new.depot) form fault c.refuse.result refused c.a_disk_reads_as_an_image.ensures
-    c.form_of.ensures.rest c.refuse.ensures.rest is_form setting so)
+    (g.P.Depot.home c.refuse.new.depot) form fault c.refuse.result refused c.a_disk_is_so.ensures.reads
+    c.a_disk_is_so.ensures.counts c.form_of.ensures.rest c.refuse.ensures.rest is_form setting so)
 
 pub returns-in-Err-clause-home : goal.returns-in-Err-clause-home
 returns-in-Err-clause-home g c = λ told k some.

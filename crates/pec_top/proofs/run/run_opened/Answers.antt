@@ -1,12 +1,12 @@
 -- All journals are had, and the script is played; or not all are.
-use Rattle.std.proofs.Common.{map, ◌≡◌, ◌∙◌, inl, inr, ap, arith, sym, subst, List, length, Some}
+use Rattle.std.proofs.Common.{map, ◌∙◌, inl, inr, ap, arith, sym, subst, List, length, Some}
 use Rattle.std.proofs.lemmas.Bool.{cases_lt}
+use Rattle.std.proofs.lemmas.List.{length-map}
 use Rattle.pec_outside.specs.Flow.{behind}
 use Rattle.pec_directory.specs.Directory.{Kept, providers_of}
-use Rattle.pec_serving.specs.OfNetworks.{counts_in, journals_had, point_of, sites}
+use Rattle.pec_serving.specs.OfNetworks.{journals_had, point_of, sites}
 use Rattle.pec_seal.specs.Hmac.{hmac_seals}
 use Rattle.pec_runs.specs.Happened.{Asked, Setting}
-use Rattle.pec_runs.specs.Openings.{disks_at}
 use Rattle.pec_runs.specs.Openings as runs
 use Rattle.pec_screen.specs.Screened.{finds_in}
 use Rattle.pec_top.specs.Inputs.{IsTaken}
@@ -15,7 +15,9 @@ use Rattle.pec_top.specs.Shown.{result_shown}
 use Rattle.pec_top.proofs.CountLemmas.{closed_so, counts_later}
 use Rattle.pec_top.proofs.HostingLemmas.{refused_devices, refused_start}
 use Rattle.pec_top.proofs.RefusedLemmas.{ran_unopened}
-use Rattle.pec_top.proofs.WholeLemmas.{all_kept_so, none_gone, ran_script}
+use Rattle.pec_top.proofs.ReportLemmas.{script_told, unreported}
+use Rattle.pec_top.proofs.ThroughLemmas.{all_kept, all_seen, all_stand}
+use Rattle.pec_top.proofs.WholeLemmas.{all_kept_so, none_gone}
 use Rattle.pec_top.proofs.run.run_opened.Goals as goal
 
 pub returns-in-Ok-clause-ran : goal.returns-in-Ok-clause-ran
@@ -47,15 +49,21 @@ returns-in-Ok-clause-ran g c = λ words unread is taken.
     let kept_so = subst (λ (k : List Kept). AreKept tells sight (length k) (sites played) mid new) keeps.directory
     (all_kept_so g.P.Depot.tells g.P.D.Disk.tells sight played c.a_network_is_whole-in-Ok.ensures late new
     c.close.ensures.kept mid (λ told. keeps.stands told.1 (opened.stands told)) c.play_script-result.ensures.home) in
-    ran_script asked opened.form (is ∙ ap (λ (f : runs.Form). Some f) (sym opened.is_form)) here.bytes here.short
-    setting
-    here.reads opened.setting (journals_had network.providers) (result_shown c.play_script-result.result) unread
-    (behind c.args.buffer.now (g.S.Stream.left c.args.source.now)) tells sight (disks_at tells sight old)
-    (disks_at tells sight new) (g.P.Depot.last c.args.depot.now) (g.P.Depot.last c.close.new.depot) point there
-    opened.begins
-    opened.counts (λ k. let e = closed k in omega (arith, e)) here.parts opened.opening
+    let many = length-map kept (λ (one : Kept). one.provider) in
+    let same = ap (λ (k : List Kept). length k) keeps.directory in
+    script_told asked opened.form (is ∙ ap (λ (f : runs.Form). Some f) (sym opened.is_form)) here.bytes here.short
+    setting here.reads opened.setting tells sight old new (g.P.Depot.last c.args.depot.now)
+    (g.P.Depot.last c.close.new.depot) (journals_had network.providers) (result_shown c.play_script-result.result) unread
+    (behind c.args.buffer.now (g.S.Stream.left c.args.source.now)) point there opened.begins opened.counts
+    (λ k. let e = closed k in omega (arith, e)) here.parts opened.opening
     (c.play_script-result.ensures.read opened.stands mid_last)
     (λ left is_left. opened.leaves (sites played) left new is_left kept_so)
+    (all_seen g.P.Depot.tells g.P.D.Disk.tells sight network c.a_network_is_whole.ensures)
+    (λ told. all_stand g.P.Depot.tells g.P.D.Disk.tells sight network c.a_network_is_whole.ensures (opened.stands told))
+    opened.had
+    (λ told k within. all_kept g.P.Depot.tells g.P.D.Disk.tells sight played c.a_network_is_whole-in-Ok.ensures late new
+    c.close.ensures.kept told.0 k (omega (arith, many, same, within))) c.args.report.now c.of.result
+    (rw (keeps.directory, keeps.seals) at c.of.ensures)
 
 pub returns-in-Ok-clause-home : goal.returns-in-Ok-clause-home
 returns-in-Ok-clause-home g c = λ told k some.
@@ -92,12 +100,15 @@ returns-in-Err-clause-ran g c = λ words unread is taken.
     let asked : Asked = record { words = words; finds = finds_in (map g.J.Judge.patterns c.args.screens.now) } in
     let tells = g.P.Depot.tells × g.P.D.Disk.tells in
     let sight = g.P.D.Disk.sight in
-    ran_unopened asked c.args.form is taken.bytes taken.short c.args.directory taken.reads c.in-Err.refusal
+    unreported tells sight asked (result_shown c.end_refused.result) unread (g.W.Stream.held c.args.out.now)
+    (g.W.Stream.held c.end_refused.new.out) (g.P.Depot.home c.args.depot.now) (g.P.Depot.home c.open.new.depot)
+    (g.P.Depot.last c.args.depot.now) (g.P.Depot.last c.open.new.depot) c.args.report.now
+    (ran_unopened asked c.args.form is taken.bytes taken.short c.args.directory taken.reads c.in-Err.refusal
     (result_shown c.end_refused.result) unread (behind c.args.buffer.now (g.S.Stream.left c.args.source.now))
-    (g.W.Stream.held c.args.out.now) (g.W.Stream.held c.end_refused.new.out) tells
-    (disks_at tells sight (g.P.Depot.home c.args.depot.now)) (disks_at tells sight (g.P.Depot.home c.open.new.depot))
+    (g.W.Stream.held c.args.out.now) (g.W.Stream.held c.end_refused.new.out) tells sight
+    (g.P.Depot.home c.args.depot.now) (g.P.Depot.home c.open.new.depot)
     (g.P.Depot.last c.args.depot.now) (g.P.Depot.last c.open.new.depot) taken.parts c.end_refused.ensures.told
-    c.in-Err.ensures.refused
+    c.in-Err.ensures.refused)
 
 pub returns-in-Err-clause-blame : goal.returns-in-Err-clause-blame
 returns-in-Err-clause-blame g c =

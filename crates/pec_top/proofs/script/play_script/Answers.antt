@@ -131,7 +131,7 @@ lines-preserved g c =
       home = λ told k. c.play_and_write.ensures.home told k ∙ so.home told k;
       last = λ k. c.play_and_write.ensures.last k ∙ so.last k;
       depot_later = let l = so.depot_later in let k = c.play_and_write.ensures.later.0 in omega (arith, l, k);
-      patterns = c.play_and_write.ensures.patterns ∙ so.patterns;
+      patterns = c.play_and_write.ensures.screens.patterns ∙ so.patterns;
       source_later = let l = so.source_later in let k = c.next_line.ensures.later in omega (arith, l, k);
       sink_later = let l = so.sink_later in let k = c.play_and_write.ensures.later.1 in omega (arith, l, k);
     }

@@ -1,5 +1,5 @@
 -- A line says what is read of it.
-use Rattle.std.proofs.Common.{◌≡◌, ◌∙◌, ap, refl, sym, arith, Ok, Err, length}
+use Rattle.std.proofs.Common.{◌≡◌, ◌∙◌, ap, refl, sym, arith, Err, length}
 use Rattle.pec_types.specs.Bytes.{Bytes}
 use Rattle.pec_directory.specs.Directory.{providers_of}
 use Rattle.pec_runs.specs.Endings as ends
