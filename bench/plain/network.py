@@ -6,7 +6,6 @@ import letters
 import texts
 
 OUTCOMES = {"delivered": 0, "no-mailbox": 1, "mailbox-full": 2}
-CAUSES = ["head", "from", "to", "reverse-path", "forward-path", "bcc", "size", "virus"]
 LINK = 64
 MARKS = {"warning": "warned", "notice": "noticed", "late-notice": "noticed-late"}
 
@@ -168,7 +167,7 @@ class Network:
                 self.row(identity, recipient).accepted = at
             self.receipt("acceptance", identity, at, facts)
             return [f"accepted {self.text(identity)}"]
-        number = bytes([CAUSES.index(cause) + 1])
+        number = bytes([texts.CAUSES.index(cause) + 1])
         self.append(provider, 2, at, short(sender) + number + list_bytes(path) + long(message))
         self.messages[provider] += 1
         fields = (texts.head(message) or ([], 0))[0]

@@ -141,6 +141,7 @@ def facts(fields):
 
 # What the program's screens look for.
 VIRUS = b"PEC-VIRUS-DI-PROVA"
+CAUSES = ["head", "from", "to", "reverse-path", "forward-path", "bcc", "size", "virus"]
 
 
 def refused(message, account, path, limit):

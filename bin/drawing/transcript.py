@@ -237,16 +237,6 @@ class Pair:
         self.heard = self.charged = self.placed = False
 
 
-CAUSES = {
-    "head": "its head is wrong",
-    "from": "its sender is wrong",
-    "to": "its recipients are wrong",
-    "reverse-path": "another account handed it in",
-    "forward-path": "its path has other recipients than its head",
-    "bcc": "it has a blind copy",
-    "size": "it is too long",
-    "virus": "it has a virus",
-}
 REFUSALS = {"no-mailbox": "nobody has the address", "mailbox-full": "the mailbox is full", "virus": "it has a virus"}
 MARKS = {
     "warned": "open; the sender was warned",
@@ -297,7 +287,7 @@ def in_words(pair, message):
     """The shape and the colour of a mark, and words."""
     outcome, knows = pair.known or pair.decided, bool(pair.known or pair.heard)
     if message.cause is not None:
-        return "cross", words.RED, "not accepted" + (": " + CAUSES[message.cause] if message.cause else "")
+        return "cross", words.RED, "not accepted" + (": " + words.CAUSES[message.cause] if message.cause else "")
     if outcome == "delivered":
         sender = "the sender has the receipt" if knows else "the sender hasn't heard yet"
         return "diamond", words.GREEN if knows else words.BLUE, f"delivered; {sender}"

@@ -9,13 +9,24 @@ HELP = os.path.join(os.path.dirname(os.path.dirname(os.path.realpath(__file__)))
 NUMBER = "(?:0|[1-9][0-9]*)"
 PROVIDER = "[a-z0-9-]{1,32}"
 DIGEST = "[0-9a-f]{64}"
+# The words of causes, and what each means.
+CAUSES = {
+    "head": "its head is wrong",
+    "from": "its sender is wrong",
+    "to": "its recipients are wrong",
+    "reverse-path": "another account handed it in",
+    "forward-path": "its path has other recipients than its head",
+    "bcc": "it has a blind copy",
+    "size": "it is too long",
+    "virus": "it has a virus",
+}
 VALUES = {
     "ID": r"pec\.[0-9]{7}@[a-z0-9.-]+",
     "RECIPIENT": "[!-?A-~]+@[a-z0-9.-]+",
     "NAME": PROVIDER,
     "BY": PROVIDER,
     "TO": PROVIDER,
-    "CAUSE": "(?:head|from|to|reverse-path|forward-path|bcc|size|virus)",
+    "CAUSE": f"(?:{'|'.join(CAUSES)})",
     "DECISION": "(?:delivered|no-mailbox|mailbox-full|virus)",
     "CLASS": "(?:primary|copy)",
     "KIND": "(?:envelope|anomaly|(?:non-)?acceptance|delivery(?:-error)?|warning|(?:late-)?notice)",

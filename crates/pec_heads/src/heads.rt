@@ -1,6 +1,7 @@
 ghost use Rattle.std.specs.Prelude.{◌≡◌, ◌++◌, ◌≤◌, ◌⊎◌, ◌↔◌, ℕ, List, Option, codes, length, not, slice_get, IfOk};
 ghost use Rattle.std.specs.List.{list_any};
 ghost use Rattle.std.specs.Option.{IfSome, option_map};
+ghost use Rattle.std.specs.Result.{result_ok};
 ghost use Rattle.pec_types.specs.declared.messages.Facts.{Facts as FactsShown};
 ghost use Rattle.pec_types.specs.Bytes.{Bytes, Path};
 ghost use Rattle.pec_heads.specs.BoundedFacts.{AreBounded, AreRecipients, IsShortText, addresses_of};
@@ -112,6 +113,19 @@ impl Head {
         ensures within { IfOk result (λ read. read.1 ≤ length message.now) }
     {
         read_head(alloc, message)
+    }
+
+    /// The head at the front of a message and the place behind it, where there is one: of a message without a head it
+    /// isn't told why.
+    pub fn find(alloc: Global, message: &[u8]) -> Result<Option<(Head, usize)>, NoMemory>
+        ensures found { IfOk result (λ found. found ≡ result_ok (read_of message.now)) }
+        ensures within { IfOk result (λ found. IfSome found (λ read. read.1 ≤ length message.now)) }
+    {
+        match Head::read(alloc, message) {
+            Ok(read) => Ok(Some(read)),
+            Err(HeadFault::NoMemory) => Err(NoMemory),
+            Err(_) => Ok(None),
+        }
     }
 
     /// The unfolded value of the first field of this name, whatever the case of its letters. It takes no memory.

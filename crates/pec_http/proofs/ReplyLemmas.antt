@@ -1,9 +1,6 @@
--- Replies by their parts, and words of causes.
-use Rattle.std.proofs.Common.{◌≡◌, ◌≤◌, List, ℕ, length, Result, IfOk, ap, subst, ◌∙◌, lit≤}
+-- Replies by their parts.
+use Rattle.std.proofs.Common.{◌≡◌, Result, IfOk, ap, subst, ◌∙◌}
 use Rattle.pec_types.specs.Bytes.{Bytes}
-use Rattle.pec_types.specs.Words.{cause_word}
-use Rattle.pec_types.specs.declared.messages.Cause.{Cause}
-use Rattle.pec_types.specs.declared.messages.Cause.TheVariants as causes
 use Rattle.pec_http.specs.Replies.{Reply}
 use Rattle.pec_http.specs.Writing.{IsReply}
 use Rattle.pec_http.specs.declared.replies.Reply.{Reply as Written}
@@ -23,13 +20,3 @@ composed_as answer reply status kind body composed same_status same_kind same_bo
     ap (λ s. made s kind body) same_status ∙ (ap (λ k. made reply.status k body) same_kind ∙ ap (λ b. made reply.status reply.kind b) same_body)
     in let P : Reply → Type 0 = λ r. IfOk answer (λ written. IsReply written r)
     in subst P same composed
-
-pub cause_short : (cause : Cause) → length (cause_word cause) ≤ 12
-cause_short causes.Head = lit≤ tt
-cause_short causes.From = lit≤ tt
-cause_short causes.To = lit≤ tt
-cause_short causes.ReversePath = lit≤ tt
-cause_short causes.ForwardPath = lit≤ tt
-cause_short causes.Bcc = lit≤ tt
-cause_short causes.Size = lit≤ tt
-cause_short causes.Virus = lit≤ tt

@@ -10,9 +10,8 @@ use Rattle.std.specs.Char.{is_ascii_alphanumeric, is_ascii_digit}
 use Rattle.std.specs.Fmt.{decimal}
 use Rattle.std.specs.List.{AllByRecursion, list_all, list_any}
 use Rattle.hex.specs.Hex.{encode_lower}
-use Rattle.pec_types.specs.Address.{IsLowerAddress, is_atom_byte}
+use Rattle.pec_types.specs.Address.{Avoids, IsAddress, IsLowerAddress, is_atom_byte}
 use Rattle.pec_types.specs.Bytes.{Bytes}
-use Rattle.pec_types.proofs.AddressBytes.{Avoids, none_in}
 use Rattle.pec_words.specs.Numbers.{worth_behind}
 use Rattle.pec_directory.specs.Directory.{Account, Provider}
 use Rattle.pec_directory.specs.Fields.{has_length, is_hex_byte, is_name, is_name_byte, is_visible, is_visible_byte, longest_key, longest_rule}
@@ -68,12 +67,6 @@ twice_not (b ∷ bs) all =
     by_test true e = refl
     by_test false e = e
 
-address_shows : (address : Bytes) → IsLowerAddress address → Shows address
-address_shows address is = twice_not address (none_in (λ b. not (is_visible_byte b)) avoided address is.address)
-
-domain_shows : (domain : Bytes) → IsOwnDomain domain → Shows domain
-domain_shows domain is = address_shows (codes "posta-certificata@" ++ domain) is
-
 -- ---- other values
 
 name_byte : (b : ℕ) → is_name_byte b ≡ true → is_visible_byte b ≡ true
@@ -107,94 +100,100 @@ account_dn_shows number at n a = both_show (provider_dn number ++ codes ".") (de
 
 -- ---- records
 
-account_may : (number at : ℕ) (earlier : List Provider) (p : Provider) (account : Account) → number < 2 ^ 64 → at < 2 ^ 64 → IsNextAccount earlier p account
-    → AreWritable (account_record number at account)
-account_may number at earlier p account n a next = (
-  record { name = refl; value = account_dn_shows number at n a },
-  (
-    record { name = refl; value = refl },
+-- `none_in`: a test that passes for no byte that addresses have passes for no byte of an address
+module _ (none_in : (test : ℕ → Bool) → Avoids test → (bytes : Bytes) → IsAddress bytes → list_all (λ byte. not (test byte)) bytes ≡ true) where
+  address_shows : (address : Bytes) → IsLowerAddress address → Shows address
+  address_shows address is = twice_not address (none_in (λ b. not (is_visible_byte b)) avoided address is.address)
+
+  domain_shows : (domain : Bytes) → IsOwnDomain domain → Shows domain
+  domain_shows domain is = address_shows (codes "posta-certificata@" ++ domain) is
+
+  account_may : (number at : ℕ) (earlier : List Provider) (p : Provider) (account : Account) → number < 2 ^ 64 → at < 2 ^ 64 → IsNextAccount earlier p account
+      → AreWritable (account_record number at account)
+  account_may number at earlier p account n a next = (
+    record { name = refl; value = account_dn_shows number at n a },
     (
-      record { name = refl; value = address_shows account.address next.address },
+      record { name = refl; value = refl },
       (
-        record { name = refl; value = number_shows account.quota (omega (arith, next.quota)) },
-        (record { name = refl; value = text_shows longest_key account.key next.key }, tt),
-      ),
-    ),
-  ),
-)
-
-more_may : (xs ys : List Attribute) → AreWritable xs → AreWritable ys → AreWritable (xs ++ ys)
-more_may [] ys a b = b
-more_may (x ∷ xs) ys a b = (a.0, more_may xs ys a.1 b)
-
-domains_may : (domains : List Bytes) → AllByRecursion IsOwnDomain domains → AreWritable (map (λ domain. said (codes "managedDomains") domain) domains)
-domains_may [] all = tt
-domains_may (domain ∷ domains) all = (record { name = refl; value = domain_shows domain all.0 }, domains_may domains all.1)
-
-provider_may : (number : ℕ) (earlier : List Provider) (p : Provider) → number < 2 ^ 64 → IsNext earlier p → AreWritable (provider_record number p)
-provider_may number earlier p n next =
-    more_may (provider_front number p) (map (λ domain. said (codes "managedDomains") domain) p.domains ++ provider_back p) (
-      record { name = refl; value = number_shows number n },
-      (
-        record { name = refl; value = refl },
+        record { name = refl; value = address_shows account.address next.address },
         (
-          record { name = refl; value = name_shows p.name next.name },
-          (record { name = refl; value = address_shows p.receipts next.receipts }, tt),
+          record { name = refl; value = number_shows account.quota (omega (arith, next.quota)) },
+          (record { name = refl; value = text_shows longest_key account.key next.key }, tt),
         ),
       ),
-    )
-    (more_may (map (λ domain. said (codes "managedDomains") domain) p.domains) (provider_back p) (domains_may p.domains next.domains_are) (
-      record { name = refl; value = all_more is_hex_byte is_visible_byte hex_byte (encode_lower p.key) (hex_digits p.key next.key.2) },
-      (
-        record { name = refl; value = text_shows longest_rule p.rule next.rule },
-        (record { name = refl; value = number_shows p.limit (omega (arith, next.limit.1)) }, tt),
-      ),
-    ))
+    ),
+  )
 
-no_change : (domains : List Bytes) (back : List Attribute) → list_any (λ attribute. has_name (codes "changetype") attribute) back ≡ false
-    → list_any (λ attribute. has_name (codes "changetype") attribute) (map (λ domain. said (codes "managedDomains") domain) domains ++ back) ≡ false
-no_change [] back none = none
-no_change (domain ∷ domains) back none = no_change domains back none
+  more_may : (xs ys : List Attribute) → AreWritable xs → AreWritable ys → AreWritable (xs ++ ys)
+  more_may [] ys a b = b
+  more_may (x ∷ xs) ys a b = (a.0, more_may xs ys a.1 b)
 
-account_good : (number at : ℕ) (earlier : List Provider) (p : Provider) (account : Account) → number < 2 ^ 64 → at < 2 ^ 64 → IsNextAccount earlier p account
-    → IsGood true (account_record number at account)
-unfolding is_account is_provider
-account_good number at earlier p account n a next = record { may = account_may number at earlier p account n a next; dn = refl; change = refl; own = refl }
+  domains_may : (domains : List Bytes) → AllByRecursion IsOwnDomain domains → AreWritable (map (λ domain. said (codes "managedDomains") domain) domains)
+  domains_may [] all = tt
+  domains_may (domain ∷ domains) all = (record { name = refl; value = domain_shows domain all.0 }, domains_may domains all.1)
 
-provider_good : (has : Bool) (number : ℕ) (earlier : List Provider) (p : Provider) → number < 2 ^ 64 → IsNext earlier p → IsGood has (provider_record number p)
-unfolding is_account is_provider
-provider_good has number earlier p n next =
-    record { may = provider_may number earlier p n next; dn = refl; change = no_change p.domains (provider_back p) refl; own = refl }
+  provider_may : (number : ℕ) (earlier : List Provider) (p : Provider) → number < 2 ^ 64 → IsNext earlier p → AreWritable (provider_record number p)
+  provider_may number earlier p n next =
+      more_may (provider_front number p) (map (λ domain. said (codes "managedDomains") domain) p.domains ++ provider_back p) (
+        record { name = refl; value = number_shows number n },
+        (
+          record { name = refl; value = refl },
+          (
+            record { name = refl; value = name_shows p.name next.name },
+            (record { name = refl; value = address_shows p.receipts next.receipts }, tt),
+          ),
+        ),
+      )
+      (more_may (map (λ domain. said (codes "managedDomains") domain) p.domains) (provider_back p) (domains_may p.domains next.domains_are) (
+        record { name = refl; value = all_more is_hex_byte is_visible_byte hex_byte (encode_lower p.key) (hex_digits p.key next.key.2) },
+        (
+          record { name = refl; value = text_shows longest_rule p.rule next.rule },
+          (record { name = refl; value = number_shows p.limit (omega (arith, next.limit.1)) }, tt),
+        ),
+      ))
 
--- ---- all records
+  no_change : (domains : List Bytes) (back : List Attribute) → list_any (λ attribute. has_name (codes "changetype") attribute) back ≡ false
+      → list_any (λ attribute. has_name (codes "changetype") attribute) (map (λ domain. said (codes "managedDomains") domain) domains ++ back) ≡ false
+  no_change [] back none = none
+  no_change (domain ∷ domains) back none = no_change domains back none
 
-more_accounts : (earlier : List Provider) (p : Provider) (accounts : List Account) (number at : ℕ) (records : List (List Attribute)) → number < 2 ^ 64
-    → at ≡ length p.accounts + 1 → AreNextAccounts earlier p accounts → AreGood true records → AreGood true (account_records number at accounts ++ records)
-more_accounts earlier p [] number at records n place next good = good
-more_accounts earlier p (account ∷ accounts) number at records n place next good = (
-  account_good number at earlier p account n (omega (arith, place, next.0.room)) next.0,
-  more_accounts earlier (provider_with p (p.accounts ++ account ∷ [])) accounts number (at + 1) records n (omega (arith, place, length-append p.accounts (account ∷ []))) next.1 good,
-)
+  account_good : (number at : ℕ) (earlier : List Provider) (p : Provider) (account : Account) → number < 2 ^ 64 → at < 2 ^ 64 → IsNextAccount earlier p account
+      → IsGood true (account_record number at account)
+  unfolding is_account is_provider
+  account_good number at earlier p account n a next = record { may = account_may number at earlier p account n a next; dn = refl; change = refl; own = refl }
 
-good_with : (has : Bool) (records : List (List Attribute)) (told : Bool) → told ≡ true → AreGood true records → AreGood (has || told) records
-good_with has records told is good = subst (λ t. AreGood t records) (sym (ap (λ t. has || t) is ∙ or-true has)) good
+  provider_good : (has : Bool) (number : ℕ) (earlier : List Provider) (p : Provider) → number < 2 ^ 64 → IsNext earlier p → IsGood has (provider_record number p)
+  unfolding is_account is_provider
+  provider_good has number earlier p n next =
+      record { may = provider_may number earlier p n next; dn = refl; change = no_change p.domains (provider_back p) refl; own = refl }
 
-provides_so : (number : ℕ) (p : Provider) → provides (provider_record number p) ≡ true
-unfolding is_provider
-provides_so number p = refl
+  more_accounts : (earlier : List Provider) (p : Provider) (accounts : List Account) (number at : ℕ) (records : List (List Attribute)) → number < 2 ^ 64
+      → at ≡ length p.accounts + 1 → AreNextAccounts earlier p accounts → AreGood true records → AreGood true (account_records number at accounts ++ records)
+  more_accounts earlier p [] number at records n place next good = good
+  more_accounts earlier p (account ∷ accounts) number at records n place next good = (
+    account_good number at earlier p account n (omega (arith, place, next.0.room)) next.0,
+    more_accounts earlier (provider_with p (p.accounts ++ account ∷ [])) accounts number (at + 1) records n (omega (arith, place, length-append p.accounts (account ∷ []))) next.1 good,
+  )
 
-more_providers : (has : Bool) (earlier providers : List Provider) (number : ℕ) → number + length providers < 2 ^ 64 → AreNext earlier providers → AreGood has (records_from number providers)
-more_providers has earlier [] number few next = tt
-more_providers has earlier (p ∷ providers) number few next = (
-  provider_good has number earlier p (omega (arith, few)) next.0,
-  good_with has (account_records number 1 p.accounts ++ records_from (number + 1) providers) (provides (provider_record number p)) (provides_so number p)
-      (more_accounts earlier (provider_with p []) p.accounts number 1 (records_from (number + 1) providers) (omega (arith, few)) refl next.0.accounts
-      (more_providers true (earlier ++ p ∷ []) providers (number + 1) (omega (arith, few)) next.1)),
-)
+  good_with : (has : Bool) (records : List (List Attribute)) (told : Bool) → told ≡ true → AreGood true records → AreGood (has || told) records
+  good_with has records told is good = subst (λ t. AreGood t records) (sym (ap (λ t. has || t) is ∙ or-true has)) good
 
--- The records of a lawful directory meet no test.
-pub all_good : (providers : List Provider) → IsLawful providers → AreGood false (records_from 0 providers)
-all_good providers lawful = more_providers false [] providers 0 (omega (arith, lawful.few)) lawful.each
+  provides_so : (number : ℕ) (p : Provider) → provides (provider_record number p) ≡ true
+  unfolding is_provider
+  provides_so number p = refl
+
+  more_providers : (has : Bool) (earlier providers : List Provider) (number : ℕ) → number + length providers < 2 ^ 64 → AreNext earlier providers → AreGood has (records_from number providers)
+  more_providers has earlier [] number few next = tt
+  more_providers has earlier (p ∷ providers) number few next = (
+    provider_good has number earlier p (omega (arith, few)) next.0,
+    good_with has (account_records number 1 p.accounts ++ records_from (number + 1) providers) (provides (provider_record number p)) (provides_so number p)
+        (more_accounts earlier (provider_with p []) p.accounts number 1 (records_from (number + 1) providers) (omega (arith, few)) refl next.0.accounts
+        (more_providers true (earlier ++ p ∷ []) providers (number + 1) (omega (arith, few)) next.1)),
+  )
+
+  -- The records of a lawful directory meet no test.
+  pub all_good : (providers : List Provider) → IsLawful providers → AreGood false (records_from 0 providers)
+  all_good providers lawful = more_providers false [] providers 0 (omega (arith, lawful.few)) lawful.each
 
 -- and each may be written
 pub good_may : (has : Bool) (records : List (List Attribute)) → AreGood has records → AllWritable records

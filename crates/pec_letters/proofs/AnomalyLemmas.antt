@@ -8,6 +8,7 @@ use Rattle.std.specs.Char.{is_ascii_digit}
 use Rattle.std.specs.Fmt.{decimal}
 use Rattle.std.specs.List.{AllByRecursion, list_all}
 use Rattle.std.specs.Option.{IfSome}
+use Rattle.std.specs.Result.{result_ok}
 use Rattle.pec_types.specs.Bytes.{Bytes}
 use Rattle.pec_types.specs.Text.{AllPrintable, is_unprintable}
 use Rattle.pec_types.specs.declared.disputes.LetterFault.{LetterFault}
@@ -16,7 +17,6 @@ use Rattle.pec_heads.specs.BoundedFacts.{IsShortText}
 use Rattle.pec_heads.specs.FactsOfHeads.{text_of}
 use Rattle.pec_heads.specs.HeadReading.{read_of}
 use Rattle.pec_heads.specs.Heads.{NamedValue}
-use Rattle.pec_heads.specs.declared.faults.HeadFault.{HeadFault}
 use Rattle.pec_bodies.specs.Multiparts.{ReadPart}
 use Rattle.pec_cert.specs.declared.certificates.CertData.{CertData}
 use Rattle.pec_seal.specs.Seals.{Seals}
@@ -77,11 +77,11 @@ name_short domain n short small =
 
 pub subject_short : ((fields : List NamedValue) → IfSome (text_of (codes "Subject") fields) IsShortText) → (message : Bytes) → IfSome (subject_of message) IsShortText
 unfolding subject_of
-subject_short short message = by_head (read_of message)
+subject_short short message = by_head (result_ok (read_of message))
   where
-    by_head : (r : Result (List NamedValue × ℕ) HeadFault) → IfSome (subject_in r) IsShortText
-    by_head (Ok read) = short read.0
-    by_head (Err fault) = tt
+    by_head : (r : Option (List NamedValue × ℕ)) → IfSome (subject_in r) IsShortText
+    by_head (Some read) = short read.0
+    by_head None = tt
 
 -- ---- what is read
 

@@ -53,8 +53,8 @@ facts_are : (original : Bytes) (letter : Letter) (facts : Facts) → facts_in or
     → with_facts original ≡ Some (record { facts = facts; original = original })
 unfolding facts_in with_facts
 facts_are original letter facts e =
-    chained (facts_read (read_of original)) (λ (facts : Facts). Some (record { facts = facts; original = original })) facts
-    (sent_by letter.cert.sender (facts_read (read_of original)) facts e)
+    chained (facts_read (result_ok (read_of original))) (λ (facts : Facts). Some (record { facts = facts; original = original })) facts
+    (sent_by letter.cert.sender (facts_read (result_ok (read_of original))) facts e)
 
 -- ---- the steps
 

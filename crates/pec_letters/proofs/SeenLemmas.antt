@@ -73,7 +73,7 @@ facts_found : (original : Bytes) (fields : List NamedValue) (place : ℕ) (facts
     → read_of original ≡ Ok (fields, place) → facts_of fields ≡ Some facts → letter.cert.sender ≡ facts.sender → facts_in original letter ≡ Some facts
 unfolding facts_in
 facts_found original fields place facts letter e f same =
-    ap (λ (r : Result (List NamedValue × ℕ) HeadFault). with_sender letter.cert.sender (facts_read r)) e
+    ap (λ (r : Result (List NamedValue × ℕ) HeadFault). with_sender letter.cert.sender (facts_read (result_ok r))) e
     ∙ ap (with_sender letter.cert.sender) f
     ∙ ap (λ (sender : Bytes). cond (bytes_eq facts.sender sender) (Some facts) None) same
     ∙ ap (λ (t : Bool). cond t (Some facts) None) (same_text facts.sender)

@@ -1,13 +1,13 @@
 -- Anomaly envelopes, in which a provider hands on what isn't certified mail (RFC 6109, section 3.2, for what they are for; fields,
 -- words and order are this project's profile). The headlines are `IsAnomaly` and, the same as a function, `anomaly_text`.
-use Rattle.std.specs.Prelude.{◌≡◌, ℕ, List, [], ◌∷◌, ◌++◌, false, Option, Some, None, Result, Ok, Err, codes, slice_get}
+use Rattle.std.specs.Prelude.{◌≡◌, ℕ, List, [], ◌∷◌, ◌++◌, false, Option, Some, None, codes, slice_get}
+use Rattle.std.specs.Result.{result_ok}
 use Rattle.std.specs.Fmt.{decimal}
 use Rattle.pec_types.specs.Bytes.{Bytes}
 use Rattle.pec_types.specs.Options.{◌>>=◌}
 use Rattle.pec_heads.specs.FactsOfHeads.{text_of}
 use Rattle.pec_heads.specs.HeadReading.{read_of}
 use Rattle.pec_heads.specs.Heads.{NamedValue}
-use Rattle.pec_heads.specs.declared.faults.HeadFault.{HeadFault}
 use Rattle.pec_cert.specs.HeaderDate.{day_line_of}
 use Rattle.pec_cert.specs.Stamp.{Instant}
 use Rattle.pec_cert.specs.Zone.{stamp_of}
@@ -31,13 +31,13 @@ abbrev pub anomaly_phrase : Bytes
 anomaly_phrase = codes "Messaggio non di posta certificata; e' allegato."
 
 -- the subject of a head, where it was read
-abbrev pub subject_in : Result (List NamedValue × ℕ) HeadFault → Option Bytes
-subject_in (Ok read) = text_of (codes "Subject") read.0
-subject_in (Err fault) = None
+abbrev pub subject_in : Option (List NamedValue × ℕ) → Option Bytes
+subject_in (Some read) = text_of (codes "Subject") read.0
+subject_in None = None
 
 -- the subject of the head that a message begins with; none where it begins with no head
 unfoldable pub subject_of : Bytes → Option Bytes
-subject_of message = subject_in (read_of message)
+subject_of message = subject_in (result_ok (read_of message))
 
 -- `ano.NUMBER@DOMAIN`: the number is that of the entry that the provider keeps of the message
 abbrev pub anomaly_name : Bytes → ℕ → Bytes

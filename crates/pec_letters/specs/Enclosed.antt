@@ -26,7 +26,7 @@ parts_in bytes = do
 -- a message with the facts of its head
 unfoldable pub with_facts : Bytes → Option Enclosure
 with_facts original = do
-  facts ← facts_read (read_of original)
+  facts ← facts_read (result_ok (read_of original))
   Some (record { facts = facts; original = original })
 
 unfoldable pub enclosure_of : Bytes → Option Enclosure

@@ -17,7 +17,6 @@ use Rattle.pec_heads.specs.BoundedFacts.{addresses_of}
 use Rattle.pec_heads.specs.FactsReading.{facts_of, listed}
 use Rattle.pec_heads.specs.HeadReading.{read_of}
 use Rattle.pec_heads.specs.Heads.{NamedValue, values_of}
-use Rattle.pec_heads.specs.declared.faults.HeadFault.{HeadFault}
 use Rattle.pec_cert.specs.declared.certificates.CertData.{CertData}
 use Rattle.pec_cert.specs.declared.certificates.CertError.{CertError}
 use Rattle.pec_cert.specs.declared.certificates.CertError.TheVariants as errors
@@ -87,9 +86,9 @@ is_sealed_at_home providers id letter = is_sealed_by_issuer providers letter && 
 -- ---- Sender
 
 -- the facts of a head, where it was read
-abbrev pub facts_read : Result (List NamedValue × ℕ) HeadFault → Option Facts
-facts_read (Ok read) = facts_of read.0
-facts_read (Err fault) = None
+abbrev pub facts_read : Option (List NamedValue × ℕ) → Option Facts
+facts_read (Some read) = facts_of read.0
+facts_read None = None
 
 -- the facts, where this is the sender
 abbrev pub with_sender : Bytes → Option Facts → Option Facts
@@ -98,7 +97,7 @@ with_sender sender (Some facts) = if bytes_eq facts.sender sender then Some fact
 
 -- The facts of the original, where it has any and the certified sender.
 unfoldable pub facts_in : Bytes → Letter → Option Facts
-facts_in original letter = with_sender letter.cert.sender (facts_read (read_of original))
+facts_in original letter = with_sender letter.cert.sender (facts_read (result_ok (read_of original)))
 
 -- ---- Recipient
 

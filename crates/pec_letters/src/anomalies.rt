@@ -7,7 +7,7 @@ ghost use Rattle.pec_letters.specs.Fitting.{Fits};
 use crate::laws::a_message_has_one_anomaly;
 use pec_cert::{Stamp, day_line};
 use pec_directory::Directory;
-use pec_heads::{Head, HeadFault};
+use pec_heads::Head;
 use pec_letter_facts::{service_address, with_subject};
 use pec_letter_parts::{Contents, Heading, Marking, compose_letter, join_lines};
 use pec_seal::Sealer;
@@ -118,9 +118,8 @@ fn anomaly_name(alloc: Global, domain: &[u8], number: u64) -> Result<Vec<u8>, Al
 fn subject_of(alloc: Global, message: &[u8]) -> Result<Option<Text>, NoMemory>
     ensures { IfOk result (λ found. found ≡ subject_of message.now) }
 {
-    match Head::read(alloc, message) {
-        Ok((head, _)) => head.subject(alloc),
-        Err(HeadFault::NoMemory) => Err(NoMemory),
-        Err(_) => Ok(None),
+    match Head::find(alloc, message)? {
+        Some((head, _)) => head.subject(alloc),
+        None => Ok(None),
     }
 }

@@ -2,6 +2,7 @@
 
 ghost use Rattle.std.specs.Prelude.{◌≡◌, ◌++◌, map, IfOk};
 ghost use Rattle.std.specs.Option.{option_map};
+ghost use Rattle.std.specs.Result.{result_ok};
 ghost use Rattle.pec_heads.specs.BoundedFacts.{addresses_of};
 ghost use Rattle.pec_heads.specs.FactsReading.{listed};
 ghost use Rattle.pec_heads.specs.HeadReading.{read_of};
@@ -12,7 +13,7 @@ ghost use Rattle.pec_letters.specs.Seen.{addresses_in, are_recipients, certifies
 
 use pec_cert::{CertData, CertError, CertKind, CertRecipient};
 use pec_directory::Directory;
-use pec_heads::{Head, HeadFault, ListFault};
+use pec_heads::{Head, ListFault};
 use pec_letter_facts::{are_typed, is_sealed_by_issuer, is_wish_marked, marking};
 use pec_letter_parts::{Letter, Marking};
 use pec_types::{Address, Facts, MsgId, NoMemory, Recipient, Wish};
@@ -72,12 +73,11 @@ pub(crate) fn facts_in(
 
 /// The facts of the head that a message begins with.
 pub(crate) fn facts_read(alloc: Global, message: &[u8]) -> Result<Option<Facts>, NoMemory>
-    ensures { IfOk result (λ found. found ≡ facts_read (read_of message.now)) }
+    ensures { IfOk result (λ found. found ≡ facts_read (result_ok (read_of message.now))) }
 {
-    match Head::read(alloc, message) {
-        Ok((head, _)) => head.facts(alloc),
-        Err(HeadFault::NoMemory) => Err(NoMemory),
-        Err(_) => Ok(None),
+    match Head::find(alloc, message)? {
+        Some((head, _)) => head.facts(alloc),
+        None => Ok(None),
     }
 }
 

@@ -1,13 +1,12 @@
-ghost use Rattle.std.specs.Prelude.{◌≡◌, ◌≤◌, length, option_map, IfOk, IfSome};
+ghost use Rattle.std.specs.Prelude.{◌≡◌, option_map, IfOk};
 ghost use Rattle.std.specs.Result.{result_ok};
-ghost use Rattle.pec_heads.specs.HeadReading.{read_of};
 ghost use Rattle.pec_bodies.specs.PartsReading.{parts_of};
 ghost use Rattle.pec_letters.specs.Enclosed.{enclosure_of, parts_in, with_facts};
 ghost use Rattle.pec_letters.specs.Views.{enclosure_shown};
 
 use crate::asking::facts_read;
 use pec_bodies::{BodyFault, Parts};
-use pec_heads::{Head, HeadFault};
+use pec_heads::Head;
 use pec_letter_parts::body_of;
 use pec_seal::behind_line;
 use pec_types::{Facts, NoMemory};
@@ -55,22 +54,11 @@ fn with_facts<'a>(alloc: Global, original: &'a [u8]) -> Result<Option<Enclosure<
 fn parts_in<'a>(alloc: Global, bytes: &'a [u8]) -> Result<Option<Parts<'a>>, NoMemory>
     ensures { IfOk result (λ found. found ≡ parts_in bytes.now) }
 {
-    let Some((head, place)) = head_in(alloc, bytes)? else {
+    let Some((head, place)) = Head::find(alloc, bytes)? else {
         return Ok(None);
     };
     let parts = parts_behind(alloc, &head, &bytes[place..])?;
     Ok(parts)
-}
-
-fn head_in(alloc: Global, bytes: &[u8]) -> Result<Option<(Head, usize)>, NoMemory>
-    ensures read { IfOk result (λ found. found ≡ result_ok (read_of bytes.now)) }
-    ensures within { IfOk result (λ found. IfSome found (λ read. read.1 ≤ length bytes.now)) }
-{
-    match Head::read(alloc, bytes) {
-        Ok(read) => Ok(Some(read)),
-        Err(HeadFault::NoMemory) => Err(NoMemory),
-        Err(_) => Ok(None),
-    }
 }
 
 fn parts_behind<'a>(

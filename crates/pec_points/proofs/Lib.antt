@@ -1,5 +1,6 @@
 pub mod Ties
 pub mod SetLemmas
+pub mod KnownLemmas
 pub mod HeadLemmas
 pub mod AdmissionLemmas
 pub mod ScreenLemmas

@@ -3,5 +3,6 @@ pub mod AdmissionReading
 pub mod Case
 pub mod Decision
 pub mod DecisionReading
+pub mod Known
 pub mod Reception
 pub mod ReceptionReading

@@ -1,24 +1,23 @@
 ghost use Rattle.std.specs.Prelude.{◌≡◌, ◌*◌, ◌<◌, ◌↔◌, ◌⊎◌, false, length, nat_lt, IfOk, OnErr, OnOk};
-ghost use Rattle.std.specs.List.{list_all, list_any};
 ghost use Rattle.std.specs.Option.{option_map};
 ghost use Rattle.pec_directory.specs.Directory.{providers_of};
-ghost use Rattle.pec_heads.specs.FactsOfHeads.{has_address};
 ghost use Rattle.pec_heads.specs.FactsReading.{listed, sender_of};
 ghost use Rattle.pec_types.specs.declared.messages.Cause.{Cause as CauseShown};
 ghost use Rattle.pec_types.specs.declared.messages.Facts.{Facts as FactsShown};
 ghost use Rattle.pec_screen.specs.VerdictReading.{finds};
 ghost use Rattle.pec_points.specs.Admission.{IsAccepted, IsCause, Looked, ReachesScreens, has_blind_copies};
-ghost use Rattle.pec_points.specs.AdmissionReading.{admission_by, admission_of, admission_with, has_recipient, head_in, is_path_of, screened, seen_behind};
+ghost use Rattle.pec_points.specs.AdmissionReading.{admission_by, admission_of, admission_with, head_in, screened, seen_behind};
 ghost use Rattle.pec_points.specs.Case.{Case, case_at, limit_of, unscreened};
 ghost use Rattle.pec_points.specs.declared.admission.Admission.TheVariants as answers;
 
+use crate::paths::is_path_of;
 use pec_directory::Directory;
 use pec_heads::{
-    Head, HeadFault, ListFault, a_head_has_one_account, a_list_has_one_reading,
-    a_text_has_one_reading, facts_are_bounded,
+    Head, ListFault, a_head_has_one_account, a_list_has_one_reading, a_text_has_one_reading,
+    facts_are_bounded,
 };
 use pec_screen::Judge;
-use pec_types::{Address, Cause, Facts, NoMemory, Recipient};
+use pec_types::{Address, Cause, Facts, NoMemory};
 use std::alloc::Global;
 
 /// What an access point answers on a message.
@@ -156,10 +155,9 @@ fn admit_message(
 fn read_head(alloc: Global, message: &[u8]) -> Result<Option<Head>, NoMemory>
     ensures { IfOk result (λ found. found ≡ head_in message.now) }
 {
-    match Head::read(alloc, message) {
-        Ok((head, _)) => Ok(Some(head)),
-        Err(HeadFault::NoMemory) => Err(NoMemory),
-        Err(_) => Ok(None),
+    match Head::find(alloc, message)? {
+        Some((head, _)) => Ok(Some(head)),
+        None => Ok(None),
     }
 }
 
@@ -188,25 +186,32 @@ fn admit_head(
     let Some(facts) = head.facts(alloc)? else {
         return Ok(Admission::Not(Cause::ForwardPath));
     };
-    let admission = admit_facts(limit, path, message.len(), head, facts);
+    let admission = admit_facts(alloc, limit, path, message.len(), head, facts)?;
     Ok(admission)
 }
 
 /// The admission of a message of so many bytes with this head and these facts of it, by its recipients and its size.
-fn admit_facts(limit: u64, path: &[Address], bytes: usize, head: &Head, facts: Facts) -> Admission
-    ensures { result ≡ admission_by limit path.now bytes head.now facts }
+fn admit_facts(
+    alloc: Global,
+    limit: u64,
+    path: &[Address],
+    bytes: usize,
+    head: &Head,
+    facts: Facts,
+) -> Result<Admission, NoMemory>
+    ensures { IfOk result (λ admission. admission ≡ admission_by limit path.now bytes head.now facts) }
 {
     let recipients = facts.recipients.as_slice();
-    if !is_path_of(path, recipients) {
-        return Admission::Not(Cause::ForwardPath);
+    if !is_path_of(alloc, path, recipients)? {
+        return Ok(Admission::Not(Cause::ForwardPath));
     }
     if has_blind_copies(head) {
-        return Admission::Not(Cause::Bcc);
+        return Ok(Admission::Not(Cause::Bcc));
     }
     if is_over(limit, bytes, recipients.len()) {
-        return Admission::Not(Cause::Size);
+        return Ok(Admission::Not(Cause::Size));
     }
-    Admission::Accepted(facts)
+    Ok(Admission::Accepted(facts))
 }
 
 /// The one address of the one `From` field.
@@ -235,39 +240,6 @@ fn list(alloc: Global, head: &Head, name: &[u8]) -> Result<Option<Vec<Address>>,
         Err(ListFault::NoMemory) => Err(NoMemory),
         Err(_) => Ok(None),
     }
-}
-
-/// The path is the set of the recipients' addresses. No more of these are looked at than the path has, and one.
-#[tactic(auto, unfolding(crate::specs::AdmissionReading::is_path_of))]
-fn is_path_of(path: &[Address], recipients: &[Recipient]) -> bool
-    ensures { result ≡ is_path_of path.now recipients.now }
-{
-    are_on(path, recipients) && are_among(recipients, path)
-}
-
-fn are_on(path: &[Address], recipients: &[Recipient]) -> bool
-    ensures { result ≡ list_all (λ r. has_address path.now r.address) recipients.now }
-{
-    recipients.iter().all(|r| is_on(path, r.address.bytes()))
-}
-
-fn is_on(path: &[Address], address: &[u8]) -> bool
-    ensures { result ≡ has_address path.now address.now }
-{
-    path.iter().any(|other| other.bytes() == address)
-}
-
-fn are_among(recipients: &[Recipient], path: &[Address]) -> bool
-    ensures { result ≡ list_all (λ address. has_recipient recipients.now address) path.now }
-{
-    path.iter()
-        .all(|address| is_among(recipients, address.bytes()))
-}
-
-fn is_among(recipients: &[Recipient], address: &[u8]) -> bool
-    ensures { result ≡ has_recipient recipients.now address.now }
-{
-    recipients.iter().any(|r| r.address.bytes() == address)
 }
 
 /// Some `Bcc` field has a value that isn't blank.

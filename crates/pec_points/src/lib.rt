@@ -4,6 +4,7 @@
 
 mod admission;
 mod decision;
+mod paths;
 mod reception;
 
 pub use admission::{Admission, a_message_has_one_answer, admit};

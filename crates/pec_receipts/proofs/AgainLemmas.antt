@@ -10,7 +10,7 @@ use Rattle.pec_types.specs.Bytes.{Bytes}
 use Rattle.pec_types.specs.Message.{Id}
 use Rattle.pec_types.specs.Words.{wish_word}
 use Rattle.pec_types.specs.declared.disputes.LetterFault.TheVariants.{NotThis}
-use Rattle.pec_types.specs.declared.messages.Cause.TheVariants as causes
+use Rattle.pec_types.specs.declared.messages.Cause.{Cause}
 use Rattle.pec_types.specs.declared.messages.Recipient.{Recipient}
 use Rattle.pec_types.specs.declared.messages.Refusal.TheVariants as refusals
 use Rattle.pec_types.specs.declared.messages.TheConstants.{MESSAGES}
@@ -32,6 +32,7 @@ use Rattle.pec_letter_parts.specs.declared.headings.Marking.TheVariants as marki
 use Rattle.pec_letter_facts.specs.Certifying.{certificate_of, name_of, typed}
 use Rattle.pec_letter_facts.specs.Questions.{are_typed, id_named, is_dated, is_from_home, is_sealed_by_issuer, is_wish_marked, marked_or, marking_of}
 use Rattle.pec_letter_facts.specs.ReadBack.{IsReadBack}
+use Rattle.pec_receipts.proofs.CauseLemmas.{HavePlaces, each_cause}
 use Rattle.pec_receipts.specs.Kinds.{Row, Said, all_kinds, row_of}
 use Rattle.pec_receipts.specs.Receipts.{IsNamed, delivered_to, has_address, marked_wish, place_among, receipt_certificate, receipt_heading, report_of}
 use Rattle.pec_receipts.specs.Seen.{are_recipients, error_number, is_certified_one, is_delivered, is_detail, is_marked, is_sealed, is_wished, kind_number, kind_of, says, seen_again, seen_of}
@@ -63,37 +64,32 @@ abbrev Certifies : Option Said → Type 0
 Certifies None = ⊥
 Certifies (Some said) = Unit {0}
 
-kind_closed : (kind : Kind) → Certifies (row_of kind).said → own_kind (row_of kind).said ≡ Some kind
+kind_closed : HavePlaces → (kind : Kind) → Certifies (row_of kind).said → own_kind (row_of kind).said ≡ Some kind
 unfolding row_of
-kind_closed kinds.Acceptance c = refl
-kind_closed (kinds.NonAcceptance causes.Head) c = refl
-kind_closed (kinds.NonAcceptance causes.From) c = refl
-kind_closed (kinds.NonAcceptance causes.To) c = refl
-kind_closed (kinds.NonAcceptance causes.ReversePath) c = refl
-kind_closed (kinds.NonAcceptance causes.ForwardPath) c = refl
-kind_closed (kinds.NonAcceptance causes.Bcc) c = refl
-kind_closed (kinds.NonAcceptance causes.Size) c = refl
-kind_closed (kinds.NonAcceptance causes.Virus) c = refl
-kind_closed kinds.Charge c = refl
-kind_closed kinds.Delivery c = refl
-kind_closed (kinds.DeliveryError refusals.NoMailbox) c = refl
-kind_closed (kinds.DeliveryError refusals.MailboxFull) c = refl
-kind_closed (kinds.DeliveryError refusals.Virus) c = refl
-kind_closed kinds.Warning c = refl
-kind_closed kinds.Notice c = refl
-kind_closed kinds.LateNotice c = refl
-kind_closed kinds.Ack c = absurd c
+kind_closed places kinds.Acceptance c = refl
+kind_closed places (kinds.NonAcceptance cause) c =
+    each_cause places (λ (one : Cause). own_kind (row_of (kinds.NonAcceptance one)).said) (λ (one : Cause). Some (kinds.NonAcceptance one))
+    refl cause
+kind_closed places kinds.Charge c = refl
+kind_closed places kinds.Delivery c = refl
+kind_closed places (kinds.DeliveryError refusals.NoMailbox) c = refl
+kind_closed places (kinds.DeliveryError refusals.MailboxFull) c = refl
+kind_closed places (kinds.DeliveryError refusals.Virus) c = refl
+kind_closed places kinds.Warning c = refl
+kind_closed places kinds.Notice c = refl
+kind_closed places kinds.LateNotice c = refl
+kind_closed places kinds.Ack c = absurd c
 
-kind_found : (kind : Kind) (said : Said) (letter : Letter) → (row_of kind).said ≡ Some said
+kind_found : HavePlaces → (kind : Kind) (said : Said) (letter : Letter) → (row_of kind).said ≡ Some said
     → marking_of letter.head ≡ Some (markings.Receipt, said.word) → letter.cert.kind ≡ said.kind → letter.cert.error ≡ said.error
     → letter.cert.detail ≡ said.detail → kind_of letter ≡ Some kind
 unfolding kind_of says row_of
-kind_found kind said letter e m k f d =
+kind_found places kind said letter e m k f d =
     ap (λ x. first_of x letter.cert.kind letter.cert.error letter.cert.detail) m
     ∙ ap (λ x. first_of (Some (markings.Receipt, said.word)) x letter.cert.error letter.cert.detail) k
     ∙ ap (λ x. first_of (Some (markings.Receipt, said.word)) said.kind x letter.cert.detail) f
     ∙ ap (λ x. first_of (Some (markings.Receipt, said.word)) said.kind said.error x) d
-    ∙ ap own_kind (sym e) ∙ kind_closed kind (subst Certifies (sym e) tt)
+    ∙ ap own_kind (sym e) ∙ kind_closed places kind (subst Certifies (sym e) tt)
 
 -- ---- sealer
 
@@ -206,12 +202,12 @@ marked_again r said head passing found delivers =
     passing r.facts.wish (found ∙ ap (λ b. option_map wish_word (cond b (Some r.facts.wish) None)) delivers)
 
 -- The letter that was composed is seen as what was composed.
-pub seen_back : (providers : List Provider) (r : Receipt) (issuer : Provider) (stamp : Instant) (said : Said) (message : Option Bytes) (letter : Letter)
+pub seen_back : HavePlaces → (providers : List Provider) (r : Receipt) (issuer : Provider) (stamp : Instant) (said : Said) (message : Option Bytes) (letter : Letter)
     → Passing providers → Known providers r issuer → (row_of r.kind).said ≡ Some said → stamp.moment ≡ r.moment
     → IsReadBack r.by (receipt_heading providers r stamp (row_of r.kind) said) message (receipt_certificate providers issuer.name r stamp (row_of r.kind) said) letter
     → seen_of providers letter ≡ Ok (seen_again r)
 unfolding certificate_of receipt_heading report_of
-seen_back providers r issuer stamp said message letter passing known says stamped back =
+seen_back places providers r issuer stamp said message letter passing known says stamped back =
     let row = row_of r.kind
     in let cert = receipt_certificate providers issuer.name r stamp row said
     in let same : letter.cert ≡ cert = back.cert_is
@@ -223,7 +219,7 @@ seen_back providers r issuer stamp said message letter passing known says stampe
     ∙ wish_right said r.facts.wish letter.head said.wish said.delivers refl refl
     (marked_again r said letter.head (λ wish e. passing.wish wish letter.head e) back.found.wish)
     in passes providers r.kind r.id letter
-    (kind_found r.kind said letter says back.found.marking (ap (λ (c : CertData). c.kind) same) (ap (λ (c : CertData). c.error) same)
+    (kind_found places r.kind said letter says back.found.marking (ap (λ (c : CertData). c.kind) same) (ap (λ (c : CertData). c.error) same)
     (ap (λ (c : CertData). c.detail) same))
     (passing.id r.id (codes "X-Riferimento-Message-ID") letter known.within known.below (ap (λ (c : CertData). c.id) same) back.found.reference)
     (sealed_right providers r.id row letter

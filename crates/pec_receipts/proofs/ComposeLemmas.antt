@@ -1,9 +1,11 @@
 -- What a receipt is composed of is what its text says.
 use Rattle.std.proofs.Common.{◌≡◌, List, Option, Some, None, sym, ap, subst, refl, ◌∙◌}
 use Rattle.std.specs.Option.{IfSome}
+use Rattle.std.specs.Prelude.{position}
 use Rattle.pec_types.specs.Bytes.{Bytes}
-use Rattle.pec_types.specs.Text.{AllPrintable}
-use Rattle.pec_types.specs.declared.messages.Cause.TheVariants as causes
+use Rattle.pec_types.specs.Text.{AllPrintable, is_unprintable}
+use Rattle.pec_types.specs.Words.{cause_word}
+use Rattle.pec_types.specs.declared.messages.Cause.{Cause}
 use Rattle.pec_types.specs.declared.messages.Refusal.TheVariants as refusals
 use Rattle.pec_types.specs.declared.receipts.Kind.{Kind}
 use Rattle.pec_types.specs.declared.receipts.Kind.TheVariants as kinds
@@ -11,6 +13,7 @@ use Rattle.pec_cert.specs.Stamp.{Instant}
 use Rattle.pec_directory.specs.Directory.{Kept, Provider}
 use Rattle.pec_seal.specs.Seals.{Seals}
 use Rattle.pec_letter_parts.specs.Contents.{Contents}
+use Rattle.pec_receipts.proofs.CauseLemmas.{HavePlaces, each_cause}
 use Rattle.pec_receipts.specs.Kinds.{Row, Said, row_of}
 use Rattle.pec_receipts.specs.Receipts.{IsAcknowledging, IsCertifying, IsCertifyingBy, IsReceiptBy}
 use Rattle.pec_receipts.specs.declared.receipts.Receipt.{Receipt}
@@ -20,29 +23,23 @@ abbrev pub HasWords : Option Said → Type 0
 HasWords None = Unit {0}
 HasWords (Some said) = IfSome said.detail AllPrintable
 
-pub row_words : (kind : Kind) → HasWords (row_of kind).said
+row_words : HavePlaces → (kind : Kind) → HasWords (row_of kind).said
 unfolding row_of
-row_words kinds.Acceptance = tt
-row_words (kinds.NonAcceptance causes.Head) = refl
-row_words (kinds.NonAcceptance causes.From) = refl
-row_words (kinds.NonAcceptance causes.To) = refl
-row_words (kinds.NonAcceptance causes.ReversePath) = refl
-row_words (kinds.NonAcceptance causes.ForwardPath) = refl
-row_words (kinds.NonAcceptance causes.Bcc) = refl
-row_words (kinds.NonAcceptance causes.Size) = refl
-row_words (kinds.NonAcceptance causes.Virus) = refl
-row_words kinds.Charge = tt
-row_words kinds.Delivery = tt
-row_words (kinds.DeliveryError refusals.NoMailbox) = refl
-row_words (kinds.DeliveryError refusals.MailboxFull) = refl
-row_words (kinds.DeliveryError refusals.Virus) = refl
-row_words kinds.Warning = refl
-row_words kinds.Notice = refl
-row_words kinds.LateNotice = refl
-row_words kinds.Ack = tt
+row_words places kinds.Acceptance = tt
+row_words places (kinds.NonAcceptance cause) =
+    each_cause places (λ (one : Cause). position is_unprintable (cause_word one)) (λ (one : Cause). None) refl cause
+row_words places kinds.Charge = tt
+row_words places kinds.Delivery = tt
+row_words places (kinds.DeliveryError refusals.NoMailbox) = refl
+row_words places (kinds.DeliveryError refusals.MailboxFull) = refl
+row_words places (kinds.DeliveryError refusals.Virus) = refl
+row_words places kinds.Warning = refl
+row_words places kinds.Notice = refl
+row_words places kinds.LateNotice = refl
+row_words places kinds.Ack = tt
 
-pub words_of : (kind : Kind) (row : Row) (said : Said) → row ≡ row_of kind → row.said ≡ Some said → IfSome said.detail AllPrintable
-words_of kind row said e f = subst HasWords (sym (ap (λ (w : Row). w.said) e) ∙ f) (row_words kind)
+pub words_of : HavePlaces → (kind : Kind) (row : Row) (said : Said) → row ≡ row_of kind → row.said ≡ Some said → IfSome said.detail AllPrintable
+words_of places kind row said e f = subst HasWords (sym (ap (λ (w : Row). w.said) e) ∙ f) (row_words places kind)
 
 -- by the row, and by the row of the kind
 pub certified_by_row : (seals : Seals) (kept : List Kept) (r : Receipt) (original : Bytes) (row other : Row) (said : Said) (text : Bytes)

@@ -33,6 +33,7 @@ use Rattle.pec_letter_facts.specs.Certifying.{ArePrintable, name_of}
 use Rattle.pec_letter_facts.specs.Questions.{marking_of}
 use Rattle.pec_letter_facts.specs.ReadBack.{CanBeHeaded, IsReadBack, IsSubject, IsWholeLine}
 use Rattle.pec_receipts.proofs.AgainLemmas.{Known, Passing, none_acknowledged, seen_back}
+use Rattle.pec_receipts.proofs.CauseLemmas.{HavePlaces}
 use Rattle.pec_receipts.proofs.StandLemmas.{Values, WordStands, addressee_lower, heading_stands, row_stands, word_stands}
 use Rattle.pec_receipts.specs.Kinds.{Row, Said, row_of}
 use Rattle.pec_receipts.specs.Receipts.{CanBeGiven, IsCertifying, IsReceipt, IsReceiptBy, has_address, marked_wish, message_in, place_among, receipt_certificate, receipt_contents, receipt_heading}
@@ -53,6 +54,7 @@ pub record Laws (seals : Seals) : Type 0 where
       → (letter : Letter) × (IsLetter seals text letter × IsReadBack provider heading contents.message cert letter)
   pub heads : (text : Bytes) → TellsExactly (IsHeaded seals text) (IsUnheaded seals text) (headed_of seals text)
   pub letters : (read : Headed) → TellsExactly (IsLetterIn read) (IsUnreadIn read) (letter_in read)
+  pub places : HavePlaces
   pub passing : (providers : List Provider) → IsLawful providers → Passing providers
 
 -- ---- places
@@ -139,5 +141,5 @@ certified_is_seen seals laws kept r said original text lawful given facts below 
       own = given.own;
     }
     in seen_through seals laws providers text back.0 said.word (seen_again r) back.1.0 back.1.1.found.marking
-    (seen_back providers r issuer.provider stamp said (message_in r said original) back.0 (laws.passing providers lawful) known says
+    (seen_back laws.places providers r issuer.provider stamp said (message_in r said original) back.0 (laws.passing providers lawful) known says
     (moment_same issuer r.moment) back.1.1)

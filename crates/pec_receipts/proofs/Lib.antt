@@ -1,5 +1,6 @@
 mod AckLemmas
 mod AgainLemmas
+mod CauseLemmas
 mod ComposeLemmas
 mod GivingLemmas
 mod LawLemmas

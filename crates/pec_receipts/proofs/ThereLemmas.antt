@@ -23,6 +23,7 @@ use Rattle.pec_letter_parts.specs.Headings.{Heading, heading_fields, letter_fiel
 use Rattle.pec_letter_parts.specs.Sealing.{IsLetterText, letter_text}
 use Rattle.pec_letter_facts.specs.Certifying.{ArePrintable, CanBeReported, certificate_of}
 use Rattle.pec_receipts.proofs.AckLemmas.{named_one}
+use Rattle.pec_receipts.proofs.CauseLemmas.{HavePlaces}
 use Rattle.pec_receipts.proofs.ComposeLemmas.{words_of}
 use Rattle.pec_receipts.specs.Kinds.{Row, Said, row_of}
 use Rattle.pec_receipts.specs.Receipts.{CanBeGiven, IsNamed, IsReceipt, IsReceiptBy, ack_body, ack_heading, addresses_at, delivered_to, receipt_certificate, receipt_heading, receipt_parts, receipt_text, received_by, report_of, text_by}
@@ -59,19 +60,20 @@ delivered_lower providers r about.Recipient facts named =
     let one = named_one providers r r.recipient facts.recipients refl named
     in subst (λ (o : Option Bytes). IfSome o IsLowerAddress) (sym one.1.0) one.1.1
 
-reported : (providers : List Provider) (r : Receipt) (said : Said) → CanBeGiven providers r → ArePrintable r.facts
+reported : HavePlaces → (providers : List Provider) (r : Receipt) (said : Said) → CanBeGiven providers r → ArePrintable r.facts
     → (row_of r.kind).said ≡ Some said → CanBeReported (report_of providers r (row_of r.kind) said)
 unfolding report_of
-reported providers r said given facts says = record {
+reported places providers r said given facts says = record {
   delivered = delivered_lower providers r (row_of r.kind).about facts given.named;
   received = all_received providers r (row_of r.kind).about facts;
-  detail = words_of r.kind (row_of r.kind) said refl says;
+  detail = words_of places r.kind (row_of r.kind) said refl says;
 }
 
 -- ---- what is given is a receipt
 
 -- what the laws of the crates below say
 pub record TextLaws : Type 0 where
+  pub places : HavePlaces
   pub letters : (seals : Seals) (provider : ℕ) (heading : Heading) (parts : List Bytes) (text : Bytes)
       → (letter_text seals provider heading parts ≡ Some text) ↔ IsLetterText seals provider heading parts text
   pub certificates : (cert : CertData) → CanBeWritten cert → IsStamp cert.stamp → IsCert cert (cert_text cert)
@@ -111,7 +113,7 @@ is_by laws seals kept r original text (Some said) says lawful given facts before
         certificate = cert_text cert;
         certificate_is =
             laws.certificates cert
-            (laws.written providers issuer r said lawful given facts (provider_at kept r.by issuer by.1.0) (reported providers r said given facts says))
+            (laws.written providers issuer r said lawful given facts (provider_at kept r.by issuer by.1.0) (reported laws.places providers r said given facts says))
             (laws.clock issuer r.moment before);
         text_is = (laws.letters seals r.by (receipt_heading providers r stamp row said) (receipt_parts providers r original row (Some said) issuer) text).0 by.1.1;
       };

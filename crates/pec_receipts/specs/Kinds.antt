@@ -1,8 +1,8 @@
 -- The table of receipts and notices (RFC 6109, sections 3.1 to 3.3, for what they are for; words are this project's profile): one row a
 -- kind, `row_of`, at the end.
-use Rattle.std.specs.Prelude.{List, [], ◌∷◌, Bool, true, false, Option, None, Some, codes}
+use Rattle.std.specs.Prelude.{List, [], ◌∷◌, ◌++◌, map, Bool, true, false, Option, None, Some, codes}
 use Rattle.pec_types.specs.Bytes.{Bytes}
-use Rattle.pec_types.specs.Words.{cause_word, refusal_word}
+use Rattle.pec_types.specs.Words.{all_causes, cause_word, refusal_word}
 use Rattle.pec_types.specs.declared.messages.Cause.{Cause}
 use Rattle.pec_types.specs.declared.messages.Cause.TheVariants as causes
 use Rattle.pec_types.specs.declared.messages.Refusal.{Refusal}
@@ -43,14 +43,8 @@ pub record Row : Type 0 where
   pub said : Option Said
 
 abbrev pub cause_error : Cause → CertError
-cause_error causes.Head = errors.Other
-cause_error causes.From = errors.Other
-cause_error causes.To = errors.Other
-cause_error causes.ReversePath = errors.Other
-cause_error causes.ForwardPath = errors.Other
-cause_error causes.Bcc = errors.Other
-cause_error causes.Size = errors.Other
 cause_error causes.Virus = errors.Virus
+cause_error other = errors.Other
 
 abbrev pub refusal_error : Refusal → CertError
 refusal_error refusals.NoMailbox = errors.NoRecipient
@@ -169,8 +163,6 @@ row_of kinds.Ack = record {
 -- All kinds, each once.
 abbrev pub all_kinds : List Kind
 all_kinds =
-    kinds.Acceptance ∷ kinds.NonAcceptance causes.Head ∷ kinds.NonAcceptance causes.From ∷ kinds.NonAcceptance causes.To
-    ∷ kinds.NonAcceptance causes.ReversePath ∷ kinds.NonAcceptance causes.ForwardPath ∷ kinds.NonAcceptance causes.Bcc
-    ∷ kinds.NonAcceptance causes.Size ∷ kinds.NonAcceptance causes.Virus ∷ kinds.Charge ∷ kinds.Delivery
+    kinds.Acceptance ∷ map (λ (cause : Cause). kinds.NonAcceptance cause) all_causes ++ kinds.Charge ∷ kinds.Delivery
     ∷ kinds.DeliveryError refusals.NoMailbox ∷ kinds.DeliveryError refusals.MailboxFull ∷ kinds.DeliveryError refusals.Virus
     ∷ kinds.Warning ∷ kinds.Notice ∷ kinds.LateNotice ∷ kinds.Ack ∷ []

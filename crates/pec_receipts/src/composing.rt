@@ -31,7 +31,7 @@ use pec_letter_parts::{
     Contents, Heading, Marking, a_letter_has_one_text, compose_letter, put_heading,
 };
 use pec_seal::{Sealer, seal};
-use pec_types::{NoMemory, Text, Wish};
+use pec_types::{NoMemory, Text, Wish, each_cause_is_one_of_all};
 use std::alloc::Global;
 
 /// The law of receipts as texts: what is said is one text at most, the one that `receipt_text` gives; what a provider may give is that
@@ -55,6 +55,7 @@ pub fn a_receipt_has_one_text()
     a_rule_has_one_clock();
     what_is_certified_can_be_written();
     parts_have_one_composed_body();
+    each_cause_is_one_of_all();
 }
 
 /// The receipt, notice or acknowledgement that says this, sealed by the provider that composes it (RFC 6109, sections 3.1 to 3.3, within
@@ -94,6 +95,7 @@ fn compose_text<S: Sealer>(
         let text = acknowledge(alloc, sealer, directory, receipt, &row)?;
         return Ok(text);
     };
+    each_cause_is_one_of_all();
     let text = certify(alloc, sealer, directory, receipt, original, &row, &said)?;
     Ok(text)
 }

@@ -258,13 +258,7 @@ fn cause_error(cause: Cause) -> CertError
 {
     match cause {
         Cause::Virus => CertError::Virus,
-        Cause::Head
-        | Cause::From
-        | Cause::To
-        | Cause::ReversePath
-        | Cause::ForwardPath
-        | Cause::Bcc
-        | Cause::Size => CertError::Other,
+        _ => CertError::Other,
     }
 }
 

@@ -29,7 +29,9 @@ use pec_letter_facts::{
 };
 use pec_letter_parts::{a_head_has_one_letter, a_text_is_one_letter};
 use pec_seal::Sealer;
-use pec_types::{an_address_is_told_exactly, printable_is_said_of_each_byte};
+use pec_types::{
+    an_address_is_told_exactly, each_cause_is_one_of_all, printable_is_said_of_each_byte,
+};
 
 /// The law of views: what is seen of a receipt or a notice is what it was composed of, whatever its kind. So a text of one kind is seen
 /// as no other, and as no other's.
@@ -48,6 +50,7 @@ pub fn what_is_certified_is_seen<S: Sealer>()
     a_value_is_one_line();
     a_rule_has_one_clock();
     what_is_composed_passes();
+    each_cause_is_one_of_all();
     printable_is_said_of_each_byte();
 }
 

@@ -17,7 +17,7 @@ use Rattle.pec_records.specs.declared.entries.Entry.{Entry}
 use Rattle.pec_records.specs.declared.entries.Entry.TheVariants as entries
 use Rattle.pec_records.specs.declared.tags.Tag.{Tag}
 use Rattle.pec_records.specs.declared.tags.Tag.TheVariants as tags
-use Rattle.pec_records.proofs.FieldLaws.{moment, moment_lawful, word, word_lawful, id, id_lawful, bytes, bytes_lawful, address, address_lawful, addresses, addresses_lawful, decision, decision_lawful, cause, cause_lawful, tag, tag_lawful}
+use Rattle.pec_records.proofs.FieldLaws.{moment, moment_lawful, word, word_lawful, id, id_lawful, bytes, bytes_lawful, address, address_lawful, addresses, addresses_lawful, decision, decision_lawful, HavePlaces, cause, cause_lawful, tag, tag_lawful}
 
 -- The fields of an entry; those of another kind of entry are never asked.
 
@@ -161,49 +161,49 @@ tagged_step : (r : Read Tag) → (r >>= λ t. fields_at t.0 t.1) ≡ (r >>= λ t
 tagged_step (Ok taken) = fields_read taken.0 taken.1
 tagged_step (Err stop) = refl
 
-fields_lawful : LowerAddressesPass → (t : Tag) → Lawful (fields t)
-fields_lawful law tags.Start =
+fields_lawful : LowerAddressesPass → HavePlaces → (t : Tag) → Lawful (fields t)
+fields_lawful law places tags.Start =
     variant_lawful (both word (raw 32)) start_from start_fields (λ x. refl) (both_lawful word (raw 32) word_lawful (raw_lawful 32))
-fields_lawful law tags.Accepted =
+fields_lawful law places tags.Accepted =
     variant_lawful (both moment (both address bytes)) accepted_from accepted_fields (λ x. refl)
     (both_lawful moment (both address bytes) moment_lawful (both_lawful address bytes (address_lawful law) bytes_lawful))
-fields_lawful law tags.NotAccepted =
+fields_lawful law places tags.NotAccepted =
     let paths = both addresses bytes in
     let caused = both cause paths in
     variant_lawful (both moment (both address caused)) not_accepted_from not_accepted_fields (λ x. refl)
     (both_lawful moment (both address caused) moment_lawful (both_lawful address caused (address_lawful law)
-    (both_lawful cause paths cause_lawful (both_lawful addresses bytes (addresses_lawful law) bytes_lawful))))
-fields_lawful law tags.Took =
+    (both_lawful cause paths (cause_lawful places) (both_lawful addresses bytes (addresses_lawful law) bytes_lawful))))
+fields_lawful law places tags.Took =
     variant_lawful (both moment (both id bytes)) took_from took_fields (λ x. refl)
     (both_lawful moment (both id bytes) moment_lawful (both_lawful id bytes id_lawful bytes_lawful))
-fields_lawful law tags.Decided =
+fields_lawful law places tags.Decided =
     variant_lawful (both moment (both id (both address decision))) decided_from decided_fields (λ x. refl)
     (both_lawful moment (both id (both address decision)) moment_lawful (both_lawful id (both address decision) id_lawful
     (both_lawful address decision (address_lawful law) decision_lawful)))
-fields_lawful law tags.Charged =
+fields_lawful law places tags.Charged =
     variant_lawful (both moment (both id word)) charged_from charged_fields (λ x. refl)
     (both_lawful moment (both id word) moment_lawful (both_lawful id word id_lawful word_lawful))
-fields_lawful law tags.Learned =
+fields_lawful law places tags.Learned =
     let dated = both moment bytes in
     let known = both decision dated in
     let told = both address known in
     variant_lawful (both moment (both id told)) learned_from learned_fields (λ x. refl)
     (both_lawful moment (both id told) moment_lawful (both_lawful id told id_lawful (both_lawful address known (address_lawful law)
     (both_lawful decision dated decision_lawful (both_lawful moment bytes moment_lawful bytes_lawful)))))
-fields_lawful law tags.Acked =
+fields_lawful law places tags.Acked =
     variant_lawful (both moment (both id address)) acked_from acked_fields (λ x. refl)
     (both_lawful moment (both id address) moment_lawful (both_lawful id address id_lawful (address_lawful law)))
-fields_lawful law tags.Ticked = variant_lawful moment ticked_from ticked_fields (λ x. refl) moment_lawful
-fields_lawful law tags.Anomaly =
+fields_lawful law places tags.Ticked = variant_lawful moment ticked_from ticked_fields (λ x. refl) moment_lawful
+fields_lawful law places tags.Anomaly =
     variant_lawful (both moment (both addresses bytes)) anomaly_from anomaly_fields (λ x. refl)
     (both_lawful moment (both addresses bytes) moment_lawful (both_lawful addresses bytes (addresses_lawful law) bytes_lawful))
 
-pub entry_lawful : LowerAddressesPass → Lawful entry
+pub entry_lawful : LowerAddressesPass → HavePlaces → Lawful entry
 unfolding entry_at
-entry_lawful law =
+entry_lawful law places =
     same_lawful (keyed tag tag_of fields) entry
     (λ e fits. can_be_written (tag_of e) e fits.1)
     (λ e can. (tt, fits_fields e can))
     (λ e can. spells_entry e)
     (λ at. tagged_step (tag.read at))
-    (keyed_lawful tag fields tag_lawful (λ t fits. fields_lawful law t) tag_of has_key)
+    (keyed_lawful tag fields tag_lawful (λ t fits. fields_lawful law places t) tag_of has_key)

@@ -15,6 +15,7 @@ use Rattle.pec_records.specs.declared.entries.Entry.{Entry}
 use Rattle.pec_records.specs.declared.faults.EntryFault.{EntryFault}
 use Rattle.pec_records.specs.declared.faults.EntryFault.TheVariants as faults
 use Rattle.pec_records.proofs.EntryLaws.{entry, entry_lawful}
+use Rattle.pec_records.proofs.FieldLaws.{HavePlaces}
 
 pub raw_length : (n : ℕ) (at after : Cursor) (bytes : List ℕ) → raw_at n at ≡ Ok (bytes, after) → n ≡ length bytes
 raw_length n at after bytes read =
@@ -64,21 +65,21 @@ from_told bytes (Err stop) told only = record {
     the_fault (faults.Syntax place) is = ap (λ n. answer_at n) (one_place IsEntry bytes (length bytes - length stop) place told.1 is)
     the_fault faults.NoMemory is = absurd is
 
-pub told_exactly : LowerAddressesPass → (bytes : List ℕ) → TellsExactly (λ e. IsEntry e bytes) (IsEntryFault bytes) (entry_of bytes)
+pub told_exactly : LowerAddressesPass → HavePlaces → (bytes : List ℕ) → TellsExactly (λ e. IsEntry e bytes) (IsEntryFault bytes) (entry_of bytes)
 unfolding entry_of
-told_exactly law bytes = from_told bytes (whole entry bytes) (whole_told entry (entry_lawful law) bytes) (λ e is. whole_only entry (entry_lawful law) e bytes is)
+told_exactly law places bytes = from_told bytes (whole entry bytes) (whole_told entry (entry_lawful law places) bytes) (λ e is. whole_only entry (entry_lawful law places) e bytes is)
 
 -- a stop is within the bytes
-pub stop_within : LowerAddressesPass → (bytes stop : List ℕ) → ending (entry_at (record { rest = bytes; farthest = bytes })) ≡ Err stop → length stop ≤ length bytes
-stop_within law bytes stop read =
-    let told : Tells entry bytes (Err stop) = subst (λ r. Tells entry bytes r) read (whole_told entry (entry_lawful law) bytes) in
+pub stop_within : LowerAddressesPass → HavePlaces → (bytes stop : List ℕ) → ending (entry_at (record { rest = bytes; farthest = bytes })) ≡ Err stop → length stop ≤ length bytes
+stop_within law places bytes stop read =
+    let told : Tells entry bytes (Err stop) = subst (λ r. Tells entry bytes r) read (whole_told entry (entry_lawful law places) bytes) in
     told.0
 
 -- One entry, one text.
 
-pub one_value : LowerAddressesPass → (e f : Entry) (s t a b : List ℕ) → IsEntry e s → IsEntry f t → s ++ a ≡ t ++ b → (e ≡ f) × (a ≡ b)
-one_value law e f s t a b is also same =
-    (entry_lawful law).one e f a b is.0 also.0 (ap (λ z. z ++ a) (sym is.1) ∙ (same ∙ ap (λ z. z ++ b) also.1))
+pub one_value : LowerAddressesPass → HavePlaces → (e f : Entry) (s t a b : List ℕ) → IsEntry e s → IsEntry f t → s ++ a ≡ t ++ b → (e ≡ f) × (a ≡ b)
+one_value law places e f s t a b is also same =
+    (entry_lawful law places).one e f a b is.0 also.0 (ap (λ z. z ++ a) (sym is.1) ∙ (same ∙ ap (λ z. z ++ b) also.1))
 
 pub one_text : (e : Entry) (s t : List ℕ) → IsEntry e s → IsEntry e t → s ≡ t
 one_text e s t is also = is.1 ∙ sym also.1

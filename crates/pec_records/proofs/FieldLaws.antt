@@ -1,9 +1,12 @@
 -- The fields of entries are read exactly.
-use Rattle.std.proofs.Common.{◌≡◌, ℕ, ◌/◌, ◌%◌, ◌^◌, ◌<◌, ◌≤◌, true, ltb, List, [], ◌∷◌, length, IsTrue, refl, inl, inr, arith}
+use Rattle.std.proofs.Common.{◌≡◌, ℕ, zero, suc, ◌-◌, ◌/◌, ◌%◌, ◌^◌, ◌<◌, ◌≤◌, true, ltb, List, [], ◌∷◌, length, map, drop, Some, IsTrue, refl, inl, inr, arith}
 use Rattle.std.proofs.lemmas.Bool.Decides.{nat_tests}
+use Rattle.std.specs.List.{AllByRecursion}
+use Rattle.std.specs.Prelude.{slice_get}
 use Rattle.pec_types.specs.Address.{IsLowerAddress}
 use Rattle.pec_types.specs.AddressSteps.{LowerAddressesPass}
 use Rattle.pec_types.specs.Message.{Id}
+use Rattle.pec_types.specs.Words.{all_causes, cause_number}
 use Rattle.pec_types.specs.declared.messages.TheConstants.{MESSAGES}
 use Rattle.pec_types.specs.declared.messages.Cause.{Cause}
 use Rattle.pec_types.specs.declared.messages.Cause.TheVariants as causes
@@ -140,23 +143,27 @@ decision_lawful =
 abbrev pub cause : Grammar Cause
 cause = record { Fits = λ c. Unit {0}; spell = cause_field; read = choice_at cause_table }
 
-has_cause : (c : Cause) → HasValue cause_table c
-has_cause causes.Head = inl refl
-has_cause causes.From = inr (inl refl)
-has_cause causes.To = inr (inr (inl refl))
-has_cause causes.ReversePath = inr (inr (inr (inl refl)))
-has_cause causes.ForwardPath = inr (inr (inr (inr (inl refl))))
-has_cause causes.Bcc = inr (inr (inr (inr (inr (inl refl)))))
-has_cause causes.Size = inr (inr (inr (inr (inr (inr (inl refl))))))
-has_cause causes.Virus = inr (inr (inr (inr (inr (inr (inr (inl refl)))))))
+-- each cause stands at its place among all
+abbrev pub HavePlaces : Type 0
+HavePlaces = (cause : Cause) → slice_get all_causes (cause_number cause - 1) ≡ Some cause
 
-pub cause_lawful : Lawful cause
-cause_lawful =
-    same_lawful (choice cause_field cause_table) cause (λ c fits. tt) (λ c fits. has_cause c) (λ c fits. refl) (λ at. refl)
-    (choice_lawful cause_field (1 ∷ [], causes.Head)
-    ((2 ∷ [], causes.From) ∷ (3 ∷ [], causes.To) ∷ (4 ∷ [], causes.ReversePath) ∷ (5 ∷ [], causes.ForwardPath)
-    ∷ (6 ∷ [], causes.Bcc) ∷ (7 ∷ [], causes.Size) ∷ (8 ∷ [], causes.Virus) ∷ [])
-    (refl, (refl, (refl, (refl, (refl, (refl, (refl, (refl, tt)))))))) refl)
+-- what stands in a list has its row in the table that is made of the list
+has_row : {X : Type 0} (spell : X → List ℕ) (all : List X) (place : ℕ) (one : X) → slice_get all place ≡ Some one
+    → HasValue (map (λ (x : X). (spell x, x)) all) one
+has_row spell [] place one there = absurd cc
+has_row spell (x ∷ xs) zero one there = inl cc
+has_row spell (x ∷ xs) (suc place) one there = inr (has_row spell xs place one there)
+
+are_rows : {X : Type 0} (spell : X → List ℕ) (all : List X)
+    → AllByRecursion (λ (row : List ℕ × X). spell row.1 ≡ row.0) (map (λ (x : X). (spell x, x)) all)
+are_rows spell [] = tt
+are_rows spell (x ∷ xs) = (refl, are_rows spell xs)
+
+pub cause_lawful : HavePlaces → Lawful cause
+cause_lawful places =
+    same_lawful (choice cause_field cause_table) cause (λ c fits. tt)
+    (λ c fits. has_row cause_field all_causes (cause_number c - 1) c (places c)) (λ c fits. refl) (λ at. refl)
+    (choice_lawful cause_field (cause_field causes.Head, causes.Head) (drop 1 cause_table) (are_rows cause_field all_causes) refl)
 
 abbrev pub tag_field : Tag → List ℕ
 tag_field tags.Start = 0 ∷ []

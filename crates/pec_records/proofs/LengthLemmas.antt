@@ -4,7 +4,6 @@ use Rattle.std.specs.List.{flat_map, AllByRecursion}
 use Rattle.pec_types.specs.Address.{IsLowerAddress}
 use Rattle.pec_types.specs.Message.{Id}
 use Rattle.pec_types.specs.declared.messages.Cause.{Cause}
-use Rattle.pec_types.specs.declared.messages.Cause.TheVariants as causes
 use Rattle.pec_types.specs.declared.messages.Decision.{Decision}
 use Rattle.pec_types.specs.declared.messages.Decision.TheVariants as decisions
 use Rattle.pec_types.specs.declared.messages.Refusal.TheVariants as refusals
@@ -54,14 +53,7 @@ decision_short (decisions.Refused refusals.MailboxFull) = omega arith
 decision_short (decisions.Refused refusals.Virus) = omega arith
 
 cause_short : (c : Cause) → length (cause_field c) ≤ 1
-cause_short causes.Head = omega arith
-cause_short causes.From = omega arith
-cause_short causes.To = omega arith
-cause_short causes.ReversePath = omega arith
-cause_short causes.ForwardPath = omega arith
-cause_short causes.Bcc = omega arith
-cause_short causes.Size = omega arith
-cause_short causes.Virus = omega arith
+cause_short c = omega arith
 
 -- behind a tag and a moment
 dated_short : (tag moment : ℕ) (rest : List ℕ) (most : ℕ) → length rest ≤ most → length (tag ∷ number_64 moment ++ rest) ≤ 9 + most

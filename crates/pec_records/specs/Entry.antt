@@ -6,9 +6,9 @@ use Rattle.std.specs.List.{flat_map, AllByRecursion}
 use Rattle.pec_types.specs.Address.{IsLowerAddress}
 use Rattle.pec_types.specs.Bytes.{Bytes, Path}
 use Rattle.pec_types.specs.Message.{Id}
+use Rattle.pec_types.specs.Words.{cause_number}
 use Rattle.pec_types.specs.declared.messages.TheConstants.{MESSAGES}
 use Rattle.pec_types.specs.declared.messages.Cause.{Cause}
-use Rattle.pec_types.specs.declared.messages.Cause.TheVariants as causes
 use Rattle.pec_types.specs.declared.messages.Decision.{Decision}
 use Rattle.pec_types.specs.declared.messages.Decision.TheVariants as decisions
 use Rattle.pec_types.specs.declared.messages.Refusal.TheVariants as refusals
@@ -53,14 +53,7 @@ decision_field (decisions.Refused refusals.Virus) = 3 ∷ []
 
 -- the number of a cause in the order in which causes are looked for
 abbrev pub cause_field : Cause → Bytes
-cause_field causes.Head = 1 ∷ []
-cause_field causes.From = 2 ∷ []
-cause_field causes.To = 3 ∷ []
-cause_field causes.ReversePath = 4 ∷ []
-cause_field causes.ForwardPath = 5 ∷ []
-cause_field causes.Bcc = 6 ∷ []
-cause_field causes.Size = 7 ∷ []
-cause_field causes.Virus = 8 ∷ []
+cause_field cause = cause_number cause ∷ []
 
 -- The text of an entry: its tag, its fields, and nothing after them.
 

@@ -1,12 +1,12 @@
 -- How the bytes of an entry are read from left to right, field by field: `entry_of`, at the end. That this reads
 -- `IsEntry` exactly is a law of the crate.
-use Rattle.std.specs.Prelude.{ℕ, zero, suc, ◌^◌, Bool, false, not, ◌&&◌, ◌||◌, ◌==◌, nat_lt, List, [], ◌∷◌, length, ◌-◌, Result, Ok, Err, Option, Some, None}
+use Rattle.std.specs.Prelude.{ℕ, zero, suc, ◌^◌, Bool, false, not, ◌&&◌, ◌||◌, ◌==◌, nat_lt, List, [], ◌∷◌, length, ◌-◌, Result, Ok, Err, Option, Some, None, map}
 use Rattle.pec_types.specs.AddressSteps.{further}
 use Rattle.pec_types.specs.Bytes.{Bytes, Path}
 use Rattle.pec_types.specs.Message.{Id}
+use Rattle.pec_types.specs.Words.{all_causes}
 use Rattle.pec_types.specs.declared.messages.TheConstants.{MESSAGES}
 use Rattle.pec_types.specs.declared.messages.Cause.{Cause}
-use Rattle.pec_types.specs.declared.messages.Cause.TheVariants as causes
 use Rattle.pec_types.specs.declared.messages.Decision.{Decision}
 use Rattle.pec_types.specs.declared.messages.Decision.TheVariants as decisions
 use Rattle.pec_types.specs.declared.messages.Refusal.TheVariants as refusals
@@ -16,6 +16,7 @@ use Rattle.pec_types.specs.declared.scanning.Stand.TheVariants as stands
 use Rattle.pec_grammar.specs.Grammar.{Cursor, Read, ◌>>=◌, byte_at, both_at, seen_at, led_at, choice_at, ending}
 use Rattle.pec_grammar.specs.Dependent.{keyed_at, raw_at, times_at}
 use Rattle.pec_grammar.specs.Numbers.{number_at}
+use Rattle.pec_records.specs.Entry.{cause_field}
 use Rattle.pec_records.specs.declared.entries.Entry.{Entry}
 use Rattle.pec_records.specs.declared.entries.Entry.TheVariants as entries
 use Rattle.pec_records.specs.declared.faults.EntryFault.{EntryFault}
@@ -88,10 +89,7 @@ decision_table =
     ∷ (2 ∷ [], decisions.Refused refusals.MailboxFull) ∷ (3 ∷ [], decisions.Refused refusals.Virus) ∷ []
 
 abbrev pub cause_table : List (Bytes × Cause)
-cause_table =
-    (1 ∷ [], causes.Head) ∷ (2 ∷ [], causes.From) ∷ (3 ∷ [], causes.To) ∷ (4 ∷ [], causes.ReversePath)
-    ∷ (5 ∷ [], causes.ForwardPath)
-    ∷ (6 ∷ [], causes.Bcc) ∷ (7 ∷ [], causes.Size) ∷ (8 ∷ [], causes.Virus) ∷ []
+cause_table = map (λ (cause : Cause). (cause_field cause, cause)) all_causes
 
 abbrev pub tag_table : List (Bytes × Tag)
 tag_table =

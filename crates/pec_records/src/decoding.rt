@@ -17,7 +17,7 @@ use crate::fields::{
 };
 use crate::tags::Tag;
 use pec_grammar::{Cursor, ReadError, Stop, raw};
-use pec_types::{MsgId, lower_addresses_pass};
+use pec_types::{MsgId, each_cause_is_one_of_all, lower_addresses_pass};
 use std::alloc::Global;
 
 /// The entry that these bytes are, in this project's own format. It takes memory in proportion to the bytes, and
@@ -38,6 +38,7 @@ pub fn an_entry_is_told_exactly()
     ensures { (bytes : Bytes) → TellsExactly (λ entry. IsEntry entry bytes) (IsEntryFault bytes) (entry_of bytes) }
 {
     lower_addresses_pass();
+    each_cause_is_one_of_all();
 }
 
 #[tactic(auto, unfolding(crate::specs::EntryReading::entry_of))]
@@ -45,6 +46,7 @@ fn read_entry(alloc: Global, bytes: &[u8]) -> Result<Entry, EntryFault>
     ensures { OrNoMemory faults.NoMemory result (entry_of bytes.now) }
 {
     lower_addresses_pass();
+    each_cause_is_one_of_all();
     match whole_entry(alloc, bytes) {
         Ok(entry) => Ok(entry),
         Err(ReadError::Stop(stop)) => Err(EntryFault::Syntax(bytes.len() - stop.rest.len())),

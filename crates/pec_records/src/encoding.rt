@@ -2,7 +2,7 @@ ghost use Rattle.std.specs.Prelude.{◌≡◌, ◌++◌, ◌∷◌, [], ◌<◌,
 ghost use Rattle.std.specs.List.{flat_map, AllByRecursion};
 ghost use Rattle.pec_types.specs.Address.{IsLowerAddress};
 ghost use Rattle.pec_records.specs.Entry.{number_16, number_32, number_64, address_field, bytes_field, addresses_field};
-ghost use Rattle.pec_records.specs.Entry.{id_field, decision_field, cause_field, entry_text, IsMoment, IsId};
+ghost use Rattle.pec_records.specs.Entry.{id_field, decision_field, entry_text, IsMoment, IsId};
 ghost use Rattle.pec_records.specs.Entry.{CanBeCounted, AreAddresses, CanBeWritten, IsEntry, HasCounts};
 ghost use Rattle.pec_records.specs.declared.entries.Entry.TheVariants as entries;
 
@@ -138,7 +138,7 @@ fn put_not_accepted(
 {
     put_beginning(out, 2, moment)?;
     put_address(out, sender)?;
-    out.push(number_of_cause(cause))?;
+    out.push(cause.number())?;
     put_addressed(out, path, message)?;
     Ok(())
 }
@@ -351,21 +351,5 @@ fn number_of_decision(decision: Decision) -> u8
         Decision::Refused(Refusal::NoMailbox) => 1,
         Decision::Refused(Refusal::MailboxFull) => 2,
         Decision::Refused(Refusal::Virus) => 3,
-    }
-}
-
-/// The place of a cause, from 1, in the order in which causes are looked for.
-fn number_of_cause(cause: Cause) -> u8
-    ensures { result ∷ [] ≡ cause_field cause }
-{
-    match cause {
-        Cause::Head => 1,
-        Cause::From => 2,
-        Cause::To => 3,
-        Cause::ReversePath => 4,
-        Cause::ForwardPath => 5,
-        Cause::Bcc => 6,
-        Cause::Size => 7,
-        Cause::Virus => 8,
     }
 }

@@ -3,7 +3,7 @@ ghost use Rattle.pec_types.specs.Bytes.{Bytes};
 ghost use Rattle.pec_records.specs.Entry.{IsEntry, IsWithinLimits, longest_entry};
 ghost use Rattle.pec_records.specs.declared.entries.Entry.{Entry};
 
-use pec_types::lower_addresses_pass;
+use pec_types::{each_cause_is_one_of_all, lower_addresses_pass};
 
 /// No bytes belong to two entries, also where more stands behind them, and no entry has two texts.
 pub fn one_entry()
@@ -11,6 +11,7 @@ pub fn one_entry()
     ensures text { (e : Entry) (s t : Bytes) → IsEntry e s → IsEntry e t → s ≡ t }
 {
     lower_addresses_pass();
+    each_cause_is_one_of_all();
 }
 
 /// An entry within the program's limits has at most 67,108,864 bytes.

@@ -1,19 +1,19 @@
 -- The lines of submissions, of events and of what is refused are of one answer each.
-use Rattle.std.proofs.Common.{◌≡◌, false, List, [], ◌∷◌, codes, Option, Some, refl, sym, ◌∙◌, ap, arith}
+use Rattle.std.proofs.Common.{◌≡◌, Bool, true, false, ◌&&◌, not, eqb, List, map, [], ◌∷◌, codes, Option, Some, refl, sym, ◌∙◌, ap, arith}
 use Rattle.std.proofs.lemmas.Bool.{false≢true}
 use Rattle.std.proofs.lemmas.Option.{same_Some}
 use Rattle.std.proofs.lemmas.Slice.Eq.{bytes_eq-Decides}
 use Rattle.std.specs.Fmt.{decimal}
+use Rattle.std.specs.List.{list_all}
 use Rattle.std.specs.Prelude.{find}
 use Rattle.std.specs.Str.{bytes_eq}
 use Rattle.pec_directory.specs.Directory.{Provider}
 use Rattle.pec_directory.specs.Lawful.{IsLawful}
 use Rattle.pec_types.specs.Bytes.{Bytes}
-use Rattle.pec_types.specs.Words.{cause_word, decision_word}
+use Rattle.pec_types.specs.Words.{all_causes, cause_word, decision_word}
 use Rattle.pec_types.specs.declared.letters.Letter.{Letter}
 use Rattle.pec_types.specs.declared.letters.Letter.TheVariants as letters
 use Rattle.pec_types.specs.declared.messages.Cause.{Cause}
-use Rattle.pec_types.specs.declared.messages.Cause.TheVariants as causes
 use Rattle.pec_types.specs.declared.turns.Event.{Event}
 use Rattle.pec_types.specs.declared.turns.Event.TheVariants as events
 use Rattle.pec_types.specs.declared.turns.ProviderFault.{ProviderFault}
@@ -45,58 +45,48 @@ rows_apart rows others e test = apart (first_row rows) (first_row others) (ap fi
 
 -- ---- submissions
 
-cause_is_word : (cause : Cause) → IsWord (cause_word cause)
-cause_is_word causes.Head = text_word (codes "head") refl
-cause_is_word causes.From = text_word (codes "from") refl
-cause_is_word causes.To = text_word (codes "to") refl
-cause_is_word causes.ReversePath = text_word (codes "reverse-path") refl
-cause_is_word causes.ForwardPath = text_word (codes "forward-path") refl
-cause_is_word causes.Bcc = text_word (codes "bcc") refl
-cause_is_word causes.Size = text_word (codes "size") refl
-cause_is_word causes.Virus = text_word (codes "virus") refl
+-- what the law of all causes says
+pub record CausesTold : Type 0 where
+  pub passes : (test : Cause → Bool) → list_all test all_causes ≡ true → (cause : Cause) → test cause ≡ true
+  pub found : (find : Cause → Option Cause) → map find all_causes ≡ map Some all_causes → (cause : Cause) → find cause ≡ Some cause
+
+cause_is_word : CausesTold → (cause : Cause) → IsWord (cause_word cause)
+cause_is_word causes cause =
+    text_word (cause_word cause) (causes.passes (λ (one : Cause). list_all (λ b. not (eqb b 32) && not (eqb b 10)) (cause_word one)) refl cause)
 
 cause_of : Bytes → Option Cause
-cause_of word =
-    find (λ cause. bytes_eq word (cause_word cause))
-    (causes.Head ∷ causes.From ∷ causes.To ∷ causes.ReversePath ∷ causes.ForwardPath ∷ causes.Bcc ∷ causes.Size ∷ causes.Virus ∷ [])
+cause_of word = find (λ (cause : Cause). bytes_eq word (cause_word cause)) all_causes
 
-cause_again : (cause : Cause) → cause_of (cause_word cause) ≡ Some cause
+cause_again : CausesTold → (cause : Cause) → cause_of (cause_word cause) ≡ Some cause
 unfolding cause_of
-cause_again causes.Head = refl
-cause_again causes.From = refl
-cause_again causes.To = refl
-cause_again causes.ReversePath = refl
-cause_again causes.ForwardPath = refl
-cause_again causes.Bcc = refl
-cause_again causes.Size = refl
-cause_again causes.Virus = refl
+cause_again causes cause = causes.found (λ (one : Cause). cause_of (cause_word one)) refl cause
 
-one_cause : (cause other : Cause) → cause_word cause ≡ cause_word other → cause ≡ other
-one_cause cause other e = same_Some cause other (sym (cause_again cause) ∙ (ap cause_of e ∙ cause_again other))
+one_cause : CausesTold → (cause other : Cause) → cause_word cause ≡ cause_word other → cause ≡ other
+one_cause causes cause other e = same_Some cause other (sym (cause_again causes cause) ∙ (ap cause_of e ∙ cause_again causes other))
 
-submitted_is_row : NamesTold → (providers : List Provider) → IsLawful providers → (told : Submitted) → IsSubmitted providers told → IsRow (submitted_words providers told)
-submitted_is_row names providers lawful (submitted.Accepted id) is =
+submitted_is_row : CausesTold → NamesTold → (providers : List Provider) → IsLawful providers → (told : Submitted) → IsSubmitted providers told → IsRow (submitted_words providers told)
+submitted_is_row causes names providers lawful (submitted.Accepted id) is =
     record { some = omega arith; words = (text_word (codes "accepted") refl, (id_of_word names providers id lawful is, tt)) }
-submitted_is_row names providers lawful (submitted.NotAccepted id cause) is =
-    record { some = omega arith; words = (text_word (codes "not-accepted") refl, (id_of_word names providers id lawful is, (cause_is_word cause, tt))) }
+submitted_is_row causes names providers lawful (submitted.NotAccepted id cause) is =
+    record { some = omega arith; words = (text_word (codes "not-accepted") refl, (id_of_word names providers id lawful is, (cause_is_word causes cause, tt))) }
 
-one_submitted_row : NamesTold → (providers : List Provider) → IsLawful providers → (told other : Submitted) → IsSubmitted providers told → IsSubmitted providers other
+one_submitted_row : CausesTold → NamesTold → (providers : List Provider) → IsLawful providers → (told other : Submitted) → IsSubmitted providers told → IsSubmitted providers other
     → submitted_words providers told ≡ submitted_words providers other → told ≡ other
-one_submitted_row names providers lawful (submitted.Accepted id) (submitted.Accepted other) is also e =
+one_submitted_row causes names providers lawful (submitted.Accepted id) (submitted.Accepted other) is also e =
     let same : id_of providers id ≡ id_of providers other = cc in ap (λ i. submitted.Accepted i) (one_id names providers id other lawful is also same)
-one_submitted_row names providers lawful (submitted.Accepted id) (submitted.NotAccepted other cause) is also e = absurd cc
-one_submitted_row names providers lawful (submitted.NotAccepted id cause) (submitted.Accepted other) is also e = absurd cc
-one_submitted_row names providers lawful (submitted.NotAccepted id cause) (submitted.NotAccepted other why) is also e =
+one_submitted_row causes names providers lawful (submitted.Accepted id) (submitted.NotAccepted other cause) is also e = absurd cc
+one_submitted_row causes names providers lawful (submitted.NotAccepted id cause) (submitted.Accepted other) is also e = absurd cc
+one_submitted_row causes names providers lawful (submitted.NotAccepted id cause) (submitted.NotAccepted other why) is also e =
     let same : id_of providers id ≡ id_of providers other = cc in
     let word : cause_word cause ≡ cause_word why = cc in
-    ap (λ i. submitted.NotAccepted i cause) (one_id names providers id other lawful is also same) ∙ ap (λ c. submitted.NotAccepted other c) (one_cause cause why word)
+    ap (λ i. submitted.NotAccepted i cause) (one_id names providers id other lawful is also same) ∙ ap (λ c. submitted.NotAccepted other c) (one_cause causes cause why word)
 
-pub one_submitted : CutsTold → NamesTold → (providers : List Provider) → IsLawful providers → (told other : Submitted) → IsSubmitted providers told → IsSubmitted providers other
+pub one_submitted : CausesTold → CutsTold → NamesTold → (providers : List Provider) → IsLawful providers → (told other : Submitted) → IsSubmitted providers told → IsSubmitted providers other
     → submitted_text providers told ≡ submitted_text providers other → told ≡ other
 unfolding submitted_text
-one_submitted cuts names providers lawful told other is also e =
-    one_submitted_row names providers lawful told other is also (first (submitted_words providers told) (submitted_words providers other)
-    (one_text cuts (submitted_words providers told ∷ []) (submitted_words providers other ∷ []) (submitted_is_row names providers lawful told is, tt) (submitted_is_row names providers lawful other also, tt) e))
+one_submitted causes cuts names providers lawful told other is also e =
+    one_submitted_row causes names providers lawful told other is also (first (submitted_words providers told) (submitted_words providers other)
+    (one_text cuts (submitted_words providers told ∷ []) (submitted_words providers other ∷ []) (submitted_is_row causes names providers lawful told is, tt) (submitted_is_row causes names providers lawful other also, tt) e))
   where
     first : (row other : Row) → row ∷ [] ≡ other ∷ [] → row ≡ other
     first row other e = cc

@@ -20,7 +20,7 @@ ghost use Rattle.pec_script.specs.Rows.{AreRows};
 ghost use Rattle.pec_script.specs.Texts.{Row, book_text, event_words, fault_text, id_of, items_text, marks_text, refused_text, submitted_text, text_of};
 
 use pec_directory::{a_first_domain_is_one_providers, a_text_names_one_message};
-use pec_types::{an_address_is_told_exactly, lower_addresses_pass};
+use pec_types::{an_address_is_told_exactly, each_cause_is_one_of_all, lower_addresses_pass};
 use pec_words::{a_number_has_one_spelling, a_path_has_one_reading, a_text_is_cut_in_one_way};
 
 /// A line has one reading: it is told to say a command exactly where it says that one, and to have a fault exactly where it has
@@ -92,6 +92,7 @@ pub fn a_text_has_one_submission()
     a_first_domain_is_one_providers();
     a_text_names_one_message();
     a_text_is_cut_in_one_way();
+    each_cause_is_one_of_all();
 }
 
 /// No text belongs to two refusals of a provider.

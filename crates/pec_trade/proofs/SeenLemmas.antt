@@ -144,14 +144,14 @@ sent_by sender (Some other) facts e = by (bytes_eq other.sender sender) e
     by true e = e
     by false e = absurd (none-some facts e)
 
-read_by : (r : Result (List NamedValue × ℕ) HeadFault) (facts : Facts) → facts_read r ≡ Some facts → of_read r ≡ Some facts
+read_by : (r : Result (List NamedValue × ℕ) HeadFault) (facts : Facts) → facts_read (result_ok r) ≡ Some facts → of_read r ≡ Some facts
 read_by (Ok read) facts e = e
 read_by (Err fault) facts e = absurd (none-some facts e)
 
 -- the facts are the original's
 pub facts_are : (original : Bytes) (letter : Letter) (facts : Facts) → facts_of_sender original letter ≡ Some facts → facts_in original ≡ Some facts
 unfolding facts_of_sender facts_in
-facts_are original letter facts e = read_by (read_of original) facts (sent_by letter.cert.sender (facts_read (read_of original)) facts e)
+facts_are original letter facts e = read_by (read_of original) facts (sent_by letter.cert.sender (facts_read (result_ok (read_of original))) facts e)
 
 -- ---- views
 

@@ -4,9 +4,7 @@ use Rattle.std.specs.List.{AllByRecursion, flat_map}
 use Rattle.std.specs.Option.{IfSome}
 use Rattle.pec_types.specs.Bytes.{Bytes}
 use Rattle.pec_types.specs.Message.{Id}
-use Rattle.pec_types.specs.Words.{cause_word, refusal_word}
-use Rattle.pec_types.specs.declared.messages.Cause.{Cause}
-use Rattle.pec_types.specs.declared.messages.Cause.TheVariants as causes
+use Rattle.pec_types.specs.Words.{refusal_word}
 use Rattle.pec_types.specs.declared.messages.Facts.{Facts}
 use Rattle.pec_types.specs.declared.messages.Refusal.{Refusal}
 use Rattle.pec_types.specs.declared.messages.Refusal.TheVariants as refusals
@@ -269,16 +267,6 @@ bare_parts_small stamp phrase message short m =
     )
 
 -- ---- words of errors
-
-pub cause_small : (cause : Cause) → length (cause_word cause) ≤ 20
-cause_small causes.Head = omega arith
-cause_small causes.From = omega arith
-cause_small causes.To = omega arith
-cause_small causes.ReversePath = omega arith
-cause_small causes.ForwardPath = omega arith
-cause_small causes.Bcc = omega arith
-cause_small causes.Size = omega arith
-cause_small causes.Virus = omega arith
 
 pub refusal_small : (refusal : Refusal) → length (refusal_word refusal) ≤ 20
 refusal_small refusals.NoMailbox = omega arith

@@ -1,15 +1,16 @@
 -- The texts of receipts: there is one where the receipt can be given and the facts are short, and it is that receipt.
 use Rattle.std.proofs.Common.{◌≡◌, ◌↔◌, ℕ, ◌*◌, ◌<◌, ◌≤◌, ◌^◌, Bool, true, false, cond, List, [], ◌∷◌, ◌++◌, length, map, slice_get, Option, None, Some, option_map, codes, inl, inr, refl, ap, ◌∙◌, arith, length-append}
-use Rattle.std.specs.List.{AllByRecursion, flat_map}
-use Rattle.std.specs.Option.{IfSome, option_and_then}
+use Rattle.std.specs.List.{AllByRecursion, flat_map, list_all}
+use Rattle.std.specs.Option.{IfSome, is_none, option_and_then}
+use Rattle.std.specs.Prelude.{nat_lt, position}
+use Rattle.std.proofs.lemmas.Bool.{ltb-true}
 use Rattle.std.proofs.lemmas.List.{length-map}
 use Rattle.pec_types.specs.Address.{IsLowerAddress}
 use Rattle.pec_types.specs.Bytes.{Bytes}
 use Rattle.pec_types.specs.Message.{Id}
-use Rattle.pec_types.specs.Text.{AllPrintable}
-use Rattle.pec_types.specs.Words.{cause_word, refusal_word}
+use Rattle.pec_types.specs.Text.{AllPrintable, is_unprintable}
+use Rattle.pec_types.specs.Words.{all_causes, cause_word, refusal_word}
 use Rattle.pec_types.specs.declared.messages.Cause.{Cause}
-use Rattle.pec_types.specs.declared.messages.Cause.TheVariants as causes
 use Rattle.pec_types.specs.declared.messages.Class.{Class}
 use Rattle.pec_types.specs.declared.messages.Class.TheVariants as classes
 use Rattle.pec_types.specs.declared.messages.Facts.{Facts}
@@ -46,10 +47,11 @@ use Rattle.pec_receipts.specs.Receipts.{IsReceipt, IsReceiptBy, ack_body, ack_he
 use Rattle.pec_receipts.specs.declared.receipts.Receipt.{Receipt}
 use Rattle.pec_trade.proofs.DirectoryLemmas.{Issuer}
 use Rattle.pec_trade.proofs.PathLemmas.{then_some}
-use Rattle.pec_trade.proofs.SizeLemmas.{IsSmall, cause_small, cert_small, element_small, parts_small, refusal_small, sized, told_small}
+use Rattle.pec_trade.proofs.SizeLemmas.{IsSmall, cert_small, element_small, parts_small, refusal_small, sized, told_small}
 
 -- what the laws of the crates below say
 pub record Texts : Type 0 where
+  pub causes : (test : Cause → Bool) → list_all test all_causes ≡ true → (cause : Cause) → test cause ≡ true
   pub letters : (seals : Seals) (provider : ℕ) (heading : Heading) (parts : List Bytes) (text : Bytes)
       → (letter_text seals provider heading parts ≡ Some text) ↔ IsLetterText seals provider heading parts text
   pub bodies : (parts : List Bytes) → bytes_of parts < 2 ^ 64 → (n : ℕ) × ((composed_number parts ≡ Some n) × (n ≤ bytes_of parts))
@@ -93,34 +95,37 @@ abbrev pub IsRight : Option Said → Type 0
 IsRight None = Unit {0}
 IsRight (Some said) = Right said
 
-cause_shows : (cause : Cause) → AllPrintable (cause_word cause)
-cause_shows causes.Head = refl
-cause_shows causes.From = refl
-cause_shows causes.To = refl
-cause_shows causes.ReversePath = refl
-cause_shows causes.ForwardPath = refl
-cause_shows causes.Bcc = refl
-cause_shows causes.Size = refl
-cause_shows causes.Virus = refl
+none_there : (found : Option ℕ) → is_none found ≡ true → found ≡ None
+none_there None e = refl
+none_there (Some place) e = absurd cc
+
+cause_shows : Texts → (cause : Cause) → AllPrintable (cause_word cause)
+cause_shows texts cause =
+    none_there (position is_unprintable (cause_word cause))
+    (texts.causes (λ (one : Cause). is_none (position is_unprintable (cause_word one))) refl cause)
+
+cause_small : Texts → (cause : Cause) → length (cause_word cause) < 21
+cause_small texts cause =
+    ltb-true (length (cause_word cause)) 21 (texts.causes (λ (one : Cause). nat_lt (length (cause_word one)) 21) refl cause)
 
 refusal_shows : (refusal : Refusal) → AllPrintable (refusal_word refusal)
 refusal_shows refusals.NoMailbox = refl
 refusal_shows refusals.MailboxFull = refl
 refusal_shows refusals.Virus = refl
 
-row_right : (kind : Kind) → IsRight (row_of kind).said
+row_right : Texts → (kind : Kind) → IsRight (row_of kind).said
 unfolding row_of
-row_right kinds.Acceptance = record { phrase = omega arith; printable = tt; detail = tt }
-row_right (kinds.NonAcceptance cause) =
-    record { phrase = omega arith; printable = cause_shows cause; detail = omega (arith, cause_small cause) }
-row_right kinds.Charge = record { phrase = omega arith; printable = tt; detail = tt }
-row_right kinds.Delivery = record { phrase = omega arith; printable = tt; detail = tt }
-row_right (kinds.DeliveryError refusal) =
+row_right texts kinds.Acceptance = record { phrase = omega arith; printable = tt; detail = tt }
+row_right texts (kinds.NonAcceptance cause) =
+    record { phrase = omega arith; printable = cause_shows texts cause; detail = omega (arith, cause_small texts cause) }
+row_right texts kinds.Charge = record { phrase = omega arith; printable = tt; detail = tt }
+row_right texts kinds.Delivery = record { phrase = omega arith; printable = tt; detail = tt }
+row_right texts (kinds.DeliveryError refusal) =
     record { phrase = omega arith; printable = refusal_shows refusal; detail = omega (arith, refusal_small refusal) }
-row_right kinds.Warning = record { phrase = omega arith; printable = refl; detail = omega arith }
-row_right kinds.Notice = record { phrase = omega arith; printable = refl; detail = omega arith }
-row_right kinds.LateNotice = record { phrase = omega arith; printable = refl; detail = omega arith }
-row_right kinds.Ack = tt
+row_right texts kinds.Warning = record { phrase = omega arith; printable = refl; detail = omega arith }
+row_right texts kinds.Notice = record { phrase = omega arith; printable = refl; detail = omega arith }
+row_right texts kinds.LateNotice = record { phrase = omega arith; printable = refl; detail = omega arith }
+row_right texts kinds.Ack = tt
 
 -- ---- recipients
 
@@ -325,7 +330,7 @@ module _ (texts : Texts) where
       → receipt_text seals kept r original ≡ Some text → IsReceipt seals kept r original text
   unfolding receipt_text
   receipt_is seals kept r original text stands there e =
-      receipt_by seals kept r original text (row_of r.kind).said (row_right r.kind) stands there e
+      receipt_by seals kept r original text (row_of r.kind).said (row_right texts r.kind) stands there e
 
   -- ---- how long a receipt is
 
@@ -441,7 +446,7 @@ module _ (texts : Texts) where
       → seals.name_of r.by ≡ Some issuer.issuer.provider.name → (text : Bytes) × (receipt_text seals kept r original ≡ Some text)
   unfolding receipt_text
   receipt_with seals kept r original issuer stands small fits short named =
-      there_by seals kept r original (row_of r.kind).said issuer (row_right r.kind) stands small fits short named
+      there_by seals kept r original (row_of r.kind).said issuer (row_right texts r.kind) stands small fits short named
 
   -- So has one on a message of at most 30 MiB.
   pub receipt_there : (seals : Seals) (kept : List Kept) (r : Receipt) (original : Bytes) (issuer : Issuer kept r.by) → Stands kept r → AreSmall r.facts

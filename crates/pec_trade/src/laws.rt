@@ -51,7 +51,9 @@ use pec_letters::{
 use pec_points::a_message_has_one_answer;
 use pec_receipts::{an_envelope_is_no_receipt, what_is_given_is_seen};
 use pec_seal::{Sealer, sealing_and_opening};
-use pec_types::{an_address_is_told_exactly, printable_is_said_of_each_byte};
+use pec_types::{
+    an_address_is_told_exactly, each_cause_is_one_of_all, printable_is_said_of_each_byte,
+};
 
 /// The world of a lawful directory, and of a sealer with the names of its providers, is a trade: it meets all that
 /// the ledger asks of the directory, of heads, admission, frames, letters and receipts.
@@ -139,6 +141,7 @@ pub fn the_texts_are_a_trade<S: Sealer>()
     what_is_given_is_seen::<S>();
     an_envelope_is_no_receipt::<S>();
     a_message_has_one_answer();
+    each_cause_is_one_of_all();
 }
 
 /// The facts of what is seen as an envelope are those of its original's head.

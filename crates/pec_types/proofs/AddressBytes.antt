@@ -1,21 +1,14 @@
--- What no byte of an address is: neither a byte of an atom, nor a letter or digit, nor a hyphen, a dot or an `@`.
+-- What avoids the bytes of addresses is no byte of one.
 use Rattle.std.proofs.Common.{◌≡◌, ℕ, ◌==◌, List, [], ◌∷◌, ◌++◌, Bool, true, false, not, cond, refl, ◌∙◌}
 use Rattle.std.proofs.lemmas.Bool.{and_from, eqb-true, not_from_false}
 use Rattle.std.proofs.lemmas.List.Folds.{list_all-append}
 use Rattle.std.specs.Char.{is_ascii_alphanumeric}
 use Rattle.std.specs.List.{flat_map, list_all, AllByRecursion}
-use Rattle.pec_types.specs.Address.{is_atom_byte, AllAtomBytes, IsAtom, ends_well, IsLabel, dotted, IsDotted, IsAddress}
+use Rattle.pec_types.specs.Address.{Avoids, is_atom_byte, AllAtomBytes, IsAtom, ends_well, IsLabel, dotted, IsDotted, IsAddress}
 
 -- no byte passes the test
 abbrev NonePass : (ℕ → Bool) → List ℕ → Type 0
 NonePass p bytes = list_all (λ b. not (p b)) bytes ≡ true
-
-pub record Avoids (p : ℕ → Bool) : Type 0 where
-  pub atom : (b : ℕ) → is_atom_byte b ≡ true → p b ≡ false
-  pub alphanumeric : (b : ℕ) → is_ascii_alphanumeric b ≡ true → p b ≡ false
-  pub hyphen : p 45 ≡ false
-  pub dot : p 46 ≡ false
-  pub at : p 64 ≡ false
 
 none_append : (p : ℕ → Bool) (xs ys : List ℕ) → NonePass p xs → NonePass p ys → NonePass p (xs ++ ys)
 none_append p xs ys h k = list_all-append (λ b. not (p b)) xs ys ∙ and_from _ _ h k

@@ -5,9 +5,9 @@ use Rattle.std.specs.List.{list_all, list_any, AllByRecursion, position_from}
 use Rattle.std.proofs.lemmas.Bool.{false≢true, and_parts, not-true}
 use Rattle.std.proofs.lemmas.Bool.Decides.{nat_tests}
 use Rattle.std.proofs.lemmas.Iterator.Adapters.{position_from-zero}
-use Rattle.pec_types.specs.Address.{is_atom_byte, IsLowerAddress}
+use Rattle.pec_types.specs.Address.{Avoids, IsLowerAddress, is_atom_byte}
 use Rattle.pec_types.specs.Text.{is_unprintable, AllPrintable}
-use Rattle.pec_types.proofs.AddressBytes.{Avoids, none_in}
+use Rattle.pec_types.proofs.AddressBytes.{none_in}
 
 -- ---- by the first place, and byte by byte
 

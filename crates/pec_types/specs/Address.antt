@@ -96,6 +96,14 @@ pub record IsParted (text local domain : List ℕ) : Type 0 where
   pub before : HasNoAt local
   pub parts : text ≡ local ++ 64 ∷ domain
 
+-- The test passes for no byte that addresses have: neither one of an atom, nor a letter or digit, nor a hyphen, a dot or an `@`.
+pub record Avoids (p : ℕ → Bool) : Type 0 where
+  pub atom : (b : ℕ) → is_atom_byte b ≡ true → p b ≡ false
+  pub alphanumeric : (b : ℕ) → is_ascii_alphanumeric b ≡ true → p b ≡ false
+  pub hyphen : p 45 ≡ false
+  pub dot : p 46 ≡ false
+  pub at : p 64 ≡ false
+
 abbrev pub IsAddressFault : List ℕ → AddressFault → Type 0
 IsAddressFault text Empty = text ≡ []
 IsAddressFault text TooLong = 254 < length text

@@ -5,9 +5,12 @@ pub mod Answers
 pub mod Bytes
 pub mod Limits
 pub mod LimitsReading
+pub mod Looks
 pub mod Message
 pub mod Options
+pub mod Passed
 pub mod Results
 pub mod Tables
 pub mod Text
+pub mod Timetable
 pub mod Words

@@ -1,6 +1,7 @@
 -- The words that letters, receipts and lines of output print: the name of a message, and one word for each cause, decision,
--- class and wish. This project's profile; the words of wishes are those of RFC 6109, section 3.1.
-use Rattle.std.specs.Prelude.{ℕ, ◌+◌, ◌-◌, ◌*◌, ◌/◌, ◌%◌, [], ◌∷◌, ◌++◌, codes}
+-- class and wish; and all causes, each with its number. This project's profile; the words of wishes are those of RFC 6109,
+-- section 3.1.
+use Rattle.std.specs.Prelude.{ℕ, ◌+◌, ◌-◌, ◌*◌, ◌/◌, ◌%◌, List, [], ◌∷◌, ◌++◌, codes}
 use Rattle.pec_types.specs.Bytes.{Bytes, digit_zero}
 use Rattle.pec_types.specs.declared.messages.Cause.{Cause}
 use Rattle.pec_types.specs.declared.messages.Cause.TheVariants as causes
@@ -46,6 +47,23 @@ cause_word causes.ForwardPath = codes "forward-path"
 cause_word causes.Bcc = codes "bcc"
 cause_word causes.Size = codes "size"
 cause_word causes.Virus = codes "virus"
+
+-- All causes, in the order in which they are looked for.
+abbrev pub all_causes : List Cause
+all_causes =
+    causes.Head ∷ causes.From ∷ causes.To ∷ causes.ReversePath ∷ causes.ForwardPath ∷ causes.Bcc ∷ causes.Size
+    ∷ causes.Virus ∷ []
+
+-- the place of a cause among them, from 1
+abbrev pub cause_number : Cause → ℕ
+cause_number causes.Head = 1
+cause_number causes.From = 2
+cause_number causes.To = 3
+cause_number causes.ReversePath = 4
+cause_number causes.ForwardPath = 5
+cause_number causes.Bcc = 6
+cause_number causes.Size = 7
+cause_number causes.Virus = 8
 
 abbrev pub class_word : Class → Bytes
 class_word classes.Primary = codes "primary"

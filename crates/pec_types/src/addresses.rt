@@ -1,10 +1,11 @@
-ghost use Rattle.std.specs.Prelude.{◌≡◌, ℕ, List, IfOk, IfSome, Some, position, length, refl, ◌<◌};
+ghost use Rattle.std.specs.Prelude.{◌≡◌, ℕ, Bool, true, not, List, IfOk, IfSome, Some, position, length, refl, ◌<◌};
 ghost use Rattle.std.specs.Cmp.{partial_equiv_from_equiv};
 ghost use Rattle.std.specs.Cmp.Lexicographic.{slice_cmp, nat_list_eq_equiv, nat_list_cmp_total, texts_ties, texts_po};
+ghost use Rattle.std.specs.List.{list_all};
 ghost use Rattle.std.specs.Ordering.{nat_cmp};
 ghost use Rattle.std.specs.Result.{result_ok};
 ghost use Rattle.std.specs.Str.{bytes_eq};
-ghost use Rattle.pec_types.specs.Address.{IsReadAs, HasDomain, IsAddressFault, IsLowerAddress, lowered};
+ghost use Rattle.pec_types.specs.Address.{Avoids, IsAddress, IsReadAs, HasDomain, IsAddressFault, IsLowerAddress, lowered};
 ghost use Rattle.pec_types.specs.AddressReading.{address_of, domain_of, is_at_sign};
 ghost use Rattle.pec_types.specs.Answers.{OrNoMemory, ReadsExactly, TellsExactly};
 ghost use Rattle.pec_types.specs.Bytes.{Bytes};
@@ -53,6 +54,12 @@ pub fn an_address_is_told_exactly()
 /// What is read as an address is one, in lower case.
 pub fn what_is_read_is_in_lower_case()
     ensures { (text address : Bytes) → IsReadAs text address → IsLowerAddress address }
+{}
+
+/// A test that passes for no byte that addresses have passes for no byte of an address.
+pub fn an_address_has_its_bytes_alone()
+    ensures { (test : ℕ → Bool) → Avoids test → (bytes : Bytes) → IsAddress bytes
+        → list_all (λ byte. not (test byte)) bytes ≡ true }
 {}
 
 impl Model for Address {

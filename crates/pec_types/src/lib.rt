@@ -15,12 +15,15 @@ mod moments;
 mod places;
 mod receipts;
 mod scanning;
+mod steps;
 mod texts;
+mod timetable;
 mod turns;
 mod words;
 
 pub use addresses::{
-    Address, AddressFault, an_address_is_told_exactly, what_is_read_is_in_lower_case,
+    Address, AddressFault, an_address_has_its_bytes_alone, an_address_is_told_exactly,
+    what_is_read_is_in_lower_case,
 };
 pub use disputes::{Disputed, LetterFault};
 pub use faults::NoMemory;
@@ -36,6 +39,8 @@ pub use moments::{END_OF_TIME, Moment};
 pub use places::Place;
 pub use receipts::Kind;
 pub use scanning::{Stand, lower_addresses_pass};
+pub use steps::Steps;
 pub use texts::{Text, Text8, TextFault, first_unprintable, printable_is_said_of_each_byte};
+pub use timetable::Timetable;
 pub use turns::{Event, ProviderFault, Submitted, Turn};
-pub use words::{id_text, seven_digits, seven_digits_are_read_back};
+pub use words::{each_cause_is_one_of_all, id_text, seven_digits, seven_digits_are_read_back};

@@ -1,6 +1,8 @@
-ghost use Rattle.std.specs.Prelude.{◌≡◌, ℕ, ◌<◌, ◌++◌, length, OnOk, IfOk};
+ghost use Rattle.std.specs.Prelude.{◌≡◌, ℕ, ◌<◌, ◌-◌, ◌++◌, Bool, true, Option, Some, length, map, slice_get, OnOk, IfOk};
+ghost use Rattle.std.specs.List.{list_all};
 ghost use Rattle.pec_types.specs.Bytes.{Bytes};
-ghost use Rattle.pec_types.specs.Words.{cause_word, class_word, decision_word, id_text, last_digit, number_in, refusal_word, seven_digits, wish_word};
+ghost use Rattle.pec_types.specs.declared.messages.Cause.{Cause as CauseShown};
+ghost use Rattle.pec_types.specs.Words.{all_causes, cause_number, cause_word, class_word, decision_word, id_text, last_digit, number_in, refusal_word, seven_digits, wish_word};
 
 use crate::faults::NoMemory;
 use crate::messages::{Cause, Class, Decision, Refusal, Wish};
@@ -66,7 +68,32 @@ impl Cause {
             Cause::Virus => b"virus",
         }
     }
+
+    /// The cause's place, from 1, in the order in which causes are looked for. It takes no memory. This project's profile.
+    pub fn number(self) -> u8
+        ensures { result ≡ cause_number self }
+    {
+        match self {
+            Cause::Head => 1,
+            Cause::From => 2,
+            Cause::To => 3,
+            Cause::ReversePath => 4,
+            Cause::ForwardPath => 5,
+            Cause::Bcc => 6,
+            Cause::Size => 7,
+            Cause::Virus => 8,
+        }
+    }
 }
+
+/// Each cause stands at its place among all of them. So what passes for all, by going through them, passes for each, and
+/// what finds all finds each.
+pub fn each_cause_is_one_of_all()
+    ensures place { (cause : CauseShown) → slice_get all_causes (cause_number cause - 1) ≡ Some cause }
+    ensures passes { (test : CauseShown → Bool) → list_all test all_causes ≡ true → (cause : CauseShown) → test cause ≡ true }
+    ensures found { (find : CauseShown → Option CauseShown) → map find all_causes ≡ map Some all_causes
+        → (cause : CauseShown) → find cause ≡ Some cause }
+{}
 
 impl Class {
     /// The class's word in a book. It takes no memory. This project's profile.

@@ -19,7 +19,7 @@ returns-clause-first c = λ providers. refl
 pub returns-clause-read : goal.returns-clause-read
 unfolding directory_in_ldif ldif_text
 returns-clause-read c = λ providers lawful.
-    let good = all_good providers lawful in
+    let good = all_good c.an_address_has_its_bytes_alone.ensures providers lawful in
     let read = text_again (records_from 0 providers) (good_may _ (records_from 0 providers) good) good in
     let is = table_again c.an_address_is_told_exactly.ensures read.0 providers lawful read.2 in
     ap (λ r. of_text r >>= (λ entries. of_table (directory_in (table_of entries)))) read.1

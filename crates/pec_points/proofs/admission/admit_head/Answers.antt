@@ -18,7 +18,7 @@ returns c =
     let case : Case = record { limit = c.args.limit; sender = c.args.sender.now; path = c.args.path.now; message = c.args.message.now; found = false } in
     let from : sender_of c.args.head.now ≡ Some c.in-Some.from = cc (c.in_ok-from.ensures) in
     let same : bytes_eq c.in-Some.from c.args.sender.now ≡ true = search (rules, tests) in
-    c.admit_facts-admission.ensures
+    c.in_ok-admission.ensures
     ∙ with_facts case c.args.head.now c.in-Some.from c.in-Some-2.field-0.items c.in-Some-3.facts from
     (listed_so _ _ _ _ _ c.in_ok-list.ensures c.as_slice.ensures c.in-Some-2.is) same (sym c.in_ok-facts.ensures.exact ∙ c.in-Some-3.is)
 

@@ -18,6 +18,7 @@ returns-clause-one c =
 pub returns-clause-text : goal.returns-clause-text
 returns-clause-text c =
     let laws : TextLaws = record {
+      places = c.each_cause_is_one_of_all.ensures.place;
       letters = c.a_letter_has_one_text.ensures;
       certificates = c.a_certificate_has_one_text.ensures.text;
       clock = λ issuer moment before. c.a_rule_has_one_clock.ensures.stamp issuer.zone moment before;

@@ -14,5 +14,5 @@ returns g c =
 
 pub certify-requires-clause-words : goal.certify-requires-clause-words
 certify-requires-clause-words g c =
-    words_of c.args.receipt.now.kind (row_shown c.row_of-row.result) (said_shown c.in-Some.said) c.row_of-row.ensures
+    words_of c.each_cause_is_one_of_all.ensures.place c.args.receipt.now.kind (row_shown c.row_of-row.result) (said_shown c.in-Some.said) c.row_of-row.ensures
     (ap (option_map said_shown) c.in-Some.is)

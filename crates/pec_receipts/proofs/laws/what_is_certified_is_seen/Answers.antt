@@ -21,6 +21,7 @@ returns g c = λ sealer kept r said original text lawful given facts below befor
       back = c.a_composed_letter_is_read_back.ensures.letter;
       heads = λ bytes. c.a_text_is_one_letter.ensures.headed sealer bytes;
       letters = c.a_head_has_one_letter.ensures;
+      places = c.each_cause_is_one_of_all.ensures.place;
       passing = λ providers law. record {
         id = λ i field letter w b same e. c.what_is_composed_passes.ensures.id providers i field letter law w b same e;
         issuer = λ p letter e called. c.what_is_composed_passes.ensures.issuer providers p letter e called;

@@ -25,6 +25,7 @@ returns g c =
       short = c.facts_are_bounded.ensures.short;
     }
     in let texts : Texts = record {
+      causes = c.each_cause_is_one_of_all.ensures.passes;
       letters = c.a_letter_has_one_text.ensures;
       bodies = c.parts_have_one_composed_body.ensures.there;
       certificates = c.a_certificate_has_one_text.ensures.text;
