@@ -1,4 +1,4 @@
-ghost use Rattle.std.specs.Prelude.{◌≡◌, ℕ, ◌+◌, ◌≤◌, List, [], length, map};
+ghost use Rattle.std.specs.Prelude.{◌≡◌, ℕ, ◌+◌, List, [], length, map};
 ghost use Rattle.pec_journal.specs.JournalFile.{front};
 ghost use Rattle.pec_records.specs.declared.entries.Entry.{Entry};
 ghost use Rattle.pec_records.specs.Entry.{entry_text};
@@ -8,7 +8,6 @@ ghost use Rattle.pec_chronicle.specs.Carrying.{with_entry};
 ghost use Rattle.pec_chronicle.specs.Chronicle.{IsJournalOf};
 
 use pec_journal::a_file_has_one_list;
-use pec_outside::Disk;
 use pec_records::one_entry;
 
 /// Where the journal of entries ends: with none behind its header, and with each more that entry's size behind.
@@ -26,14 +25,3 @@ pub fn a_disk_holds_one_list()
     one_entry();
     a_file_has_one_list();
 }
-
-/// The laws of every disk, for proofs that speak of two values over it.
-pub(crate) fn a_disk_is_so<D: Disk>()
-    // This moment is one of those since an earlier one, and since this moment there is no other.
-    ensures counts { D.tells → (disk : D) (t : ℕ) (image : List ℕ) → t ≤ (D.sight disk).moment →
-        (D.sight disk).may_leave image → (D.sight disk).left_since t image }
-    ensures now { D.tells → (disk : D) (image : List ℕ) → (D.sight disk).left_since (D.sight disk).moment image →
-        (D.sight disk).may_leave image }
-    // A disk as it reads is one of its images.
-    ensures reads { D.tells → (disk : D) → (D.sight disk).may_leave (D.sight disk).seen }
-{}

@@ -189,11 +189,16 @@ impl<D: Disk> Journal<D> {
         }
     }
 
-    /// The bytes of the entry at a place that `append` or `reopen` answered. Where the disk gives fewer, which one that
-    /// tells its bytes never does, those are the answer. A fault of the disk doesn't make the journal spent.
+    /// The bytes of the entry at a place that `append` or `reopen` answered, by one call of the disk. Where the disk gives
+    /// fewer, which one that tells its bytes never does, those are the answer. A fault of the disk doesn't make the journal
+    /// spent.
     pub fn read(&mut self, alloc: Global, place: Place) -> Result<Vec<u8>, ReadFault>
         ensures entry { D.tells → (entries : List (List ℕ)) (entry : List ℕ) → IsFile entries (D.sight self.old.disk).seen →
             StandsAt place entry entries → IfOk result (λ bytes. bytes.items ≡ entry) }
+
+        // Whatever the place, what the disk has there is the answer, up to that length.
+        ensures given { D.tells →
+            IfOk result (λ bytes. bytes.items ≡ take place.length (drop place.at (D.sight self.old.disk).seen)) }
         ensures within { IfOk result (λ bytes. length bytes.items ≤ place.length) }
 
         // The entries stay what they were, now and after a crash.

@@ -1,6 +1,7 @@
 pub mod Along
 pub mod Books
 pub mod Changes
+pub mod Deadlines
 pub mod Due
 pub mod Examples
 pub mod Guarantees

@@ -16,6 +16,7 @@ use Rattle.pec_chronicle.specs.Chronicle.{ChronicleState, Stands}
 use Rattle.pec_provider.specs.Following.{MayFollow}
 use Rattle.pec_provider.specs.Playing.{Plays}
 use Rattle.pec_provider.specs.Provider.{ProviderState, Runs, desk_of, site_of}
+use Rattle.pec_provider.specs.Ticking.{Ticks}
 use Rattle.pec_seal.specs.Seals.{Seals}
 use Rattle.pec_network.specs.Carrying.{AllCarryOn, NoneFalls}
 use Rattle.pec_network.specs.Changing.{HasRisenAt, StandsAt}
@@ -65,6 +66,12 @@ module _ {D : Type 0} (providers : List (ProviderState D)) (number : ℕ) (old n
   pub falls_from : (count : D → ℕ) → count old.chronicle.disk ≤ count new.chronicle.disk → NoneFalls count providers (set providers number new)
   falls_from count later = falls_at providers number new within count
       (λ other. subst (λ (p : ProviderState D). count p.chronicle.disk ≤ count new.chronicle.disk) (sym (at_old other)) later)
+
+  pub ticks_from : {X Y : Type 0} (trade : Trade) (moment steps later : ℕ) (result : Result X Y) → Ticks trade number moment old new steps later result
+      → (other : ProviderState D) → Ticks trade number moment (get_or providers number other) (get_or (set providers number new) number other) steps later result
+  ticks_from trade moment steps later result ticks other =
+      subst (λ (p : ProviderState D). Ticks trade number moment p (get_or (set providers number new) number other) steps later result) (sym (at_old other))
+      (subst (λ (p : ProviderState D). Ticks trade number moment old p steps later result) (sym (at_new other)) ticks)
 
   pub risen_from : (count : D → ℕ) → HasRisen (count old.chronicle.disk) (count new.chronicle.disk)
       → HasRisenAt count number providers (set providers number new)

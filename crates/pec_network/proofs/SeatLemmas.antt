@@ -2,7 +2,7 @@
 use Rattle.std.proofs.Common.{◌≡◌, ℕ, zero, suc, ◌+◌, ◌<◌, ◌≤◌, List, [], ◌∷◌, ◌++◌, length, map, take, drop, get_or, set}
 use Rattle.std.proofs.Common.{refl, ap, sym, subst, ◌∙◌, arith, Some, None, append_assoc}
 use Rattle.std.specs.Prelude.{Option, Vec}
-use Rattle.std.specs.List.{flat_map}
+use Rattle.std.specs.List.{flat_map, remove}
 use Rattle.std.specs.Option.{option_to_list}
 use Rattle.std.specs.declared.alloc.Global.{Global}
 use Rattle.std.proofs.Math.Seq.{drop-append_seam}
@@ -158,3 +158,8 @@ rows_lent rows lent new count is many ends =
     lent_again rows lent new is
     (sym (length-map new (λ (row : Vec Putting Global). row.items)) ∙ ends ∙ sym many
     ∙ ap (λ (l : List (Vec Putting Global)). length l) (sym is))
+
+-- what is removed from the front of a list stood there
+pub first_gone : {X : Type 0} (old new : List X) (x : X) → 0 < length old → x ≡ get_or old 0 x → new ≡ remove old 0 → old ≡ x ∷ new
+first_gone [] new x l is gone = absurd (omega arith)
+first_gone (y ∷ ys) new x l is gone = ap (λ (z : _). z ∷ ys) (sym is) ∙ ap (λ (zs : _). x ∷ zs) (sym gone)

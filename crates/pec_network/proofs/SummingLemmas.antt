@@ -1,5 +1,5 @@
 -- The summary of a network, provider by provider.
-use Rattle.std.proofs.Common.{◌≡◌, ℕ, ◌+◌, ◌<◌, ◌≤◌, List, [], ◌∷◌, length, drop, get_or, refl, sym, ap, ◌∙◌, subst}
+use Rattle.std.proofs.Common.{◌≡◌, ℕ, ◌+◌, ◌*◌, ◌<◌, ◌≤◌, List, [], ◌∷◌, length, drop, get_or, refl, sym, ap, ◌∙◌, subst, arith}
 use Rattle.std.proofs.Math.ListN.{drop_of_length-le}
 use Rattle.std.proofs.lemmas.List.{drop_more}
 use Rattle.pec_directory.specs.Directory.{Kept}
@@ -8,7 +8,7 @@ use Rattle.pec_ledger.specs.Trade.{Trade}
 use Rattle.pec_posts.specs.Arrivals.{Waiting}
 use Rattle.pec_seal.specs.Seals.{Seals}
 use Rattle.pec_provider.specs.Provider.{ProviderState, Runs}
-use Rattle.pec_provider.specs.Summing.{plus, summary_of, total_from}
+use Rattle.pec_provider.specs.Summing.{IsUpTo, most_pairs, plus, summary_of, total_from}
 use Rattle.pec_provider.specs.Summing.{Summary}
 use Rattle.pec_network.specs.Network.{sites_of}
 use Rattle.pec_network.specs.Summing.{AllRun, total_over}
@@ -44,3 +44,16 @@ module _ {D : Type 0} (trade : Trade) where
 pub runs_there : {D : Type 0} (kept : List Kept) (seals : Seals) (providers : List (ProviderState D)) (n : ℕ) (provider : ProviderState D)
     → AllRun kept seals providers → n < length providers → provider ≡ get_or providers n provider → Runs kept seals n provider
 runs_there kept seals providers n provider all within is = subst (Runs kept seals n) (sym is) (all n provider within)
+
+-- the numbers of one provider more
+pub up_to_more : (old one new : Summary) (n : ℕ) → new ≡ plus old one → IsUpTo old (n * most_pairs) → IsUpTo one most_pairs
+    → IsUpTo new ((n + 1) * most_pairs)
+up_to_more old one new n is few more =
+    subst (λ (s : Summary). IsUpTo s ((n + 1) * most_pairs)) (sym is)
+    (record {
+      accepted = let a = few.accepted in let b = more.accepted in omega (arith, a, b);
+      delivered = let a = few.delivered in let b = more.delivered in omega (arith, a, b);
+      refused = let a = few.refused in let b = more.refused in omega (arith, a, b);
+      unknown = let a = few.unknown in let b = more.unknown in omega (arith, a, b);
+      noticed = let a = few.noticed in let b = more.noticed in omega (arith, a, b);
+    })

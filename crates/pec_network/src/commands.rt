@@ -1,13 +1,16 @@
-ghost use Rattle.std.specs.Prelude.{◌≡◌, ◌<◌, ◌≤◌, length, map};
+ghost use Rattle.std.specs.Prelude.{◌≡◌, ◌<◌, ◌≤◌, length, map, slice_index_or};
 ghost use Rattle.pec_directory.specs.Directory.{providers_of};
 ghost use Rattle.pec_records.specs.Entry.{longest_message, most_addresses};
 ghost use Rattle.pec_plays.specs.Commands.{Marks, Submit, Submits, Tick};
 ghost use Rattle.pec_points.specs.Case.{case_at};
 ghost use Rattle.pec_provider.specs.Looking.{Looks};
+ghost use Rattle.pec_provider.specs.Provider.{ProviderState};
+ghost use Rattle.pec_provider.specs.Ticking.{Ticks};
 ghost use Rattle.pec_screen.specs.Screened.{finds_in};
 ghost use Rattle.pec_screen.specs.VerdictReading.{finds};
 ghost use Rattle.pec_network.specs.Changing.{ConcernsOne};
 ghost use Rattle.pec_network.specs.Looking.{OnlyLooks};
+ghost use Rattle.pec_network.specs.Network.{world_of};
 ghost use Rattle.pec_network.specs.Playing.{IsPlayedOver};
 
 use crate::laws::what_rests_carries_on;
@@ -16,7 +19,7 @@ use pec_outside::Disk;
 use pec_provider::House;
 use pec_screen::{Judge, NoScreens};
 use pec_seal::Sealer;
-use pec_types::{Address, Mark, Moment, ProviderFault, Submitted};
+use pec_types::{Address, Mark, Moment, ProviderFault, Steps, Submitted};
 use std::alloc::Global;
 
 /// Commands of one provider, by its number in the directory.
@@ -100,17 +103,22 @@ impl<D: Disk, S: Sealer> Network<D, S> {
 
     /// Has a provider look at the clock: the marks that are due by then are set, and told. The first of these refusals
     /// that applies is answered, and leaves all as it was: `Down`, `ClockBack`, `NoMemory`, `JournalFull`. After
-    /// `DiskFault` the provider is down.
+    /// `DiskFault` the provider is down. Each acceptance that is looked up is a step.
     pub fn tick(
         &mut self,
         alloc: Global,
         provider: u32,
         moment: Moment,
+        steps: &mut Steps,
     ) -> Result<Vec<Mark>, ProviderFault>
         requires { provider < length self.old.kept }
         ensures plays { IsPlayedOver S.seals (λ marks. Marks marks.items) (Tick provider moment)
             self.old self.new result }
         ensures concerns { ConcernsOne D.sight D.faults D.tells S.seals provider self.old self.new result }
+        // At most two more acceptances are looked up than limits of pairs pass in the call, and as many as pass on Ok.
+        ensures looked { (other : ProviderState D) → Ticks (world_of S.seals self.old) provider moment
+            (slice_index_or self.old.providers provider other) (slice_index_or self.new.providers provider other)
+            steps.old steps.new result }
     {
         what_rests_carries_on::<D>();
         let house = House {
@@ -118,6 +126,6 @@ impl<D: Disk, S: Sealer> Network<D, S> {
             sealer: &self.sealer,
             me: provider,
         };
-        self.providers[provider as usize].tick(alloc, &house, moment)
+        self.providers[provider as usize].tick(alloc, &house, moment, steps)
     }
 }

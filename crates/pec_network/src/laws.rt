@@ -27,12 +27,6 @@ pub(crate) fn what_rests_carries_on<D: Disk>()
     ensures { D.tells → (state : ChronicleState D) → CarriesOn D.sight NothingMay state state }
 {}
 
-/// As long as nothing is done on a disk, there is no other moment of it than this one.
-pub(crate) fn a_disk_is_now<D: Disk>()
-    ensures { D.tells → (disk : D) (image : Bytes) → (D.sight disk).left_since (D.sight disk).moment image
-        → (D.sight disk).may_leave image }
-{}
-
 /// A depot has a place for each provider of a directory.
 pub(crate) fn few_providers(directory: &Directory)
     ensures { length directory.now ≤ depot_places }

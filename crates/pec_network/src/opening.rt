@@ -12,11 +12,10 @@ ghost use Rattle.pec_network.specs.declared.opening.Form.TheVariants as forms;
 
 use crate::closing::keep_all;
 use crate::faults::StartFault;
-use crate::laws::a_disk_is_now;
 use crate::network::Network;
 use crate::starting::begin_next;
 use pec_directory::Directory;
-use pec_outside::{Depot, Disk};
+use pec_outside::{Depot, Disk, a_disk_is_so};
 use pec_posts::Arrivals;
 use pec_provider::{House, Provider};
 use pec_seal::Sealer;
@@ -123,7 +122,7 @@ impl<D: Disk, S: Sealer + Drop> Network<D, S> {
         ensures last_err { OnErr result ((number : ℕ) → P.last depot.old number ≤ P.last depot.new number) }
         ensures later { P.faults depot.old ≤ P.faults depot.new }
     {
-        a_disk_is_now::<D>();
+        a_disk_is_so::<D>();
         let Ok(arrivals) = no_frames(alloc, directory.count()) else {
             return Err((StartFault::NoMemory, directory));
         };

@@ -8,9 +8,9 @@ ghost use Rattle.pec_network.specs.declared.opening.Form.TheVariants as forms;
 ghost use Rattle.pec_provider.specs.Provider.{RunsIn};
 
 use crate::faults::{NotFit, StartFault};
-use crate::laws::{a_disk_is_now, few_providers};
+use crate::laws::few_providers;
 use crate::opening::Form;
-use pec_outside::{Depot, Disk};
+use pec_outside::{Depot, Disk, a_disk_is_so};
 use pec_provider::{CreateFault, House, Provider, ReopenFault};
 use pec_seal::Sealer;
 use std::alloc::Global;
@@ -42,7 +42,7 @@ pub(crate) fn begin_next<D: Disk, S: Sealer, P: Depot<D = D>>(
     ensures later { P.faults depot.old ≤ P.faults depot.new }
 {
     few_providers(house.directory);
-    a_disk_is_now::<D>();
+    a_disk_is_so::<D>();
     let Ok(disk) = depot.disk(house.me) else {
         return Err(StartFault::DiskFault(house.me));
     };

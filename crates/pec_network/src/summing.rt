@@ -1,5 +1,6 @@
-ghost use Rattle.std.specs.Prelude.{◌≡◌, List, IfOk};
+ghost use Rattle.std.specs.Prelude.{◌≡◌, ◌≤◌, List, length};
 ghost use Rattle.pec_directory.specs.Directory.{Kept};
+ghost use Rattle.pec_directory.specs.Walk.{most_providers};
 ghost use Rattle.pec_ledger.specs.OfDirectory.{IsOf};
 ghost use Rattle.pec_ledger.specs.Trade.{Trade};
 ghost use Rattle.pec_seal.specs.Seals.{Seals};
@@ -11,28 +12,28 @@ use crate::network::Network;
 use pec_provider::{Provider, Summary};
 use pec_seal::Sealer;
 use pec_trade::a_trade_says_what_its_parts_say;
-use pec_types::NoMemory;
 
 impl<D, S: Sealer> Network<D, S> {
-    /// What has become of the messages of all providers, in numbers, also of those that are down.
-    pub fn summary(&self) -> Result<Summary, NoMemory>
-        ensures { IfOk result (λ summary. summary ≡ total_of (world_of S.seals self.now) (sites self.now)) }
+    /// What has become of the messages of all providers, in numbers, also of those that are down. It takes no memory.
+    pub fn summary(&self) -> Summary
+        ensures { result ≡ total_of (world_of S.seals self.now) (sites self.now) }
     {
         a_trade_says_what_its_parts_say();
-        let summary = summary_of(self.providers.as_slice())?;
-        Ok(summary)
+        self.directory.count();
+        summary_of(self.providers.as_slice())
     }
 }
 
 /// What has become of the messages of these providers, numbered from 0.
-fn summary_of<D>(providers: &[Provider<D>]) -> Result<Summary, NoMemory>
+fn summary_of<D>(providers: &[Provider<D>]) -> Summary
+    requires { length providers.now ≤ most_providers }
     ensures { (kept : List Kept) (seals : Seals) (trade : Trade) → IsOf kept trade → AllRun kept seals providers.now
-        → IfOk result (λ summary. summary ≡ total_over trade nothing_yet 0 providers.now) }
+        → result ≡ total_over trade nothing_yet 0 providers.now }
 {
     let mut summary = Summary::new();
     for provider in providers {
-        let own = provider.summary()?;
-        summary = summary.plus(own)?;
+        let own = provider.summary();
+        summary = summary.plus(own);
     }
-    Ok(summary)
+    summary
 }

@@ -12,7 +12,7 @@ ghost use Rattle.pec_outgoing.specs.Known.{AreKnown};
 
 use crate::desks::Desk;
 use crate::texts::given_text;
-use pec_heads::{Head, HeadFault};
+use pec_heads::Head;
 use pec_index::Index;
 use pec_receipts::Receipt;
 use pec_seal::Sealer;
@@ -89,10 +89,9 @@ fn text_of(alloc: Global, address: &Address) -> Result<Text, NoMemory>
 fn read_head(alloc: Global, message: &[u8]) -> Result<Option<Head>, NoMemory>
     ensures { IfOk result (λ found. found ≡ fields_of message.now) }
 {
-    match Head::read(alloc, message) {
-        Ok((head, _)) => Ok(Some(head)),
-        Err(HeadFault::NoMemory) => Err(NoMemory),
-        Err(_) => Ok(None),
+    match Head::find(alloc, message)? {
+        Some((head, _)) => Ok(Some(head)),
+        None => Ok(None),
     }
 }
 

@@ -29,7 +29,7 @@ pub use depot::Depot;
 pub use disk::Disk;
 pub use door::Door;
 pub use durable::write_through;
-pub use laws::an_image_is_one_that_a_crash_leaves;
+pub use laws::{a_disk_is_so, an_image_is_one_that_a_crash_leaves};
 pub use mem_connection::MemConnection;
 pub use mem_depot::MemDepot;
 pub use mem_disk::MemDisk;

@@ -29,7 +29,7 @@ use Rattle.pec_playing.specs.Playing.{counts_in}
 use Rattle.pec_playing.specs.Saying.{IsRestartText}
 use Rattle.pec_playing.proofs.CountLemmas.{counts_of_refusal, counts_stay}
 use Rattle.pec_playing.proofs.PlayLemmas.{does_say, does_stop, left_so, played_so}
-use Rattle.pec_playing.proofs.SameLemmas.{Told, sites_told}
+use Rattle.pec_playing.proofs.SameLemmas.{CausesFound, Told, sites_told}
 
 -- ---- lines
 
@@ -118,10 +118,10 @@ module _ (trade : Trade) (state after : List Site) (provider entries : ℕ) (dow
       inr (λ is. differ (ap (λ (p : Played). entries_in p.answer)
       (sym is ∙ restart_is trade told state provider refl down)))
 
-  pub played_or_not : Plays ⊎ (Plays → ⊥)
-  played_or_not =
+  pub played_or_not : CausesFound → Plays ⊎ (Plays → ⊥)
+  played_or_not found =
       by_tests (cases_eq entries (length (restarted_site told.found (site_at state provider)).journal))
-      (sites_told after (with_site state provider (restarted_site told.found (site_at state provider))))
+      (sites_told found after (with_site state provider (restarted_site told.found (site_at state provider))))
 
 module _ {D S : Type 0} (sight : D → Sight) (count : D → ℕ) (disks : Type 0) (trade : Trade) (provider : ℕ)
     (old new : NetworkState D S) (keeps : Keeps sight count disks old new)
@@ -181,11 +181,11 @@ module _ {D S : Type 0} (sight : D → Sight) (count : D → ℕ) (disks : Type 
         (sites new) is)
     stops_if (inr never) result failed = strays down (λ tells stands. never (plays tells stands trade)) result
 
-    pub up_says : (text : Vec ℕ Global) → text.items ≡ texts.answer_text (lines.Restarted entries) → Done (Ok text)
-    up_says = says_if (played_or_not trade (sites old) (sites new) provider entries down)
+    pub up_says : CausesFound → (text : Vec ℕ Global) → text.items ≡ texts.answer_text (lines.Restarted entries) → Done (Ok text)
+    up_says found = says_if (played_or_not trade (sites old) (sites new) provider entries down found)
 
-    pub up_stops : (result : Result (Vec ℕ Global) NoMemory) → IsErr result → Done result
-    up_stops = stops_if (played_or_not trade (sites old) (sites new) provider entries down)
+    pub up_stops : CausesFound → (result : Result (Vec ℕ Global) NoMemory) → IsErr result → Done result
+    up_stops found = stops_if (played_or_not trade (sites old) (sites new) provider entries down found)
 
   -- it is refused
   abbrev Refused : RestartFault → Type 0
@@ -245,16 +245,16 @@ module _ {D S : Type 0} (sight : D → Sight) (count : D → ℕ) (disks : Type 
       → IsNotRestarted (λ (luck : Luck). played t luck (sites old) (Restart provider)) (sites old) provider
       (sites new) fault)
 
-  pub restart_says : (outcome : Result ℕ RestartFault) → PlaysSo outcome → FitsSo outcome → RefusedSo outcome
+  pub restart_says : CausesFound → (outcome : Result ℕ RestartFault) → PlaysSo outcome → FitsSo outcome → RefusedSo outcome
       → OnOk outcome (is_up (sites old) provider ≡ false)
       → (IsErrOf outcome restart_faults.DiskFault → HasRisenAt count provider old.providers new.providers)
       → (text : Vec ℕ Global) → IsRestartText outcome text.items → Done (Ok text)
-  restart_says (Ok entries) plays fit refused down rose text written = up_says entries down plays text written
-  restart_says (Err fault) plays fit refused down rose text written =
+  restart_says found (Ok entries) plays fit refused down rose text written = up_says entries down plays found text written
+  restart_says found (Err fault) plays fit refused down rose text written =
       refused_says fault (refused trade) fit (λ e. rose (ap Err e)) text written
 
-  pub restart_stops : (outcome : Result ℕ RestartFault) → PlaysSo outcome → RefusedSo outcome
+  pub restart_stops : CausesFound → (outcome : Result ℕ RestartFault) → PlaysSo outcome → RefusedSo outcome
       → OnOk outcome (is_up (sites old) provider ≡ false)
       → (result : Result (Vec ℕ Global) NoMemory) → IsErr result → Done result
-  restart_stops (Ok entries) plays refused down result failed = up_stops entries down plays result failed
-  restart_stops (Err fault) plays refused down result failed = refused_stops fault (refused trade) result failed
+  restart_stops found (Ok entries) plays refused down result failed = up_stops entries down plays found result failed
+  restart_stops found (Err fault) plays refused down result failed = refused_stops fault (refused trade) result failed

@@ -2,7 +2,9 @@
 use Rattle.std.proofs.Common.{◌≡◌, ◌≢◌, ◌⊎◌, inl, inr, ℕ, List, [], ◌∷◌, Bool, true, false, map, get_or, drop, refl, ap}
 use Rattle.std.proofs.Common.{sym, ◌∙◌, Option, Some, None}
 use Rattle.std.proofs.lemmas.Bool.{cases_eq}
+use Rattle.std.proofs.lemmas.Option.{same_Some}
 use Rattle.pec_types.specs.Bytes.{Bytes}
+use Rattle.pec_types.specs.Words.{all_causes}
 use Rattle.pec_types.specs.declared.messages.Cause.{Cause}
 use Rattle.pec_types.specs.declared.messages.Cause.TheVariants as causes
 use Rattle.pec_types.specs.declared.messages.Decision.{Decision}
@@ -48,19 +50,18 @@ abbrev bytes_in : Code → ℕ → Bytes
 bytes_in code place = get_or code place []
 
 abbrev cause_back : Bytes → Cause
-cause_back field =
-    get_or (causes.Head ∷ causes.Head ∷ causes.From ∷ causes.To ∷ causes.ReversePath ∷ causes.ForwardPath ∷ causes.Bcc
-    ∷ causes.Size ∷ causes.Virus ∷ []) (get_or field 0 0) causes.Head
+cause_back field = get_or (causes.Head ∷ all_causes) (get_or field 0 0) causes.Head
 
-cause_again : (cause : Cause) → cause_back (cause_field cause) ≡ cause
-cause_again causes.Head = refl
-cause_again causes.From = refl
-cause_again causes.To = refl
-cause_again causes.ReversePath = refl
-cause_again causes.ForwardPath = refl
-cause_again causes.Bcc = refl
-cause_again causes.Size = refl
-cause_again causes.Virus = refl
+-- what finds all causes finds each
+abbrev pub CausesFound : Type 0
+CausesFound =
+    (find : Cause → Option Cause) → map find all_causes ≡ map (λ (one : Cause). Some one) all_causes → (cause : Cause)
+    → find cause ≡ Some cause
+
+cause_again : CausesFound → (cause : Cause) → cause_back (cause_field cause) ≡ cause
+cause_again found cause =
+    same_Some (cause_back (cause_field cause)) cause
+    (found (λ (one : Cause). Some (cause_back (cause_field one))) refl cause)
 
 abbrev decision_back : Bytes → Decision
 decision_back field =
@@ -118,20 +119,20 @@ backs code =
 abbrev entry_back : Code → Entry
 entry_back code = get_or (backs code) (number_in code 0) (entries.Ticked 0)
 
-entry_again : (entry : Entry) → entry_back (entry_code entry) ≡ entry
-entry_again (entries.Start provider digest) = refl
-entry_again (entries.Accepted moment sender message) = refl
-entry_again (entries.NotAccepted moment sender cause path message) =
-    ap (λ (c : Cause). entries.NotAccepted moment sender c path message) (cause_again cause)
-entry_again (entries.Took moment id message) = refl
-entry_again (entries.Decided moment id recipient decision) =
+entry_again : CausesFound → (entry : Entry) → entry_back (entry_code entry) ≡ entry
+entry_again found (entries.Start provider digest) = refl
+entry_again found (entries.Accepted moment sender message) = refl
+entry_again found (entries.NotAccepted moment sender cause path message) =
+    ap (λ (c : Cause). entries.NotAccepted moment sender c path message) (cause_again found cause)
+entry_again found (entries.Took moment id message) = refl
+entry_again found (entries.Decided moment id recipient decision) =
     ap (λ (d : Decision). entries.Decided moment id recipient d) (decision_again decision)
-entry_again (entries.Charged moment id by) = refl
-entry_again (entries.Learned moment id recipient decision decided message) =
+entry_again found (entries.Charged moment id by) = refl
+entry_again found (entries.Learned moment id recipient decision decided message) =
     ap (λ (d : Decision). entries.Learned moment id recipient d decided message) (decision_again decision)
-entry_again (entries.Acked moment id recipient) = refl
-entry_again (entries.Ticked moment) = refl
-entry_again (entries.Anomaly moment accounts message) = refl
+entry_again found (entries.Acked moment id recipient) = refl
+entry_again found (entries.Ticked moment) = refl
+entry_again found (entries.Anomaly moment accounts message) = refl
 
 codes_told : (a b : Code) → Told a b
 codes_told = lists_told (lists_told cases_eq)
@@ -158,15 +159,15 @@ abbrev option_back : List Code → Option Entry
 option_back [] = None
 option_back (code ∷ more) = Some (entry_back code)
 
-option_again : (o : Option Entry) → option_back (option_code o) ≡ o
-option_again None = refl
-option_again (Some entry) = ap (λ (e : Entry). Some e) (entry_again entry)
+option_again : CausesFound → (o : Option Entry) → option_back (option_code o) ≡ o
+option_again found None = refl
+option_again found (Some entry) = ap (λ (e : Entry). Some e) (entry_again found entry)
 
-list_again : (list : List Entry) → map entry_back (map entry_code list) ≡ list
-list_again [] = refl
-list_again (entry ∷ list) =
-    ap (λ (e : Entry). e ∷ map entry_back (map entry_code list)) (entry_again entry)
-    ∙ ap (λ (l : List Entry). entry ∷ l) (list_again list)
+list_again : CausesFound → (list : List Entry) → map entry_back (map entry_code list) ≡ list
+list_again found [] = refl
+list_again found (entry ∷ list) =
+    ap (λ (e : Entry). e ∷ map entry_back (map entry_code list)) (entry_again found entry)
+    ∙ ap (λ (l : List Entry). entry ∷ l) (list_again found list)
 
 abbrev site_code : Site → List (List Code)
 site_code site =
@@ -180,14 +181,14 @@ site_back code = record {
   waiting = get_or code 3 [];
 }
 
-site_again : (site : Site) → site_back (site_code site) ≡ site
-site_again site =
+site_again : CausesFound → (site : Site) → site_back (site_code site) ≡ site
+site_again found site =
     ap (λ (l : List Entry). (let s : Site = record {
       journal = l;
       up = flag_back (flag_code site.up);
       interrupted = option_back (option_code site.interrupted);
       waiting = site.waiting;
-    } in s)) (list_again site.journal)
+    } in s)) (list_again found site.journal)
     ∙ ap (λ (b : Bool). (let s : Site = record {
       journal = site.journal;
       up = b;
@@ -199,11 +200,11 @@ site_again site =
       up = site.up;
       interrupted = o;
       waiting = site.waiting;
-    } in s)) (option_again site.interrupted)
+    } in s)) (option_again found site.interrupted)
 
-site_told : (a b : Site) → Told a b
-site_told a b =
-    by_code site_code site_back site_again a b (lists_told (lists_told codes_told) (site_code a) (site_code b))
+site_told : CausesFound → (a b : Site) → Told a b
+site_told found a b =
+    by_code site_code site_back (site_again found) a b (lists_told (lists_told codes_told) (site_code a) (site_code b))
 
-pub sites_told : (xs ys : List Site) → Told xs ys
-sites_told = lists_told site_told
+pub sites_told : CausesFound → (xs ys : List Site) → Told xs ys
+sites_told found = lists_told (site_told found)

@@ -11,7 +11,7 @@ use pec_network::{Network, NotFit, RestartFault};
 use pec_outside::{Depot, Disk};
 use pec_script::{Answer, Unfit, answer_text, fault_text};
 use pec_seal::Sealer;
-use pec_types::{NoMemory, ProviderFault};
+use pec_types::{NoMemory, ProviderFault, each_cause_is_one_of_all};
 use std::alloc::Global;
 
 // A crash and a restart of a provider, by its number.
@@ -50,6 +50,7 @@ pub(crate) fn restart<D: Disk, S: Sealer>(
     ensures carries { Carries D.sight D.tells (world_of S.seals network.old) network.old network.new }
 {
     as_many_providers(network);
+    each_cause_is_one_of_all();
     let outcome = network.restart(alloc, provider);
     let text = restart_text(alloc, network.directory(), outcome)?;
     Ok(text)

@@ -13,7 +13,7 @@ use pec_outside::Disk;
 use pec_screen::Judge;
 use pec_script::{marks_text, submitted_text};
 use pec_seal::Sealer;
-use pec_types::{Address, Moment, NoMemory};
+use pec_types::{Address, Moment, NoMemory, Steps};
 use std::alloc::Global;
 
 // Commands of one provider, by its number. What it refuses is told in one line.
@@ -74,7 +74,8 @@ pub(crate) fn tick<D: Disk, S: Sealer>(
     ensures carries { Carries D.sight D.tells (world_of S.seals network.old) network.old network.new }
 {
     as_many_providers(network);
-    match network.tick(alloc, provider, moment) {
+    let mut steps = Steps::new();
+    match network.tick(alloc, provider, moment, &mut steps) {
         Ok(marks) => {
             let text = marks_text(alloc, network.directory(), marks.as_slice())?;
             return Ok(text);

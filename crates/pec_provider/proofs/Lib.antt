@@ -5,4 +5,5 @@ mod PlayLemmas
 mod RunLemmas
 mod ShowLemmas
 mod StepLemmas
+mod TickLemmas
 mod TurnLemmas

@@ -5,4 +5,5 @@ pub mod Looking
 pub mod Playing
 pub mod Provider
 pub mod Summing
+pub mod Ticking
 pub mod Working

@@ -12,6 +12,7 @@ ghost use Rattle.pec_plays.specs.Envelopes.{HasEnvelope};
 ghost use Rattle.pec_seal.specs.Seals.{Seals};
 ghost use Rattle.pec_trade.specs.Houses.{world_at};
 ghost use Rattle.pec_chronicle.specs.Carrying.{CarriesOn};
+ghost use Rattle.pec_shelf.specs.Looked.{Looked};
 ghost use Rattle.pec_stock.specs.Entering.{OnlyMay};
 ghost use Rattle.pec_provider.specs.Appending.{Appends, MayEnter, WorksAt};
 ghost use Rattle.pec_provider.specs.Provider.{Runs, RunsIn, desk_of};
@@ -23,7 +24,7 @@ use pec_records::Entry;
 use pec_seal::Sealer;
 use pec_stock::enter;
 use pec_trade::House;
-use pec_types::{Mark, Moment, ProviderFault};
+use pec_types::{Mark, Moment, ProviderFault, Steps};
 use std::alloc::Global;
 
 impl<D> Provider<D> {
@@ -48,13 +49,14 @@ impl<D> Provider<D> {
 
 impl<D: Disk> Provider<D> {
     /// Appends an entry that is a step, and takes it in once it is durable. All memory is taken before. The answer is
-    /// the marks of a clock call, and none for another entry.
+    /// the marks of a clock call, and none for another entry. The acceptances that it looks up are counted as steps.
     // It takes the entry, so that the drop of one is written here alone, and not in every call that appends.
     pub(crate) fn append<S: Sealer>(
         &mut self,
         alloc: Global,
         house: &House<'_, S>,
         entry: Entry,
+        steps: &mut Steps,
     ) -> Result<Vec<Mark>, ProviderFault>
         requires up { self.old.chronicle.down ≡ false }
         requires runs { RunsIn house.now self.old }
@@ -67,6 +69,8 @@ impl<D: Disk> Provider<D> {
             ≡ map told_mark
             (marks_by trade house.now.me (half trade house.now.me self.old.chronicle.entries) entry)) }
         ensures owed { (self.new.owed ≡ self.old.owed) × (self.new.places ≡ self.old.places) }
+        ensures looked { (trade : Trade) → IsOf house.now.directory.now trade
+            → Looked trade self.old.shelf entry self.new.shelf.looks steps.old steps.new result }
         ensures runs { RunsIn house.now self.new }
         ensures carries { D.tells → CarriesOn D.sight (OnlyMay self.old.chronicle.entries (Some entry))
             self.old.chronicle self.new.chronicle }
@@ -81,6 +85,7 @@ impl<D: Disk> Provider<D> {
             &mut self.chronicle,
             &mut self.shelf,
             &entry,
+            steps,
         )
     }
 }

@@ -18,6 +18,7 @@ ghost use Rattle.pec_provider.specs.Following.{MayFollow};
 ghost use Rattle.pec_provider.specs.Looking.{Looks};
 ghost use Rattle.pec_provider.specs.Playing.{Plays};
 ghost use Rattle.pec_provider.specs.Provider.{RunsIn, desk_of};
+ghost use Rattle.pec_provider.specs.Ticking.{Ticks};
 
 use crate::provider::Provider;
 use pec_outside::Disk;
@@ -29,7 +30,7 @@ use pec_seal::Sealer;
 use pec_stock::stands_still;
 use pec_trade::{House, a_house_is_a_trade};
 use pec_types::{
-    Address, Cause, Items, Mark, Moment, MsgId, NoMemory, ProviderFault, Submitted, Text8,
+    Address, Cause, Items, Mark, Moment, MsgId, NoMemory, ProviderFault, Steps, Submitted, Text8,
 };
 use std::alloc::Global;
 
@@ -76,23 +77,26 @@ impl<D: Disk> Provider<D> {
         a_house_is_a_trade(house);
         stands_still(&self.chronicle);
         let (entry, answer) = self.admitted(alloc, house, moment, sender, path, message, screens)?;
-        self.append(alloc, house, entry)?;
+        self.append(alloc, house, entry, &mut Steps::new())?;
         Ok(answer)
     }
 
     /// Looks at the clock: the sender of each pair whose outcome isn't known in time gets a warning or a notice. The
     /// answer tells the pairs, in order of number and recipients. The first of these refusals that applies is answered:
-    /// `Down`, `ClockBack`, `NoMemory`, `JournalFull`, `DiskFault`.
+    /// `Down`, `ClockBack`, `NoMemory`, `JournalFull`, `DiskFault`. Each acceptance that is looked up is a step.
     pub fn tick<S: Sealer>(
         &mut self,
         alloc: Global,
         house: &House<'_, S>,
         moment: Moment,
+        steps: &mut Steps,
     ) -> Result<Vec<Mark>, ProviderFault>
         requires { RunsIn house.now self.old }
         ensures plays { Plays (λ marks. Marks marks.items) (λ luck sites.
             played (world_at house.now) luck sites
             (Tick house.now.me moment)) house.now.me (desk_of self.old) (desk_of self.new) result }
+        // At most two more acceptances are looked up than limits of pairs pass in the call, and as many as pass on Ok.
+        ensures looked { Ticks (world_at house.now) house.now.me moment self.old self.new steps.old steps.new result }
         ensures owed { self.new.owed ≡ self.old.owed }
         ensures runs { RunsIn house.now self.new }
         ensures carries { D.tells → (journals : Journals) → CarriesOn D.sight
@@ -105,7 +109,7 @@ impl<D: Disk> Provider<D> {
         what_a_provider_does_may_follow();
         stands_still(&self.chronicle);
         self.at_work(moment)?;
-        let marks = self.append(alloc, house, Entry::Ticked { moment })?;
+        let marks = self.append(alloc, house, Entry::Ticked { moment }, steps)?;
         Ok(marks)
     }
 }

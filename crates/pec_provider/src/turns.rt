@@ -32,7 +32,7 @@ use pec_records::Entry;
 use pec_seal::Sealer;
 use pec_stock::stands_still;
 use pec_trade::{House, a_house_is_a_trade};
-use pec_types::{Event, Frame, Letter, Moment, NoMemory, ProviderFault};
+use pec_types::{Event, Frame, Letter, Moment, NoMemory, ProviderFault, Steps};
 use std::alloc::Global;
 
 impl<D: Disk> Provider<D> {
@@ -160,7 +160,7 @@ impl<D: Disk> Provider<D> {
         stands_still(&self.chronicle);
         match entry {
             Some(entry) => {
-                self.append(alloc, house, entry)?;
+                self.append(alloc, house, entry, &mut Steps::new())?;
                 Ok(())
             }
             None => Ok(()),

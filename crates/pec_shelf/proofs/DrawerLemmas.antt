@@ -269,9 +269,6 @@ rank_is owner counts front row found place rank before one counted own p r b o c
 pub no_place : {R : Type 0} (own : List (ℕ × R)) (rank : ℕ) (found : Option (RankedRow R)) → found ≡ None → option_map placed_row found ≡ slice_get own rank → length own ≤ rank
 no_place own rank found none e = past_none own rank (sym e ∙ ap (option_map placed_row) none)
 
-pub rows_long : {R : Type 0} (ranked : List (RankedRow R)) (rows : List R) → rows_in ranked ≡ rows → length ranked ≡ length rows
-rows_long {R} ranked rows e = sym (length-map ranked (λ (r : RankedRow R). r.row)) ∙ ap (λ (rs : List R). length rs) e
-
 -- ---- the last row of an account
 
 module _ {R : Type 0} (owner : R → Option Bytes) (counts : R → Bool) (account : Bytes) where

@@ -17,11 +17,16 @@ use Rattle.pec_ledger.specs.Lookups.{Accepted, accepted_of, at_home, is_home, kn
 use Rattle.pec_ledger.specs.Marks.{mark_for, marks_from, marks_of}
 use Rattle.pec_ledger.specs.Pairs.{id_of, pair_of}
 use Rattle.pec_ledger.specs.Trade.{Trade}
+use Rattle.pec_ledger.specs.Deadlines.{acceptances}
+use Rattle.pec_shelf.specs.Deadlines.{clock_at}
+use Rattle.pec_shelf.specs.Looked.{acceptances_seen}
 use Rattle.pec_shelf.specs.Lines.{awaits_at, book_rows, envelope_rows, is_at, is_heard, line_at, mark_at, marks_rows}
 use Rattle.pec_shelf.specs.Prepared.{Prepared, Takes, nothing, with_marks}
 use Rattle.pec_shelf.specs.Seen.{IsFor, Seen, certified_at, certified_by, certified_in, certified_of}
 use Rattle.pec_shelf.specs.Sides.{Kept, certified_of_rows, messages_of}
 use Rattle.pec_shelf.specs.declared.certified.Certified.{Certified}
+use Rattle.pec_shelf.specs.declared.deadlines.Clock.{Clock}
+use Rattle.pec_shelf.proofs.AcceptanceLemmas.{seen_are}
 
 same_heads : {X : Type 0} (x y : X) (xs ys : List X) → x ∷ xs ≡ y ∷ ys → (x ≡ y) × (xs ≡ ys)
 same_heads x y xs ys e = (cc, cc)
@@ -179,8 +184,14 @@ the_due trade shelf to room rows messages certified for =
     ∙ ap (λ ms. envelopes_from trade shelf.me shelf.half to 0 ms) messages in
     ap (λ es. take room (outcomes_to shelf.half to ++ es)) envelopes
 
-pub ticked_is : (trade : Trade) (shelf : Seen) (now : ℕ) (rows : List Kept) (ready : Prepared) → messages_of rows ≡ shelf.half.messages → certified_of_rows rows ≡ shelf.certified
-    → IsFor trade shelf → ready ≡ with_marks shelf.half nothing (marks_rows shelf.me shelf.half now 0 rows)
-    → Takes trade shelf.me shelf.half (entries.Ticked now) (Ok ready)
-ticked_is trade shelf now rows ready messages certified for is =
-    (tt, is ∙ ap (with_marks shelf.half nothing) (the_marks trade shelf now rows messages certified for))
+pub ticked_is : (trade : Trade) (shelf : Seen) (now : ℕ) (rows : List Kept) (clock : Clock) (marked ready : Prepared) → messages_of rows ≡ shelf.half.messages
+    → certified_of_rows rows ≡ shelf.certified
+    → IsFor trade shelf → marked ≡ with_marks shelf.half nothing (marks_rows shelf.me shelf.half now 0 rows) → ready ≡ record marked { clock = Some clock }
+    → clock ≡ clock_at now (acceptances_seen shelf) → Takes trade shelf.me shelf.half (entries.Ticked now) (Ok ready)
+ticked_is trade shelf now rows clock marked ready messages certified for is with told =
+    let all = is ∙ ap (with_marks shelf.half nothing) (the_marks trade shelf now rows messages certified for) in
+    let stands : clock ≡ clock_at now (acceptances trade shelf.half) = told ∙ ap (clock_at now) (seen_are trade shelf for) in (
+      tt,
+      with ∙ ap (λ (p : Prepared). record p { clock = Some clock }) all
+          ∙ ap (λ (k : Clock). record (with_marks shelf.half nothing (marks_from trade shelf.me shelf.half now 0 shelf.half.messages)) { clock = Some k }) stands,
+    )

@@ -1,12 +1,17 @@
+pub mod AcceptanceLemmas
 pub mod BookLemmas
+pub mod CursorLemmas
 pub mod DrawerLemmas
 pub mod DueLemmas
 pub mod KeptLemmas
 pub mod ListLemmas
+pub mod LookLemmas
 pub mod LoopLemmas
 pub mod MarkLemmas
 pub mod OwnLemmas
 pub mod PairLemmas
+pub mod PairingLemmas
+pub mod PassedLemmas
 pub mod SizeLemmas
 pub mod StepLemmas
 pub mod StillLemmas
@@ -14,3 +19,4 @@ pub mod SummaryLemmas
 pub mod TradeLemmas
 pub mod UndecidedLemmas
 pub mod WaitingLemmas
+pub mod WatchLemmas

@@ -73,10 +73,6 @@ all_is p xs b e = (λ t. all_pass p xs (sym e ∙ of_truth b t), λ a. truth b (
 pub differ_is : (xs : Path) (b : Bool) → b ≡ all_differ xs → IsTrue b ↔ AllDiffer xs
 differ_is xs b e = (λ t. differ xs (sym e ∙ of_truth b t), λ d. truth b (e ∙ differ_back xs d))
 
-pub not_false : (b : Bool) → not b ≡ false → b ≡ true
-not_false true e = refl
-not_false false e = absurd (false≢true (sym e))
-
 pub not_empty : (n : ℕ) (b : Bool) → b ≡ (n == 0) → b ≡ false → 0 < n
 not_empty zero b e f = absurd (false≢true (sym f ∙ e))
 not_empty (suc n) b e f = omega arith

@@ -1,8 +1,7 @@
 -- Loops over lists that go on behind what is done.
-use Rattle.std.proofs.Common.{◌≡◌, ℕ, suc, Bool, ◌+◌, ◌<◌, ◌≤◌, List, [], ◌∷◌, ◌++◌, length, map, take, drop, get_or, refl, sym, ap, ◌∙◌, append_assoc, append-nil, add-one, drop-cons, Option, Some, None}
+use Rattle.std.proofs.Common.{◌≡◌, ℕ, suc, Bool, ◌+◌, ◌<◌, List, [], ◌∷◌, ◌++◌, length, map, take, drop, get_or, refl, sym, ap, ◌∙◌, append_assoc, append-nil, add-one, drop-cons, Option, Some, None}
 use Rattle.std.specs.List.{filter_map, find, flat_map}
 use Rattle.std.specs.Option.{option_or}
-use Rattle.std.proofs.Math.ListN.{drop_of_length-le}
 use Rattle.std.proofs.lemmas.List.{get_or_default, map-append, take_more}
 use Rattle.std.proofs.lemmas.Grind.{flat_map-append}
 use Rattle.std.proofs.lemmas.List.Folds.{find-append}
@@ -30,19 +29,6 @@ flat_behind f xs n d front now new l h more =
 pub filter_map_joined : {X Y : Type 0} (h : X → Option Y) (xs ys : List X) → filter_map h (xs ++ ys) ≡ filter_map h xs ++ filter_map h ys
 filter_map_joined h xs ys = filter_map-append h xs ys
 
--- nothing is left behind the end
-pub step_off : {X Y : Type 0} (rest : ℕ → List X → List Y) → ((n : ℕ) → rest n [] ≡ []) → (all : List Y) (xs : List X) (n : ℕ) (old : List Y)
-    → length xs ≤ n → all ≡ old ++ rest n (drop n xs) → all ≡ old
-step_off rest ends all xs n old l h = h ∙ ap (λ ys. old ++ rest n ys) (drop_of_length-le xs l) ∙ ap (λ ys. old ++ ys) (ends n) ∙ append-nil old
-
--- what is left begins with what an item gives
-pub step_on : {X Y : Type 0} (rest : ℕ → List X → List Y) (at : ℕ → X → List Y) → ((n : ℕ) (x : X) (xs : List X) → rest n (x ∷ xs) ≡ at n x ++ rest (n + 1) xs)
-    → (all : List Y) (xs : List X) (n : ℕ) (x : X) (old new : List Y) → n < length xs → x ≡ get_or xs n x → all ≡ old ++ rest n (drop n xs) → new ≡ old ++ at n x
-    → all ≡ new ++ rest (n + 1) (drop (n + 1) xs)
-step_on rest at begins all xs n x old new l e h more =
-    h ∙ ap (λ ys. old ++ rest n ys) (drop_at xs n x l e) ∙ ap (λ ys. old ++ ys) (begins n x (drop (n + 1) xs)) ∙ sym (append_assoc old (at n x) _)
-    ∙ ap (λ ys. ys ++ rest (n + 1) (drop (n + 1) xs)) (sym more)
-
 pub marks_joined : (half : Half) (ready : Prepared) (a b : List Mark) → with_marks half (with_marks half ready a) b ≡ with_marks half ready (a ++ b)
 marks_joined half ready a b = rw (append_assoc ready.adds.marks a b, map-append (notice_by half) a b, append_assoc ready.adds.items (map (notice_by half) a) (map (notice_by half) b)) refl
 
@@ -68,14 +54,10 @@ pair_later test of xs n d l h none =
 
 -- ---- marks
 
-pub marks_more : {X : Type 0} (half : Half) (mark : X → Option Mark) (xs : List X) (n : ℕ) (x : X) (old now new : Prepared) → n < length xs → x ≡ get_or xs n x
-    → now ≡ with_marks half old (filter_map mark (take n xs)) → new ≡ with_marks half now (filter_map mark (x ∷ []))
-    → new ≡ with_marks half old (filter_map mark (take (n + 1) xs))
-marks_more half mark xs n x old now new l e h step =
-    step ∙ ap (λ (r : Prepared). with_marks half r (filter_map mark (x ∷ []))) h ∙ marks_joined half old (filter_map mark (take n xs)) (filter_map mark (x ∷ []))
-    ∙ ap (with_marks half old) (sym (filter_map-append mark (take n xs) (x ∷ []))) ∙ ap (λ ys. with_marks half old (filter_map mark ys)) (sym (take_one xs n x l e))
-
 pub filter_more : {X Y : Type 0} (h : X → Option Y) (xs : List X) (n : ℕ) (x : X) (old new : List Y) → n < length xs → x ≡ get_or xs n x → old ≡ filter_map h (take n xs)
     → new ≡ old ++ filter_map h (x ∷ []) → new ≡ filter_map h (take (n + 1) xs)
 filter_more h xs n x old new l e is step =
     step ∙ ap (λ ys. ys ++ filter_map h (x ∷ [])) is ∙ sym (filter_map-append h (take n xs) (x ∷ [])) ∙ ap (filter_map h) (sym (take_one xs n x l e))
+
+pub no_marks_more : (half : Half) (ready : Prepared) (marks : List Mark) → marks ≡ [] → ready ≡ with_marks half ready marks
+no_marks_more half ready marks none = rw (none, append-nil ready.adds.marks, append-nil ready.adds.items) refl

@@ -4,7 +4,6 @@ use Rattle.std.specs.List.{flat_map}
 use Rattle.pec_types.specs.Bytes.{Bytes, Path}
 use Rattle.pec_types.specs.Message.{Id}
 use Rattle.pec_types.specs.declared.messages.Cause.{Cause}
-use Rattle.pec_types.specs.declared.messages.Cause.TheVariants as causes
 use Rattle.pec_types.specs.declared.messages.Decision.{Decision}
 use Rattle.pec_types.specs.declared.messages.Decision.TheVariants as decisions
 use Rattle.pec_types.specs.declared.messages.Refusal.TheVariants as refusals
@@ -47,14 +46,7 @@ decision_long (decisions.Refused refusals.MailboxFull) = refl
 decision_long (decisions.Refused refusals.Virus) = refl
 
 cause_long : (c : Cause) → length (cause_field c) ≡ 1
-cause_long causes.Head = refl
-cause_long causes.From = refl
-cause_long causes.To = refl
-cause_long causes.ReversePath = refl
-cause_long causes.ForwardPath = refl
-cause_long causes.Bcc = refl
-cause_long causes.Size = refl
-cause_long causes.Virus = refl
+cause_long c = refl
 
 -- what a further address adds
 pub addresses_joined : (addresses : Path) (address : Bytes)

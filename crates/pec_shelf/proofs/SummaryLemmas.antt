@@ -1,5 +1,5 @@
 -- What is counted row by row is the summary of the ledger, where the homes that are kept are the trade's.
-use Rattle.std.proofs.Common.{◌≡◌, ℕ, ◌+◌, ◌≤◌, Bool, true, false, cond, List, [], ◌∷◌, ◌++◌, length, map, drop, refl, sym, ap, ◌∙◌, arith, Option, Some, None, is_some, slice_get}
+use Rattle.std.proofs.Common.{◌≡◌, ℕ, suc, ◌+◌, ◌*◌, ◌<◌, ◌≤◌, Bool, true, false, cond, List, [], ◌∷◌, ◌++◌, length, map, drop, refl, sym, ap, subst, ◌∙◌, arith, Option, Some, None, is_some, slice_get}
 use Rattle.std.specs.List.{cons_option, filter, filter_map}
 use Rattle.std.specs.Option.{option_map}
 use Rattle.std.proofs.Math.ListN.{drop_of_length-le}
@@ -15,11 +15,14 @@ use Rattle.pec_ledger.specs.Pairs.{Pair, id_of, pair_of}
 use Rattle.pec_ledger.specs.Trade.{Trade}
 use Rattle.pec_shelf.specs.Seen.{certified_at, certified_by, certified_in, certified_of}
 use Rattle.pec_shelf.specs.Sides.{Kept, certified_of_rows, messages_of}
-use Rattle.pec_shelf.specs.Summaries.{all_pairs, is_accepted, is_delivered, is_noticed, is_turned_away, is_unknown, nothing_yet, pairs_from, pairs_of, summary_of}
+use Rattle.pec_shelf.specs.Summaries.{IsUpTo, all_pairs, is_accepted, is_delivered, is_noticed, is_turned_away, is_unknown, most_pairs, nothing_yet, pairs_from, pairs_of, summary_of}
 use Rattle.pec_shelf.specs.SummariesReading.{more_if, with_accepted, with_message, with_messages, with_pair, with_pairs}
 use Rattle.pec_shelf.specs.declared.certified.Certified.{Certified}
 use Rattle.pec_shelf.specs.declared.summing.Summary.{Summary}
+use Rattle.pec_types.specs.Timetable.{greatest}
+use Rattle.pec_shelf.specs.Deadlines.{pairs_at, pairs_in}
 use Rattle.pec_shelf.proofs.LoopLemmas.{drop_at}
+use Rattle.pec_shelf.proofs.PairingLemmas.{length_at}
 
 same_heads : {X : Type 0} (x y : X) (xs ys : List X) → x ∷ xs ≡ y ∷ ys → (x ≡ y) × (xs ≡ ys)
 same_heads x y xs ys e = (cc, cc)
@@ -34,7 +37,124 @@ same_five a b d e r s u v n m ab de rs uv nm =
     ap (λ x. five x d r u n) ab
     ∙ (ap (λ x. five b x r u n) de ∙ (ap (λ x. five b e x u n) rs ∙ (ap (λ x. five b e s x n) uv ∙ ap (λ x. five b e s v x) nm)))
 
-counted_more : {X : Type 0} (test : X → Bool) (n : ℕ) (x : X) (xs : List X) → more_if n (test x) + times test xs ≡ n + times test (x ∷ xs)
+-- ---- numbers that don't come to their greatest value
+
+-- one more, where that counts, whatever the number is
+abbrev one_if : ℕ → Bool → ℕ
+one_if count counts = cond counts (count + 1) count
+
+abbrev exact_pair : Half → Summary → Pair → Summary
+exact_pair half s pair = five s.accepted (one_if s.delivered (is_delivered half pair)) (one_if s.refused (is_turned_away half pair))
+    (one_if s.unknown (is_unknown half pair)) (one_if s.noticed (is_noticed half pair))
+
+abbrev exact_pairs : Half → Id → Summary → List Certified → Summary
+exact_pairs half id s [] = s
+exact_pairs half id s (one ∷ others) = exact_pairs half id (exact_pair half s (pair_of id one.address)) others
+
+abbrev exact_accepted : Summary → Kept → Summary
+exact_accepted s row = record s { accepted = one_if s.accepted (is_accepted row.message) }
+
+abbrev exact_messages : ℕ → Half → Summary → ℕ → List Kept → Summary
+exact_messages me half s number [] = s
+exact_messages me half s number (row ∷ rows) =
+    exact_messages me half (exact_pairs half (id_of me number) (exact_accepted s row) row.certified) (number + 1) rows
+
+-- so many messages and pairs
+abbrev size_of : List Kept → ℕ
+size_of [] = 0
+size_of (row ∷ rows) = suc (length row.certified) + size_of rows
+
+same_one : (n most : ℕ) (b : Bool) → n ≤ most → most < greatest → more_if n b ≡ one_if n b
+same_one n most true l below = omega arith
+same_one n most false l below = refl
+
+one_up : (n most : ℕ) (b : Bool) → n ≤ most → one_if n b ≤ most + 1
+one_up n most true l = omega arith
+one_up n most false l = omega arith
+
+pair_same : (half : Half) (s : Summary) (pair : Pair) (most : ℕ) → IsUpTo s most → most < greatest → with_pair half s pair ≡ exact_pair half s pair
+pair_same half s pair most up below = same_five s.accepted s.accepted _ _ _ _ _ _ _ _ refl
+    (same_one s.delivered most (is_delivered half pair) up.delivered below) (same_one s.refused most (is_turned_away half pair) up.refused below)
+    (same_one s.unknown most (is_unknown half pair) up.unknown below) (same_one s.noticed most (is_noticed half pair) up.noticed below)
+
+pair_up : (half : Half) (s : Summary) (pair : Pair) (most : ℕ) → IsUpTo s most → IsUpTo (exact_pair half s pair) (most + 1)
+pair_up half s pair most up = record {
+  accepted = omega (arith, up.accepted);
+  delivered = one_up s.delivered most (is_delivered half pair) up.delivered;
+  refused = one_up s.refused most (is_turned_away half pair) up.refused;
+  unknown = one_up s.unknown most (is_unknown half pair) up.unknown;
+  noticed = one_up s.noticed most (is_noticed half pair) up.noticed;
+}
+
+further_up : (s : Summary) (most more : ℕ) → most ≡ more → IsUpTo s most → IsUpTo s more
+further_up s most more e up = subst (IsUpTo s) e up
+
+pairs_same : (half : Half) (id : Id) (s : Summary) (certified : List Certified) (most : ℕ) → IsUpTo s most → most + length certified ≤ greatest
+    → with_pairs half id s certified ≡ exact_pairs half id s certified
+pairs_same half id s [] most up below = refl
+pairs_same half id s (one ∷ others) most up below =
+    ap (λ t. with_pairs half id t others) (pair_same half s (pair_of id one.address) most up (omega arith))
+    ∙ pairs_same half id (exact_pair half s (pair_of id one.address)) others (most + 1) (pair_up half s (pair_of id one.address) most up) (omega arith)
+
+pairs_up : (half : Half) (id : Id) (s : Summary) (certified : List Certified) (most : ℕ) → IsUpTo s most → IsUpTo (exact_pairs half id s certified) (most + length certified)
+pairs_up half id s [] most up = further_up s most (most + 0) (omega arith) up
+pairs_up half id s (one ∷ others) most up =
+    further_up _ ((most + 1) + length others) (most + suc (length others)) (omega arith)
+    (pairs_up half id (exact_pair half s (pair_of id one.address)) others (most + 1) (pair_up half s (pair_of id one.address) most up))
+
+accepted_up : (s : Summary) (row : Kept) (most : ℕ) → IsUpTo s most → IsUpTo (exact_accepted s row) (most + 1)
+accepted_up s row most up = record {
+  accepted = one_up s.accepted most (is_accepted row.message) up.accepted;
+  delivered = omega (arith, up.delivered);
+  refused = omega (arith, up.refused);
+  unknown = omega (arith, up.unknown);
+  noticed = omega (arith, up.noticed);
+}
+
+messages_same : (me : ℕ) (half : Half) (s : Summary) (number : ℕ) (rows : List Kept) (most : ℕ) → IsUpTo s most → most + size_of rows ≤ greatest
+    → with_messages me half s number rows ≡ exact_messages me half s number rows
+messages_same me half s number [] most up below = refl
+messages_same me half s number (row ∷ rows) most up below =
+    let id = id_of me number in
+    let accepted : with_accepted s row ≡ exact_accepted s row =
+    ap (λ n. five n s.delivered s.refused s.unknown s.noticed) (same_one s.accepted most (is_accepted row.message) up.accepted (omega arith)) in
+    ap (λ t. with_messages me half (with_pairs half id t row.certified) (number + 1) rows) accepted
+    ∙ (ap (λ t. with_messages me half t (number + 1) rows)
+    (pairs_same half id (exact_accepted s row) row.certified (most + 1) (accepted_up s row most up) (omega arith))
+    ∙ messages_same me half (exact_pairs half id (exact_accepted s row) row.certified) (number + 1) rows ((most + 1) + length row.certified)
+    (pairs_up half id (exact_accepted s row) row.certified (most + 1) (accepted_up s row most up)) (omega arith))
+
+messages_up : (me : ℕ) (half : Half) (s : Summary) (number : ℕ) (rows : List Kept) (most : ℕ) → IsUpTo s most
+    → IsUpTo (exact_messages me half s number rows) (most + size_of rows)
+messages_up me half s number [] most up = further_up s most (most + 0) (omega arith) up
+messages_up me half s number (row ∷ rows) most up =
+    let id = id_of me number in
+    further_up _ (((most + 1) + length row.certified) + size_of rows) (most + (suc (length row.certified) + size_of rows)) (omega arith)
+    (messages_up me half (exact_pairs half id (exact_accepted s row) row.certified) (number + 1) rows ((most + 1) + length row.certified)
+    (pairs_up half id (exact_accepted s row) row.certified (most + 1) (accepted_up s row most up)))
+
+sized : (number : ℕ) (rows : List Kept) → size_of rows ≡ length rows + length (pairs_in number rows)
+sized number [] = refl
+sized number (row ∷ rows) = omega (
+  arith,
+  sized (number + 1) rows,
+  length-append (pairs_at number 0 row.message.moment row.certified) (pairs_in (number + 1) rows),
+  length_at number 0 row.message.moment row.certified,
+)
+
+none_up : IsUpTo nothing_yet 0
+none_up = record { accepted = omega arith; delivered = omega arith; refused = omega arith; unknown = omega arith; noticed = omega arith }
+
+higher_up : (s : Summary) (low high : ℕ) → low ≤ high → IsUpTo s low → IsUpTo s high
+higher_up s low high l up = record {
+  accepted = omega (arith, up.accepted);
+  delivered = omega (arith, up.delivered);
+  refused = omega (arith, up.refused);
+  unknown = omega (arith, up.unknown);
+  noticed = omega (arith, up.noticed);
+}
+
+counted_more : {X : Type 0} (test : X → Bool) (n : ℕ) (x : X) (xs : List X) → one_if n (test x) + times test xs ≡ n + times test (x ∷ xs)
 counted_more {X} test n x xs = by (test x)
   where
     by : (b : Bool) → cond b (n + 1) n + length (filter test xs) ≡ n + length (cond b (x ∷ filter test xs) (filter test xs))
@@ -57,21 +177,21 @@ with_all half s pairs = five s.accepted (s.delivered + times (is_delivered half)
     (s.unknown + times (is_unknown half) pairs) (s.noticed + times (is_noticed half) pairs)
 
 -- the pairs of these recipients
-abbrev pairs_in : Id → List Certified → List Pair
-pairs_in id certified = map (λ (one : Certified). pair_of id one.address) certified
+abbrev pairs_for : Id → List Certified → List Pair
+pairs_for id certified = map (λ (one : Certified). pair_of id one.address) certified
 
 zero_more : (n : ℕ) → n ≡ n + 0
 zero_more n = omega arith
 
 pairs_counted : (half : Half) (id : Id) (s : Summary) (certified : List Certified)
-    → with_pairs half id s certified ≡ with_all half s (pairs_in id certified)
+    → exact_pairs half id s certified ≡ with_all half s (pairs_for id certified)
 pairs_counted half id s [] =
     same_five s.accepted s.accepted s.delivered _ s.refused _ s.unknown _ s.noticed _ refl (zero_more s.delivered) (zero_more s.refused)
     (zero_more s.unknown) (zero_more s.noticed)
 pairs_counted half id s (one ∷ others) =
     let pair = pair_of id one.address in
-    let rest = pairs_in id others in
-    pairs_counted half id (with_pair half s pair) others
+    let rest = pairs_for id others in
+    pairs_counted half id (exact_pair half s pair) others
     ∙ same_five s.accepted s.accepted _ _ _ _ _ _ _ _ refl
     (counted_more (is_delivered half) s.delivered pair rest) (counted_more (is_turned_away half) s.refused pair rest)
     (counted_more (is_unknown half) s.unknown pair rest) (counted_more (is_noticed half) s.noticed pair rest)
@@ -79,7 +199,7 @@ pairs_counted half id s (one ∷ others) =
 -- the pairs of rows, numbered from here on
 abbrev pairs_rows : ℕ → ℕ → List Kept → List Pair
 pairs_rows me number [] = []
-pairs_rows me number (row ∷ rows) = pairs_in (id_of me number) row.certified ++ pairs_rows me (number + 1) rows
+pairs_rows me number (row ∷ rows) = pairs_for (id_of me number) row.certified ++ pairs_rows me (number + 1) rows
 
 -- a summary with these rows
 abbrev with_rows : ℕ → Half → Summary → ℕ → List Kept → Summary
@@ -90,16 +210,16 @@ further : {X : Type 0} (test : X → Bool) (n : ℕ) (xs ys : List X) → (n + t
 further test n xs ys = omega (arith, counted_both test xs ys)
 
 rows_counted : (me : ℕ) (half : Half) (s : Summary) (number : ℕ) (rows : List Kept)
-    → with_messages me half s number rows ≡ with_rows me half s number rows
+    → exact_messages me half s number rows ≡ with_rows me half s number rows
 rows_counted me half s number [] =
     same_five s.accepted _ s.delivered _ s.refused _ s.unknown _ s.noticed _ (zero_more s.accepted) (zero_more s.delivered)
     (zero_more s.refused) (zero_more s.unknown) (zero_more s.noticed)
 rows_counted me half s number (row ∷ rows) =
     let id = id_of me number in
-    let here = pairs_in id row.certified in
+    let here = pairs_for id row.certified in
     let rest = pairs_rows me (number + 1) rows in
-    ap (λ t. with_messages me half t (number + 1) rows) (pairs_counted half id (with_accepted s row) row.certified)
-    ∙ (rows_counted me half (with_all half (with_accepted s row) here) (number + 1) rows
+    ap (λ t. exact_messages me half t (number + 1) rows) (pairs_counted half id (exact_accepted s row) row.certified)
+    ∙ (rows_counted me half (with_all half (exact_accepted s row) here) (number + 1) rows
     ∙ same_five _ _ _ _ _ _ _ _ _ _ (counted_more is_accepted s.accepted row.message (messages_of rows))
     (further (is_delivered half) s.delivered here rest) (further (is_turned_away half) s.refused here rest)
     (further (is_unknown half) s.unknown here rest) (further (is_noticed half) s.noticed here rest))
@@ -107,20 +227,20 @@ rows_counted me half s number (row ∷ rows) =
 -- ---- the pairs are the ledger's
 
 pairs_step : (id : Id) (r : Recipient) (xs : List Certified) (ys : List Recipient)
-    → pairs_in id xs ≡ map (λ (recipient : Recipient). pair_of id recipient.address) ys → (home : Option ℕ)
-    → pairs_in id (cons_option (option_map (certified_at r) home) xs)
+    → pairs_for id xs ≡ map (λ (recipient : Recipient). pair_of id recipient.address) ys → (home : Option ℕ)
+    → pairs_for id (cons_option (option_map (certified_at r) home) xs)
     ≡ map (λ (recipient : Recipient). pair_of id recipient.address) (cond (is_some home) (r ∷ ys) ys)
 pairs_step id r xs ys more None = more
 pairs_step id r xs ys more (Some home) = ap (λ pairs. pair_of id r.address ∷ pairs) more
 
 pairs_certified : (trade : Trade) (id : Id) (rs : List Recipient)
-    → pairs_in id (filter_map (certified_of trade) rs)
+    → pairs_for id (filter_map (certified_of trade) rs)
     ≡ map (λ (recipient : Recipient). pair_of id recipient.address) (filter (λ (recipient : Recipient). is_some (trade.home recipient.address)) rs)
 pairs_certified trade id [] = refl
 pairs_certified trade id (r ∷ rs) = pairs_step id r _ _ (pairs_certified trade id rs) (trade.home r.address)
 
 pairs_message : (trade : Trade) (id : Id) (message : Message) (facts : Option Facts) → message.facts ≡ facts
-    → pairs_in id (certified_in trade facts) ≡ pairs_of trade id (accepted_of message)
+    → pairs_for id (certified_in trade facts) ≡ pairs_of trade id (accepted_of message)
 pairs_message trade id message None e = rw e refl
 pairs_message trade id message (Some facts) e = rw e (pairs_certified trade id facts.recipients)
 
@@ -129,14 +249,14 @@ pairs_are : (trade : Trade) (me number : ℕ) (rows : List Kept) → certified_o
 pairs_are trade me number [] e = refl
 pairs_are trade me number (row ∷ rows) e =
     let parts = same_heads _ _ _ _ e in
-    ap (λ certified. pairs_in (id_of me number) certified ++ pairs_rows me (number + 1) rows) parts.0
+    ap (λ certified. pairs_for (id_of me number) certified ++ pairs_rows me (number + 1) rows) parts.0
     ∙ (ap (λ pairs. pairs ++ pairs_rows me (number + 1) rows) (pairs_message trade (id_of me number) row.message row.message.facts refl)
     ∙ ap (λ pairs. pairs_of trade (id_of me number) (accepted_of row.message) ++ pairs) (pairs_are trade me (number + 1) rows parts.1))
 
-pub summary_is : (trade : Trade) (me : ℕ) (half : Half) (rows : List Kept) → messages_of rows ≡ half.messages
+exact_is : (trade : Trade) (me : ℕ) (half : Half) (rows : List Kept) → messages_of rows ≡ half.messages
     → certified_of_rows rows ≡ map (certified_by trade) half.messages
-    → with_messages me half nothing_yet 0 rows ≡ summary_of trade me half
-summary_is trade me half rows messages certified =
+    → exact_messages me half nothing_yet 0 rows ≡ summary_of trade me half
+exact_is trade me half rows messages certified =
     let pairs : pairs_rows me 0 rows ≡ all_pairs trade me half =
     pairs_are trade me 0 rows (certified ∙ ap (map (certified_by trade)) (sym messages)) ∙ ap (pairs_from trade me 0) messages in
     rows_counted me half nothing_yet 0 rows
@@ -148,6 +268,24 @@ summary_is trade me half rows messages certified =
   where
     from_zero : {X : Type 0} (test : X → Bool) (xs ys : List X) → xs ≡ ys → 0 + times test xs ≡ times test ys
     from_zero test xs ys e = let none : 0 + times test xs ≡ times test xs = omega arith in none ∙ ap (times test) e
+
+-- a provider has at most so many messages, and so many pairs
+few_enough : (rows : List Kept) → length rows ≤ 1000000 → length (pairs_in 0 rows) ≤ 1000 * length rows → 0 + size_of rows ≤ most_pairs
+few_enough rows few full = omega (arith, sized 0 rows)
+
+pub summary_is : (trade : Trade) (me : ℕ) (half : Half) (rows : List Kept) → length rows ≤ 1000000 → length (pairs_in 0 rows) ≤ 1000 * length rows
+    → messages_of rows ≡ half.messages → certified_of_rows rows ≡ map (certified_by trade) half.messages
+    → with_messages me half nothing_yet 0 rows ≡ summary_of trade me half
+summary_is trade me half rows few full messages certified =
+    let below = few_enough rows few full in
+    messages_same me half nothing_yet 0 rows 0 none_up (omega (arith, below)) ∙ exact_is trade me half rows messages certified
+
+pub summary_few : (me : ℕ) (half : Half) (rows : List Kept) (summary : Summary) → length rows ≤ 1000000 → length (pairs_in 0 rows) ≤ 1000 * length rows
+    → summary ≡ with_messages me half nothing_yet 0 rows → IsUpTo summary most_pairs
+summary_few me half rows summary few full is =
+    let below = few_enough rows few full in
+    rw (is, messages_same me half nothing_yet 0 rows 0 none_up (omega (arith, below)))
+    (higher_up (exact_messages me half nothing_yet 0 rows) (0 + size_of rows) most_pairs below (messages_up me half nothing_yet 0 rows 0 none_up))
 
 -- ---- loops
 

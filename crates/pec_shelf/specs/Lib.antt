@@ -1,7 +1,9 @@
+pub mod Deadlines
 pub mod Drawers
 pub mod KeyLaws
 pub mod Keys
 pub mod Lines
+pub mod Looked
 pub mod Longest
 pub mod PairRows
 pub mod Prepared

@@ -1,22 +1,29 @@
 -- What an entry is prepared as: `Prepared`, all that it adds; and what is answered on an entry, `Prepares`: exactly the
 -- steps of the provider's half are taken. RFC 6109, sections 3.1 to 3.4, within this project's profile.
-use Rattle.std.specs.Prelude.{◌≡◌, ℕ, ◌+◌, ◌^◌, ◌<◌, ◌≤◌, List, [], ◌++◌, map, length, Result, Ok, Err}
+use Rattle.std.specs.Prelude.{◌≡◌, ℕ, ◌+◌, ◌^◌, ◌<◌, ◌≤◌, List, [], ◌++◌, map, length, Option, None, Some, Result, Ok, Err}
+use Rattle.std.specs.List.{flat_map}
 use Rattle.pec_types.specs.declared.mailboxes.Mark.{Mark as Told}
 use Rattle.pec_records.specs.declared.entries.Entry.{Entry}
+use Rattle.pec_records.specs.declared.entries.Entry.TheVariants as entries
 use Rattle.pec_ledger.specs.Along.{AllAlong}
+use Rattle.pec_ledger.specs.Deadlines.{acceptances}
 use Rattle.pec_ledger.specs.Half.{Adds, Half, Mark, empty, joined}
 use Rattle.pec_ledger.specs.Own.{Own}
 use Rattle.pec_ledger.specs.Steps.{adds, messages_by, moment_of, notice_by, step}
 use Rattle.pec_ledger.specs.Trade.{Trade}
+use Rattle.pec_shelf.specs.Deadlines.{clock_at}
 use Rattle.pec_shelf.specs.Seen.{IsFor, Seen, certified_by}
 use Rattle.pec_shelf.specs.declared.certified.Certified.{Certified}
+use Rattle.pec_shelf.specs.declared.deadlines.Clock.{Clock}
 use Rattle.pec_shelf.specs.declared.faults.PrepareFault.{PrepareFault}
 use Rattle.pec_shelf.specs.declared.faults.PrepareFault.TheVariants as faults
 
--- An entry that was prepared: what it adds to the half, and the certified recipients of the message that it adds.
+-- An entry that was prepared: what it adds to the half, the certified recipients of the message that it adds, and where
+-- the cursors of the time limits stand behind it, if it is a clock call.
 pub record Prepared : Type 0 where
   pub adds : Adds
   pub certified : List (List Certified)
+  pub clock : Option Clock
 
 -- The entry may follow: it meets its own condition in the half, and its moment isn't before the greatest.
 pub record IsStep (trade : Trade) (me : ℕ) (half : Half) (entry : Entry) : Type 0 where
@@ -27,11 +34,22 @@ pub record IsStep (trade : Trade) (me : ℕ) (half : Half) (entry : Entry) : Typ
 abbrev pub AreSteps : Trade → ℕ → List Entry → Type 0
 AreSteps trade me list = AllAlong (step trade me) (IsStep trade me) empty list
 
+-- where the cursors of the time limits stand behind an entry, if it is a clock call
+abbrev pub clock_by : Trade → Half → Entry → Option Clock
+clock_by trade half (entries.Ticked now) = Some (clock_at now (acceptances trade half))
+clock_by trade half _ = None
+
+-- the moment of the last clock call behind an entry
+abbrev pub ticked_behind : ℕ → Option Clock → ℕ
+ticked_behind last None = last
+ticked_behind last (Some clock) = clock.at
+
 -- What an entry is prepared as.
 abbrev pub prepared : Trade → ℕ → Half → Entry → Prepared
 prepared trade me half entry = record {
   adds = adds trade me half entry;
   certified = map (certified_by trade) (messages_by trade me half entry);
+  clock = clock_by trade half entry;
 }
 
 -- what adds no row
@@ -50,11 +68,12 @@ nothing = record {
     items = [];
   };
   certified = [];
+  clock = None;
 }
 
 -- the rows alone, without a moment and without bytes
 abbrev pub rows_of : Prepared → Prepared
-rows_of ready = record { adds = record ready.adds { moment = 0; size = 0 }; certified = ready.certified }
+rows_of ready = record { adds = record ready.adds { moment = 0; size = 0 }; certified = ready.certified; clock = ready.clock }
 
 -- What is answered on an entry whose moment isn't before the greatest: its rows, exactly where it meets its own condition.
 abbrev pub Takes : Trade → ℕ → Half → Entry → Result Prepared PrepareFault → Type 0
@@ -68,8 +87,13 @@ Prepares trade me half entry (Ok ready) = IsStep trade me half entry × (ready �
 Prepares trade me half entry (Err faults.NotAStep) = IsStep trade me half entry → ⊥
 Prepares trade me half entry (Err faults.NoMemory) = Unit {0}
 
--- None of the lists that a prepared entry adds is longer than this.
+-- the certified recipients of all messages, one after another
+abbrev pub all_of : List (List Certified) → List Certified
+all_of certified = flat_map (λ (some : List Certified). some) certified
+
+-- None of the lists that a prepared entry adds is longer than this, and there are no more pairs.
 pub record AreWithin (ready : Prepared) (room : ℕ) : Type 0 where
+  pub pairs : length (all_of ready.certified) ≤ room
   pub messages : length ready.adds.messages ≤ room
   pub certified : length ready.certified ≤ room
   pub charged : length ready.adds.charged ≤ room
@@ -100,6 +124,7 @@ pub record Goes (old new : Seen) (ready : Prepared) : Type 0 where
   pub me : new.me ≡ old.me
   pub half : new.half ≡ joined old.half ready.adds
   pub certified : new.certified ≡ old.certified ++ ready.certified
+  pub ticked : new.ticked ≡ ticked_behind old.ticked ready.clock
 
 -- what was prepared, with marks and their notices
 abbrev pub with_marks : Half → Prepared → List Mark → Prepared
@@ -109,6 +134,7 @@ with_marks half ready marks = record {
     items = ready.adds.items ++ map (notice_by half) marks;
   };
   certified = ready.certified;
+  clock = ready.clock;
 }
 
 -- a mark, as a clock call tells it

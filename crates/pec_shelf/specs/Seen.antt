@@ -10,12 +10,15 @@ use Rattle.pec_ledger.specs.Trade.{Trade}
 use Rattle.pec_shelf.specs.declared.certified.Certified.{Certified}
 
 -- A shelf: the number of its provider, the provider's half of the ledger, the certified recipients of each of its
--- messages, and how many further rows each of its lists has memory for.
+-- messages, how many further rows each of its lists has memory for, the moment of the last clock call, 0 where there was
+-- none, and how often the moment of an acceptance was looked up.
 pub record Seen : Type 0 where
   pub me : ℕ
   pub half : Half
   pub certified : List (List Certified)
   pub room : ℕ
+  pub ticked : ℕ
+  pub looks : ℕ
 
 -- a recipient that is at home somewhere
 abbrev pub certified_at : Recipient → ℕ → Certified
@@ -39,8 +42,9 @@ IsFor trade shelf = shelf.certified ≡ map (certified_by trade) shelf.half.mess
 
 -- The shelf of a provider before its first entry.
 abbrev pub IsNew : ℕ → Seen → Type 0
-IsNew me shelf = (shelf.me ≡ me) × (shelf.half ≡ empty) × (shelf.certified ≡ [])
+IsNew me shelf = (shelf.me ≡ me) × (shelf.half ≡ empty) × (shelf.certified ≡ []) × (shelf.ticked ≡ 0)
 
--- What is seen of the shelf is as it was: only room was made.
+-- What is seen of the shelf is as it was: only room was made, and acceptances were looked up.
 abbrev pub HoldsAs : Seen → Seen → Type 0
-HoldsAs old new = (new.me ≡ old.me) × (new.half ≡ old.half) × (new.certified ≡ old.certified)
+HoldsAs old new =
+    (new.me ≡ old.me) × (new.half ≡ old.half) × (new.certified ≡ old.certified) × (new.ticked ≡ old.ticked)

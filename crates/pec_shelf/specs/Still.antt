@@ -1,5 +1,5 @@
--- Of which messages and decisions something is still owed, and of which messages a clock call may still owe something,
--- over the rows that a shelf keeps: what the code follows.
+-- Of which messages and decisions something is still owed, and of which pairs a clock call may still owe something, over
+-- the rows that a shelf keeps: what the code follows.
 use Rattle.std.specs.Prelude.{◌≡◌, ℕ, ◌==◌, Bool, true, ◌&&◌, ◌||◌, List, [], ◌∷◌, find, slice_get, Option, Some, None, is_some, if◌then◌else◌}
 use Rattle.std.specs.List.{list_all}
 use Rattle.pec_types.specs.Message.{Id}
@@ -8,7 +8,7 @@ use Rattle.pec_ledger.specs.Due.{is_unheard, outcome_on}
 use Rattle.pec_ledger.specs.Half.{Charge, Fate, Half, Known, Mark}
 use Rattle.pec_ledger.specs.Lookups.{is_notice}
 use Rattle.pec_ledger.specs.Pairs.{Pair, id_of, pair_of, same_id, same_pair}
-use Rattle.pec_shelf.specs.Lines.{envelope_at, marks_at}
+use Rattle.pec_shelf.specs.Lines.{envelope_at}
 use Rattle.pec_shelf.specs.Sides.{Kept}
 use Rattle.pec_shelf.specs.declared.certified.Certified.{Certified}
 
@@ -53,15 +53,3 @@ abbrev pub is_settled : List Mark → List Known → Id → Certified → Bool
 is_settled marks known id certified =
     is_some (find (λ (row : Known). same_pair (pair_of id certified.address) row.pair) known)
     || is_some (find (λ (mark : Mark). is_notice mark.due && same_pair (pair_of id certified.address) mark.pair) marks)
-
--- no clock call owes anything on a certified recipient of a message any more
-abbrev pub IsSettled : ℕ → List Mark → List Known → ℕ → Kept → Type 0
-IsSettled me marks known number kept = list_all (is_settled marks known (id_of me number)) kept.certified ≡ true
-
-abbrev pub marks_of : ℕ → Half → ℕ → ℕ → Option Kept → List Mark
-marks_of me half now number None = []
-marks_of me half now number (Some kept) = marks_at half now (id_of me number) kept
-
--- the marks of a clock call on the message of a number
-abbrev pub marks_in : ℕ → Half → ℕ → List Kept → ℕ → List Mark
-marks_in me half now rows number = marks_of me half now number (slice_get rows number)

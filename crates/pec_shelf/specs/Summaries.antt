@@ -1,6 +1,6 @@
 -- What has become of a provider's own messages, in numbers: `summary_of`, over its accepted messages and their pairs; and
 -- the same of all providers of a network, `total_of`. This project's profile.
-use Rattle.std.specs.Prelude.{ℕ, ◌+◌, Bool, true, false, List, [], ◌∷◌, ◌++◌, map, Option, None, Some, is_none, is_some}
+use Rattle.std.specs.Prelude.{ℕ, ◌+◌, ◌≤◌, Bool, true, false, List, [], ◌∷◌, ◌++◌, map, Option, None, Some, is_none, is_some}
 use Rattle.std.specs.Option.{option_map}
 use Rattle.pec_types.specs.Message.{Id}
 use Rattle.pec_types.specs.declared.messages.Decision.{Decision}
@@ -94,6 +94,19 @@ plus a b = record {
 -- of no message
 abbrev pub nothing_yet : Summary
 nothing_yet = record { accepted = 0; delivered = 0; refused = 0; unknown = 0; noticed = 0 }
+
+-- A provider has no more messages and pairs together: as many messages as it may have, each with as many recipients as one
+-- may have.
+abbrev pub most_pairs : ℕ
+most_pairs = 1001000000
+
+-- None of its numbers is above this one.
+pub record IsUpTo (summary : Summary) (most : ℕ) : Type 0 where
+  pub accepted : summary.accepted ≤ most
+  pub delivered : summary.delivered ≤ most
+  pub refused : summary.refused ≤ most
+  pub unknown : summary.unknown ≤ most
+  pub noticed : summary.noticed ≤ most
 
 -- a summary with those of the providers from this number on
 abbrev pub total_from : Trade → Summary → ℕ → List Site → Summary

@@ -2,6 +2,7 @@
 -- follows. It comes to the summary of `Summaries` where the homes that are kept are the trade's.
 use Rattle.std.specs.Prelude.{ℕ, ◌+◌, Bool, List, [], ◌∷◌, is_some, if◌then◌else◌}
 use Rattle.pec_types.specs.Message.{Id}
+use Rattle.pec_types.specs.Timetable.{raised}
 use Rattle.pec_ledger.specs.Half.{Half}
 use Rattle.pec_ledger.specs.Pairs.{Pair, id_of, pair_of}
 use Rattle.pec_shelf.specs.Sides.{Kept}
@@ -9,9 +10,9 @@ use Rattle.pec_shelf.specs.Summaries.{is_accepted, is_delivered, is_noticed, is_
 use Rattle.pec_shelf.specs.declared.certified.Certified.{Certified}
 use Rattle.pec_shelf.specs.declared.summing.Summary.{Summary}
 
--- one more, where that counts
+-- one more, where that counts; a number stays at its greatest value, 2 to the 64 less 1
 abbrev pub more_if : ℕ → Bool → ℕ
-more_if count counts = if counts then count + 1 else count
+more_if count counts = if counts then raised count else count
 
 -- with a pair
 abbrev pub with_pair : Half → Summary → Pair → Summary

@@ -7,6 +7,7 @@ mod anomalies;
 mod booking;
 mod boxes;
 mod certified;
+mod deadlines;
 mod drawers;
 mod faults;
 mod figures;

@@ -6,12 +6,14 @@ ghost use Rattle.pec_ledger.specs.Lookups.{Accepted, HasPair, HasPairsAt, accept
 ghost use Rattle.pec_ledger.specs.OfDirectory.{IsOf};
 ghost use Rattle.pec_ledger.specs.Pairs.{id_of, pair_of};
 ghost use Rattle.pec_ledger.specs.Trade.{Trade};
+ghost use Rattle.pec_shelf.specs.Deadlines.{IsSideOf, IsWatched};
 ghost use Rattle.pec_shelf.specs.Lines.{is_for};
 ghost use Rattle.pec_shelf.specs.Seen.{IsFor};
 ghost use Rattle.pec_shelf.specs.Sides.{certified_of_rows, messages_of};
 
 use crate::accounts::has_room;
 use crate::certified::Certified;
+use crate::deadlines::Deadlines;
 use crate::drawers::Drawers;
 use crate::outbox::Outbox;
 use crate::owing::has_pairs_at;
@@ -64,6 +66,16 @@ impl Shelf {
         ensures few { length result.now.messages ≤ MESSAGES }
     {
         &self.outbox
+    }
+
+    /// The sender's side, and the deadlines of its pairs.
+    pub(crate) fn watched(&self) -> (&Outbox, &Deadlines)
+        ensures side { IsSideOf self.now.me self.now.half result.0.now }
+        ensures certified { certified_of_rows result.0.now.messages ≡ self.now.certified }
+        ensures few { length result.0.now.messages ≤ MESSAGES }
+        ensures watched { IsWatched result.1.now self.now.half.last result.0.now }
+    {
+        (&self.outbox, &self.deadlines)
     }
 
     /// What a provider said of taking charge of a message.

@@ -1,19 +1,23 @@
-ghost use Rattle.std.specs.Prelude.{◌≡◌, ◌≤◌, ◌∷◌, [], length, is_some, IfOk, OnOk};
-ghost use Rattle.std.specs.List.{filter_map, flat_map};
+ghost use Rattle.std.specs.Prelude.{◌≡◌, ◌≤◌, ◌∷◌, [], length, is_some, option_map, slice_get, slice_range, Some, IfOk, OnOk};
+ghost use Rattle.std.specs.List.{filter_map};
 ghost use Rattle.pec_types.specs.LimitsReading.{due_of};
+ghost use Rattle.pec_types.specs.Passed.{passed};
+ghost use Rattle.pec_types.specs.declared.limits.TheConstants.{WARNING_AFTER, NOTICE_AFTER};
 ghost use Rattle.pec_types.specs.declared.messages.TheConstants.{MESSAGES};
 ghost use Rattle.pec_ledger.specs.Lookups.{charged_of, known_of, notice_of, submitter, warning_of};
 ghost use Rattle.pec_ledger.specs.Pairs.{pair_of};
 ghost use Rattle.pec_ledger.specs.Steps.{kind_of_due};
+ghost use Rattle.pec_shelf.specs.Deadlines.{IsSideOf, IsWatched, clock_at, mark_on, mark_there, pairs_in, spots_of};
 ghost use Rattle.pec_shelf.specs.Lines.{mark_at, marks_rows};
+ghost use Rattle.pec_shelf.specs.Looked.{acceptances_seen};
 ghost use Rattle.pec_records.specs.declared.entries.Entry.TheVariants as entries;
 ghost use Rattle.pec_ledger.specs.Trade.{Trade};
 ghost use Rattle.pec_shelf.specs.Prepared.{Takes, nothing, with_marks};
 ghost use Rattle.pec_shelf.specs.Seen.{IsFor};
 ghost use Rattle.pec_shelf.specs.Sides.{messages_of};
-ghost use Rattle.pec_shelf.specs.Still.{marks_in};
 
 use crate::certified::Certified;
+use crate::deadlines::{Clock, Deadlines};
 use crate::faults::PrepareFault;
 use crate::outbox::Outbox;
 use crate::ready::Ready;
@@ -23,98 +27,119 @@ use crate::shelf::Shelf;
 use pec_types::{Address, Due, Kind, Mark, Moment, MsgId, NoMemory, timed};
 use std::alloc::Global;
 
-/// Ticked: nothing is asked of it. The marks that the time table has, each with its notice.
-pub(crate) fn ticked(shelf: &Shelf, now: Moment) -> Result<Ready, PrepareFault>
+/// Ticked: nothing is asked of it. The marks that the time table has, each with its notice. It is told where the cursors
+/// stand behind it.
+pub(crate) fn ticked(
+    shelf: &Shelf,
+    now: Moment,
+    clock: Option<Clock>,
+) -> Result<Ready, PrepareFault>
+    requires in_time { shelf.now.half.last ≤ now }
+    requires clock { clock ≡ Some (clock_at now (acceptances_seen shelf.now)) }
     ensures { (trade : Trade) → IsFor trade shelf.now → Takes trade shelf.now.me shelf.now.half (entries.Ticked now) result }
 {
-    let ready = marks(shelf, shelf.sent(), now)?;
-    Ok(ready)
+    let Some(clock) = clock else { unreachable!() };
+    let (outbox, deadlines) = shelf.watched();
+    let ready = marks(shelf, outbox, deadlines, now, clock.warned, clock.noticed)?;
+    Ok(ready.with_clock(clock))
 }
 
-/// The marks of a clock call, each with its notice, of the sender's side of this shelf.
-fn marks(shelf: &Shelf, outbox: &Outbox, now: Moment) -> Result<Ready, NoMemory>
+/// The marks of a clock call, each with its notice, of the sender's side of this shelf: on the pairs whose second limit
+/// the cursors pass, and then on those whose first limit they pass and whose second they don't. On every other pair
+/// nothing is owed.
+fn marks(
+    shelf: &Shelf,
+    outbox: &Outbox,
+    deadlines: &Deadlines,
+    now: Moment,
+    warned: usize,
+    noticed: usize,
+) -> Result<Ready, NoMemory>
     requires few { length outbox.now.messages ≤ MESSAGES }
-    requires me { outbox.now.me ≡ shelf.now.me }
-    requires all { messages_of outbox.now.messages ≡ shelf.now.half.messages }
-    requires marks { outbox.now.marks ≡ shelf.now.half.marks }
-    requires known { outbox.now.known ≡ shelf.now.half.known }
+    requires side { IsSideOf shelf.now.me shelf.now.half outbox.now }
+    requires watched { IsWatched deadlines.now shelf.now.half.last outbox.now }
+    requires in_time { shelf.now.half.last ≤ now }
+    requires warned { warned ≡ passed WARNING_AFTER now deadlines.now.moments }
+    requires noticed { noticed ≡ passed NOTICE_AFTER now deadlines.now.moments }
     ensures { IfOk result (λ ready. ready ≡ with_marks shelf.now.half nothing
         (marks_rows shelf.now.me shelf.now.half now 0 outbox.now.messages)) }
 {
     let ready = Ready::nothing(shelf.alloc);
-    let ready = with_marks_of(shelf, ready, outbox, now, outbox.unsettled())?;
+    let from = deadlines.noticed();
+    let ready = with_marks_between(shelf, ready, outbox, deadlines, now, from, noticed)?;
+    let from = deadlines.warned().max(noticed);
+    let ready = with_marks_between(shelf, ready, outbox, deadlines, now, from, warned)?;
     Ok(ready)
 }
 
-/// With the marks of the messages of these numbers.
-fn with_marks_of(
+/// With the marks of the pairs from a place on, up to another one.
+fn with_marks_between(
     shelf: &Shelf,
     mut ready: Ready,
     outbox: &Outbox,
+    deadlines: &Deadlines,
     now: Moment,
-    numbers: &[u64],
+    from: usize,
+    to: usize,
 ) -> Result<Ready, NoMemory>
     requires few { length outbox.now.messages ≤ MESSAGES }
     requires all { messages_of outbox.now.messages ≡ shelf.now.half.messages }
-    ensures { IfOk result (λ with. with ≡ with_marks shelf.now.half ready
-        (flat_map (marks_in shelf.now.me shelf.now.half now outbox.now.messages) numbers.now)) }
+    requires spots { deadlines.now.spots ≡ spots_of (pairs_in 0 outbox.now.messages) }
+    requires order { from ≤ to }
+    requires within { to ≤ length (pairs_in 0 outbox.now.messages) }
+    ensures { IfOk result (λ with. with ≡ with_marks shelf.now.half ready (filter_map
+        (mark_on shelf.now.me shelf.now.half now) (slice_range (pairs_in 0 outbox.now.messages) from to))) }
 {
-    for number in numbers {
-        ready = with_marks_at(shelf, ready, outbox, now, *number)?;
+    for place in from..to {
+        ready = with_mark_at(shelf, ready, outbox, deadlines, now, place)?;
     }
     Ok(ready)
 }
 
-/// With the marks of the message of a number.
-fn with_marks_at(
+/// With the mark of the pair at a place, if one is due.
+fn with_mark_at(
     shelf: &Shelf,
-    ready: Ready,
+    mut ready: Ready,
     outbox: &Outbox,
+    deadlines: &Deadlines,
     now: Moment,
-    number: u64,
+    place: usize,
 ) -> Result<Ready, NoMemory>
     requires few { length outbox.now.messages ≤ MESSAGES }
     requires all { messages_of outbox.now.messages ≡ shelf.now.half.messages }
-    ensures { IfOk result (λ with. with ≡ with_marks shelf.now.half ready
-        (marks_in shelf.now.me shelf.now.half now outbox.now.messages number)) }
+    ensures { IfOk result (λ with. with ≡ with_marks shelf.now.half ready (mark_there shelf.now.me shelf.now.half now
+        outbox.now.messages (slice_get deadlines.now.spots place))) }
 {
-    let Some(row) = outbox.message(number) else {
+    let Some(spot) = deadlines.spot(place) else {
+        return Ok(ready);
+    };
+    let Some(row) = outbox.message(spot.number) else {
+        return Ok(ready);
+    };
+    let Some(recipient) = recipient_at(row.certified(), spot.index) else {
         return Ok(ready);
     };
     let id = MsgId {
         provider: shelf.me,
-        number,
+        number: spot.number,
     };
-    let ready = with_message_marks(
+    push_mark(
         shelf,
-        ready,
+        &mut ready,
         now,
         id,
         row.moment(),
         row.sender(),
-        row.certified(),
+        recipient,
     )?;
     Ok(ready)
 }
 
-/// With the marks of a message's certified recipients.
-fn with_message_marks(
-    shelf: &Shelf,
-    mut ready: Ready,
-    now: Moment,
-    id: MsgId,
-    accepted: Moment,
-    sender: &Address,
-    recipients: &[Certified],
-) -> Result<Ready, NoMemory>
-    requires { submitter shelf.now.half id.number ≡ sender.now }
-    ensures { IfOk result (λ with. with ≡ with_marks shelf.now.half ready
-        (filter_map (mark_at shelf.now.half now id accepted) recipients.now)) }
+/// The certified recipient at a place.
+fn recipient_at(recipients: &[Certified], place: usize) -> Option<&Certified>
+    ensures { option_map (λ recipient. recipient.now) result ≡ slice_get recipients.now place }
 {
-    for recipient in recipients {
-        push_mark(shelf, &mut ready, now, id, accepted, sender, recipient)?;
-    }
-    Ok(ready)
+    recipients.get(place)
 }
 
 /// Adds the mark of a certified recipient, if one is due.

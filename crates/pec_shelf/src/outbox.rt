@@ -3,13 +3,13 @@ ghost use Rattle.pec_ledger.specs.Half.{Charge, Known, Mark};
 ghost use Rattle.pec_ledger.specs.Lookups.{is_notice, is_warning};
 ghost use Rattle.pec_ledger.specs.Pairs.{pair_of, same_id, same_pair};
 ghost use Rattle.pec_shelf.specs.Sides.{Kept, booked_by};
-ghost use Rattle.pec_shelf.specs.Still.{IsAnswered, IsSettled};
+ghost use Rattle.pec_shelf.specs.Still.{IsAnswered};
 ghost use Rattle.pec_shelf.specs.Waiting.{AllElseDone};
 
 use crate::drawers::{Drawers, Owned};
 use crate::keys::{Noticed, OfCharge, OfPair, Warned};
 use crate::rows::{ChargeRow, KnownRow, MarkRow, MessageRow};
-use crate::still::{answered_index, settled_index};
+use crate::still::answered_index;
 use crate::waiting::Waiting;
 use pec_places::Table;
 use pec_types::{Address, MESSAGES, MsgId, NoMemory};
@@ -24,14 +24,13 @@ pub(crate) struct Outbox {
     marks: Table<MarkRow>,
     known: Table<KnownRow>,
     unanswered: Waiting,
-    unsettled: Waiting,
     room: usize,
 }
 
 impl Model for Outbox {
     ghost use Rattle.std.specs.Prelude.{◌≤◌};
     ghost use Rattle.pec_shelf.specs.Sides.{Sent};
-    ghost use Rattle.pec_shelf.specs.Still.{IsAnswered, IsSettled};
+    ghost use Rattle.pec_shelf.specs.Still.{IsAnswered};
     ghost use Rattle.pec_shelf.specs.Waiting.{AllElseDone};
 
     ghost Value = { Sent };
@@ -51,11 +50,8 @@ impl Model for Outbox {
       marks : outbox.room ≤ outbox.marks.room;
       known : outbox.room ≤ outbox.known.room;
       places : outbox.room ≤ outbox.unanswered.room;
-      further : outbox.room ≤ outbox.unsettled.room;
       unanswered : AllElseDone (IsAnswered outbox.me outbox.charged.rows outbox.known.rows) 0 outbox.messages.rows
           outbox.unanswered.places;
-      unsettled : AllElseDone (IsSettled outbox.me outbox.marks.rows outbox.known.rows) 0 outbox.messages.rows
-          outbox.unsettled.places;
     } };
 }
 
@@ -69,7 +65,6 @@ impl Drop for Outbox {
             marks: _,
             known: _,
             unanswered: _,
-            unsettled: _,
             room: _,
         } = self;
     }
@@ -114,7 +109,6 @@ impl Outbox {
             marks: Table::new(alloc),
             known: Table::new(alloc),
             unanswered: Waiting::new(alloc),
-            unsettled: Waiting::new(alloc),
             room: 0,
         }
     }
@@ -133,7 +127,6 @@ impl Outbox {
         self.marks.reserve(rows)?;
         self.known.reserve(rows)?;
         self.unanswered.reserve(rows)?;
-        self.unsettled.reserve(rows)?;
         self.room = rows;
         Ok(())
     }
@@ -155,12 +148,10 @@ impl Outbox {
     {
         let messages = self.messages.len();
         let charged = self.charged.rows().len();
-        let marks = self.marks.rows().len();
         let known = self.known.rows().len();
         self.append(rows);
         self.close_messages(messages);
         self.close_charged(charged);
-        self.close_marks(marks);
         self.close_known(known);
     }
 
@@ -182,7 +173,6 @@ impl Outbox {
         let first = self.messages.len();
         let count = rows.messages.as_slice().len();
         self.unanswered.add(first, count);
-        self.unsettled.add(first, count);
         self.messages.append(rows.messages);
         self.charged.append(rows.charged);
         self.marks.append(rows.marks);
@@ -190,8 +180,7 @@ impl Outbox {
         self.room = 0;
     }
 
-    /// Of the messages from a number on, lets go those of which nobody is owed anything, now or at a clock call. It takes
-    /// no memory.
+    /// Of the messages from a number on, lets go those of which nobody is owed anything. It takes no memory.
     fn close_messages(&mut self, first: u64)
         ensures { self.new ≡ self.old }
     {
@@ -201,7 +190,6 @@ impl Outbox {
             }
             let provider = self.me;
             self.close(MsgId { provider, number });
-            self.settle(MsgId { provider, number });
         }
     }
 
@@ -218,21 +206,7 @@ impl Outbox {
         }
     }
 
-    /// Of the marks from a place on, lets go messages on which no clock call owes anything any more. It takes no memory.
-    fn close_marks(&mut self, first: usize)
-        ensures { self.new ≡ self.old }
-    {
-        for place in first..self.marks.rows().len() {
-            let Some(row) = self.marks.rows().get(place) else {
-                return;
-            };
-            let id = row.id();
-            self.settle(id);
-        }
-    }
-
-    /// Of the outcomes from a place on, lets go messages of which nobody is owed anything any more, now or at a clock
-    /// call. It takes no memory.
+    /// Of the outcomes from a place on, lets go messages of which nobody is owed anything any more. It takes no memory.
     fn close_known(&mut self, first: usize)
         ensures { self.new ≡ self.old }
     {
@@ -242,7 +216,6 @@ impl Outbox {
             };
             let id = row.id();
             self.close(id);
-            self.settle(id);
         }
     }
 
@@ -265,39 +238,12 @@ impl Outbox {
         self.unanswered.remove(index);
     }
 
-    /// Lets go the message of an id, where no clock call owes anything on it any more. It takes no memory.
-    fn settle(&mut self, id: MsgId)
-        ensures { self.new ≡ self.old }
-    {
-        if id.provider != self.me {
-            return;
-        }
-        let Some(index) = settled_index(
-            &self.messages,
-            &self.marks,
-            &self.known,
-            &self.unsettled,
-            id,
-        ) else {
-            return;
-        };
-        self.unsettled.remove(index);
-    }
-
     /// The numbers of messages of which something may still be owed: each certified recipient of every other one is
     /// heard of. It takes no memory.
     pub(crate) fn unanswered(&self) -> &[u64]
         ensures { AllElseDone (IsAnswered self.now.me self.now.charged self.now.known) 0 self.now.messages result.now }
     {
         self.unanswered.places()
-    }
-
-    /// The numbers of messages on which a clock call may still owe something: on no certified recipient of any other one
-    /// it does. It takes no memory.
-    pub(crate) fn unsettled(&self) -> &[u64]
-        ensures { AllElseDone (IsSettled self.now.me self.now.marks self.now.known) 0 self.now.messages result.now }
-    {
-        self.unsettled.places()
     }
 
     /// The number of the provider. It takes no memory.

@@ -1,12 +1,14 @@
-ghost use Rattle.std.specs.Prelude.{◌≡◌, ◌<◌};
+ghost use Rattle.std.specs.Prelude.{◌≡◌, ◌<◌, ◌≤◌};
 ghost use Rattle.pec_types.specs.declared.moments.TheConstants.{END_OF_TIME};
 ghost use Rattle.pec_ledger.specs.Trade.{Trade};
 ghost use Rattle.pec_ledger.specs.Steps.{moment_of};
+ghost use Rattle.pec_shelf.specs.Looked.{acceptances_seen, clock_seen};
 ghost use Rattle.pec_shelf.specs.Prepared.{Takes};
 ghost use Rattle.pec_shelf.specs.Seen.{IsFor};
 ghost use Rattle.pec_shelf.specs.Settled.{settled};
 
 use crate::anomalies::anomaly;
+use crate::deadlines::Clock;
 use crate::faults::PrepareFault;
 use crate::marking::ticked;
 use crate::ready::Ready;
@@ -16,12 +18,16 @@ use crate::submissions::{accepted, not_accepted, start};
 use pec_directory::Directory;
 use pec_records::Entry;
 
-/// What an entry adds, without its moment and its size, where it meets its own condition.
+/// What an entry adds, without its moment and its size, where it meets its own condition. It is told where the cursors
+/// stand behind a clock call.
 pub(crate) fn rows_of(
     shelf: &Shelf,
     directory: &Directory,
     entry: &Entry,
+    clock: Option<Clock>,
 ) -> Result<Ready, PrepareFault>
+    requires in_time { shelf.now.half.last ≤ moment_of entry.now }
+    requires clock { clock ≡ clock_seen (acceptances_seen shelf.now) entry.now }
     ensures { (trade : Trade) → IsFor (settled directory.now trade) shelf.now
         → Takes (settled directory.now trade) shelf.now.me shelf.now.half entry.now result }
 {
@@ -60,7 +66,7 @@ pub(crate) fn rows_of(
             ..
         } => learned(shelf, *moment, *id, recipient, *decision, *decided),
         Entry::Acked { id, recipient, .. } => acked(shelf, *id, recipient),
-        Entry::Ticked { moment } => ticked(shelf, *moment),
+        Entry::Ticked { moment } => ticked(shelf, *moment, clock),
         Entry::Anomaly {
             moment,
             accounts,

@@ -9,7 +9,7 @@ ghost use Rattle.pec_shelf.specs.Settled.{certified_among};
 
 use crate::certified::Certified;
 use pec_directory::Directory;
-use pec_heads::{Head, HeadFault, ListFault};
+use pec_heads::{Head, ListFault};
 use pec_types::{Address, Facts, NoMemory, Recipient};
 use std::alloc::Global;
 
@@ -29,10 +29,9 @@ pub(crate) fn facts_in(alloc: Global, message: &[u8]) -> Result<Option<Facts>, N
 fn read_head(alloc: Global, message: &[u8]) -> Result<Option<Head>, NoMemory>
     ensures { IfOk result (λ found. found ≡ fields_of message.now) }
 {
-    match Head::read(alloc, message) {
-        Ok((head, _)) => Ok(Some(head)),
-        Err(HeadFault::NoMemory) => Err(NoMemory),
-        Err(_) => Ok(None),
+    match Head::find(alloc, message)? {
+        Some((head, _)) => Ok(Some(head)),
+        None => Ok(None),
     }
 }
 

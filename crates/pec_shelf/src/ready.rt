@@ -1,8 +1,9 @@
-ghost use Rattle.std.specs.Prelude.{◌≡◌, [], ◌∷◌, ◌++◌, map, OnOk};
+ghost use Rattle.std.specs.Prelude.{◌≡◌, [], ◌∷◌, ◌++◌, map, Some, OnOk};
 ghost use Rattle.pec_shelf.specs.Prepared.{AreWithin, nothing, told};
 ghost use Rattle.pec_shelf.specs.Longest.{IsLongest};
 ghost use Rattle.pec_shelf.specs.Sides.{certified_of_rows, messages_of};
 
+use crate::deadlines::Clock;
 use crate::inbox::ReceivedRows;
 use crate::outbox::SentRows;
 use crate::rows::{
@@ -20,11 +21,14 @@ pub struct Ready {
     pub(crate) received: ReceivedRows,
     pub(crate) items: Vec<PostedRow>,
     pub(crate) answer: Vec<Mark>,
+    /// How many certified recipients its messages have.
+    pub(crate) pairs: usize,
+    pub(crate) clock: Option<Clock>,
 }
 
 impl Model for Ready {
-    ghost use Rattle.std.specs.Prelude.{◌≡◌, map};
-    ghost use Rattle.pec_shelf.specs.Prepared.{Prepared, told};
+    ghost use Rattle.std.specs.Prelude.{◌≡◌, length, map};
+    ghost use Rattle.pec_shelf.specs.Prepared.{Prepared, all_of, told};
     ghost use Rattle.pec_shelf.specs.Sides.{certified_of_rows, messages_of};
 
     ghost Value = { Prepared };
@@ -43,9 +47,13 @@ impl Model for Ready {
         items = ready.items.items;
       };
       certified = certified_of_rows ready.sent.messages.items;
+      clock = ready.clock;
     } };
 
-    ghost invariant = { λ ready. ready.answer.items ≡ map told ready.sent.marks.items };
+    ghost invariant = { λ ready. record {
+      answer : ready.answer.items ≡ map told ready.sent.marks.items;
+      pairs : ready.pairs ≡ length (all_of (certified_of_rows ready.sent.messages.items));
+    } };
 }
 
 // Written out, so that to drop what was prepared is one call, and not the drops of all its lists wherever it is dropped.
@@ -58,6 +66,8 @@ impl Drop for Ready {
             received: _,
             items: _,
             answer: _,
+            pairs: _,
+            clock: _,
         } = self;
     }
 }
@@ -83,6 +93,8 @@ impl Ready {
             },
             items: Vec::new(alloc),
             answer: Vec::new(alloc),
+            pairs: 0,
+            clock: None,
         }
     }
 
@@ -91,9 +103,14 @@ impl Ready {
         ensures { OnOk result (self.new ≡ record {
           adds = record self.old.adds { messages = self.old.adds.messages ++ row.message ∷ [] };
           certified = self.old.certified ++ row.certified ∷ [];
+          clock = self.old.clock;
         }) }
     {
+        let Some(pairs) = self.pairs.checked_add(row.certified().len()) else {
+            return Err(NoMemory);
+        };
         self.sent.messages.push(row)?;
+        self.pairs = pairs;
         Ok(())
     }
 
@@ -156,6 +173,14 @@ impl Ready {
         Ok(())
     }
 
+    /// With where the cursors stand behind a clock call. It takes no memory.
+    pub(crate) fn with_clock(mut self, clock: Clock) -> Ready
+        ensures { result ≡ record self { clock = Some clock } }
+    {
+        self.clock = Some(clock);
+        self
+    }
+
     /// At a moment, in seconds, and of so many bytes in the journal. It takes no memory.
     pub(crate) fn with_figures(mut self, moment: u64, size: u64) -> Ready
         ensures { result ≡ record self { adds = record self.adds { moment = moment; size = size } } }
@@ -185,15 +210,17 @@ impl Ready {
             received,
             items,
             answer,
+            pairs: _,
+            clock: _,
         } = self;
         (sent, received, items, answer)
     }
 
-    /// The length of its longest list. It takes no memory.
+    /// The length of its longest list, or the number of its pairs, if that is more. It takes no memory.
     pub(crate) fn rows(&self) -> usize
         ensures { AreWithin self.now result }
     {
-        longest(&self.sent, &self.received, self.items.len())
+        longest(&self.sent, &self.received, self.items.len()).max(self.pairs)
     }
 }
 

@@ -263,13 +263,6 @@ impl ChargeRow {
 }
 
 impl MarkRow {
-    /// The id of the message.
-    pub(crate) fn id(&self) -> MsgId
-        ensures { result ≡ self.now.pair.id }
-    {
-        self.id
-    }
-
     /// A warning of this pair.
     pub(crate) fn warns_of(&self, id: MsgId, recipient: &Address) -> bool
         ensures { result ≡ (is_warning self.now.due && same_pair (pair_of id recipient.now) self.now.pair) }

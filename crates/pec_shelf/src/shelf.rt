@@ -6,14 +6,16 @@ ghost use Rattle.pec_ledger.specs.Half.{Message, Posted, Taken};
 ghost use Rattle.pec_ledger.specs.Lookups.{counted, mailbox, taken_of};
 ghost use Rattle.pec_ledger.specs.OfDirectory.{IsOf};
 ghost use Rattle.pec_ledger.specs.Pairs.{pair_of};
-ghost use Rattle.pec_ledger.specs.Steps.{size_of};
+ghost use Rattle.pec_ledger.specs.Steps.{moment_of, size_of};
 ghost use Rattle.pec_ledger.specs.Trade.{Trade};
+ghost use Rattle.pec_shelf.specs.Looked.{Looked, LookedSo, acceptances_seen, clock_seen};
 ghost use Rattle.pec_shelf.specs.Prepared.{CameFrom, Goes, HasRoomFor, Prepares, told};
 ghost use Rattle.pec_shelf.specs.Seen.{HoldsAs, IsFor, IsNew};
 ghost use Rattle.pec_shelf.specs.Undecided.{next_undecided};
 
 use crate::booking::book_lines;
 use crate::boxes::Boxes;
+use crate::deadlines::{Clock, Deadlines};
 use crate::faults::PrepareFault;
 use crate::inbox::Inbox;
 use crate::outbox::Outbox;
@@ -23,7 +25,7 @@ use crate::ready::Ready;
 use crate::sizes::size_of;
 use pec_directory::Directory;
 use pec_records::Entry;
-use pec_types::{Address, BookLine, Facts, ItemLine, Letter, Mark, MsgId, NoMemory};
+use pec_types::{Address, BookLine, Facts, ItemLine, Letter, Mark, MsgId, NoMemory, Steps};
 use std::alloc::Global;
 use std::marker::Model;
 
@@ -37,11 +39,13 @@ pub struct Shelf {
     pub(crate) outbox: Outbox,
     pub(crate) inbox: Inbox,
     pub(crate) boxes: Boxes,
+    pub(crate) deadlines: Deadlines,
 }
 
 impl Model for Shelf {
-    ghost use Rattle.std.specs.Prelude.{◌≡◌, ◌≤◌, length, min};
+    ghost use Rattle.std.specs.Prelude.{◌≡◌, ◌*◌, ◌≤◌, length, min};
     ghost use Rattle.pec_types.specs.declared.messages.TheConstants.{MESSAGES};
+    ghost use Rattle.pec_shelf.specs.Deadlines.{IsWatched, pairs_in};
     ghost use Rattle.pec_shelf.specs.Seen.{Seen};
     ghost use Rattle.pec_shelf.specs.Sides.{certified_of_rows, messages_of};
 
@@ -63,10 +67,17 @@ impl Model for Shelf {
         items = shelf.boxes.items;
       };
       certified = certified_of_rows shelf.outbox.messages;
-      room = min shelf.outbox.room (min shelf.inbox.room shelf.boxes.room);
+      room = min shelf.outbox.room (min shelf.inbox.room (min shelf.boxes.room shelf.deadlines.room));
+      ticked = shelf.deadlines.ticked;
+      looks = shelf.deadlines.looks;
     } };
 
-    ghost invariant = { λ shelf. (shelf.outbox.me ≡ shelf.me) × (length shelf.outbox.messages ≤ MESSAGES) };
+    ghost invariant = { λ shelf. record {
+      own : shelf.outbox.me ≡ shelf.me;
+      few : length shelf.outbox.messages ≤ MESSAGES;
+      full : length (pairs_in 0 shelf.outbox.messages) ≤ 1000 * length shelf.outbox.messages;
+      watched : IsWatched shelf.deadlines shelf.last shelf.outbox;
+    } };
 }
 
 // Written out, so that to drop a shelf is one call, and not the drops of all its lists wherever one is dropped.
@@ -81,6 +92,7 @@ impl Drop for Shelf {
             outbox: _,
             inbox: _,
             boxes: _,
+            deadlines: _,
         } = self;
     }
 }
@@ -99,20 +111,31 @@ impl Shelf {
             outbox: Outbox::new(alloc, me),
             inbox: Inbox::new(alloc),
             boxes: Boxes::new(alloc),
+            deadlines: Deadlines::new(alloc),
         }
     }
 
-    /// Prepares an entry, and makes room for what it adds: nothing that is seen changes. All entries of one shelf are
-    /// prepared with one directory.
-    pub fn prepare(&mut self, directory: &Directory, entry: &Entry) -> Result<Ready, PrepareFault>
+    /// Prepares an entry, and makes room for what it adds: nothing that is seen changes but the number of look-ups. All
+    /// entries of one shelf are prepared with one directory. A clock call looks acceptances up one by one, each of which
+    /// counts as a step.
+    pub fn prepare(
+        &mut self,
+        directory: &Directory,
+        entry: &Entry,
+        steps: &mut Steps,
+    ) -> Result<Ready, PrepareFault>
         requires { (trade : Trade) → IsOf directory.now trade → IsFor trade self.old }
         // An entry is prepared exactly where it is a step of this provider's half, and then as what it adds.
         ensures exact { (trade : Trade) → IsOf directory.now trade
             → Prepares trade self.old.me self.old.half entry.now result }
         ensures room { IfOk result (HasRoomFor self.new) }
         ensures same { HoldsAs self.old self.new }
+        // In a clock call at most two more look-ups than limits of pairs pass in it, and as many as pass where it is prepared.
+        ensures looked { (trade : Trade) → IsOf directory.now trade
+            → Looked trade self.old entry.now self.new.looks steps.old steps.new result }
     {
-        let ready = match self.prepared(directory, entry) {
+        let clock = self.look(entry, steps);
+        let ready = match self.prepared(directory, entry, clock) {
             Ok(ready) => ready,
             Err(fault) => return Err(fault),
         };
@@ -127,11 +150,15 @@ impl Shelf {
         requires room { HasRoomFor self.old ready }
         ensures after { Goes self.old self.new ready }
         ensures marks { result.items ≡ map told ready.adds.marks }
+        ensures looks { self.new.looks ≡ self.old.looks }
     {
         self.entries += 1;
         self.last = self.last.max(ready.moment);
         self.end += ready.size;
+        self.deadlines.set(ready.clock);
+        let first = self.outbox.messages().len();
         let (sent, received, items, answer) = ready.taken_apart();
+        self.deadlines.add(first, sent.messages.as_slice());
         self.outbox.add(sent);
         self.inbox.add(received);
         self.boxes.add(items);
@@ -215,9 +242,30 @@ impl Shelf {
         Ok(lines)
     }
 
-    /// What an entry is prepared as.
-    fn prepared(&self, directory: &Directory, entry: &Entry) -> Result<Ready, PrepareFault>
-        requires { (trade : Trade) → IsOf directory.now trade → IsFor trade self.now }
+    /// Where the cursors stand behind an entry, if it is a clock call whose moment isn't before the greatest one.
+    fn look(&mut self, entry: &Entry, steps: &mut Steps) -> Option<Clock>
+        ensures clock { self.old.half.last ≤ moment_of entry.now → result ≡ clock_seen (acceptances_seen self.old) entry.now }
+        ensures same { self.new ≡ record self.old { looks = self.new.looks } }
+        ensures looked { LookedSo self.old entry.now self.new.looks steps.old steps.new }
+    {
+        let Entry::Ticked { moment } = entry else {
+            return None;
+        };
+        if moment.seconds() < self.last {
+            return None;
+        }
+        Some(self.deadlines.pass(*moment, steps))
+    }
+
+    /// What an entry is prepared as. It is told where the cursors stand behind a clock call.
+    fn prepared(
+        &self,
+        directory: &Directory,
+        entry: &Entry,
+        clock: Option<Clock>,
+    ) -> Result<Ready, PrepareFault>
+        requires homes { (trade : Trade) → IsOf directory.now trade → IsFor trade self.now }
+        requires clock { self.now.half.last ≤ moment_of entry.now → clock ≡ clock_seen (acceptances_seen self.now) entry.now }
         ensures exact { (trade : Trade) → IsOf directory.now trade
             → Prepares trade self.now.me self.now.half entry.now result }
         ensures entries { IfOk result (λ _. self.now.half.entries + 1 < 2 ^ 64) }
@@ -228,7 +276,7 @@ impl Shelf {
             return Err(PrepareFault::NotAStep);
         }
         let size = self.size(entry)?;
-        match rows_of(self, directory, entry) {
+        match rows_of(self, directory, entry, clock) {
             Ok(rows) => Ok(rows.with_figures(moment, size)),
             Err(fault) => Err(fault),
         }
@@ -251,11 +299,12 @@ impl Shelf {
     /// Makes room for so many further rows in each list.
     fn reserve(&mut self, rows: usize) -> Result<(), NoMemory>
         ensures room { OnOk result (rows ≤ self.new.room) }
-        ensures same { HoldsAs self.old self.new }
+        ensures same { self.new ≡ record self.old { room = self.new.room } }
     {
         self.outbox.reserve(rows)?;
         self.inbox.reserve(rows)?;
         self.boxes.reserve(rows)?;
+        self.deadlines.reserve(rows)?;
         Ok(())
     }
 }

@@ -2,13 +2,13 @@ ghost use Rattle.std.specs.Prelude.{◌≡◌, ◌&&◌, ◌==◌, ◌||◌, tru
 ghost use Rattle.std.specs.List.{list_all};
 ghost use Rattle.pec_ledger.specs.Half.{Fate};
 ghost use Rattle.pec_ledger.specs.Pairs.{same_pair};
-ghost use Rattle.pec_shelf.specs.Still.{IsAnswered, IsHeard, IsSettled, is_answered, is_settled};
+ghost use Rattle.pec_shelf.specs.Still.{IsAnswered, IsHeard, is_answered};
 ghost use Rattle.pec_shelf.specs.Waiting.{IsDoneAt};
 
 use crate::certified::Certified;
 use crate::drawers::Drawers;
-use crate::keys::{Noticed, OfCharge, OfPair};
-use crate::rows::{AckedRow, ChargeRow, FateRow, KnownRow, MarkRow, MessageRow, fate_at};
+use crate::keys::{OfCharge, OfPair};
+use crate::rows::{AckedRow, ChargeRow, FateRow, KnownRow, MessageRow, fate_at};
 use crate::waiting::Waiting;
 use pec_places::Table;
 use pec_types::MsgId;
@@ -100,54 +100,4 @@ fn is_answered(
     let by = recipient.home;
     let recipient = &recipient.address;
     charged.find(&OfCharge { id, by }).is_some() || known.find(&OfPair { id, recipient }).is_some()
-}
-
-/// Where the number of a message stands among these, if no clock call owes anything on it any more.
-pub(crate) fn settled_index(
-    messages: &Drawers<MessageRow>,
-    marks: &Table<MarkRow>,
-    known: &Table<KnownRow>,
-    places: &Waiting,
-    id: MsgId,
-) -> Option<usize>
-    ensures { IfSome result
-        (IsDoneAt (IsSettled id.provider marks.now.rows known.now.rows) messages.now.rows places.now.places) }
-{
-    let index = places.position(id.number)?;
-    let row = messages.row(id.number)?;
-    if !are_settled(marks, known, id, row.certified()) {
-        return None;
-    }
-    Some(index)
-}
-
-/// Whether no clock call owes anything on any of these recipients of a message: the outcome is known, or the sender had
-/// notice.
-fn are_settled(
-    marks: &Table<MarkRow>,
-    known: &Table<KnownRow>,
-    id: MsgId,
-    recipients: &[Certified],
-) -> bool
-    ensures { result ≡ list_all (is_settled marks.now.rows known.now.rows id) recipients.now }
-{
-    for recipient in recipients {
-        if !is_settled(marks, known, id, recipient) {
-            return false;
-        }
-    }
-    true
-}
-
-fn is_settled(
-    marks: &Table<MarkRow>,
-    known: &Table<KnownRow>,
-    id: MsgId,
-    recipient: &Certified,
-) -> bool
-    ensures { result ≡ is_settled marks.now.rows known.now.rows id recipient.now }
-{
-    let recipient = &recipient.address;
-    known.find(&OfPair { id, recipient }).is_some()
-        || marks.find(&Noticed { id, recipient }).is_some()
 }

@@ -84,6 +84,7 @@ fn submitted(
         } ∷ [];
       };
       certified = row.certified ∷ [];
+      clock = None;
     }) }
 {
     let mut ready = Ready::nothing(shelf.alloc);

@@ -1,17 +1,17 @@
-ghost use Rattle.std.specs.Prelude.{◌≡◌, ◌+◌, ◌<◌, ◌≤◌, length, is_some, IfOk};
+ghost use Rattle.std.specs.Prelude.{◌≡◌, ◌+◌, ◌^◌, ◌<◌, ◌≤◌, length, is_some};
 ghost use Rattle.std.specs.Option.{option_map};
 ghost use Rattle.pec_types.specs.declared.messages.TheConstants.{MESSAGES};
 ghost use Rattle.pec_ledger.specs.Pairs.{pair_of};
 ghost use Rattle.pec_ledger.specs.Trade.{Trade};
 ghost use Rattle.pec_shelf.specs.Seen.{IsFor};
-ghost use Rattle.pec_shelf.specs.Summaries.{decision_on, is_noticed, is_placed, is_refused, nothing_yet, plus, summary_of};
+ghost use Rattle.pec_shelf.specs.Summaries.{IsUpTo, decision_on, is_noticed, is_placed, is_refused, most_pairs, nothing_yet, plus, summary_of};
 ghost use Rattle.pec_shelf.specs.SummariesReading.{more_if, with_accepted, with_message, with_messages, with_pair, with_pairs};
 
 use crate::certified::Certified;
 use crate::outbox::Outbox;
 use crate::rows::MessageRow;
 use crate::shelf::Shelf;
-use pec_types::{Address, Decision, MsgId, NoMemory};
+use pec_types::{Address, Decision, MsgId};
 
 /// What has become of messages, in numbers: how many were accepted, and how many of their pairs, each a message and a
 /// certified recipient, are known to be placed, are known to be refused, aren't known, and had a notice, in time or late.
@@ -38,127 +38,107 @@ impl Summary {
         }
     }
 
-    /// Two summaries in one, as long as 64 bits tell its numbers: no memory holds so many rows.
-    pub fn plus(self, other: Summary) -> Result<Summary, NoMemory>
-        ensures { IfOk result (λ sum. sum ≡ plus self other) }
+    /// Two summaries in one, whose numbers 64 bits tell.
+    pub fn plus(self, other: Summary) -> Summary
+        requires accepted { self.accepted + other.accepted < 2 ^ 64 }
+        requires delivered { self.delivered + other.delivered < 2 ^ 64 }
+        requires refused { self.refused + other.refused < 2 ^ 64 }
+        requires unknown { self.unknown + other.unknown < 2 ^ 64 }
+        requires noticed { self.noticed + other.noticed < 2 ^ 64 }
+        ensures { result ≡ plus self other }
     {
-        Ok(Summary {
-            accepted: sum(self.accepted, other.accepted)?,
-            delivered: sum(self.delivered, other.delivered)?,
-            refused: sum(self.refused, other.refused)?,
-            unknown: sum(self.unknown, other.unknown)?,
-            noticed: sum(self.noticed, other.noticed)?,
-        })
+        Summary {
+            accepted: self.accepted + other.accepted,
+            delivered: self.delivered + other.delivered,
+            refused: self.refused + other.refused,
+            unknown: self.unknown + other.unknown,
+            noticed: self.noticed + other.noticed,
+        }
     }
 }
 
-fn sum(count: u64, other: u64) -> Result<u64, NoMemory>
-    ensures { IfOk result (λ sum. sum ≡ count + other) }
-{
-    match count.checked_add(other) {
-        Some(sum) => Ok(sum),
-        None => Err(NoMemory),
-    }
-}
-
-/// One more, where that counts.
-fn more_if(count: u64, counts: bool) -> Result<u64, NoMemory>
-    ensures { IfOk result (λ new. new ≡ more_if count counts) }
+/// One more, where that counts. A number stays at its greatest value, which those of a shelf don't reach.
+fn more_if(count: u64, counts: bool) -> u64
+    ensures { result ≡ more_if count counts }
 {
     if !counts {
-        return Ok(count);
+        return count;
     }
-    sum(count, 1)
+    count.saturating_add(1)
 }
 
 impl Shelf {
-    /// What has become of this provider's messages, in numbers, as long as 64 bits tell these: no memory holds so many
-    /// rows.
-    pub fn summary(&self) -> Result<Summary, NoMemory>
-        ensures { (trade : Trade) → IsFor trade self.now
-            → IfOk result (λ summary. summary ≡ summary_of trade self.now.me self.now.half) }
+    /// What has become of this provider's messages, in numbers. It takes no memory.
+    pub fn summary(&self) -> Summary
+        ensures is { (trade : Trade) → IsFor trade self.now → result ≡ summary_of trade self.now.me self.now.half }
+        // A provider has so many messages, each with so many recipients, at most.
+        ensures few { IsUpTo result most_pairs }
     {
-        let summary = summary_of(self, self.me(), self.sent())?;
-        Ok(summary)
+        summary_of(self, self.me, &self.outbox)
     }
 }
 
 /// The summary of all messages on the sender's side of this shelf.
-fn summary_of(shelf: &Shelf, me: u32, outbox: &Outbox) -> Result<Summary, NoMemory>
+fn summary_of(shelf: &Shelf, me: u32, outbox: &Outbox) -> Summary
     requires { length outbox.now.messages ≤ MESSAGES }
-    ensures { IfOk result (λ summary. summary ≡ with_messages me shelf.now.half nothing_yet 0 outbox.now.messages) }
+    ensures { result ≡ with_messages me shelf.now.half nothing_yet 0 outbox.now.messages }
 {
     let mut summary = Summary::new();
     for number in 0..outbox.messages().len() {
         let Some(row) = outbox.message(number) else {
-            return Ok(summary);
+            return summary;
         };
         let id = MsgId {
             provider: me,
             number,
         };
-        summary = with_message(shelf, summary, id, row)?;
+        summary = with_message(shelf, summary, id, row);
     }
-    Ok(summary)
+    summary
 }
 
 /// With a message and its pairs.
-fn with_message(
-    shelf: &Shelf,
-    summary: Summary,
-    id: MsgId,
-    row: &MessageRow,
-) -> Result<Summary, NoMemory>
-    ensures { IfOk result (λ new. new ≡ with_message shelf.now.half id summary row.now) }
+fn with_message(shelf: &Shelf, summary: Summary, id: MsgId, row: &MessageRow) -> Summary
+    ensures { result ≡ with_message shelf.now.half id summary row.now }
 {
-    let summary = with_accepted(summary, row)?;
+    let summary = with_accepted(summary, row);
     with_pairs(shelf, summary, id, row.certified())
 }
 
 /// With the message itself.
-fn with_accepted(summary: Summary, row: &MessageRow) -> Result<Summary, NoMemory>
-    ensures { IfOk result (λ new. new ≡ with_accepted summary row.now) }
+fn with_accepted(summary: Summary, row: &MessageRow) -> Summary
+    ensures { result ≡ with_accepted summary row.now }
 {
-    let accepted = more_if(summary.accepted, row.facts().is_some())?;
-    Ok(Summary {
+    let accepted = more_if(summary.accepted, row.facts().is_some());
+    Summary {
         accepted,
         ..summary
-    })
+    }
 }
 
 /// With the pairs of these recipients of a message.
-fn with_pairs(
-    shelf: &Shelf,
-    mut summary: Summary,
-    id: MsgId,
-    recipients: &[Certified],
-) -> Result<Summary, NoMemory>
-    ensures { IfOk result (λ new. new ≡ with_pairs shelf.now.half id summary recipients.now) }
+fn with_pairs(shelf: &Shelf, mut summary: Summary, id: MsgId, recipients: &[Certified]) -> Summary
+    ensures { result ≡ with_pairs shelf.now.half id summary recipients.now }
 {
     for recipient in recipients {
-        summary = with_pair(shelf, summary, id, &recipient.address)?;
+        summary = with_pair(shelf, summary, id, &recipient.address);
     }
-    Ok(summary)
+    summary
 }
 
 /// With one pair.
-fn with_pair(
-    shelf: &Shelf,
-    summary: Summary,
-    id: MsgId,
-    recipient: &Address,
-) -> Result<Summary, NoMemory>
-    ensures { IfOk result (λ new. new ≡ with_pair shelf.now.half summary (pair_of id recipient.now)) }
+fn with_pair(shelf: &Shelf, summary: Summary, id: MsgId, recipient: &Address) -> Summary
+    ensures { result ≡ with_pair shelf.now.half summary (pair_of id recipient.now) }
 {
     let decision = decision_on(shelf, id, recipient);
     let noticed = is_noticed(shelf, id, recipient);
-    Ok(Summary {
+    Summary {
         accepted: summary.accepted,
-        delivered: more_if(summary.delivered, is_placed(decision))?,
-        refused: more_if(summary.refused, is_refused(decision))?,
-        unknown: more_if(summary.unknown, decision.is_none())?,
-        noticed: more_if(summary.noticed, noticed)?,
-    })
+        delivered: more_if(summary.delivered, is_placed(decision)),
+        refused: more_if(summary.refused, is_refused(decision)),
+        unknown: more_if(summary.unknown, decision.is_none()),
+        noticed: more_if(summary.noticed, noticed),
+    }
 }
 
 /// What was decided on a pair, where that is known.

@@ -10,6 +10,7 @@ use Rattle.pec_directory.specs.Directory.{Kept}
 use Rattle.pec_records.specs.declared.entries.Entry.{Entry}
 use Rattle.pec_records.specs.declared.entries.Entry.TheVariants as entries
 use Rattle.pec_ledger.specs.Along.{AllAlong}
+use Rattle.pec_ledger.specs.Deadlines.{last_tick, ticked_by}
 use Rattle.pec_ledger.specs.Half.{Half, empty, joined}
 use Rattle.pec_ledger.specs.Ledger.{Begins}
 use Rattle.pec_ledger.specs.Network.{chosen}
@@ -19,10 +20,10 @@ use Rattle.pec_ledger.specs.Trade.{Trade}
 use Rattle.pec_plays.specs.Steps.{longest_journal}
 use Rattle.pec_chronicle.specs.Carrying.{with_entry}
 use Rattle.pec_chronicle.specs.Chronicle.{ChronicleState}
-use Rattle.pec_shelf.specs.Prepared.{AreSteps, Goes, IsStep, Prepared, prepared}
+use Rattle.pec_shelf.specs.Prepared.{AreSteps, Goes, IsStep, Prepared, clock_by, prepared, ticked_behind}
 use Rattle.pec_shelf.specs.Seen.{HoldsAs, IsFor, Seen}
 use Rattle.pec_shelf.specs.declared.certified.Certified.{Certified}
-use Rattle.pec_stock.specs.Entering.{Entered, Failed, NoRoom, Same, Torn}
+use Rattle.pec_stock.specs.Entering.{Entered, Failed, Same, Torn}
 use Rattle.pec_stock.specs.Stock.{Agree, Holds, IsOwn}
 
 -- the half behind one entry more
@@ -37,7 +38,25 @@ holds_still kept old new entries holds same = record {
   is_half = λ trade of. rw (same.0, same.1) (holds.is_half trade of);
   homes = λ trade of. rw (same.1, same.2) (holds.homes trade of);
   in_range = rw same.1 holds.in_range;
+  ticked = same.3 ∙ holds.ticked;
 }
+
+-- the last clock call behind one entry more
+tick_push : (entries : List Entry) (entry : Entry) → last_tick (with_entry entries entry) ≡ ticked_by (last_tick entries) entry
+tick_push entries entry = fold-append ticked_by 0 entries (entry ∷ [])
+
+-- it is the one that the entry is prepared with
+tick_behind : (trade : Trade) (half : Half) (last : ℕ) (entry : Entry) → ticked_behind last (clock_by trade half entry) ≡ ticked_by last entry
+tick_behind trade half last (entries.Start provider digest) = refl
+tick_behind trade half last (entries.Accepted moment sender message) = refl
+tick_behind trade half last (entries.NotAccepted moment sender cause path message) = refl
+tick_behind trade half last (entries.Took moment id message) = refl
+tick_behind trade half last (entries.Decided moment id recipient decision) = refl
+tick_behind trade half last (entries.Charged moment id by) = refl
+tick_behind trade half last (entries.Learned moment id recipient decision decided message) = refl
+tick_behind trade half last (entries.Acked moment id recipient) = refl
+tick_behind trade half last (entries.Ticked moment) = refl
+tick_behind trade half last (entries.Anomaly moment accounts message) = refl
 
 -- the shelf took in what an entry was prepared as
 pub holds_more : (kept : List Kept) (old new : Seen) (entries : List Entry) (entry : Entry) (some : Trade)
@@ -51,6 +70,7 @@ holds_more kept old new entries entry some holds of goes halves homes in_range =
       (halves trade (goes trade is) ∙ ap (λ (h : Half). step trade old.me h entry) (holds.is_half trade is) ∙ sym (half_push trade old.me entries entry));
   homes = λ trade is. homes trade (holds.homes trade is) (goes trade is);
   in_range = subst (λ (h : Half). h.last < END_OF_TIME) (sym (goes some of).half) (omega (arith, holds.in_range, in_range));
+  ticked = (goes some of).ticked ∙ tick_behind some old.half old.ticked entry ∙ ap (λ (n : ℕ). ticked_by n entry) holds.ticked ∙ sym (tick_push entries entry);
 }
 
 -- room was made before
@@ -59,6 +79,7 @@ goes_from old between new ready same goes = record {
   me = goes.me ∙ same.0;
   half = goes.half ∙ ap (λ (h : Half). joined h ready.adds) same.1;
   certified = goes.certified ∙ ap (λ (c : List (List Certified)). c ++ ready.certified) same.2;
+  ticked = goes.ticked ∙ ap (λ (n : ℕ). ticked_behind n ready.clock) same.3;
 }
 
 -- ---- the provider's own entries

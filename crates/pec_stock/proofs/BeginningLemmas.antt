@@ -1,10 +1,9 @@
 -- How a provider's stock begins: with its Start.
-use Rattle.std.proofs.Common.{◌≡◌, ℕ, ◌+◌, ◌<◌, ◌≤◌, Bool, true, false, List, [], ◌∷◌, ◌++◌, length, map, refl, sym, ap, subst, ◌∙◌, arith, Result, Some, None, Err}
+use Rattle.std.proofs.Common.{◌≡◌, ℕ, ◌+◌, Bool, true, false, List, [], ◌∷◌, ◌++◌, length, refl, sym, ap, subst, ◌∙◌, arith, Result, None, Err}
 use Rattle.std.specs.Result.{result_err}
 use Rattle.std.proofs.lemmas.List.{append-nil}
 use Rattle.std.proofs.lemmas.Option.{same_Some}
 use Rattle.pec_types.specs.Bytes.{Bytes}
-use Rattle.pec_types.specs.declared.moments.TheConstants.{END_OF_TIME}
 use Rattle.pec_directory.specs.Canonical.{digest_of}
 use Rattle.pec_directory.specs.Directory.{Kept, providers_of}
 use Rattle.pec_records.specs.Entry.{entry_text}
@@ -17,7 +16,7 @@ use Rattle.pec_ledger.specs.Steps.{half, size_of, step}
 use Rattle.pec_ledger.specs.Trade.{Trade}
 use Rattle.pec_chronicle.specs.Chronicle.{ChronicleState}
 use Rattle.pec_shelf.specs.Prepared.{IsStep, Prepares}
-use Rattle.pec_shelf.specs.Seen.{IsFor, IsNew, Seen}
+use Rattle.pec_shelf.specs.Seen.{IsNew, Seen}
 use Rattle.pec_shelf.specs.declared.faults.PrepareFault.{PrepareFault}
 use Rattle.pec_shelf.specs.declared.faults.PrepareFault.TheVariants as preparing
 use Rattle.pec_stock.specs.Stock.{Agree, Holds, IsOwn}
@@ -38,6 +37,7 @@ holds_new kept me shelf new = record {
   is_half = λ trade of. new.1;
   homes = λ trade of. rw (new.1, new.2) refl;
   in_range = rw new.1 (omega arith);
+  ticked = new.3;
 }
 
 module _ (kept : List Kept) (me : ℕ) (shelf : Seen) (new : IsNew me shelf) (trade : Trade) (of : IsOf kept trade) (digest : Bytes)

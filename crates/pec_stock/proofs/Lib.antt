@@ -1,4 +1,5 @@
 pub mod Agreeing
 pub mod BeginningLemmas
 pub mod CarryLemmas
+pub mod LookLemmas
 pub mod OpeningLemmas

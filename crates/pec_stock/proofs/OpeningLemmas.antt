@@ -1,17 +1,17 @@
 -- Why a journal that is opened again is refused, and that a provider's own never is.
-use Rattle.std.proofs.Common.{◌≡◌, ℕ, zero, suc, ◌+◌, ◌<◌, ◌⊎◌, Bool, true, false, not, List, [], ◌∷◌, ◌++◌, length, map, fold, take, get_or, inl, inr, refl, sym, ap, subst, ◌∙◌, arith, Option, Some, None, Result, Ok, Err, length-append}
+use Rattle.std.proofs.Common.{◌≡◌, ℕ, zero, suc, ◌+◌, ◌<◌, ◌⊎◌, Bool, true, false, not, List, [], ◌∷◌, ◌++◌, length, map, fold, take, get_or, inl, inr, refl, sym, ap, subst, ◌∙◌, arith, Some, Result, Ok, Err, length-append}
 use Rattle.std.specs.Prelude.{◌≢◌, IfErr, slice_get}
 use Rattle.std.specs.Str.{bytes_eq}
 use Rattle.std.proofs.lemmas.Bool.{false≢true}
 use Rattle.std.proofs.lemmas.List.{take_more}
 use Rattle.std.proofs.lemmas.Slice.Eq.{bytes_eq-Decides}
-use Rattle.std.specs.List.{All, flat_map}
+use Rattle.std.specs.List.{flat_map}
 use Rattle.std.specs.Int.{w32, to_be_bytes}
 use Rattle.std.proofs.lemmas.List.{append-nil}
 use Rattle.std.proofs.lemmas.Option.{none-some, same_Some}
 use Rattle.pec_types.specs.Bytes.{Bytes}
 use Rattle.pec_journal.specs.JournalFile.{IsBroken, IsFile, framed, front, header, open_gate}
-use Rattle.pec_records.specs.Entry.{CanBeWritten, IsEntry, entry_text}
+use Rattle.pec_records.specs.Entry.{entry_text}
 use Rattle.pec_records.specs.declared.entries.Entry.{Entry}
 use Rattle.pec_records.specs.declared.entries.Entry.TheVariants as entries
 use Rattle.pec_directory.specs.Directory.{Kept}
@@ -28,7 +28,7 @@ use Rattle.pec_shelf.specs.Prepared.{AreSteps, IsStep}
 use Rattle.pec_shelf.specs.Seen.{Seen}
 use Rattle.pec_stock.specs.declared.faults.ReopenFault.{ReopenFault}
 use Rattle.pec_stock.specs.declared.faults.ReopenFault.TheVariants as faults
-use Rattle.pec_stock.specs.Opening.{IsBad, IsCutOff, IsElsewhere, IsHere, IsOutside, IsUnfit, NotOwn, ReadsTo, StopsAt, WhyNot, as_reopened}
+use Rattle.pec_stock.specs.Opening.{IsBad, IsElsewhere, IsHere, IsOutside, IsUnfit, NotOwn, ReadsTo, StopsAt, WhyNot, as_reopened}
 use Rattle.pec_stock.specs.Stock.{Holds, IsOwn}
 use Rattle.pec_stock.specs.Stocking.{AllSteps}
 use Rattle.pec_stock.proofs.Agreeing.{steps_push}

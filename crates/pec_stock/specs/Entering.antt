@@ -1,6 +1,6 @@
 -- How an entry that is a step of a provider's half is appended: the shelf and the entries over the disk go on together.
 -- This project's profile.
-use Rattle.std.specs.Prelude.{◌≡◌, ℕ, ◌+◌, ◌<◌, ◌≤◌, nat_lt, Bool, true, List, map, Option, Some}
+use Rattle.std.specs.Prelude.{◌≡◌, ◌+◌, ◌<◌, ◌≤◌, nat_lt, Bool, true, List, map, Option, Some}
 use Rattle.pec_types.specs.declared.mailboxes.Mark.{Mark}
 use Rattle.pec_types.specs.declared.turns.ProviderFault.{ProviderFault}
 use Rattle.pec_types.specs.declared.turns.ProviderFault.TheVariants as faults

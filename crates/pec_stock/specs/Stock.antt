@@ -6,6 +6,7 @@ use Rattle.pec_directory.specs.Canonical.{digest_of}
 use Rattle.pec_directory.specs.Directory.{Kept, providers_of}
 use Rattle.pec_records.specs.declared.entries.Entry.{Entry}
 use Rattle.pec_records.specs.declared.entries.Entry.TheVariants as entries
+use Rattle.pec_ledger.specs.Deadlines.{last_tick}
 use Rattle.pec_ledger.specs.Ledger.{Begins}
 use Rattle.pec_ledger.specs.Network.{chosen}
 use Rattle.pec_ledger.specs.OfDirectory.{IsOf}
@@ -15,11 +16,13 @@ use Rattle.pec_shelf.specs.Prepared.{AreSteps}
 use Rattle.pec_shelf.specs.Seen.{IsFor, Seen}
 use Rattle.pec_chronicle.specs.Chronicle.{ChronicleState, made_size}
 
--- The half of a shelf is what these entries of its provider come to, in every world of the directory.
+-- The half of a shelf is what these entries of its provider come to, in every world of the directory, and its last clock
+-- call is theirs.
 pub record Holds (kept : List Kept) (shelf : Seen) (list : List Entry) : Type 0 where
   pub is_half : (trade : Trade) → IsOf kept trade → shelf.half ≡ half trade shelf.me list
   pub homes : (trade : Trade) → IsOf kept trade → IsFor trade shelf
   pub in_range : shelf.half.last < END_OF_TIME
+  pub ticked : shelf.ticked ≡ last_tick list
 
 -- These are entries of a provider's journal: they begin with its Start, and each is a step of the half before it.
 pub record IsOwn (trade : Trade) (me : ℕ) (list : List Entry) : Type 0 where

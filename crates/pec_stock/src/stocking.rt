@@ -13,6 +13,7 @@ ghost use Rattle.pec_stock.specs.Stocking.{AllSteps, StepsUpTo};
 use pec_directory::Directory;
 use pec_records::Entry;
 use pec_shelf::{PrepareFault, Shelf, a_directory_has_a_trade, moment_of, what_is_kept_goes_on};
+use pec_types::Steps;
 
 /// Takes entries in, one after another, as far as each is a step of the half before it. With a fault the answer tells how
 /// many were taken in.
@@ -36,7 +37,7 @@ pub(crate) fn take_all(
     Ok(())
 }
 
-/// Takes an entry in, where it is a step of the half.
+/// Takes an entry in, where it is a step of the half. What it looks up is no step of a call.
 pub(crate) fn take_in(
     shelf: &mut Shelf,
     directory: &Directory,
@@ -53,7 +54,8 @@ pub(crate) fn take_in(
     a_directory_has_a_trade();
     what_is_kept_goes_on();
     moment_of(entry);
-    match shelf.prepare(directory, entry) {
+    let mut steps = Steps::new();
+    match shelf.prepare(directory, entry, &mut steps) {
         Ok(ready) => {
             shelf.commit(ready);
             Ok(())

@@ -3,9 +3,8 @@ use Rattle.std.proofs.Common.{◌≡◌, List, [], ◌<◌, ◌++◌, length, ap
 use Rattle.std.specs.Option.{option_to_list}
 use Rattle.std.proofs.lemmas.List.{append-nil, length-append, nil_from_length}
 use Rattle.pec_network.specs.Working.{providers_in, putters_in, takers_in, tolds_in, turns_told}
-use Rattle.pec_posts.proofs.PartLemmas.{first_gone}
 use Rattle.pec_network.specs.declared.working.Slot.{Slot}
-use Rattle.pec_network.proofs.SeatLemmas.{taken_out, told_one, told_out}
+use Rattle.pec_network.proofs.SeatLemmas.{first_gone, taken_out, told_one, told_out}
 use Rattle.pec_network.proofs.rounds.rise.Goals as goal
 
 pub loop-preserved : goal.loop-preserved

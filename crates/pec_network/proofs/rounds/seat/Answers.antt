@@ -4,8 +4,7 @@ use Rattle.std.specs.Prelude.{Vec}
 use Rattle.std.specs.declared.alloc.Global.{Global}
 use Rattle.pec_link.specs.Ends.{Putting}
 use Rattle.pec_posts.specs.Parting.{ends_in}
-use Rattle.pec_posts.proofs.PartLemmas.{first_gone}
-use Rattle.pec_network.proofs.SeatLemmas.{put_in}
+use Rattle.pec_network.proofs.SeatLemmas.{first_gone, put_in}
 use Rattle.pec_network.proofs.rounds.seat.Goals as goal
 
 pub loop-row-preserved : goal.loop-row-preserved

@@ -7,4 +7,4 @@ pub returns-in_default-clause-back : goal.returns-in_default-clause-back
 returns-in_default-clause-back g c = λ told was is.
     let me = c.args.house.now.me in
     back_again g.P.Depot.tells g.D.Disk.tells g.D.Disk.sight c.args.house.now.directory.now c.args.form me (faults.DiskFault me) was
-    (g.P.Depot.home c.disk.new.self me) (c.in_default.ensures.same told me ∙ is) tt (λ reads. c.a_disk_is_now.ensures reads was)
+    (g.P.Depot.home c.disk.new.self me) (c.in_default.ensures.same told me ∙ is) tt (λ reads. c.a_disk_is_so.ensures.now reads was)

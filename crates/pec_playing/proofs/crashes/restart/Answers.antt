@@ -15,7 +15,7 @@ returns-clause-does g c =
     g.D.Counted.faults
     g.D.Disk.tells trade (λ told. c.restart-outcome.ensures.carries told trade) c.restart-outcome.ensures.later in
     restart_says g.D.Disk.sight g.D.Counted.faults g.D.Disk.tells trade c.args.provider network new keeps many within
-    c.restart-outcome.result c.restart-outcome.ensures.plays c.restart-outcome.ensures.fit
+    c.each_cause_is_one_of_all.ensures.found c.restart-outcome.result c.restart-outcome.ensures.plays c.restart-outcome.ensures.fit
     c.restart-outcome.ensures.refused
     c.restart-outcome.ensures.down c.restart-outcome.ensures.disk_fault c.in_ok-text.text c.in_ok-text.ensures
 
@@ -30,6 +30,6 @@ returns-in_err-text-clause-does g c =
     g.D.Counted.faults
     g.D.Disk.tells trade (λ told. c.restart-outcome.ensures.carries told trade) c.restart-outcome.ensures.later in
     restart_stops g.D.Disk.sight g.D.Counted.faults g.D.Disk.tells trade c.args.provider network new keeps many within
-    c.restart-outcome.result c.restart-outcome.ensures.plays c.restart-outcome.ensures.refused
+    c.each_cause_is_one_of_all.ensures.found c.restart-outcome.result c.restart-outcome.ensures.plays c.restart-outcome.ensures.refused
     c.restart-outcome.ensures.down c.from_residual.result
     c.from_residual.ensures.0

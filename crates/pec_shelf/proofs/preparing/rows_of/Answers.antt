@@ -1,6 +1,9 @@
-use Rattle.std.proofs.Common.{ap, sym, ◌∙◌}
+use Rattle.std.proofs.Common.{◌≤◌, ap, sym, subst, ◌∙◌}
 use Rattle.pec_types.specs.Bytes.{Bytes, Path}
+use Rattle.pec_records.specs.declared.entries.Entry.{Entry}
 use Rattle.pec_records.specs.declared.entries.Entry.TheVariants as entries
+use Rattle.pec_ledger.specs.Steps.{moment_of}
+use Rattle.pec_shelf.specs.Looked.{acceptances_seen, clock_seen}
 use Rattle.pec_shelf.specs.Settled.{settled}
 use Rattle.pec_shelf.proofs.StepLemmas.{at_entry}
 use Rattle.pec_shelf.proofs.preparing.rows_of.Goals as goal
@@ -28,3 +31,9 @@ returns-in-Acked c = λ trade for. at_entry (settled c.args.directory.now trade)
 
 pub returns-in-Anomaly : goal.returns-in-Anomaly
 returns-in-Anomaly c = λ trade for. at_entry (settled c.args.directory.now trade) c.args.shelf.now.me c.args.shelf.now.half c.args.entry.now _ c.anomaly.result (c.in-Anomaly.is ∙ ap (λ (p : Path). entries.Anomaly c.in-Anomaly.moment p c.in-Anomaly.message) (sym c.as_slice-in-Anomaly.ensures)) (c.anomaly.ensures trade c.in-Anomaly.message)
+
+pub ticked-requires : goal.ticked-requires
+ticked-requires c = record {
+  in_time = subst (λ (e : Entry). c.args.shelf.now.half.last ≤ moment_of e) c.in-Ticked.is c.requires.in_time;
+  clock = c.requires.clock ∙ ap (clock_seen (acceptances_seen c.args.shelf.now)) c.in-Ticked.is;
+}

@@ -7,7 +7,7 @@ use Rattle.pec_shelf.proofs.summing.summary_of.Goals as goal
 pub loop-number-preserved : goal.loop-number-preserved
 loop-number-preserved c =
     message_more c.args.me c.args.shelf.now.half c.args.outbox.now.messages c.loop-number.number c.in-Some.row.now c.loop-number.summary
-    c.in_ok-summary.summary _ c.in-Some.ensures c.in_ok-summary.ensures c.loop-number.invariant
+    c.with_message-summary.result _ c.in-Some.ensures c.with_message-summary.ensures c.loop-number.invariant
 
 pub returns-in_default : goal.returns-in_default
 returns-in_default c =

@@ -1,15 +1,15 @@
-use Rattle.std.proofs.Common.{refl, ◌∙◌, ap, map, subst, ◌<◌, ℕ}
+use Rattle.std.proofs.Common.{refl, sym, ap, subst, ◌<◌, ℕ, is_ok}
 use Rattle.pec_types.specs.declared.moments.TheConstants.{END_OF_TIME}
-use Rattle.pec_ledger.specs.Trade.{Trade}
-use Rattle.pec_shelf.specs.Prepared.{Prepared, told}
+use Rattle.pec_shelf.specs.Looked.{Looked}
 use Rattle.pec_stock.proofs.Agreeing.{agree_failed, agree_still, agree_taken, entered_from, failed_from, same_but_room}
 use Rattle.pec_stock.proofs.CarryLemmas.{reserve_alone, reserve_and_append}
+use Rattle.pec_stock.proofs.LookLemmas.{looked_none, looked_through, never_ok}
 use Rattle.pec_stock.proofs.entering.enter.Goals as goal
 
 pub returns-in_err-encoded-clause-agree : goal.returns-in_err-encoded-clause-agree
 returns-in_err-encoded-clause-agree g c =
     agree_still c.args.directory.now c.args.chronicle.now c.reserve.new.self c.args.shelf.now c.args.shelf.now c.requires.agree
-    (same_but_room c.args.chronicle.now c.reserve.new.self _ _ c.reserve.ensures.same) (refl, refl, refl)
+    (same_but_room c.args.chronicle.now c.reserve.new.self _ _ c.reserve.ensures.same) (refl, refl, refl, refl)
 
 pub returns-in_err-encoded-clause-carries : goal.returns-in_err-encoded-clause-carries
 returns-in_err-encoded-clause-carries g c tells =
@@ -58,3 +58,27 @@ returns-clause-carries g c tells =
     reserve_and_append g.D.Disk.sight c.args.entry.now c.args.chronicle.now c.reserve.new.self c.append.new.chronicle
     c.in_ok-encoded.encoded c.in_ok-encoded.ensures.encoded (ap (λ s. s.entries) c.reserve.ensures.same)
     (c.reserve.ensures.carries tells) (c.append.ensures.carries tells)
+
+pub returns-in_err-encoded-clause-looked : goal.returns-in_err-encoded-clause-looked
+returns-in_err-encoded-clause-looked g c = λ trade of.
+    looked_none trade c.args.shelf.now c.args.entry.now c.args.steps.now c.from_residual.result
+    (never_ok c.from_residual.result c.from_residual.ensures.0)
+
+pub returns-in_err-ready-clause-looked : goal.returns-in_err-ready-clause-looked
+returns-in_err-ready-clause-looked g c = λ trade of.
+    looked_through trade c.args.shelf.now c.args.entry.now c.prepared.new.shelf.looks c.args.steps.now c.prepared.new.steps c.prepared.result
+    c.from_residual-in_err-ready.result
+    (λ ok. absurd (never_ok c.from_residual-in_err-ready.result c.from_residual-in_err-ready.ensures.0 ok)) (c.prepared.ensures.looked trade of)
+
+pub returns-in_err-append-clause-looked : goal.returns-in_err-append-clause-looked
+returns-in_err-append-clause-looked g c = λ trade of.
+    looked_through trade c.args.shelf.now c.args.entry.now c.prepared.new.shelf.looks c.args.steps.now c.prepared.new.steps c.prepared.result
+    c.from_residual-in_err-append.result
+    (λ ok. absurd (never_ok c.from_residual-in_err-append.result c.from_residual-in_err-append.ensures.0 ok)) (c.prepared.ensures.looked trade of)
+
+pub returns-clause-looked : goal.returns-clause-looked
+returns-clause-looked g c = λ trade of.
+    looked_through trade c.args.shelf.now c.args.entry.now c.commit.new.self.looks c.args.steps.now c.prepared.new.steps c.prepared.result _
+    (λ ok. ap is_ok c.in_ok-ready.was)
+    (subst (λ (n : ℕ). Looked trade c.args.shelf.now c.args.entry.now n c.args.steps.now c.prepared.new.steps c.prepared.result) (sym c.commit.ensures.looks)
+    (c.prepared.ensures.looked trade of))

@@ -1,4 +1,4 @@
-use Rattle.std.proofs.Common.{◌≡◌, ◌<◌, length, take, sym, ap, ◌∙◌, Some, Err, arith}
+use Rattle.std.proofs.Common.{◌<◌, length, take, sym, ap, ◌∙◌, Some, Err, arith}
 use Rattle.std.proofs.lemmas.Option.{slice_get-get_or}
 use Rattle.pec_stock.proofs.OpeningLemmas.{stops_at, taken_more}
 use Rattle.pec_stock.proofs.stocking.take_all.Goals as goal

@@ -5,7 +5,7 @@ use Rattle.pec_network.proofs.network.Network.begin.Goals as goal
 pub returns-in_default-clause-refused : goal.returns-in_default-clause-refused
 returns-in_default-clause-refused g c =
     nothing_begun g.P.Depot.tells g.D.Disk.tells g.D.Disk.sight c.args.directory c.args.form (g.P.Depot.home c.args.depot.now)
-    c.count.ensures.lawful (λ reads disk. c.a_disk_is_now.ensures reads disk)
+    c.count.ensures.lawful (λ reads disk. c.a_disk_is_so.ensures.now reads disk)
 
 pub invariant_of-result : goal.invariant_of-result
 invariant_of-result g c =

@@ -15,5 +15,5 @@ returns g c =
     let slice = c.as_slice.ensures.value in
     let of = c.a_trade_says_what_its_parts_say.ensures.directory kept seals in
     rw (← c.self.view_is)
-    (c.in_ok-summary.ensures kept seals trade of (rw slice c.self.invariant.runs)
+    (c.summary_of.ensures kept seals trade of (rw slice c.self.invariant.runs)
     ∙ (ap (total_over trade nothing_yet 0) slice ∙ total_is trade providers c.self.inside.arrivals.items nothing_yet 0))

@@ -3,7 +3,7 @@ use Rattle.pec_types.specs.declared.mailboxes.Mark.{Mark}
 use Rattle.pec_plays.specs.Commands.{Marks, Tick, played}
 use Rattle.pec_trade.specs.TradeOf.{trade_of}
 use Rattle.pec_network.specs.Network.{NetworkState}
-use Rattle.pec_network.proofs.ChangeLemmas.{number_within, plays_from, runs_from, whole_from}
+use Rattle.pec_network.proofs.ChangeLemmas.{number_within, plays_from, runs_from, ticks_from, whole_from}
 use Rattle.pec_network.proofs.ConcernLemmas.{concerns_one}
 use Rattle.pec_network.proofs.network.Network.tick.Goals as goal
 
@@ -46,3 +46,10 @@ returns-clause-concerns g c =
     (concerns_one was c.args.provider c.index_mut.result.now c.tick.new.self within c.index_mut.ensures.value
     g.D.Disk.sight g.D.Counted.faults g.D.Disk.tells g.S.Sealer.seals c.tick.result c.what_rests_carries_on.ensures
     c.tick.ensures.carries c.tick.ensures.disk_fault c.tick.ensures.later)
+
+pub returns-clause-looked : goal.returns-clause-looked
+returns-clause-looked g c =
+    let within = number_within _ c.args.self.now c.self.view_is c.self.invariant c.args.provider c.requires in
+    rw (← c.self.view_is)
+    (ticks_from c.self.inside.providers.items c.args.provider c.index_mut.result.now c.tick.new.self within c.index_mut.ensures.value
+    (trade_of c.self.inside.directory (g.S.Sealer.seals c.self.inside.sealer)) c.args.moment c.args.steps.now c.tick.new.steps c.tick.result c.tick.ensures.looked)

@@ -1,3 +1,6 @@
+use Rattle.std.proofs.Common.{subst}
+use Rattle.pec_shelf.specs.Looked.{Looked}
+use Rattle.pec_provider.specs.Provider.{ProviderState}
 use Rattle.pec_provider.proofs.AppendLemmas.{left_any, marks_any, runs_on}
 use Rattle.pec_provider.proofs.provider.Provider.append.Goals as goal
 
@@ -18,3 +21,8 @@ returns-clause-runs g c =
     c.args.self.now c.self.view_is c.enter.new.chronicle c.enter.new.shelf _ c.args.entry c.enter.result
     c.enter.ensures.entered c.enter.ensures.failed c.enter.ensures.me c.enter.ensures.agree c.requires.envelope
     c.requires.runs
+
+pub returns-clause-looked : goal.returns-clause-looked
+returns-clause-looked g c = λ trade of.
+    subst (λ (p : ProviderState g.row.D.Denot). Looked trade p.shelf c.args.entry c.enter.new.shelf.looks c.args.steps.now c.enter.new.steps c.enter.result) c.self.view_is
+    (c.enter.ensures.looked trade of)

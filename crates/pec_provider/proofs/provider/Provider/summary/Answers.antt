@@ -4,10 +4,10 @@ use Rattle.pec_ledger.specs.Steps.{half}
 use Rattle.pec_shelf.specs.Summaries.{summary_of}
 use Rattle.pec_provider.proofs.provider.Provider.summary.Goals as goal
 
-pub returns : goal.returns
-returns g c =
+pub returns-clause-is : goal.returns-clause-is
+returns-clause-is g c =
     rw (← c.self.view_is)
     (λ kept seals me trade runs of.
-    c.in_ok-summary.ensures trade (runs.agree.holds.homes trade of)
+    c.summary.ensures.is trade (runs.agree.holds.homes trade of)
     ∙ (ap (summary_of trade c.self.inside.shelf.me) (runs.agree.holds.is_half trade of)
     ∙ ap (λ (number : ℕ). summary_of trade number (half trade number c.self.inside.chronicle.entries)) runs.is))

@@ -1,4 +1,4 @@
-use Rattle.std.proofs.Common.{[], Global, Vec, ap, refl}
+use Rattle.std.proofs.Common.{[], Global, Vec, ap, refl, is_ok, IsOk}
 use Rattle.pec_types.specs.declared.mailboxes.Mark.{Mark}
 use Rattle.pec_records.specs.declared.entries.Entry.TheVariants as entries
 use Rattle.pec_plays.specs.Commands.{Marks, Tick, played}
@@ -8,6 +8,7 @@ use Rattle.pec_provider.specs.Provider.{desk_of}
 use Rattle.pec_provider.proofs.FollowLemmas.{carries_entry, carries_still}
 use Rattle.pec_provider.proofs.PlayLemmas.{plays_done, plays_handed, plays_torn, tick_comes, tick_refused}
 use Rattle.pec_provider.proofs.RunLemmas.{enters_by}
+use Rattle.pec_provider.proofs.TickLemmas.{counted_later, counted_of, never_ok, none_counted}
 use Rattle.pec_provider.proofs.provider.Provider.tick.Goals as goal
 
 pub returns-in_err-at_work-clause-plays : goal.returns-in_err-at_work-clause-plays
@@ -90,3 +91,22 @@ returns-clause-carries g c = λ tells journals.
     (c.what_a_provider_does_may_follow.ensures.clock_calls trade journals me c.args.moment
     c.args.self.now.chronicle.entries works.in_time
     c.at_work.ensures.in_range) (c.append.ensures.carries tells)
+
+pub returns-in_err-at_work-clause-looked : goal.returns-in_err-at_work-clause-looked
+returns-in_err-at_work-clause-looked g c =
+    none_counted _ c.args.self.now.shelf.looks c.args.steps.now _ (never_ok c.from_residual.result c.from_residual.ensures.0)
+
+pub returns-in_err-marks-clause-looked : goal.returns-in_err-marks-clause-looked
+returns-in_err-marks-clause-looked g c =
+    let trade = trade_of c.args.house.now.directory.now (g.S.Sealer.seals c.args.house.now.sealer.now) in
+    counted_later _ c.args.self.now.shelf.looks c.append.new.self.shelf.looks c.args.steps.now c.append.new.steps (IsOk c.append.result) _
+    (λ ok. absurd (never_ok c.from_residual-in_err-marks.result c.from_residual-in_err-marks.ensures.0 ok))
+    (counted_of c.args.house.now.directory.now c.args.house.now.me c.args.self.now trade c.args.moment c.append.new.self.shelf.looks c.args.steps.now c.append.new.steps
+    (IsOk c.append.result) c.requires c.a_house_is_a_trade.ensures.of (c.append.ensures.looked trade c.a_house_is_a_trade.ensures.of))
+
+pub returns-clause-looked : goal.returns-clause-looked
+returns-clause-looked g c =
+    let trade = trade_of c.args.house.now.directory.now (g.S.Sealer.seals c.args.house.now.sealer.now) in
+    counted_later _ c.args.self.now.shelf.looks c.append.new.self.shelf.looks c.args.steps.now c.append.new.steps (IsOk c.append.result) _ (λ ok. ap is_ok c.in_ok-marks.was)
+    (counted_of c.args.house.now.directory.now c.args.house.now.me c.args.self.now trade c.args.moment c.append.new.self.shelf.looks c.args.steps.now c.append.new.steps
+    (IsOk c.append.result) c.requires c.a_house_is_a_trade.ensures.of (c.append.ensures.looked trade c.a_house_is_a_trade.ensures.of))

@@ -1,7 +1,6 @@
 use Rattle.std.proofs.Common.{◌++◌, List, length, ap, ◌∙◌, arith}
 use Rattle.std.specs.List.{range_with_len}
 use Rattle.pec_shelf.specs.Sides.{Kept}
-use Rattle.pec_shelf.proofs.MarkLemmas.{settled_more}
 use Rattle.pec_shelf.proofs.StillLemmas.{answered_more}
 use Rattle.pec_shelf.proofs.outbox.Outbox.append.Goals as goal
 
@@ -12,15 +11,9 @@ invariant_of-self c = record {
   marks = omega arith;
   known = omega arith;
   places = omega arith;
-  further = omega arith;
   unanswered = answered_more c.self.inside.me c.self.inside.messages.rows c.args.rows.messages.items c.append.new.self.rows c.self.inside.charged.rows c.args.rows.charged.items
       c.append-2.new.self.rows c.self.inside.known.rows c.args.rows.known.items c.append-4.new.self.rows c.self.inside.unanswered.places c.add.new.self.places c.len-first.result
       c.self.invariant.unanswered c.append.ensures.rows c.append-2.ensures.rows c.append-4.ensures.rows
       (c.add.ensures.places ∙ ap (λ (rows : List Kept). c.self.inside.unanswered.places ++ range_with_len c.len-first.result (length rows)) c.as_slice-count.ensures.value)
-      c.len-first.ensures.value;
-  unsettled = settled_more c.self.inside.me c.self.inside.messages.rows c.args.rows.messages.items c.append.new.self.rows c.self.inside.marks.rows c.args.rows.marks.items
-      c.append-3.new.self.rows c.self.inside.known.rows c.args.rows.known.items c.append-4.new.self.rows c.self.inside.unsettled.places c.add-2.new.self.places c.len-first.result
-      c.self.invariant.unsettled c.append.ensures.rows c.append-3.ensures.rows c.append-4.ensures.rows
-      (c.add-2.ensures.places ∙ ap (λ (rows : List Kept). c.self.inside.unsettled.places ++ range_with_len c.len-first.result (length rows)) c.as_slice-count.ensures.value)
       c.len-first.ensures.value;
 }

@@ -18,10 +18,8 @@ invariant_of-self c =
       marks = omega arith;
       known = omega arith;
       places = omega arith;
-      further = omega arith;
       unanswered = closed_less (IsAnswered c.self.inside.me c.self.inside.charged.rows c.self.inside.known.rows) c.self.inside.messages.rows c.self.inside.unanswered.places
           c.remove.new.self.places c.in-Some.index c.self.invariant.unanswered
           (subst (λ (me : ℕ). IsDoneAt (IsAnswered me c.self.inside.charged.rows c.self.inside.known.rows) c.self.inside.messages.rows c.self.inside.unanswered.places c.in-Some.index) own c.in-Some.ensures)
           c.remove.ensures.places;
-      unsettled = c.self.invariant.unsettled;
     }

@@ -8,7 +8,7 @@ use Rattle.pec_shelf.proofs.shelf.Shelf.due.Goals as goal
 pub returns : goal.returns
 returns c =
     λ trade for.
-    let me = c.self.invariant.0 ∙ ap (λ (v : Seen). v.me) c.self.view_is in
+    let me = c.self.invariant.own ∙ ap (λ (v : Seen). v.me) c.self.view_is in
     c.truncate.ensures.items
     ∙ ap (take c.args.room)
     (c.in_ok-letters.ensures
