@@ -3,6 +3,7 @@ use Rattle.std.proofs.Common.{◌≡◌, ◌≢◌, ℕ, suc, ◌-◌, ◌^◌, 
 use Rattle.std.proofs.lemmas.List.{length-map}
 use Rattle.std.proofs.lemmas.Option.{none-some, same_Some}
 use Rattle.pec_types.specs.Bytes.{Bytes}
+use Rattle.pec_outside.specs.DiskModel.{Sight}
 use Rattle.pec_outside.specs.Flow.{HasRisen, followed_by}
 use Rattle.pec_input.specs.Lines.{raw_lines}
 use Rattle.pec_input.specs.Parts.{parts_of}
@@ -184,17 +185,20 @@ played_all told finds count few status e before after tells old_disks new_disks 
       | inr more ↦ absurd (no_stray ran.happened count outcome.finish is more.strays)
     ]
 
-pub load_done : Told → (finds : Finds) (count : ℕ) (before after : Option Bytes) (tells : Type 0) (old_disks new_disks : Disks)
-    (old new : Counts) → count ≤ 20000 → (load : LoadRan count finds statuses.Done before after tells old_disks new_disks old new)
-    → (load.ran.happened.opening.next ≡ NoMore) × (length load.ran.happened.lucks ≡ length (commands_of count))
-    × (after ≡ followed_by before (state_text count (world load.ran.happened)
-    (outcome_of (load_asked finds) load.ran.happened).after))
-load_done told finds count before after tells old_disks new_disks old new few load =
-    let all = played_all told finds count few load.played load.told.0 _ _ tells old_disks new_disks _ _ load.ran in (
+pub load_done : {D : Type 0} → Told → (finds : Finds) (count : ℕ) (before after : Option Bytes) (tells : Type 0)
+    (sight : D → Sight) (home left : ℕ → Option D) (old new : Counts) → count ≤ 20000
+    → (load : LoadRan tells sight count finds statuses.Done before after home left old new)
+    → (load.through.ran.happened.opening.next ≡ NoMore)
+    × (length load.through.ran.happened.lucks ≡ length (commands_of count))
+    × (after ≡ followed_by before (state_text count (world load.through.ran.happened)
+    (outcome_of (load_asked finds) load.through.ran.happened).after))
+load_done told finds count before after tells sight home left old new few load =
+    let ran = load.through.ran in
+    let all = played_all told finds count few load.played load.told.0 _ _ tells _ _ _ _ ran in (
       all.0,
       all.1,
-      load.told.1 ∙ ap (λ s. followed_by before (written_behind count s load.lines (world load.ran.happened)
-          (outcome_of (load_asked finds) load.ran.happened).after)) load.told.0,
+      load.told.1 ∙ ap (λ s. followed_by before (written_behind count s load.lines (world ran.happened)
+          (outcome_of (load_asked finds) ran.happened).after)) load.told.0,
     )
 
 -- ---- without faults
@@ -206,22 +210,23 @@ still_down before now still risen =
     let up : before < now = risen (omega arith) in
     omega arith
 
-pub load_quiet : (count : ℕ) (finds : Finds) (before after : Option Bytes) (tells : Type 0) (old_disks new_disks : Disks) (old new : Counts)
-    (status : Status) → LoadRan count finds status before after tells old_disks new_disks old new → NoFaults old new → IsQuiet status
-load_quiet count finds before after tells old_disks new_disks old new statuses.Done load none = tt
-load_quiet count finds before after tells old_disks new_disks old new statuses.NoMemory load none = tt
-load_quiet count finds before after tells old_disks new_disks old new statuses.NotEmpty load none = tt
-load_quiet count finds before after tells old_disks new_disks old new statuses.WriteFault load none =
+pub load_quiet : {D : Type 0} (count : ℕ) (finds : Finds) (before after : Option Bytes) (tells : Type 0) (sight : D → Sight)
+    (home left : ℕ → Option D) (old new : Counts) (status : Status)
+    → LoadRan tells sight count finds status before after home left old new → NoFaults old new → IsQuiet status
+load_quiet count finds before after tells sight home left old new statuses.Done load none = tt
+load_quiet count finds before after tells sight home left old new statuses.NoMemory load none = tt
+load_quiet count finds before after tells sight home left old new statuses.NotEmpty load none = tt
+load_quiet count finds before after tells sight home left old new statuses.WriteFault load none =
     still_down old.sink new.sink none.sink load.blame
-load_quiet count finds before after tells old_disks new_disks old new statuses.StartFault load none =
+load_quiet count finds before after tells sight home left old new statuses.StartFault load none =
     elim load.blame [
       | inl depot ↦ still_down old.depot new.depot none.depot depot
       | inr disk ↦ still_down (old.disks disk.0) (new.disks disk.0) (none.disks disk.0) disk.1
     ]
-load_quiet count finds before after tells old_disks new_disks old new statuses.Usage load none = load.told
-load_quiet count finds before after tells old_disks new_disks old new statuses.Refused load none = load.told
-load_quiet count finds before after tells old_disks new_disks old new statuses.ReadFault load none = load.told
-load_quiet count finds before after tells old_disks new_disks old new statuses.NotFit load none = load.told
-load_quiet count finds before after tells old_disks new_disks old new statuses.ClockFault load none = load.told
-load_quiet count finds before after tells old_disks new_disks old new statuses.DoorFault load none = load.told
-load_quiet count finds before after tells old_disks new_disks old new statuses.InputTooLong load none = load.told
+load_quiet count finds before after tells sight home left old new statuses.Usage load none = load.told
+load_quiet count finds before after tells sight home left old new statuses.Refused load none = load.told
+load_quiet count finds before after tells sight home left old new statuses.ReadFault load none = load.told
+load_quiet count finds before after tells sight home left old new statuses.NotFit load none = load.told
+load_quiet count finds before after tells sight home left old new statuses.ClockFault load none = load.told
+load_quiet count finds before after tells sight home left old new statuses.DoorFault load none = load.told
+load_quiet count finds before after tells sight home left old new statuses.InputTooLong load none = load.told

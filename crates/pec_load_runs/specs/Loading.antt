@@ -1,6 +1,7 @@
 -- A run of the program that plays a load: `LoadRan`. It makes a directory and a script, and plays them as a run in the form
 -- `run` does; the lines of that run are dropped, and where it came to the script's end a summary of the ledger and of the
--- journals is written in their place. So all that is said of runs (`Ran` of pec_runs) is said of it. This project's profile.
+-- journals is written in their place. So all that is said of runs (`RanThrough` of pec_runs), and of each moment within them,
+-- is said of it. This project's profile.
 use Rattle.std.specs.Prelude.{◌≡◌, ℕ, ◌+◌, ◌==◌, List, [], ◌∷◌, codes, length, map, Option, None, Some, if◌then◌else◌}
 use Rattle.std.specs.Fmt.{decimal}
 use Rattle.std.specs.Str.{bytes_eq}
@@ -20,11 +21,11 @@ use Rattle.pec_load.specs.Heard.{load_input}
 use Rattle.pec_load.specs.declared.generating.TheConstants.{MOST_MESSAGES}
 use Rattle.pec_runs.specs.Endings.{Done}
 use Rattle.pec_runs.specs.Happened.{Asked, outcome_of}
-use Rattle.pec_runs.specs.Openings.{Disks, disks_at}
-use Rattle.pec_runs.specs.Ran.{Blames, Counts, NoneFell, Ran, world}
+use Rattle.pec_runs.specs.Ran.{Blames, Counts, NoneFell, world}
 use Rattle.pec_runs.specs.ScriptLines.{Script, command_in}
 use Rattle.pec_runs.specs.Statuses.{Status}
 use Rattle.pec_runs.specs.Statuses as statuses
+use Rattle.pec_runs.specs.Through.{RanThrough}
 
 -- ---- words
 
@@ -97,26 +98,21 @@ abbrev pub counts_with : Counts → ℕ → ℕ → Counts
 counts_with counts source sink =
     record { source = source; sink = sink; depot = counts.depot; disks = counts.disks }
 
--- The program ran on `load N`: from what the output held, the disks at home and the counts of faults as it began to those
--- as it ended. Within it a run was played, from and to memory, which read all of the load's directory and script.
-pub record LoadRan (count : ℕ) (finds : Finds) (status : Status) (before after : Option Bytes) (tells : Type 0)
-    (old_disks new_disks : Disks) (old new : Counts) : Type 0 where
+-- The program ran on `load N`, over a depot that had these disks at home, by provider, and has those: from what the output
+-- held and the counts of faults as it began to those as it ended. Within it a run was played, from and to memory, which
+-- read all of the load's directory and script; what each disk went through meanwhile is what it did in that run.
+pub record LoadRan {D : Type 0} (tells : Type 0) (sight : D → Sight) (count : ℕ) (finds : Finds) (status : Status)
+    (before after : Option Bytes) (home left : ℕ → Option D) (old new : Counts) : Type 0 where
   pub played : Status
   pub lines : Bytes  -- what it wrote, which is dropped
   pub source : ℕ  -- the counts of faults of what it read from and wrote to, in memory, which begin at 0
   pub sink : ℕ
-  pub ran : Ran (load_asked finds) played (Some (load_input count)) (Some []) (Some lines) tells old_disks new_disks
+  pub through : RanThrough tells sight (load_asked finds) played (Some (load_input count)) (Some []) (Some lines) home left
       (counts_with old 0 0) (counts_with new source sink)
-  pub told : LoadTells status played (written_behind count played lines (world ran.happened)
-      (outcome_of (load_asked finds) ran.happened).after) before after
+  pub told : LoadTells status played (written_behind count played lines (world through.ran.happened)
+      (outcome_of (load_asked finds) through.ran.happened).after) before after
   pub blame : Blames status old new
   pub counts : NoneFell old new
-
--- The same over a depot that had these disks at home, by provider, and has those.
-abbrev pub LoadRanOver : {D : Type 0} → Type 0 → (D → Sight) → ℕ → Finds → Status → (before after : Option Bytes)
-    → (home left : ℕ → Option D) → (old new : Counts) → Type 0
-LoadRanOver tells sight count finds status before after home left old new =
-    LoadRan count finds status before after tells (disks_at tells sight home) (disks_at tells sight left) old new
 
 -- ---- what its status says
 

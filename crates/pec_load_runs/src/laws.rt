@@ -7,7 +7,7 @@ ghost use Rattle.pec_input.specs.Parts.{parts_of};
 ghost use Rattle.pec_load.specs.Generated.{commands_of};
 ghost use Rattle.pec_load.specs.Heard.{load_input};
 ghost use Rattle.pec_load.specs.declared.generating.TheConstants.{MOST_MESSAGES};
-ghost use Rattle.pec_load_runs.specs.Loading.{IsOfLoad, IsQuiet, LoadRanOver, load_asked, load_script, state_text};
+ghost use Rattle.pec_load_runs.specs.Loading.{IsOfLoad, IsQuiet, LoadRan, load_asked, load_script, state_text};
 ghost use Rattle.pec_runs.specs.Happened.{Begun, outcome_of, stage_of};
 ghost use Rattle.pec_runs.specs.Openings.{NoMore, Run};
 ghost use Rattle.pec_runs.specs.Plays.{Strays};
@@ -47,15 +47,15 @@ pub fn a_status_says_what_a_load_told<P: Depot>()
     // Status 0: both journals were made, all commands were played, and the summary of the state behind them was written.
     ensures done { (finds : Finds) (count : ℕ) (before after : Option Bytes) (depot left : P) (old new : Counts)
         → count ≤ MOST_MESSAGES
-        → (load : LoadRanOver (P.tells × P.D.tells) P.D.sight count finds statuses.Done before after (P.home depot)
+        → (load : LoadRan (P.tells × P.D.tells) P.D.sight count finds statuses.Done before after (P.home depot)
         (P.home left) old new)
-        → (load.ran.happened.opening.next ≡ NoMore) × (length load.ran.happened.lucks ≡ length (commands_of count))
-        × (after ≡ followed_by before (state_text count (world load.ran.happened)
-        (outcome_of (load_asked finds) load.ran.happened).after)) }
+        → (load.through.ran.happened.opening.next ≡ NoMore) × (length load.through.ran.happened.lucks ≡ length (commands_of count))
+        × (after ≡ followed_by before (state_text count (world load.through.ran.happened)
+        (outcome_of (load_asked finds) load.through.ran.happened).after)) }
     // Without faults only a disk that isn't empty, or want of memory, keeps it from that.
     ensures quiet { (finds : Finds) (count : ℕ) (status : Status) (before after : Option Bytes) (depot left : P)
         (old new : Counts)
-        → LoadRanOver (P.tells × P.D.tells) P.D.sight count finds status before after (P.home depot) (P.home left) old new
+        → LoadRan (P.tells × P.D.tells) P.D.sight count finds status before after (P.home depot) (P.home left) old new
         → NoFaults old new → IsQuiet status }
 {
     a_load_has_its_directory();

@@ -12,7 +12,7 @@ ghost use Rattle.pec_runs.specs.Steps.{AllMoments, AreSeen, AreSteps, State, Ste
 
 use pec_chronicle::a_disk_holds_one_list;
 use pec_ledger::any_images;
-use pec_outside::{Depot, Disk};
+use pec_outside::{Depot, a_disk_is_so};
 use pec_plays::a_network_stays_sound;
 
 /// A run that goes by steps from a Sound state, in which what is kept of providers stands on their disks, and that injects
@@ -44,14 +44,3 @@ pub fn a_run_may_be_killed_at_any_moment<P: Depot>()
     a_disk_holds_one_list();
     a_disk_is_so::<P::D>();
 }
-
-/// The laws of every disk, for proofs that speak of two values over it.
-pub(crate) fn a_disk_is_so<D: Disk>()
-    // This moment is one of those since an earlier one, and since this moment there is no other.
-    ensures counts { D.tells → (disk : D) (t : ℕ) (image : Bytes) → t ≤ (D.sight disk).moment
-        → (D.sight disk).may_leave image → (D.sight disk).left_since t image }
-    ensures now { D.tells → (disk : D) (image : Bytes) → (D.sight disk).left_since (D.sight disk).moment image
-        → (D.sight disk).may_leave image }
-    // A disk as it reads is one of its images.
-    ensures reads { D.tells → (disk : D) → (D.sight disk).may_leave (D.sight disk).seen }
-{}

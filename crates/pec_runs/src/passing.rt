@@ -17,10 +17,9 @@ ghost use Rattle.pec_runs.specs.ScriptLines.{Script};
 ghost use Rattle.pec_runs.specs.Statuses.{Status};
 ghost use Rattle.pec_runs.specs.Through.{AreAtHome, AreHadFrom, GoesThrough, MovesThrough, RanThrough, disks_in};
 
-use crate::moments::a_disk_is_so;
 use pec_chronicle::a_disk_holds_one_list;
 use pec_ledger::{any_images, licences_stand, soundness};
-use pec_outside::{Depot, Disk};
+use pec_outside::{Depot, Disk, a_disk_is_so};
 use pec_plays::a_network_stays_sound;
 use pec_script::a_line_has_one_reading;
 

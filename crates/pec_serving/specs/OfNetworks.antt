@@ -9,6 +9,7 @@ pub use Rattle.pec_playing.specs.OfNetworks.{Summary, total_of, waiting_for, wor
 pub use Rattle.pec_playing.specs.Doing.{Keeps}
 pub use Rattle.pec_playing.specs.Playing.{CanPlay, count_or, counts_in}
 pub use Rattle.pec_playing.specs.Points.{point_of, state_in, stop_in}
+pub use Rattle.pec_plays.specs.Commands.{Command, Luck, played}
 pub use Rattle.pec_playing.specs.OfNetworks.faults as faults
 pub use Rattle.pec_playing.specs.OfNetworks.reasons as reasons
 pub use Rattle.pec_playing.specs.OfNetworks.ways as ways

@@ -7,9 +7,9 @@ use Rattle.pec_outside.specs.Flow.{WrotePart, followed_by}
 use Rattle.pec_ledger.specs.Network.{Site, journal_at}
 use Rattle.pec_ledger.specs.Trade.{Trade}
 use Rattle.pec_load.specs.Heard.{load_input}
-use Rattle.pec_load_runs.specs.Loading.{LoadRan, LoadRanOver, LoadTells, counts_with, load_asked, state_text, summary_text, written_behind}
+use Rattle.pec_load_runs.specs.Loading.{LoadRan, LoadTells, counts_with, load_asked, state_text, summary_text, written_behind}
 use Rattle.pec_runs.specs.Happened.{outcome_of}
-use Rattle.pec_runs.specs.Openings.{AreUntouched, Disks, Run}
+use Rattle.pec_runs.specs.Openings.{Resume, Run}
 use Rattle.pec_runs.specs.Plays.{Strays}
 use Rattle.pec_runs.specs.Ran.{Blames, Counts, NoneFell, world}
 use Rattle.pec_runs.specs.Statuses.{Status}
@@ -25,8 +25,9 @@ use Rattle.pec_top.specs.declared.ending.Stop.TheVariants as stops
 use Rattle.pec_top.specs.declared.reporting.Report.{Report}
 use Rattle.pec_top.specs.declared.reporting.Report.TheVariants as reports
 use Rattle.pec_top.proofs.FlowLemmas.{followed_by-nil}
-use Rattle.pec_top.proofs.RunningLemmas.{ran_halted, ran_whole}
-use Rattle.pec_top.proofs.ThroughLemmas.{counted_through, whole_through}
+use Rattle.pec_top.proofs.HadFromLemmas.{had_none}
+use Rattle.pec_top.proofs.RunningLemmas.{ran_whole, untouched}
+use Rattle.pec_top.proofs.ThroughLemmas.{counted_through, halted_through, whole_through}
 
 -- what was to be written was, or a front of it where the output failed
 pub load_written : (other : Status) (text line : Bytes) → line ≡ text → (end : End) (before after : Option Bytes)
@@ -75,7 +76,7 @@ pub loaded_so : {D : Type 0} (count : ℕ) (finds : Finds) (run result : Result 
     → LoadTells (result_shown result) (result_shown run) (written_behind count (result_shown run) lines trade sites) before
     after)
     → Blames (result_shown result) old new → NoneFell old new
-    → LoadRanOver tells sight count finds (result_shown result) before after home left old new
+    → LoadRan tells sight count finds (result_shown result) before after home left old new
 unfolding counted_through whole_through ran_whole
 loaded_so count finds run result lines before after tells sight home left old new source sink report devices disks depot last
     so on told blame fell = record {
@@ -83,8 +84,8 @@ loaded_so count finds run result lines before after tells sight home left old ne
       lines = lines;
       source = source;
       sink = sink;
-      ran = (counted_through run (load_asked finds) (Some (load_input count)) (Some []) (Some lines) tells sight home left
-          (counts_with old 0 0) (counts_with new source sink) devices disks depot last so.ran).ran;
+      through = counted_through run (load_asked finds) (Some (load_input count)) (Some []) (Some lines) tells sight home left
+          (counts_with old 0 0) (counts_with new source sink) devices disks depot last so.ran;
       told = told (world so.ran.so.happened) (outcome_of (load_asked finds) so.ran.so.happened).after
           (λ done. so.reported done on);
       blame = blame;
@@ -95,17 +96,19 @@ none_fell : (counts : Counts) → NoneFell counts counts
 none_fell counts = record { source = omega arith; sink = omega arith; depot = omega arith; disks = λ provider. omega arith }
 
 -- memory ran out before there was a run to play
-pub unmade : (count : ℕ) (finds : Finds) (before : Option Bytes) (tells : Type 0) (disks : Disks) → AreUntouched disks disks
-    → (counts : Counts) → LoadRan count finds statuses.NoMemory before before tells disks disks counts counts
-unmade count finds before tells disks same counts = record {
+pub unmade : {D : Type 0} (count : ℕ) (finds : Finds) (before : Option Bytes) (tells : Type 0) (sight : D → Sight)
+    (home : ℕ → Option D) (counts : Counts) → LoadRan tells sight count finds statuses.NoMemory before before home home counts counts
+unfolding whole_through
+unmade count finds before tells sight home counts = record {
   played = statuses.NoMemory;
   lines = [];
   source = 0;
   sink = 0;
-  ran = ran_whole (load_asked finds) statuses.NoMemory (Some (load_input count)) (Some []) (Some []) tells disks disks
-      (counts_with counts 0 0) (counts_with counts 0 0) tt (none_fell (counts_with counts 0 0))
-      (ran_halted (load_asked finds) (Some (load_input count)) (Some []) (Some []) tells disks disks counts.disks
-      counts.disks same Run statuses.NoMemory refl (refl, refl));
+  through = whole_through (load_asked finds) statuses.NoMemory (Some (load_input count)) (Some []) (Some []) tells sight home
+      home (counts_with counts 0 0) (counts_with counts 0 0) tt (none_fell (counts_with counts 0 0))
+      (halted_through (load_asked finds) (Some (load_input count)) (Some []) (Some []) tells sight home home counts.disks
+      counts.disks (untouched tells sight home) (λ trade. had_none tells sight Resume trade home) Run statuses.NoMemory refl
+      (refl, refl));
   told = sym (followed_by-nil before);
   blame = tt;
   counts = none_fell counts;

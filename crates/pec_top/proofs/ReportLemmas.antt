@@ -9,7 +9,7 @@ use Rattle.pec_input.specs.declared.opening.TheConstants.{LONGEST_DIRECTORY}
 use Rattle.pec_records.specs.declared.entries.Entry.{Entry}
 use Rattle.pec_ledger.specs.Network.{Site}
 use Rattle.pec_ledger.specs.Trade.{Trade}
-use Rattle.pec_plays.specs.Commands.{Luck}
+use Rattle.pec_serving.specs.OfNetworks.{Luck}
 use Rattle.pec_runs.specs.Happened.{Asked, IsSetting, Setting, outcome_of, providers_in, trade_in}
 use Rattle.pec_runs.specs.Openings.{AreLeft, Form, IsOpening, NoMore, Opening, disks_at, form_in, opened_all}
 use Rattle.pec_runs.specs.Plays.{Outcome, Rest, Strayed, Strays, finish_of, outcome_from}

@@ -21,7 +21,7 @@ use Rattle.pec_runs.specs.Happened.{by_next, by_script, outcome_at, outcome_of, 
 use Rattle.pec_serving.specs.OfNetworks.{IsUnchanged}
 use Rattle.pec_runs.specs.Openings.{AreLeft, AreUntouched, Disks, Form, IsOpening, IsUntouched, Next, NoMore, Holds, Unfits, Fails}
 use Rattle.pec_runs.specs.Openings.{Stops, Opening, disks_at, form_in}
-use Rattle.pec_plays.specs.Commands.{Luck}
+use Rattle.pec_serving.specs.OfNetworks.{Luck}
 use Rattle.pec_runs.specs.Plays.{Outcome, Rest, Stopped}
 use Rattle.pec_runs.specs.Plays as plays
 use Rattle.pec_runs.specs.Ran.{Blames, Counts, IsAt, IsInput, LeavesOff, NoneFell, PlaysOn, Ran, Tells, TellsAs}

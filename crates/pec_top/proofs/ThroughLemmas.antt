@@ -12,7 +12,7 @@ use Rattle.pec_input.specs.declared.opening.TheConstants.{LONGEST_DIRECTORY}
 use Rattle.pec_ledger.specs.Network.{Site, interrupted_at, journal_at}
 use Rattle.pec_ledger.specs.Trade.{Trade}
 use Rattle.pec_records.specs.declared.entries.Entry.{Entry}
-use Rattle.pec_plays.specs.Commands.{Luck}
+use Rattle.pec_serving.specs.OfNetworks.{Luck}
 use Rattle.pec_seal.specs.Seals.{Seals}
 use Rattle.pec_serving.specs.OfNetworks.{AllAt, AllStand, ChronicleState, IsOfDirectory, NetworkState, ProviderState}
 use Rattle.pec_serving.specs.OfNetworks.{Stands, sites}

@@ -13,7 +13,7 @@ use Rattle.pec_records.specs.declared.entries.Entry.{Entry}
 use Rattle.pec_ledger.specs.Network.{Site, site_at}
 use Rattle.pec_ledger.specs.Trade.{Trade}
 use Rattle.pec_serving.specs.OfNetworks.{AllAt, AllStand, IsOfDirectory, NetworkState, ProviderState, Stands, desk_of, site_of, sites, sites_of}
-use Rattle.pec_plays.specs.Commands.{Command, Luck, played}
+use Rattle.pec_serving.specs.OfNetworks.{Command, Luck, played}
 use Rattle.pec_serving.specs.OfNetworks.{Waiting, waiting_for}
 use Rattle.pec_runs.specs.Happened.{Asked, IsSetting, Setting, providers_in, trade_in}
 use Rattle.pec_runs.specs.Openings.{AreLeft, Disks, Form, IsLeft, IsOpening, IsUntouched, NoMore, disks_at, form_in, opened_all}

@@ -1,7 +1,9 @@
--- Calls of the program, as its contract has them, in the words of pec_runs and pec_service: `run_of`, `service_of`. This
--- project's profile.
-use Rattle.std.specs.Prelude.{ℕ, List}
+-- Calls of the program, as its contract has them, in the words of pec_runs and pec_service: `run_of`, `load_of`,
+-- `service_of`. This project's profile.
+use Rattle.std.specs.Prelude.{ℕ, List, [], Some}
 use Rattle.pec_types.specs.Bytes.{Bytes}
+use Rattle.pec_load.specs.Heard.{load_input}
+use Rattle.pec_load_runs.specs.Loading.{counts_with, load_asked}
 use Rattle.pec_runs.specs.Passing.{OneRun}
 use Rattle.pec_runs.specs.Statuses.{Status}
 use Rattle.pec_screen.specs.Screened.{Finds}
@@ -28,6 +30,21 @@ run_of call = record {
   left = call.new.home;
   old = call.old.counts.devices;
   new = call.new.counts.devices;
+}
+
+-- The run within a call that plays a load of so many messages, which ended with this status, wrote these lines into memory,
+-- and read from and wrote to memory with these counts of faults.
+abbrev pub load_of : {D : Type 0} → ℕ → Call D → Status → Bytes → (source sink : ℕ) → OneRun D
+load_of count call played lines source sink = record {
+  asked = load_asked call.finds;
+  status = played;
+  unread = Some (load_input count);
+  before = Some [];
+  after = Some lines;
+  home = call.old.home;
+  left = call.new.home;
+  old = counts_with call.old.counts.devices 0 0;
+  new = counts_with call.new.counts.devices source sink;
 }
 
 -- as a run that serves so many connections

@@ -7,7 +7,7 @@ use Rattle.pec_dossier.specs.Checks.{CheckRan, asks_check}
 use Rattle.pec_dossier.specs.Exports.{ExportRan, asks_ldif}
 use Rattle.pec_input.specs.Finding.{IsAtEnd}
 use Rattle.pec_ldif.specs.Writing.{ldif_text}
-use Rattle.pec_load_runs.specs.Loading.{LoadRanOver, loads_in}
+use Rattle.pec_load_runs.specs.Loading.{LoadRan, loads_in}
 use Rattle.pec_outside.specs.Doors.{Reply}
 use Rattle.pec_runs.specs.Openings.{Form, form_in}
 use Rattle.pec_runs.specs.Statuses.{Status}
@@ -118,7 +118,7 @@ module _ {D : Type 0} (tells : Type 0) (sight : D → Sight) (words : List Bytes
   -- A load of so many messages was played.
   abbrev pub HasLoaded : ℕ → Type 0
   HasLoaded count =
-      LoadRanOver tells sight count finds status old.held new.held old.home new.home old.counts.devices new.counts.devices
+      LoadRan tells sight count finds status old.held new.held old.home new.home old.counts.devices new.counts.devices
 
   -- A run that does so.
   abbrev pub IsRun : Task → Type 0

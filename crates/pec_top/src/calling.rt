@@ -9,8 +9,8 @@ ghost use Rattle.pec_runs.specs.ScriptLines.{Script};
 ghost use Rattle.pec_runs.specs.Through.{RanThrough};
 ghost use Rattle.pec_service.specs.Calling.{ServedHonestly};
 ghost use Rattle.pec_service.specs.Through.{ServiceRanThrough};
-ghost use Rattle.pec_top.specs.Calling.{Call, run_of, service_of};
-ghost use Rattle.pec_top.specs.Tasks.{IsRun, Plays, Serves};
+ghost use Rattle.pec_top.specs.Calling.{Call, load_of, run_of, service_of};
+ghost use Rattle.pec_top.specs.Tasks.{IsRun, Loads, Plays, Serves};
 
 use pec_outside::{Depot, Disk};
 use pec_runs::runs_go_on_from_one_another;
@@ -31,6 +31,17 @@ pub fn four_calls_go_on_from_one_another<P: Depot>()
         (service_of wanted call).unread (service_of wanted call).before (service_of wanted call).after
         (service_of wanted call).home (service_of wanted call).left (service_of wanted call).here
         (service_of wanted call).there (service_of wanted call).old (service_of wanted call).new }
+    ensures loads { (call : Call P.D) (count : ℕ)
+        → (load : IsRun (P.tells × P.D.tells) P.D.sight call.words call.finds call.status call.old call.new (Loads count))
+        → RanThrough (P.tells × P.D.tells) P.D.sight (load_of count call load.played load.lines load.source load.sink).asked
+        (load_of count call load.played load.lines load.source load.sink).status
+        (load_of count call load.played load.lines load.source load.sink).unread
+        (load_of count call load.played load.lines load.source load.sink).before
+        (load_of count call load.played load.lines load.source load.sink).after
+        (load_of count call load.played load.lines load.source load.sink).home
+        (load_of count call load.played load.lines load.source load.sink).left
+        (load_of count call load.played load.lines load.source load.sink).old
+        (load_of count call load.played load.lines load.source load.sink).new }
     ensures four { P.tells × P.D.tells → (trade : Trade) (first second third fourth : Call P.D) (wanted : ℕ)
         → AreEmpty trade (held (P.tells × P.D.tells) P.D.sight first.old.home)
         → RanHonestly (P.tells × P.D.tells) P.D.sight trade (run_of first)

@@ -21,18 +21,6 @@ pub(crate) fn a_network_is_whole<D, H: Sealer>(network: &Network<D, H>)
     network.directory();
 }
 
-/// The laws of every disk, for proofs that speak of values of it.
-pub(crate) fn a_disk_is_so<D: Disk>()
-    // This moment is one of those since an earlier one.
-    ensures counts { D.tells → (disk : D) (t : ℕ) (image : Bytes) → t ≤ (D.sight disk).moment
-        → (D.sight disk).may_leave image → (D.sight disk).left_since t image }
-    // Since this moment there is no other.
-    ensures now { D.tells → (disk : D) (image : Bytes) → (D.sight disk).left_since (D.sight disk).moment image
-        → (D.sight disk).may_leave image }
-    // A disk as it reads is one of its images.
-    ensures reads { D.tells → (disk : D) → (D.sight disk).may_leave (D.sight disk).seen }
-{}
-
 /// What is said of a loop over the lines of a script, in every world.
 pub(crate) fn a_loop_climbs<P: Depot>()
     ensures { (trade : Trade) (finds : Finds) (providers : List Provider)

@@ -2,7 +2,7 @@ ghost use Rattle.std.specs.Prelude.{◌≡◌, ◌≤◌, ◌∷◌, [], ℕ, Li
 ghost use Rattle.std.specs.Fmt.{decimal};
 ghost use Rattle.pec_outside.specs.Flow.{HasRisen};
 ghost use Rattle.pec_load.specs.Heard.{load_input};
-ghost use Rattle.pec_load_runs.specs.Loading.{LoadRanOver, LoadTells, state_text, summary_text, written_behind};
+ghost use Rattle.pec_load_runs.specs.Loading.{LoadRan, LoadTells, state_text, summary_text, written_behind};
 ghost use Rattle.pec_ledger.specs.Network.{Site};
 ghost use Rattle.pec_ledger.specs.Trade.{Trade};
 ghost use Rattle.pec_runs.specs.Statuses as statuses;
@@ -41,7 +41,7 @@ pub(crate) fn load_form<X: Threads + Sync, W: Sink, P: Depot, J: Judge>(
 ) -> Result<End, Stop>
     requires { count ≤ MOST_MESSAGES }
     // (the input isn't touched, so its count stands still)
-    ensures loaded { (input : ℕ) → LoadRanOver (P.tells × P.D.tells) P.D.sight count (finds_in (map J.patterns screens.old))
+    ensures loaded { (input : ℕ) → LoadRan (P.tells × P.D.tells) P.D.sight count (finds_in (map J.patterns screens.old))
         (result_shown result) (W.held out.old) (W.held out.new) (P.home depot.old) (P.home depot.new)
         (record { source = input; sink = W.faults out.old; depot = P.faults depot.old; disks = P.last depot.old })
         (record { source = input; sink = W.faults out.new; depot = P.faults depot.new; disks = P.last depot.new }) }

@@ -17,12 +17,12 @@ ghost use Rattle.pec_top.specs.declared.opening.Refusal.TheVariants as refusals;
 
 use crate::ending::{End, Stop};
 use crate::forms::Form;
-use crate::laws::{a_disk_is_so, a_network_is_whole};
+use crate::laws::a_network_is_whole;
 use crate::run::write_last;
 use crate::survey::{choose_form, holds_something};
 use crate::texts::{not_empty_text, not_fit_text};
 use pec_directory::Directory;
-use pec_outside::{Depot, Disk, Failed, Sink};
+use pec_outside::{Depot, Disk, Failed, Sink, a_disk_is_so};
 use pec_seal::{HmacSealer, Sealer};
 use pec_serving::{
     Network, NotFit, StartFault, a_trade_says_what_its_parts_say, sealer_of, the_texts_are_a_trade,

@@ -37,8 +37,5 @@ fn told<D, H: Sealer>(network: &Network<D, H>) -> Report
     if network.directory().count() < 2 {
         return Report::Untold;
     }
-    match network.summary() {
-        Ok(summary) => Report::Told(summary, network.entries(0), network.entries(1)),
-        Err(_) => Report::Untold,
-    }
+    Report::Told(network.summary(), network.entries(0), network.entries(1))
 }

@@ -7,8 +7,7 @@ ghost use Rattle.pec_top.specs.Shown.{form_shown};
 ghost use Rattle.pec_top.specs.Surveys.{AreAsTheyWere, HoldsSo};
 
 use crate::forms::Form;
-use crate::laws::a_disk_is_so;
-use pec_outside::{Depot, Disk, Failed};
+use pec_outside::{Depot, Disk, Failed, a_disk_is_so};
 
 /// How the providers of so many disks come to their journals where connections are served: they are made where all disks are
 /// empty, and opened where one holds something. The first that does is the last that is looked at.

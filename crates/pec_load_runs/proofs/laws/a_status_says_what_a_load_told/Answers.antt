@@ -15,7 +15,9 @@ returns g c =
     } in
     record {
       done = λ finds count before after depot left old new few load.
-          load_done told finds count before after _ _ _ old new few load;
+          load_done told finds count before after (g.P.Depot.tells × g.P.D.Disk.tells) g.P.D.Disk.sight (g.P.Depot.home depot)
+          (g.P.Depot.home left) old new few load;
       quiet = λ finds count status before after depot left old new load none.
-          load_quiet count finds before after _ _ _ old new status load none;
+          load_quiet count finds before after (g.P.Depot.tells × g.P.D.Disk.tells) g.P.D.Disk.sight (g.P.Depot.home depot)
+          (g.P.Depot.home left) old new status load none;
     }

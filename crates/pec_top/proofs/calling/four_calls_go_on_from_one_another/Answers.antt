@@ -10,6 +10,9 @@ returns-clause-plays g c = λ call form ran. ran
 pub returns-clause-serves : goal.returns-clause-serves
 returns-clause-serves g c = λ call wanted ran. ran
 
+pub returns-clause-loads : goal.returns-clause-loads
+returns-clause-loads g c = λ call count load. load.through
+
 pub returns-clause-four : goal.returns-clause-four
 returns-clause-four g c =
     λ told trade first second third fourth wanted none one found_second two found_third three found_fourth honest script begun

@@ -4,7 +4,6 @@ use Rattle.std.proofs.lemmas.Result.{err_from_is_err_and}
 use Rattle.pec_outside.specs.Flow.{as_u64}
 use Rattle.pec_load.specs.Heard.{load_input}
 use Rattle.pec_load_runs.specs.Loading.{counts_with, load_asked}
-use Rattle.pec_runs.specs.Openings.{disks_at}
 use Rattle.pec_runs.specs.Ran.{Counts, NoneFell}
 use Rattle.pec_screen.specs.Screened.{finds_in}
 use Rattle.pec_top.specs.Blaming.{BlamesDevices}
@@ -12,7 +11,7 @@ use Rattle.pec_top.specs.Reporting.{RanReporting}
 use Rattle.pec_top.specs.Shown.{result_shown}
 use Rattle.pec_top.specs.declared.reporting.Report.TheVariants as reports
 use Rattle.pec_top.proofs.LoadingLemmas.{loaded_so, unmade}
-use Rattle.pec_top.proofs.RunningLemmas.{ran_whole, untouched}
+use Rattle.pec_top.proofs.RunningLemmas.{ran_whole}
 use Rattle.pec_top.proofs.ThroughLemmas.{counted_through, whole_through}
 use Rattle.pec_top.proofs.TopLemmas.{blames_result}
 use Rattle.pec_top.proofs.loading.load_form.Goals as goal
@@ -29,7 +28,7 @@ returns-in_err-input-clause-loaded g c = λ input.
     } in
     let p = err_from_is_err_and c.from_residual.result c.from_residual.ensures.1 in
     rw (p.1, p.2) (unmade c.args.count (finds_in (map g.J.Judge.patterns c.args.screens.now)) (g.W.Stream.held c.args.out.now)
-    tells (disks_at tells g.P.D.Disk.sight home) (untouched tells g.P.D.Disk.sight home) counts)
+    tells g.P.D.Disk.sight home counts)
 
 pub returns-clause-loaded : goal.returns-clause-loaded
 unfolding counted_through whole_through ran_whole
