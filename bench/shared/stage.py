@@ -19,7 +19,7 @@ use pec_provider::{
 use pec_screen::NoScreens;
 use pec_seal::{HmacSealer, Sealer};
 use pec_trade::sealer_of;
-use pec_types::{Address, BookLine, Frame, ItemLine, Moment, NoMemory};
+use pec_types::{Address, BookLine, Frame, ItemLine, Moment, NoMemory, Steps};
 use std::alloc::Global;
 use std::marker::Model;
 
@@ -185,7 +185,7 @@ impl Desk {
             sealer: &home.sealer,
             me: self.me,
         };
-        self.provider.tick(self.alloc, &house, moment)
+        self.provider.tick(self.alloc, &house, moment, &mut Steps::new())
     }
 
     pub fn arrive(&mut self, moment: Moment, frame: &[u8]) -> Result<Event, ProviderFault> {
@@ -468,7 +468,7 @@ use pec_outside::{MemDepot, MemDisk};
 use pec_provider::{ProviderFault, Submitted};
 use pec_screen::NoScreens;
 use pec_seal::{HmacSealer, Sealer};
-use pec_types::{Address, Mark, Moment};
+use pec_types::{Address, Mark, Moment, Steps};
 use std::alloc::Global;
 
 pub(crate) fn submit(
@@ -501,7 +501,7 @@ pub(crate) fn tick(
     ensures { (network.new.kept ≡ network.old.kept) × (network.new.sealer ≡ network.old.sealer) }
 {
     network.directory();
-    network.tick(alloc, provider, moment)
+    network.tick(alloc, provider, moment, &mut Steps::new())
 }
 
 pub(crate) fn crash(network: &mut Network<MemDisk, HmacSealer>, provider: u32, depot: &mut MemDepot)

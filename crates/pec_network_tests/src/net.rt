@@ -14,7 +14,7 @@ use pec_trial::{
     account_at, moment_of, number, small, submission_of, text_of, told, told_all, told_item,
     told_turns, told_word, two, word,
 };
-use pec_types::{Frame, Text8};
+use pec_types::{Frame, Steps, Text8};
 use std::alloc::{AllocError, Global};
 use std::test::Fail;
 use std::thread::Threads;
@@ -289,7 +289,9 @@ impl<X: Threads + Sync> Net<'_, X> {
     fn tick(&mut self, line: &str) -> Result<Vec<u8>, Fail> {
         let provider = self.who(line, 1)?;
         let moment = moment_of(line, 2)?;
-        let answer = self.network.tick(self.alloc, provider, moment);
+        let answer = self
+            .network
+            .tick(self.alloc, provider, moment, &mut Steps::new());
         told_all(self.alloc, answer, b"marks")
     }
 

@@ -1,47 +1,50 @@
 //! Addresses: which texts are none, and what one keeps.
+use crate::rows::holds;
 use crate::texts::joined;
 use pec_types::{Address, AddressFault};
 use std::alloc::Global;
 
-// Texts, and the fault of each; none where it is an address.
-static TEXTS: [(&[u8], Option<AddressFault>); 16] = [
-    (b"", Some(AddressFault::Empty)),
-    (b"a", Some(AddressFault::NoAt)),
-    (b"@", Some(AddressFault::BadLocal(0))),
-    (b".a@b", Some(AddressFault::BadLocal(0))),
-    (b"a.@b", Some(AddressFault::BadLocal(2))),
-    (b"a..b@c", Some(AddressFault::BadLocal(2))),
-    (b"a b@c", Some(AddressFault::BadLocal(1))),
-    (b"a@-b", Some(AddressFault::BadDomain(2))),
-    (b"a@", Some(AddressFault::BadDomain(2))),
-    (b"a@b.", Some(AddressFault::BadDomain(4))),
-    (b"a@b@c", Some(AddressFault::BadDomain(3))),
-    (b"a@b-", Some(AddressFault::BadDomain(4))),
+/// A text, and its fault; none where it is an address.
+type Row = (&'static str, Option<AddressFault>);
+
+static TEXTS: &[Row] = &[
+    ("", Some(AddressFault::Empty)),
+    ("a", Some(AddressFault::NoAt)),
+    ("@", Some(AddressFault::BadLocal(0))),
+    (".a@b", Some(AddressFault::BadLocal(0))),
+    ("a.@b", Some(AddressFault::BadLocal(2))),
+    ("a..b@c", Some(AddressFault::BadLocal(2))),
+    ("a b@c", Some(AddressFault::BadLocal(1))),
+    ("a@-b", Some(AddressFault::BadDomain(2))),
+    ("a@", Some(AddressFault::BadDomain(2))),
+    ("a@b.", Some(AddressFault::BadDomain(4))),
+    ("a@b@c", Some(AddressFault::BadDomain(3))),
+    ("a@b-", Some(AddressFault::BadDomain(4))),
     // a label of 63 bytes, one of 64, and one whose byte 63 is a hyphen
     (
-        b"a@bbbbbbbbbbbbbbbbbbbbbbbbbbbbbbbbbbbbbbbbbbbbbbbbbbbbbbbbbbbbbbb",
+        "a@bbbbbbbbbbbbbbbbbbbbbbbbbbbbbbbbbbbbbbbbbbbbbbbbbbbbbbbbbbbbbbb",
         None,
     ),
     (
-        b"a@bbbbbbbbbbbbbbbbbbbbbbbbbbbbbbbbbbbbbbbbbbbbbbbbbbbbbbbbbbbbbbbb",
+        "a@bbbbbbbbbbbbbbbbbbbbbbbbbbbbbbbbbbbbbbbbbbbbbbbbbbbbbbbbbbbbbbbb",
         Some(AddressFault::BadDomain(65)),
     ),
     (
-        b"a@bbbbbbbbbbbbbbbbbbbbbbbbbbbbbbbbbbbbbbbbbbbbbbbbbbbbbbbbbbbbbb-b",
+        "a@bbbbbbbbbbbbbbbbbbbbbbbbbbbbbbbbbbbbbbbbbbbbbbbbbbbbbbbbbbbbbb-b",
         Some(AddressFault::BadDomain(64)),
     ),
-    (b"a{}~!.b-1@x-1.it", None),
+    ("a{}~!.b-1@x-1.it", None),
 ];
 
 #[test]
 fn a_text_has_its_first_fault(rt: HostRuntime) {
-    for (text, fault) in &TEXTS {
-        assert!(rt; fault_of(rt.alloc(), text) == *fault, "{text:?}");
+    for row in TEXTS {
+        holds(&rt, has_fault(rt.alloc(), row), row.0);
     }
 }
 
-fn fault_of(alloc: Global, text: &[u8]) -> Option<AddressFault> {
-    Address::read(alloc, text).err()
+fn has_fault(alloc: Global, row: &Row) -> bool {
+    Address::read(alloc, row.0.as_bytes()).err() == row.1
 }
 
 #[test]
@@ -69,19 +72,16 @@ fn is_at_alfa(address: &Address, wanted: &[u8]) -> bool {
 }
 
 // What stands behind 252 letters, and the fault of that text.
-static ENDS: [(&[u8], Option<AddressFault>); 2] = [
-    (b"@b", None),
-    (b"@bb", Some(AddressFault::TooLong)),
-];
+static ENDS: &[Row] = &[("@b", None), ("@bb", Some(AddressFault::TooLong))];
 
 #[test]
 fn an_address_has_at_most_254_bytes(rt: HostRuntime) {
-    for (end, fault) in &ENDS {
-        assert!(rt; has_long_fault(rt.alloc(), end, *fault), "{end:?}");
+    for row in ENDS {
+        holds(&rt, has_long_fault(rt.alloc(), row), row.0);
     }
 }
 
-fn has_long_fault(alloc: Global, end: &[u8], fault: Option<AddressFault>) -> bool {
-    let text = joined(alloc, &[&[b'a'; 252], end]);
-    fault_of(alloc, &text) == fault
+fn has_long_fault(alloc: Global, row: &Row) -> bool {
+    let text = joined(alloc, &[&[b'a'; 252], row.0.as_bytes()]);
+    Address::read(alloc, &text).err() == row.1
 }

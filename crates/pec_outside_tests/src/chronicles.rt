@@ -109,6 +109,60 @@ fn is_made(alloc: Global, call: u64) -> bool {
     made(alloc, call).is_ok()
 }
 
+// Two entries stand after calls 0 to 10. Opened again they take a sync, the size, the header and three gates, and a read
+// each: calls 11 to 18.
+#[test]
+fn a_fault_of_the_disk_opens_no_entries(rt: HostRuntime) {
+    for call in 11..19 {
+        assert!(rt; fails_to_open(rt.alloc(), call), "call {call}");
+    }
+    assert!(rt; are_opened(rt.alloc(), 19));
+}
+
+fn fails_to_open(alloc: Global, call: u64) -> bool {
+    match opened_again(alloc, call) {
+        Ok(_) => false,
+        Err(fault) => fault == Some(OpenFault::DiskFault),
+    }
+}
+
+fn are_opened(alloc: Global, call: u64) -> bool {
+    match opened_again(alloc, call) {
+        Ok(entries) => entries == 2,
+        Err(_) => false,
+    }
+}
+
+/// How many entries are opened again on a disk that fails at this call; or the fault, or None where they weren't made.
+fn opened_again(alloc: Global, call: u64) -> Result<u64, Option<OpenFault>> {
+    match made(alloc, call) {
+        Ok(mut chronicle) => {
+            if has_appended(alloc, &mut chronicle, None) {
+                restarted(alloc, chronicle)
+            } else {
+                Err(None)
+            }
+        }
+        Err(_) => Err(None),
+    }
+}
+
+/// Over a restart that fails the entries stay, down.
+fn restarted(alloc: Global, chronicle: Chronicle<MemDisk>) -> Result<u64, Option<OpenFault>> {
+    match chronicle.restart(alloc) {
+        Ok((chronicle, _, _)) => Ok(chronicle.entries()),
+        Err((fault, chronicle)) => Err(if is_left_down(&chronicle) {
+            Some(fault)
+        } else {
+            None
+        }),
+    }
+}
+
+fn is_left_down(chronicle: &Chronicle<MemDisk>) -> bool {
+    chronicle.is_down() && chronicle.entries() == 2
+}
+
 /// Bytes over which no entries are opened.
 struct File {
     bytes: &'static [u8],

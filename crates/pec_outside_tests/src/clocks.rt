@@ -1,4 +1,5 @@
 //! Clocks in memory: their moments, and calls that fail.
+use crate::rows::holds;
 use crate::texts::{calls, put, put_number};
 use pec_outside::{Failed, MemTicks, Ticks};
 use pec_types::Moment;
@@ -10,7 +11,7 @@ const NEVER: u64 = u64::MAX;
 /// How many moments a clock has, of 10, 20, 30 in order, the call that fails, and what five calls answer.
 type Row = (u64, u64, &'static str);
 
-static ROWS: [Row; 6] = [
+static ROWS: &[Row] = &[
     (1, NEVER, "10 10 10 10 10 "),
     (2, NEVER, "10 20 20 20 20 "),
     (3, NEVER, "10 20 30 30 30 "),
@@ -22,8 +23,8 @@ static ROWS: [Row; 6] = [
 
 #[test]
 fn a_clock_answers_its_moments_and_then_the_last_again(rt: HostRuntime) {
-    for row in &ROWS {
-        assert!(rt; goes_so(rt.alloc(), row), "{}", row.2);
+    for row in ROWS {
+        holds(&rt, goes_so(rt.alloc(), row), row.2);
     }
 }
 

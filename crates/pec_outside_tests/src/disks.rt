@@ -1,10 +1,13 @@
 //! Disks and depots in memory: what is read of what was written, calls that fail, and crashes.
+use crate::rows::holds_at;
 use crate::texts::calls;
 use pec_outside::{Depot, Disk, Failed, MemDepot, MemDisk};
 use std::alloc::Global;
 
-// Where a piece is written, the piece, and what the disk holds then.
-static WRITES: [(u64, &[u8], &[u8]); 5] = [
+/// Where a piece is written, the piece, and what the disk holds then.
+type Written = (u64, &'static [u8], &'static [u8]);
+
+static WRITES: &[Written] = &[
     (0, b"abc", b"abc"),
     (1, b"XY", b"aXY"), // within
     (2, b"zzz", b"aXzzz"), // over the end
@@ -12,8 +15,10 @@ static WRITES: [(u64, &[u8], &[u8]); 5] = [
     (3, b"", b"aXzzz!"), // nothing
 ];
 
-// Where four bytes are read, one row after another, how many there are, and the room then.
-static READS: [(u64, usize, &[u8]); 4] = [
+/// Where four bytes are read, one row after another, how many there are, and the room then.
+type Read = (u64, usize, &'static [u8]);
+
+static READS: &[Read] = &[
     (0, 4, b"aXzz"),
     (4, 2, b"z!zz"),
     (6, 0, b"z!zz"),
@@ -28,22 +33,22 @@ fn a_disk_reads_as_it_was_written(rt: HostRuntime) {
 fn reads_as_written(alloc: Global) -> bool {
     let mut disk = MemDisk::new(alloc, Vec::new(alloc));
     let mut room = [b'-'; 4];
-    takes_all(&mut disk, &WRITES) && gives_all(&mut disk, &mut room, &READS)
+    takes_all(&mut disk, WRITES) && gives_all(&mut disk, &mut room, READS)
 }
 
-fn takes_all<D: Disk>(disk: &mut D, rows: &[(u64, &[u8], &[u8])]) -> bool {
-    for (at, piece, wanted) in rows {
-        if !takes(disk, *at, piece, wanted) {
+fn takes_all<D: Disk>(disk: &mut D, rows: &[Written]) -> bool {
+    for row in rows {
+        if !takes(disk, row) {
             return false;
         }
     }
     true
 }
 
-fn takes<D: Disk>(disk: &mut D, at: u64, piece: &[u8], wanted: &[u8]) -> bool {
-    disk.write_at(at, piece) == Ok(())
-        && holds(disk, wanted)
-        && disk.size() == Ok(wanted.len() as u64)
+fn takes<D: Disk>(disk: &mut D, row: &Written) -> bool {
+    disk.write_at(row.0, row.1) == Ok(())
+        && holds(disk, row.2)
+        && disk.size() == Ok(row.2.len() as u64)
 }
 
 /// Whether these bytes are what the disk holds, up to 40.
@@ -58,9 +63,9 @@ fn holds<D: Disk>(disk: &mut D, wanted: &[u8]) -> bool {
     }
 }
 
-fn gives_all<D: Disk>(disk: &mut D, room: &mut [u8], rows: &[(u64, usize, &[u8])]) -> bool {
-    for (at, count, wanted) in rows {
-        if disk.read_at(*at, room) != Ok(*count) || *room != **wanted {
+fn gives_all<D: Disk>(disk: &mut D, room: &mut [u8], rows: &[Read]) -> bool {
+    for row in rows {
+        if disk.read_at(row.0, room) != Ok(row.1) || *room != *row.2 {
             return false;
         }
     }
@@ -71,7 +76,7 @@ fn gives_all<D: Disk>(disk: &mut D, room: &mut [u8], rows: &[(u64, usize, &[u8])
 #[test]
 fn each_call_of_a_disk_can_fail(rt: HostRuntime) {
     for number in 0..4 {
-        assert!(rt; fails_once(rt.alloc(), number), "call {number}");
+        holds_at(&rt, fails_once(rt.alloc(), number), number, "");
     }
 }
 
@@ -96,7 +101,7 @@ fn fails_at<D: Disk>(disk: &mut D, number: u64) -> bool {
 
 // `abcdef` is durable. Then XY is written at 1, a write at 4 fails, and Z is written at 6: pending are the places 1, 2, 4
 // and 6.
-static CRASHES: [(u64, &[u8]); 6] = [
+static CRASHES: &[(u64, &[u8])] = &[
     (0, b"a\xff\xffd\xfff\xff"),
     (1, b"aX\xffd\xfff\xff"),
     (2, b"aXYd\xfff\xff"),
@@ -107,15 +112,15 @@ static CRASHES: [(u64, &[u8]); 6] = [
 
 #[test]
 fn a_crash_keeps_the_first_pending_bytes(rt: HostRuntime) {
-    for (kept, wanted) in &CRASHES {
-        assert!(rt; keeps_first(rt.alloc(), *kept, wanted), "{kept}");
+    for row in CRASHES {
+        holds_at(&rt, keeps_first(rt.alloc(), row), row.0, "");
     }
 }
 
 /// Whether a crash that keeps so many pending bytes leaves this.
-fn keeps_first(alloc: Global, kept: u64, wanted: &[u8]) -> bool {
-    let mut depot = depot_keeping(alloc, kept);
-    is_left_by_crashes(&mut depot, wanted)
+fn keeps_first(alloc: Global, row: &(u64, &[u8])) -> bool {
+    let mut depot = depot_keeping(alloc, row.0);
+    is_left_by_crashes(&mut depot, row.1)
 }
 
 /// A depot whose first disk fails at its call 3, and whose first crash keeps so many pending bytes.

@@ -1,4 +1,5 @@
 //! Doors in memory: connections that come in, those that fail, and the replies that stay.
+use crate::rows::holds_at;
 use crate::texts::{calls, joined, put};
 use pec_outside::{Door, Failed, MemDoor, Sink, Source, write_all};
 use std::alloc::Global;
@@ -19,7 +20,7 @@ struct Row {
     replies: &'static str,
 }
 
-static ROWS: [Row; 10] = [
+static ROWS: &[Row] = &[
     Row {
         accept: NEVER,
         broken: (0, NEVER),
@@ -89,7 +90,7 @@ static ROWS: [Row; 10] = [
 #[test]
 fn a_door_gives_its_requests_and_keeps_the_replies(rt: HostRuntime) {
     for (place, row) in ROWS.iter().enumerate() {
-        assert!(rt; goes_so(rt.alloc(), row), "row {place}");
+        holds_at(&rt, goes_so(rt.alloc(), row), place as u64, row.said);
     }
 }
 

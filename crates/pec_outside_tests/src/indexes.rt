@@ -2,8 +2,11 @@
 use pec_index::Index;
 use std::alloc::Global;
 
-// Keys in the order in which they are put, each with a value and whether the value is put there.
-static ROWS: [(&[u8], u32, bool); 4] = [
+/// A key, its value, and whether the value is put there.
+type Row = (&'static [u8], u32, bool);
+
+// In the order in which they are put.
+static ROWS: &[Row] = &[
     (b"alfa", 7, true),
     (b"", 8, true), // no byte is a key too
     (b"alfa", 9, false), // the first value stays
@@ -17,7 +20,7 @@ fn the_first_value_at_a_key_stays(rt: HostRuntime) {
 
 fn keeps_first_values(alloc: Global) -> bool {
     let mut index = Index::new(alloc);
-    is_empty(&index) && are_put(alloc, &mut index, &ROWS) && has_first_values(&index)
+    is_empty(&index) && are_put(alloc, &mut index, ROWS) && has_first_values(&index)
 }
 
 fn is_empty(index: &Index<u32>) -> bool {
@@ -36,9 +39,9 @@ fn value_at(index: &Index<u32>, key: &[u8]) -> u32 {
     }
 }
 
-fn are_put(alloc: Global, index: &mut Index<u32>, rows: &[(&[u8], u32, bool)]) -> bool {
-    for (key, value, is_put) in rows {
-        if index.add(alloc, key, *value) != Ok(*is_put) {
+fn are_put(alloc: Global, index: &mut Index<u32>, rows: &[Row]) -> bool {
+    for row in rows {
+        if index.add(alloc, row.0, row.1) != Ok(row.2) {
             return false;
         }
     }

@@ -23,6 +23,8 @@ mod kept;
 #[cfg(test)]
 mod links;
 #[cfg(test)]
+mod rows;
+#[cfg(test)]
 mod streams;
 #[cfg(test)]
 mod texts;

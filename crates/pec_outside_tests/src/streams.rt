@@ -1,4 +1,5 @@
 //! Sources and sinks in memory: pieces of any length, and calls that fail.
+use crate::rows::holds_at;
 use crate::texts::{calls, joined};
 use pec_outside::{Failed, MemSink, MemSource, Sink, Source, write_all};
 use std::alloc::Global;
@@ -8,7 +9,12 @@ const TEXT: &[u8] = b"accepted pec.0000000@alfa.example";
 #[test]
 fn pieces_of_any_length_give_the_whole_text(rt: HostRuntime) {
     for piece in [1, 3, 100] {
-        assert!(rt; is_copied(rt.alloc(), piece), "pieces of {piece}");
+        holds_at(
+            &rt,
+            is_copied(rt.alloc(), piece),
+            piece as u64,
+            "bytes a piece",
+        );
     }
 }
 
@@ -27,7 +33,7 @@ fn copies_all(input: &mut MemSource, out: &mut MemSink) -> bool {
 #[test]
 fn each_read_can_fail_once(rt: HostRuntime) {
     for number in 0..12 {
-        assert!(rt; fails_at_read(rt.alloc(), number), "read {number}");
+        holds_at(&rt, fails_at_read(rt.alloc(), number), number, "");
     }
 }
 
@@ -48,7 +54,7 @@ fn stops_behind(input: &mut MemSource, out: &mut MemSink, pieces: u64) -> bool {
 #[test]
 fn each_write_can_fail_once(rt: HostRuntime) {
     for number in 0..11 {
-        assert!(rt; fails_at_write(rt.alloc(), number), "write {number}");
+        holds_at(&rt, fails_at_write(rt.alloc(), number), number, "");
     }
 }
 

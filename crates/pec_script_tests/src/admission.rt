@@ -2,6 +2,7 @@
 
 ghost use Rattle.std.specs.Prelude.{◌<◌, length};
 
+use crate::rows::holds;
 use pec_directory::Directory;
 use pec_points::{Admission, admit};
 use pec_screen::{Judge, NoScreens};
@@ -19,7 +20,7 @@ key = \"101112131415161718191a1b1c1d1e1f\"\nzone = \"UTC0\"\n";
 pub(crate) type Row = (&'static str, &'static str, &'static str, Option<Cause>);
 
 /// Messages at the first provider.
-static CAUSES: [Row; 46] = [
+static CAUSES: &[Row] = &[
     // A row each, and what is equal in its eyes.
     // A first line without a colon; no empty line.
     ("1000", "b@b", "From a@a|To: b@b||", Some(Cause::Head)),
@@ -84,6 +85,31 @@ static CAUSES: [Row; 46] = [
         None,
     ),
     ("1000", "B@B C@C", "FROM: <A@A>|TO: B@B|CC: C@C||X", None),
+    // The same of nine addresses, in another order; with repeats; and with one too few in the path and one too many.
+    (
+        "1000",
+        "i@b h@b g@b f@b e@b d@b c@b b@b a@b",
+        "From: a@a|To: a@b,b@b,c@b,d@b,e@b|Cc: f@b,g@b,h@b,i@b||",
+        None,
+    ),
+    (
+        "1000",
+        "a@b b@b c@b d@b e@b f@b g@b h@b i@b A@B i@b",
+        "From: a@a|To: i@b,b@b,c@b,d@b,i@b|Cc: f@b,g@b,h@b,a@b,e@b||",
+        None,
+    ),
+    (
+        "1000",
+        "a@b b@b c@b d@b e@b f@b g@b h@b i@b",
+        "From: a@a|To: a@b,b@b,c@b,d@b,e@b|Cc: f@b,g@b,h@b,i@b,j@b||",
+        Some(Cause::ForwardPath),
+    ),
+    (
+        "1000",
+        "a@b b@b c@b d@b e@b f@b g@b h@b i@b j@b",
+        "From: a@a|To: a@b,b@b,c@b,d@b,e@b|Cc: f@b,g@b,h@b,i@b||",
+        Some(Cause::ForwardPath),
+    ),
     // In each of these messages all rows from one on apply, as far as they can together.
     ("1", "c@c", "Bcc: x|Cc:|", Some(Cause::Head)),
     ("1", "c@c", "Bcc: x|Cc:||", Some(Cause::From)),
@@ -167,17 +193,12 @@ static CAUSES: [Row; 46] = [
 /// The last of them at the second one, which gives no limit of its own.
 static ELSEWHERE: Row = ("19", "b@b", "From: a@a|To: b@b||X", None);
 
-/// The table, by a function without a clause: the proof of the test is spared its texts.
-fn causes() -> &'static [Row] {
-    &CAUSES
-}
-
 #[test]
 fn a_message_is_refused_for_its_cause(rt: HostRuntime) {
-    for row in causes() {
-        assert!(rt; has_cause(rt.alloc(), 0, row), "{}", row.2);
+    for row in CAUSES {
+        holds(&rt, has_cause(rt.alloc(), 0, row), row.2);
     }
-    assert!(rt; has_cause(rt.alloc(), 1, &ELSEWHERE));
+    holds(&rt, has_cause(rt.alloc(), 1, &ELSEWHERE), "elsewhere");
 }
 
 /// Whether the message of a row is answered by its cause at the provider of this number.
@@ -201,10 +222,17 @@ fn an_accepted_message_comes_with_its_facts(rt: HostRuntime) {
 /// Whether [`ACCEPTED`] is accepted with its facts.
 fn is_accepted(alloc: Global) -> bool {
     match answer(alloc, 0, &ACCEPTED, &mut NoScreens) {
-        Some(Admission::Accepted(facts)) => says(&facts),
+        Some(Admission::Accepted(facts)) => {
+            let told = says(&facts);
+            let_go(facts);
+            told
+        }
         _ => false,
     }
 }
+
+/// The facts end here, so that the proofs of others are spared how they do.
+fn let_go(_facts: Facts) {}
 
 /// Whether these are the sender and the recipients of [`ACCEPTED`].
 fn says(facts: &Facts) -> bool {
@@ -229,7 +257,10 @@ pub(crate) fn cause<J: Judge>(
     screens: &mut J,
 ) -> Option<Option<Cause>> {
     match answer(alloc, provider, row, screens)? {
-        Admission::Accepted(_) => Some(None),
+        Admission::Accepted(facts) => {
+            let_go(facts);
+            Some(None)
+        }
         Admission::Not(cause) => Some(Some(cause)),
     }
 }
@@ -253,19 +284,29 @@ fn answer_in<J: Judge>(
 ) -> Option<Admission>
     requires { provider < length directory.now }
 {
-    let sender = Address::read(alloc, b"A@a").ok()?;
-    let path = path_of(alloc, row.1)?;
-    let message = row.2.replace(alloc, "|", "\n").ok()?;
-    admit(
-        alloc,
-        directory,
-        provider,
-        &sender,
-        &path,
-        message.as_bytes(),
-        screens,
-    )
-    .ok()
+    let path = path_of(alloc, row.1);
+    let message = lines_of(alloc, row.2);
+    match Address::read(alloc, b"A@a") {
+        Ok(sender) => admit(
+            alloc,
+            directory,
+            provider,
+            &sender,
+            &path,
+            message.as_bytes(),
+            screens,
+        )
+        .ok(),
+        Err(_) => None,
+    }
+}
+
+/// A message, whose lines end with `|` in the row. Where memory is wanting it has none, and what comes isn't what has to.
+fn lines_of(alloc: Global, text: &str) -> String {
+    match text.replace(alloc, "|", "\n") {
+        Ok(text) => text,
+        Err(_) => String::new(alloc),
+    }
 }
 
 fn directory_of(alloc: Global, limit: &str) -> Option<Directory> {
@@ -273,12 +314,17 @@ fn directory_of(alloc: Global, limit: &str) -> Option<Directory> {
     Directory::read(alloc, text.as_str()).ok()
 }
 
-/// The addresses of a path, which are parted by spaces.
-fn path_of(alloc: Global, text: &str) -> Option<Vec<Address>> {
+/// The addresses of a path, which are parted by spaces. Where memory is wanting some lack.
+fn path_of(alloc: Global, text: &str) -> Vec<Address> {
     let mut path = Vec::new(alloc);
     for address in text.split(' ') {
-        path.push(Address::read(alloc, address.as_bytes()).ok()?)
-            .ok()?;
+        add_address(alloc, &mut path, address);
     }
-    Some(path)
+    path
+}
+
+fn add_address(alloc: Global, path: &mut Vec<Address>, text: &str) {
+    if let Ok(address) = Address::read(alloc, text.as_bytes()) {
+        let _ = path.push(address);
+    }
 }

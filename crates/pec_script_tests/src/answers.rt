@@ -1,11 +1,12 @@
 //! Lines of output against lines that were written out by hand, and read again by the tests' own reader.
 
-use crate::printing::{Printed, Row, is_right};
+use crate::printing::{Fault, Printed, Row, first_wrong};
+use crate::rows::all_hold;
 use crate::second_reader::Form;
 use pec_script::{Answer, LineFault, Unfit};
-use pec_types::{Cause, ItemKind, Kind, MsgId, ProviderFault, Refusal, Submitted};
+use pec_types::{Cause, ItemKind, Kind, Refusal};
 
-const BOOK: [Row; 1] = [Row {
+static BOOK: &[Row] = &[Row {
     printed: Printed::Book,
     form: Some(Form::Book),
     text: "pec.0000007@alfa.example bob@beta.example primary 1704186000 1704186001 1704186002 1704186003 delivered \
@@ -17,13 +18,11 @@ book 3\n",
 
 #[test]
 fn a_book_has_a_line_for_each_pair(rt: HostRuntime) {
-    for row in &BOOK {
-        assert!(rt; is_right(rt.alloc(), row), "{}", row.text);
-    }
+    all_hold(&rt, first_wrong(rt.alloc(), BOOK));
 }
 
 // An item of each kind. Causes of non-acceptance and of delivery errors aren't printed.
-const MAILBOXES: [Row; 11] = [
+static MAILBOXES: &[Row] = &[
     Row {
         printed: Printed::Mailbox(ItemKind::Envelope),
         form: Some(Form::Mailbox),
@@ -83,13 +82,11 @@ const MAILBOXES: [Row; 11] = [
 
 #[test]
 fn a_mailbox_has_a_line_for_each_item(rt: HostRuntime) {
-    for row in &MAILBOXES {
-        assert!(rt; is_right(rt.alloc(), row), "{}", row.text);
-    }
+    all_hold(&rt, first_wrong(rt.alloc(), MAILBOXES));
 }
 
 // What fell due; a mark of nothing has no line.
-const MARKS: [Row; 2] = [
+static MARKS: &[Row] = &[
     Row {
         printed: Printed::Marks,
         form: Some(Form::Ticks),
@@ -107,13 +104,11 @@ ticked\n",
 
 #[test]
 fn a_clock_call_has_a_line_for_each_notice(rt: HostRuntime) {
-    for row in &MARKS {
-        assert!(rt; is_right(rt.alloc(), row), "{}", row.text);
-    }
+    all_hold(&rt, first_wrong(rt.alloc(), MARKS));
 }
 
 // The lines of a round in which the first provider did one thing.
-const EVENTS: [Row; 13] = [
+static EVENTS: &[Row] = &[
     Row {
         printed: Printed::Event(0),
         form: Some(Form::Round),
@@ -183,13 +178,11 @@ const EVENTS: [Row; 13] = [
 
 #[test]
 fn a_turn_has_a_line_for_each_event(rt: HostRuntime) {
-    for row in &EVENTS {
-        assert!(rt; is_right(rt.alloc(), row), "{}", row.text);
-    }
+    all_hold(&rt, first_wrong(rt.alloc(), EVENTS));
 }
 
 // How many frames were put to the first provider, how the turn ended, and the lines of the round.
-const TURNS: [Row; 6] = [
+static TURNS: &[Row] = &[
     Row {
         printed: Printed::Turn(0, None),
         form: None,
@@ -201,22 +194,22 @@ const TURNS: [Row; 6] = [
         text: "beta sent alfa 1\nround\n",
     },
     Row {
-        printed: Printed::Turn(4_294_967_295, Some(ProviderFault::Down)),
+        printed: Printed::Turn(4_294_967_295, Some(Fault::Down)),
         form: None,
         text: "beta sent alfa 4294967295\nbeta down\nround\n",
     },
     Row {
-        printed: Printed::Turn(0, Some(ProviderFault::JournalFull)),
+        printed: Printed::Turn(0, Some(Fault::JournalFull)),
         form: None,
         text: "beta journal-full\nround\n",
     },
     Row {
-        printed: Printed::Turn(0, Some(ProviderFault::DiskFault)),
+        printed: Printed::Turn(0, Some(Fault::DiskFault)),
         form: None,
         text: "beta fault disk\nround\n",
     },
     Row {
-        printed: Printed::Turn(2, Some(ProviderFault::NoMemory)),
+        printed: Printed::Turn(2, Some(Fault::NoMemory)),
         form: None,
         text: "beta sent alfa 2\nround\n",
     },
@@ -224,45 +217,43 @@ const TURNS: [Row; 6] = [
 
 #[test]
 fn a_turn_ends_with_what_it_sent(rt: HostRuntime) {
-    for row in &TURNS {
-        assert!(rt; is_right(rt.alloc(), row), "{}", row.text);
-    }
+    all_hold(&rt, first_wrong(rt.alloc(), TURNS));
 }
 
 // Want of memory has no line.
-const REFUSALS: [Row; 8] = [
+static REFUSALS: &[Row] = &[
     Row {
-        printed: Printed::Refusal(ProviderFault::DiskFault),
+        printed: Printed::Refusal(Fault::DiskFault),
         form: None,
         text: "fault disk\n",
     },
     Row {
-        printed: Printed::Refusal(ProviderFault::Down),
+        printed: Printed::Refusal(Fault::Down),
         form: None,
         text: "down\n",
     },
     Row {
-        printed: Printed::Refusal(ProviderFault::NoAccount),
+        printed: Printed::Refusal(Fault::NoAccount),
         form: None,
         text: "no-account\n",
     },
     Row {
-        printed: Printed::Refusal(ProviderFault::Full),
+        printed: Printed::Refusal(Fault::Full),
         form: None,
         text: "full\n",
     },
     Row {
-        printed: Printed::Refusal(ProviderFault::NoItem),
+        printed: Printed::Refusal(Fault::NoItem),
         form: None,
         text: "no-item\n",
     },
     Row {
-        printed: Printed::Refusal(ProviderFault::JournalFull),
+        printed: Printed::Refusal(Fault::JournalFull),
         form: None,
         text: "journal-full\n",
     },
     Row {
-        printed: Printed::Refusal(ProviderFault::NoMemory),
+        printed: Printed::Refusal(Fault::NoMemory),
         form: None,
         text: "",
     },
@@ -275,12 +266,10 @@ const REFUSALS: [Row; 8] = [
 
 #[test]
 fn a_refusal_has_its_line(rt: HostRuntime) {
-    for row in &REFUSALS {
-        assert!(rt; is_right(rt.alloc(), row), "{}", row.text);
-    }
+    all_hold(&rt, first_wrong(rt.alloc(), REFUSALS));
 }
 
-const ANSWERS: [Row; 15] = [
+static ANSWERS: &[Row] = &[
     Row {
         printed: Printed::Answer(Answer::Lost),
         form: None,
@@ -361,59 +350,52 @@ f0f0f0f0f0f0f0f0f0f0f0f0f0f0f0f0f0f0f0f0f0f0f0f0f0f0f0f0f0f0f0f0\n",
 
 #[test]
 fn an_answer_has_its_line(rt: HostRuntime) {
-    for row in &ANSWERS {
-        assert!(rt; is_right(rt.alloc(), row), "{}", row.text);
-    }
+    all_hold(&rt, first_wrong(rt.alloc(), ANSWERS));
 }
 
-const ID: MsgId = MsgId {
-    provider: 1,
-    number: 12,
-};
-
-const SUBMISSIONS: [Row; 9] = [
+static SUBMISSIONS: &[Row] = &[
     Row {
-        printed: Printed::Submitted(Submitted::Accepted(ID)),
+        printed: Printed::Submitted(None),
         form: Some(Form::Submission),
         text: "accepted pec.0000012@beta.example\n",
     },
     Row {
-        printed: Printed::Submitted(Submitted::NotAccepted(ID, Cause::Head)),
+        printed: Printed::Submitted(Some(Cause::Head)),
         form: Some(Form::Submission),
         text: "not-accepted pec.0000012@beta.example head\n",
     },
     Row {
-        printed: Printed::Submitted(Submitted::NotAccepted(ID, Cause::From)),
+        printed: Printed::Submitted(Some(Cause::From)),
         form: Some(Form::Submission),
         text: "not-accepted pec.0000012@beta.example from\n",
     },
     Row {
-        printed: Printed::Submitted(Submitted::NotAccepted(ID, Cause::To)),
+        printed: Printed::Submitted(Some(Cause::To)),
         form: Some(Form::Submission),
         text: "not-accepted pec.0000012@beta.example to\n",
     },
     Row {
-        printed: Printed::Submitted(Submitted::NotAccepted(ID, Cause::ReversePath)),
+        printed: Printed::Submitted(Some(Cause::ReversePath)),
         form: Some(Form::Submission),
         text: "not-accepted pec.0000012@beta.example reverse-path\n",
     },
     Row {
-        printed: Printed::Submitted(Submitted::NotAccepted(ID, Cause::ForwardPath)),
+        printed: Printed::Submitted(Some(Cause::ForwardPath)),
         form: Some(Form::Submission),
         text: "not-accepted pec.0000012@beta.example forward-path\n",
     },
     Row {
-        printed: Printed::Submitted(Submitted::NotAccepted(ID, Cause::Bcc)),
+        printed: Printed::Submitted(Some(Cause::Bcc)),
         form: Some(Form::Submission),
         text: "not-accepted pec.0000012@beta.example bcc\n",
     },
     Row {
-        printed: Printed::Submitted(Submitted::NotAccepted(ID, Cause::Size)),
+        printed: Printed::Submitted(Some(Cause::Size)),
         form: Some(Form::Submission),
         text: "not-accepted pec.0000012@beta.example size\n",
     },
     Row {
-        printed: Printed::Submitted(Submitted::NotAccepted(ID, Cause::Virus)),
+        printed: Printed::Submitted(Some(Cause::Virus)),
         form: Some(Form::Submission),
         text: "not-accepted pec.0000012@beta.example virus\n",
     },
@@ -421,7 +403,5 @@ const SUBMISSIONS: [Row; 9] = [
 
 #[test]
 fn a_submission_has_its_line(rt: HostRuntime) {
-    for row in &SUBMISSIONS {
-        assert!(rt; is_right(rt.alloc(), row), "{}", row.text);
-    }
+    all_hold(&rt, first_wrong(rt.alloc(), SUBMISSIONS));
 }

@@ -2,6 +2,7 @@
 
 use crate::counting::Counting;
 use crate::patterns::screen_of;
+use crate::rows::{holds, holds_at};
 use pec_screen::{ReplaceFault, Screen, Screens};
 use std::alloc::Global;
 use std::sync::Arc;
@@ -23,33 +24,33 @@ fn box_of(alloc: Global, first: &[u8], second: &[u8]) -> Option<Box<dyn Screen>>
     Some(boxed)
 }
 
-const VERDICTS: [(&[u8], Verdict); 5] = [
-    (b"a", Some((0, 1))), // both boxes find; the first one's rule
-    (b"b", Some((1, 1))), // the second box alone
-    (b"ab", Some((0, 1))), // each finds another pattern
-    (b"c", Some((0, 0))),
-    (b"d", None), // none
+static VERDICTS: &[(&str, Verdict)] = &[
+    ("a", Some((0, 1))), // both boxes find; the first one's rule
+    ("b", Some((1, 1))), // the second box alone
+    ("ab", Some((0, 1))), // each finds another pattern
+    ("c", Some((0, 0))),
+    ("d", None), // none
 ];
 
 #[test]
 fn the_verdict_is_of_the_first_box_that_finds(rt: HostRuntime) {
-    for (message, wanted) in &VERDICTS {
-        assert!(rt; is_verdict(rt.alloc(), message, *wanted), "{message:?}");
+    for row in VERDICTS {
+        holds(&rt, is_verdict(rt.alloc(), row), row.0);
     }
-    assert!(rt; verdict_of_no_box(rt.alloc()).is_none());
+    holds(&rt, says_nothing_without_boxes(rt.alloc()), "no box");
 }
 
-/// Whether this is the verdict of two boxes.
-fn is_verdict(alloc: Global, message: &[u8], wanted: Verdict) -> bool {
+/// Whether a row's verdict is that of two boxes.
+fn is_verdict(alloc: Global, row: &(&str, Verdict)) -> bool {
     match screens_of(alloc, [b"c", b"a"], [b"a", b"b"]) {
-        Some(mut screens) => screens.judge(message) == wanted,
+        Some(mut screens) => screens.judge(row.0.as_bytes()) == row.1,
         None => false,
     }
 }
 
-fn verdict_of_no_box(alloc: Global) -> Verdict {
+fn says_nothing_without_boxes(alloc: Global) -> bool {
     let mut none = Screens::new(Vec::new(alloc));
-    none.judge(b"a")
+    none.judge(b"a").is_none()
 }
 
 #[test]
@@ -83,24 +84,26 @@ fn are_all_asked(screens: &mut Screens, looks: &AtomicU64) -> bool {
 }
 
 // The place; the verdict on `n`, which the new box alone finds, and on `a` and `b`, each a box's own.
-const PLACES: [(usize, [Verdict; 3]); 4] = [
-    (0, [Some((0, 1)), None, Some((1, 0))]),
-    (1, [Some((1, 1)), Some((0, 0)), None]), // the last place
-    (2, [None, Some((0, 0)), Some((1, 0))]), // behind it: all as it was
-    (usize::MAX, [None, Some((0, 0)), Some((1, 0))]),
+type Place = (usize, Verdict, Verdict, Verdict);
+
+static PLACES: &[Place] = &[
+    (0, Some((0, 1)), None, Some((1, 0))),
+    (1, Some((1, 1)), Some((0, 0)), None), // the last place
+    (2, None, Some((0, 0)), Some((1, 0))), // behind it: all as it was
+    (usize::MAX, None, Some((0, 0)), Some((1, 0))),
 ];
 
 #[test]
 fn a_box_takes_the_place_of_one_that_is_no_longer_asked(rt: HostRuntime) {
-    for (place, wanted) in &PLACES {
-        assert!(rt; is_taken(rt.alloc(), *place, *wanted), "{place}");
+    for row in PLACES {
+        holds_at(&rt, is_taken(rt.alloc(), row), row.0 as u64, "");
     }
 }
 
 /// Whether a new box is taken at a place, and what the boxes say then.
-fn is_taken(alloc: Global, place: usize, wanted: [Verdict; 3]) -> bool {
+fn is_taken(alloc: Global, row: &Place) -> bool {
     match screens_of(alloc, [b"a", b"-"], [b"b", b"-"]) {
-        Some(mut screens) => takes(alloc, &mut screens, place) && judge(&mut screens, wanted),
+        Some(mut screens) => takes(alloc, &mut screens, row.0) && judge(&mut screens, row),
         None => false,
     }
 }
@@ -118,8 +121,8 @@ fn takes(alloc: Global, screens: &mut Screens, place: usize) -> bool {
     }
 }
 
-fn judge(screens: &mut Screens, wanted: [Verdict; 3]) -> bool {
-    screens.judge(b"n") == wanted[0]
-        && screens.judge(b"a") == wanted[1]
-        && screens.judge(b"b") == wanted[2]
+fn judge(screens: &mut Screens, wanted: &Place) -> bool {
+    screens.judge(b"n") == wanted.1
+        && screens.judge(b"a") == wanted.2
+        && screens.judge(b"b") == wanted.3
 }

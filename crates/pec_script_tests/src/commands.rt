@@ -1,4 +1,5 @@
 //! Lines of a script: what they say, or why they are refused.
+use crate::rows::all_hold;
 use crate::said::says;
 use std::alloc::Global;
 
@@ -6,7 +7,7 @@ use std::alloc::Global;
 type Row = (&'static str, &'static str);
 
 // A line of each command. Names are numbers, addresses are in lower case, bytes are decoded.
-static COMMANDS: [Row; 12] = [
+static COMMANDS: &[Row] = &[
     (
         "submit alfa 1704186000 Alice@Alfa.example bob@beta.example,CARL@beta.example,bob@beta.example U2FsdmU=",
         "submit 0 1704186000 alice@alfa.example bob@beta.example carl@beta.example bob@beta.example Salve",
@@ -24,17 +25,20 @@ static COMMANDS: [Row; 12] = [
     ("show a@b 12", "show 12 a@b"),
 ];
 
-/// The table, by a function without a clause: the proofs of the tests are spared its texts.
-fn commands() -> &'static [Row] {
-    &COMMANDS
-}
-
 // One word too few, one too many, and a last word that is empty: whatever stands in the others.
 #[test]
 fn words_are_counted_first(rt: HostRuntime) {
-    for (line, _) in commands() {
-        assert!(rt; has_other_counts(rt.alloc(), line), "{line}");
+    all_hold(&rt, first_without_counts(rt.alloc(), COMMANDS));
+}
+
+/// The first line whose number of words isn't looked at; none where each is.
+fn first_without_counts(alloc: Global, rows: &[Row]) -> Option<&'static str> {
+    for row in rows {
+        if !has_other_counts(alloc, row.0) {
+            return Some(row.0);
+        }
     }
+    None
 }
 
 /// Whether the line has another number of words than its command where its last word is cut off, and where another
@@ -69,7 +73,7 @@ fn put(text: &mut Vec<u8>, words: &str) {
 }
 
 // Lines that are no commands.
-const REFUSED: [Row; 43] = [
+static REFUSED: &[Row] = &[
     // The first words of lines, and lines whose words are too few before any is wrong.
     ("", "refused line 7 unknown-word\n"),
     (" ", "refused line 7 unknown-word\n"),
@@ -124,7 +128,7 @@ const REFUSED: [Row; 43] = [
 ];
 
 // Arguments as they are written, and others that are near.
-const SPELLINGS: [Row; 43] = [
+static SPELLINGS: &[Row] = &[
     // Moments and places: zeros in front, signs, and the numbers at and past each bound.
     ("round 0", "round 0"),
     ("round 9", "round 9"),
@@ -193,32 +197,27 @@ const SPELLINGS: [Row; 43] = [
 
 #[test]
 fn a_command_is_read_by_its_form(rt: HostRuntime) {
-    for (line, wanted) in commands() {
-        assert!(rt;
-            says(rt.alloc(), line.as_bytes(), wanted.as_bytes()),
-            "{line}"
-        );
+    all_hold(&rt, first_wrong(rt.alloc(), COMMANDS));
+}
+
+/// The first line that doesn't say what it has to; none where each does.
+fn first_wrong(alloc: Global, rows: &[Row]) -> Option<&'static str> {
+    for row in rows {
+        if !says(alloc, row.0.as_bytes(), row.1.as_bytes()) {
+            return Some(row.0);
+        }
     }
+    None
 }
 
 #[test]
 fn a_line_is_refused_for_its_first_fault(rt: HostRuntime) {
-    for (line, wanted) in &REFUSED {
-        assert!(rt;
-            says(rt.alloc(), line.as_bytes(), wanted.as_bytes()),
-            "{line}"
-        );
-    }
+    all_hold(&rt, first_wrong(rt.alloc(), REFUSED));
 }
 
 #[test]
 fn an_argument_has_one_spelling(rt: HostRuntime) {
-    for (line, wanted) in &SPELLINGS {
-        assert!(rt;
-            says(rt.alloc(), line.as_bytes(), wanted.as_bytes()),
-            "{line}"
-        );
-    }
+    all_hold(&rt, first_wrong(rt.alloc(), SPELLINGS));
 }
 
 #[test]

@@ -1,5 +1,6 @@
 //! The decision, by rows of the account, its items and its quota.
 
+use crate::rows::holds_at;
 use pec_points::decide;
 use pec_types::{Decision, Refusal};
 
@@ -10,7 +11,7 @@ const FULL: Decision = Decision::Refused(Refusal::MailboxFull);
 /// Whether it is an account, how many items count, how many may; what is decided.
 type Row = (bool, u64, u64, Decision);
 
-const ROOMS: [Row; 11] = [
+static ROOMS: &[Row] = &[
     // It is no account, whatever the numbers say.
     (false, 0, 0, NO_MAILBOX),
     (false, 0, 1, NO_MAILBOX),
@@ -30,10 +31,11 @@ const ROOMS: [Row; 11] = [
 
 #[test]
 fn what_is_decided_goes_by_account_and_room(rt: HostRuntime) {
-    for (account, count, quota, decision) in &ROOMS {
-        assert!(rt;
-            decide(*account, *count, *quota, false) == *decision,
-            "{count} of {quota}"
-        );
+    for row in ROOMS {
+        holds_at(&rt, is_decided(row), row.1, "items");
     }
+}
+
+fn is_decided(row: &Row) -> bool {
+    decide(row.0, row.1, row.2, false) == row.3
 }

@@ -22,6 +22,8 @@ mod printing;
 #[cfg(test)]
 mod reception;
 #[cfg(test)]
+mod rows;
+#[cfg(test)]
 mod said;
 #[cfg(test)]
 mod screens;

@@ -1,5 +1,6 @@
 //! The time limits, at each limit's second, one before it and one behind it.
 
+use crate::rows::holds_at;
 use pec_points::{Due, timed};
 use pec_types::Moment;
 
@@ -13,7 +14,7 @@ const YES: bool = true;
 /// Seconds since the acceptance; charged, warned, noticed, known; what is due.
 type Row = (u32, bool, bool, bool, bool, Due);
 
-const TIMES: [Row; 34] = [
+static TIMES: &[Row] = &[
     // No limit has passed.
     (0, NO, NO, NO, NO, Due::Nothing),
     (43_199, NO, NO, NO, NO, Due::Nothing),
@@ -58,15 +59,18 @@ const TIMES: [Row; 34] = [
 
 #[test]
 fn what_is_due_goes_by_the_time_table(rt: HostRuntime) {
-    for row in &TIMES {
-        assert!(rt; due(row) == Some(row.5), "{}", row.0);
+    for row in TIMES {
+        holds_at(&rt, is_due(row), u64::from(row.0), "seconds");
     }
 }
 
-/// What is due; none where there is no such moment.
-fn due(row: &Row) -> Option<Due> {
-    let (past, charged, warned, noticed, known, _) = *row;
-    let accepted = Moment::new(ACCEPTED)?;
-    let now = Moment::new(ACCEPTED + u64::from(past))?;
-    Some(timed(now, accepted, charged, warned, noticed, known))
+/// Whether it is what is due; no where there is no such moment.
+fn is_due(row: &Row) -> bool {
+    match (
+        Moment::new(ACCEPTED),
+        Moment::new(ACCEPTED + u64::from(row.0)),
+    ) {
+        (Some(accepted), Some(now)) => timed(now, accepted, row.1, row.2, row.3, row.4) == row.5,
+        _ => false,
+    }
 }

@@ -1,5 +1,6 @@
 //! What one screen finds, by rows of its patterns and the message.
 
+use crate::rows::holds_at;
 use pec_screen::{PatternScreen, Screen};
 use pec_types::Text8;
 use std::alloc::{AllocError, Global};
@@ -11,8 +12,10 @@ pub fn screen_of(alloc: Global, first: &[u8], second: &[u8]) -> Result<PatternSc
     Ok(PatternScreen::new(vec![in alloc; first, second]?))
 }
 
-// The two patterns, the message; the number that is found.
-const ROWS: [(&[u8], &[u8], &[u8], Option<u32>); 14] = [
+/// The two patterns, the message; the number that is found.
+type Row = (&'static [u8], &'static [u8], &'static [u8], Option<u32>);
+
+static ROWS: &[Row] = &[
     (b"b", b"a", b"cab", Some(0)), // both occur, the second one earlier in the message
     (b"b", b"a", b"ca", Some(1)), // the second alone
     (b"b", b"a", b"cc", None), // none
@@ -31,18 +34,15 @@ const ROWS: [(&[u8], &[u8], &[u8], Option<u32>); 14] = [
 
 #[test]
 fn a_screen_finds_the_least_number_of_a_pattern_that_occurs(rt: HostRuntime) {
-    for (first, second, message, wanted) in &ROWS {
-        assert!(rt;
-            finds(rt.alloc(), first, second, message, *wanted),
-            "{message:?}"
-        );
+    for (place, row) in ROWS.iter().enumerate() {
+        holds_at(&rt, finds(rt.alloc(), row), place as u64, "");
     }
 }
 
-/// Whether this number is found, and the look is counted.
-fn finds(alloc: Global, first: &[u8], second: &[u8], message: &[u8], wanted: Option<u32>) -> bool {
-    match screen_of(alloc, first, second) {
-        Ok(mut screen) => screen.look(message) == wanted && screen.seen() == 1,
+/// Whether a row's number is found, and the look is counted.
+fn finds(alloc: Global, row: &Row) -> bool {
+    match screen_of(alloc, row.0, row.1) {
+        Ok(mut screen) => screen.look(row.2) == row.3 && screen.seen() == 1,
         Err(_) => false,
     }
 }

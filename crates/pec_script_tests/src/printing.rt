@@ -10,9 +10,23 @@ use pec_script::{
     Answer, LineFault, answer_text, book_text, fault_text, item_text, items_text, marks_text,
     refused_text, submitted_text, turns_text,
 };
-use pec_types::{Class, Decision, Due, ItemKind, Moment, ProviderFault, Refusal, Submitted};
+use pec_types::{
+    Cause, Class, Decision, Due, ItemKind, Moment, MsgId, ProviderFault, Refusal, Submitted,
+};
 use std::alloc::Global;
 use std::slice::from_ref;
+
+/// A provider's fault, where it has no moment. One with a moment can't stand in a static table.
+#[derive(Clone, Copy)]
+pub enum Fault {
+    DiskFault,
+    Down,
+    NoAccount,
+    Full,
+    NoItem,
+    JournalFull,
+    NoMemory,
+}
 
 /// What is printed.
 #[derive(Clone, Copy)]
@@ -28,8 +42,8 @@ pub enum Printed {
     /// A round in which the first provider did the thing of this number.
     Event(u32),
     /// A round in which the second provider put so many frames to the first and ended so.
-    Turn(u32, Option<ProviderFault>),
-    Refusal(ProviderFault),
+    Turn(u32, Option<Fault>),
+    Refusal(Fault),
     /// That a clock is behind this moment, in seconds.
     ClockBack(u64),
     Answer(Answer),
@@ -37,7 +51,8 @@ pub enum Printed {
     Fault(u64, LineFault),
     /// The item of the bytes `Salve`.
     Item,
-    Submitted(Submitted),
+    /// That the message 12 of the second provider is accepted, or isn't for this cause.
+    Submitted(Option<Cause>),
 }
 
 /// What is printed, its text, and how the text is read again, where it can be.
@@ -48,8 +63,18 @@ pub struct Row {
     pub text: &'static str,
 }
 
+/// The text of the first row that isn't right; none where each is.
+pub fn first_wrong(alloc: Global, rows: &[Row]) -> Option<&'static str> {
+    for row in rows {
+        if !is_right(alloc, row) {
+            return Some(row.text);
+        }
+    }
+    None
+}
+
 /// Whether the row is printed as its text, and read again where it can be.
-pub fn is_right(alloc: Global, row: &Row) -> bool {
+fn is_right(alloc: Global, row: &Row) -> bool {
     match directory(alloc) {
         Some(directory) => {
             is_printed(alloc, &directory, row.printed, row.text.as_bytes())
@@ -81,12 +106,35 @@ fn text_of(alloc: Global, directory: &Directory, printed: Printed) -> Option<Vec
         Printed::NoMark => marks_text(alloc, directory, &[]).ok(),
         Printed::Event(number) => round_of(alloc, directory, number),
         Printed::Turn(frames, ended) => round_ending(alloc, directory, frames, ended),
-        Printed::Refusal(fault) => fault_text(alloc, directory, &fault).ok(),
+        Printed::Refusal(fault) => fault_text(alloc, directory, &fault_of(fault)).ok(),
         Printed::ClockBack(seconds) => clock_back(alloc, directory, seconds),
         Printed::Answer(answer) => answer_text(alloc, &answer).ok(),
         Printed::Fault(line, fault) => refused_text(alloc, line, fault).ok(),
         Printed::Item => item_text(alloc, b"Salve").ok(),
-        Printed::Submitted(submitted) => submitted_text(alloc, directory, &submitted).ok(),
+        Printed::Submitted(cause) => submitted_text(alloc, directory, &submitted(cause)).ok(),
+    }
+}
+
+fn fault_of(fault: Fault) -> ProviderFault {
+    match fault {
+        Fault::DiskFault => ProviderFault::DiskFault,
+        Fault::Down => ProviderFault::Down,
+        Fault::NoAccount => ProviderFault::NoAccount,
+        Fault::Full => ProviderFault::Full,
+        Fault::NoItem => ProviderFault::NoItem,
+        Fault::JournalFull => ProviderFault::JournalFull,
+        Fault::NoMemory => ProviderFault::NoMemory,
+    }
+}
+
+fn submitted(cause: Option<Cause>) -> Submitted {
+    let id = MsgId {
+        provider: 1,
+        number: 12,
+    };
+    match cause {
+        Some(cause) => Submitted::NotAccepted(id, cause),
+        None => Submitted::Accepted(id),
     }
 }
 
@@ -116,11 +164,11 @@ fn mailbox(alloc: Global, directory: &Directory, kind: ItemKind) -> Option<Vec<u
     items_text(alloc, directory, &items).ok()
 }
 
-const DUES: [Due; 4] = [Due::Warning, Due::Nothing, Due::Notice, Due::LateNotice];
+static DUES: &[Due] = &[Due::Warning, Due::Nothing, Due::Notice, Due::LateNotice];
 
 fn marks(alloc: Global, directory: &Directory) -> Option<Vec<u8>> {
     let mut marks = Vec::new(alloc);
-    for due in &DUES {
+    for due in DUES {
         add(&mut marks, mark(alloc, *due));
     }
     marks_text(alloc, directory, &marks).ok()
@@ -136,10 +184,17 @@ fn round_ending(
     alloc: Global,
     directory: &Directory,
     frames: u32,
-    ended: Option<ProviderFault>,
+    ended: Option<Fault>,
 ) -> Option<Vec<u8>> {
-    let turn = turn_sending(alloc, frames, ended)?;
+    let turn = turn_sending(alloc, frames, fault_in(ended))?;
     turns_text(alloc, directory, from_ref(&turn)).ok()
+}
+
+fn fault_in(ended: Option<Fault>) -> Option<ProviderFault> {
+    match ended {
+        Some(fault) => Some(fault_of(fault)),
+        None => None,
+    }
 }
 
 fn clock_back(alloc: Global, directory: &Directory, seconds: u64) -> Option<Vec<u8>> {

@@ -1,6 +1,7 @@
 //! Reception: in single rows, and over every combination of what a provider can see, against the rows as data.
 
 use crate::reception::Change::{Again, Astray, ForOneAt, Nothing, Of, SealedBy, Unknown, WithRoom};
+use crate::rows::holds_at;
 use pec_points::{Arrived, Reception, receive};
 use pec_types::{Address, Letter, MsgId};
 use std::alloc::Global;
@@ -175,7 +176,12 @@ fn combination(number: u32) -> Seen {
 #[test]
 fn every_combination_is_received_by_the_rows(rt: HostRuntime) {
     for number in 0..COMBINATIONS {
-        assert!(rt; is_received_by_rows(rt.alloc(), number), "{number}");
+        holds_at(
+            &rt,
+            is_received_by_rows(rt.alloc(), number),
+            u64::from(number),
+            "",
+        );
     }
 }
 
@@ -246,7 +252,7 @@ fn changed(seen: Seen, change: Change) -> Seen {
 /// A fitting frame of this kind, two things that are otherwise, and what is done with it.
 type Row = (Kind, Change, Change, Reception);
 
-static NEAR_MISSES: [Row; 30] = [
+static NEAR_MISSES: &[Row] = &[
     // Rows 2 and 3: an envelope, and the same again. Nothing need be there before, and a provider may write to itself.
     (Kind::Envelope, Nothing, Nothing, Reception::Take),
     (Kind::Envelope, Again, Nothing, Reception::Repeat),
@@ -288,20 +294,15 @@ static NEAR_MISSES: [Row; 30] = [
     (Kind::Other, Nothing, Nothing, Reception::Drop),
 ];
 
-/// The table, by a function without a clause: the proof of the test is spared its rows.
-fn near_misses() -> &'static [Row] {
-    &NEAR_MISSES
-}
-
 #[test]
 fn each_row_answers_and_its_near_misses_fall_to_the_last_two(rt: HostRuntime) {
-    for row in near_misses() {
-        assert!(rt;
-            reception_of(rt.alloc(), seen_in(row)) == Some(row.3),
-            "{:?}",
-            row.3
-        );
+    for (place, row) in NEAR_MISSES.iter().enumerate() {
+        holds_at(&rt, is_answered(rt.alloc(), row), place as u64, "");
     }
+}
+
+fn is_answered(alloc: Global, row: &Row) -> bool {
+    reception_of(alloc, seen_in(row)) == Some(row.3)
 }
 
 /// What is seen of the frame of a row.

@@ -2,6 +2,7 @@
 
 use crate::admission::{Row, cause};
 use crate::counting::Counting;
+use crate::rows::holds;
 use pec_screen::{PatternScreen, Screen, Screens};
 use pec_types::{Cause, Text8};
 use std::alloc::{AllocError, Global};
@@ -10,7 +11,7 @@ use std::sync::atomic::{AtomicU64, Ordering};
 
 /// A message, the cause for which it isn't accepted under a screen of the pattern `VIRUS`, and how often a box beside
 /// it looks.
-static LOOKS: [(Row, u64); 6] = [
+static LOOKS: &[(Row, u64)] = &[
     (
         (
             "1000",
@@ -46,15 +47,10 @@ static LOOKS: [(Row, u64); 6] = [
     (("1000", "b@b", "VIRUS", Some(Cause::Head)), 0),
 ];
 
-/// The table, by a function without a clause: the proof of the test is spared its texts.
-fn looks() -> &'static [(Row, u64)] {
-    &LOOKS
-}
-
 #[test]
 fn screens_look_at_what_no_earlier_row_refuses(rt: HostRuntime) {
-    for (row, looks) in looks() {
-        assert!(rt; is_looked_at(rt.alloc(), row, *looks), "{}", row.2);
+    for row in LOOKS {
+        holds(&rt, is_looked_at(rt.alloc(), &row.0, row.1), row.0.2);
     }
 }
 

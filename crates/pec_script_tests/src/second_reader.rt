@@ -94,10 +94,12 @@ fn last_of(form: Form) -> &'static [u8] {
 /// Whether the line is the last that a command writes, behind the others.
 fn is_last(line: &[u8]) -> bool {
     let first = word(line, 0);
-    first == b"book".as_slice()
-        || first == b"mailbox".as_slice()
-        || first == b"ticked".as_slice()
-        || first == b"round".as_slice()
+    is(first, "book") || is(first, "mailbox") || is(first, "ticked") || is(first, "round")
+}
+
+/// Whether the word is this one.
+fn is(word: &[u8], wanted: &str) -> bool {
+    word == wanted.as_bytes()
 }
 
 /// Whether the text is this line and that last one.
@@ -148,7 +150,7 @@ fn moment(word: &[u8]) -> Option<Moment> {
     Moment::new(seconds)
 }
 
-const DECISIONS: [Decision; 4] = [
+static DECISIONS: &[Decision] = &[
     Decision::Placed,
     Decision::Refused(Refusal::NoMailbox),
     Decision::Refused(Refusal::MailboxFull),
@@ -156,7 +158,7 @@ const DECISIONS: [Decision; 4] = [
 ];
 
 fn decision(word: &[u8]) -> Option<Decision> {
-    for decision in &DECISIONS {
+    for decision in DECISIONS {
         if decision.word() == word {
             return Some(*decision);
         }
@@ -185,7 +187,7 @@ fn book_line(alloc: Global, directory: &Directory, line: &[u8]) -> Option<BookLi
 }
 
 fn class(word: &[u8]) -> Class {
-    if word == b"copy".as_slice() {
+    if is(word, "copy") {
         Class::Copy
     } else {
         Class::Primary
@@ -200,7 +202,7 @@ fn outcome(decided: &[u8], at: &[u8]) -> Option<(Decision, Moment)> {
 
 fn item_line(alloc: Global, directory: &Directory, line: &[u8]) -> Option<ItemLine> {
     let kind = kind(word(line, 1))?;
-    if word(line, 2) == b"-".as_slice() {
+    if is(word(line, 2), "-") {
         return Some(nameless_item(kind));
     }
     let id = id(alloc, directory, word(line, 2))?;
@@ -213,7 +215,7 @@ fn item_line(alloc: Global, directory: &Directory, line: &[u8]) -> Option<ItemLi
 }
 
 /// The words of the kinds of items. Causes of non-acceptance and of delivery errors aren't printed.
-const KINDS: [(ItemKind, &str); 11] = [
+static KINDS: &[(ItemKind, &str)] = &[
     (ItemKind::Envelope, "envelope"),
     (ItemKind::Anomaly, "anomaly"),
     (ItemKind::Receipt(Kind::Acceptance), "acceptance"),
@@ -234,9 +236,9 @@ const KINDS: [(ItemKind, &str); 11] = [
 ];
 
 fn kind(word: &[u8]) -> Option<ItemKind> {
-    for (kind, name) in &KINDS {
-        if name.as_bytes() == word {
-            return Some(*kind);
+    for row in KINDS {
+        if is(word, row.1) {
+            return Some(row.0);
         }
     }
     None
@@ -250,10 +252,10 @@ fn mark(alloc: Global, directory: &Directory, line: &[u8]) -> Option<Mark> {
 }
 
 fn due(word: &[u8]) -> Due {
-    if word == b"warned".as_slice() {
+    if is(word, "warned") {
         return Due::Warning;
     }
-    if word == b"noticed".as_slice() {
+    if is(word, "noticed") {
         return Due::Notice;
     }
     Due::LateNotice
@@ -262,22 +264,22 @@ fn due(word: &[u8]) -> Due {
 /// The event that stands behind the provider's name.
 fn event(alloc: Global, directory: &Directory, line: &[u8]) -> Option<Event> {
     let first = word(line, 1);
-    if first == b"took".as_slice() {
+    if is(first, "took") {
         let id = id(alloc, directory, word(line, 2))?;
         return Some(Event::Took(id));
     }
-    if first == b"charged".as_slice() {
+    if is(first, "charged") {
         let id = id(alloc, directory, word(line, 2))?;
         let by = directory.named(word(line, 3))?;
         return Some(Event::Charged(id, by));
     }
-    if first == b"repeat".as_slice() {
+    if is(first, "repeat") {
         return letter_event(alloc, directory, line);
     }
-    if first == b"dropped".as_slice() {
+    if is(first, "dropped") {
         return Some(Event::Dropped);
     }
-    if first == b"anomaly".as_slice() {
+    if is(first, "anomaly") {
         let accounts = number_below(word(line, 2), 4_294_967_296)?;
         return Some(Event::Anomaly(accounts as u32));
     }
@@ -289,11 +291,11 @@ fn outcome_event(alloc: Global, directory: &Directory, line: &[u8]) -> Option<Ev
     let id = id(alloc, directory, word(line, 2))?;
     let recipient = address(alloc, word(line, 3))?;
     let first = word(line, 1);
-    if first == b"acked".as_slice() {
+    if is(first, "acked") {
         return Some(Event::Acked(id, recipient));
     }
     let decision = decision(word(line, 4))?;
-    if first == b"learned".as_slice() {
+    if is(first, "learned") {
         return Some(Event::Learned(id, recipient, decision));
     }
     Some(Event::Decided(id, recipient, decision))
@@ -304,14 +306,14 @@ fn letter_event(alloc: Global, directory: &Directory, line: &[u8]) -> Option<Eve
     let id = id(alloc, directory, word(line, 3))?;
     let provider = id.provider;
     let kind = word(line, 2);
-    if kind == b"envelope".as_slice() {
+    if is(kind, "envelope") {
         return Some(Event::Repeat(Letter::Envelope { id, to: provider }));
     }
-    if kind == b"charge".as_slice() {
+    if is(kind, "charge") {
         return Some(Event::Repeat(Letter::Charge { id, by: provider }));
     }
     let recipient = address(alloc, word(line, 4))?;
-    if kind == b"outcome".as_slice() {
+    if is(kind, "outcome") {
         return Some(Event::Repeat(Letter::Outcome { id, recipient }));
     }
     Some(Event::Repeat(Letter::Ack { id, recipient }))
@@ -319,14 +321,14 @@ fn letter_event(alloc: Global, directory: &Directory, line: &[u8]) -> Option<Eve
 
 fn submitted(alloc: Global, directory: &Directory, line: &[u8]) -> Option<Submitted> {
     let id = id(alloc, directory, word(line, 1))?;
-    if word(line, 0) == b"accepted".as_slice() {
+    if is(word(line, 0), "accepted") {
         return Some(Submitted::Accepted(id));
     }
     let cause = cause(word(line, 2))?;
     Some(Submitted::NotAccepted(id, cause))
 }
 
-const CAUSES: [Cause; 8] = [
+static CAUSES: &[Cause] = &[
     Cause::Head,
     Cause::From,
     Cause::To,
@@ -338,7 +340,7 @@ const CAUSES: [Cause; 8] = [
 ];
 
 fn cause(word: &[u8]) -> Option<Cause> {
-    for cause in &CAUSES {
+    for cause in CAUSES {
         if cause.word() == word {
             return Some(*cause);
         }

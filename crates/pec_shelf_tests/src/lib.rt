@@ -6,6 +6,8 @@ mod conditions;
 #[cfg(test)]
 mod directories;
 #[cfg(test)]
+mod large;
+#[cfg(test)]
 mod lines;
 #[cfg(test)]
 mod messages;

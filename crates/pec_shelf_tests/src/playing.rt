@@ -12,7 +12,7 @@ use pec_records::Entry;
 use pec_script::{book_text, items_text, marks_text};
 use pec_shelf::{PrepareFault, Shelf, a_directory_has_a_trade, what_is_kept_goes_on};
 use pec_trial::two;
-use pec_types::{Address, Mark, NoMemory};
+use pec_types::{Address, Mark, NoMemory, Steps};
 use std::alloc::Global;
 use std::test::Fail;
 
@@ -92,10 +92,11 @@ impl Desk {
     }
 
     /// The marks of an entry, where it is a step.
-    fn taken_in(&mut self, entry: &Entry) -> Result<Option<Vec<Mark>>, NoMemory> {
+    pub(crate) fn taken_in(&mut self, entry: &Entry) -> Result<Option<Vec<Mark>>, NoMemory> {
         a_directory_has_a_trade();
         what_is_kept_goes_on();
-        match self.shelf.prepare(&self.directory, entry) {
+        let mut steps = Steps::new();
+        match self.shelf.prepare(&self.directory, entry, &mut steps) {
             Ok(ready) => Ok(Some(self.shelf.commit(ready))),
             Err(PrepareFault::NotAStep) => Ok(None),
             Err(PrepareFault::NoMemory) => Err(NoMemory),

@@ -12,7 +12,7 @@ use pec_trial::{
     Submission, account_at, add, add_number, moment_of, number, small, submission_of, told,
     told_all, told_item, told_list, told_word, word,
 };
-use pec_types::{Frame, NoMemory};
+use pec_types::{Frame, NoMemory, Steps};
 use std::alloc::Global;
 use std::marker::Model;
 use std::test::Fail;
@@ -238,7 +238,9 @@ impl Desk {
             sealer: &home.sealer,
             me: self.me,
         };
-        let answer = self.provider.tick(self.alloc, &house, moment);
+        let answer = self
+            .provider
+            .tick(self.alloc, &house, moment, &mut Steps::new());
         told_all(self.alloc, answer, b"marks")
     }
 

@@ -9,8 +9,10 @@ use std::fs::{File, OpenOptions};
 use std::os::unix::fs::symlink;
 use std::{fs, io};
 
-// Where a piece is written, the piece, and the size then.
-const WRITES: [(u64, &[u8], u64); 5] = [
+/// Where a piece is written, the piece, and the size then.
+type Written = (u64, &'static [u8], u64);
+
+static WRITES: &[Written] = &[
     (0, b"abc", 3),
     (1, b"XY", 3), // within
     (2, b"zzz", 5), // over the end
@@ -18,8 +20,10 @@ const WRITES: [(u64, &[u8], u64); 5] = [
     (3, b"", 6), // nothing
 ];
 
-// Where four bytes are read, one row after another, how many there are, and the room then.
-const READS: [(u64, usize, &[u8]); 4] = [
+/// Where four bytes are read, one row after another, how many there are, and the room then.
+type Read = (u64, usize, &'static [u8]);
+
+static READS: &[Read] = &[
     (0, 4, b"aXzz"),
     (4, 2, b"z!zz"), // over the end
     (6, 0, b"z!zz"),
@@ -50,24 +54,24 @@ fn reads_as_written(rt: &HostRuntime, folder: &str) -> bool {
 
 fn is_written_and_read(disk: &mut FileDisk) -> bool {
     let mut room = [b'-'; 4];
-    takes_all(disk, &WRITES)
-        && gives_all(disk, &mut room, &READS)
+    takes_all(disk, WRITES)
+        && gives_all(disk, &mut room, READS)
         && disk.sync() == Ok(())
         && disk.faults() == 0
 }
 
-fn takes_all(disk: &mut FileDisk, rows: &[(u64, &[u8], u64)]) -> bool {
-    for (at, piece, size) in rows {
-        if disk.write_at(*at, piece) != Ok(()) || disk.size() != Ok(*size) {
+fn takes_all(disk: &mut FileDisk, rows: &[Written]) -> bool {
+    for row in rows {
+        if disk.write_at(row.0, row.1) != Ok(()) || disk.size() != Ok(row.2) {
             return false;
         }
     }
     true
 }
 
-fn gives_all(disk: &mut FileDisk, room: &mut [u8], rows: &[(u64, usize, &[u8])]) -> bool {
-    for (at, count, wanted) in rows {
-        if disk.read_at(*at, room) != Ok(*count) || *room != **wanted {
+fn gives_all(disk: &mut FileDisk, room: &mut [u8], rows: &[Read]) -> bool {
+    for row in rows {
+        if disk.read_at(row.0, room) != Ok(row.1) || *room != *row.2 {
             return false;
         }
     }

@@ -1,7 +1,9 @@
 //! Journals: the files that they open over, the bytes by which they grow, and calls of the disk that fail.
 use super::dealt::Dealt;
 use crate::texts::{calls, joined, put, put_number};
-use pec_journal::{AppendFault, CreateFault, ENTRY_LIMIT, JOURNAL_LIMIT, Journal, OpenFault};
+use pec_journal::{
+    AppendFault, CreateFault, ENTRY_LIMIT, JOURNAL_LIMIT, Journal, OpenFault, ReadFault,
+};
 use pec_outside::{Depot, Disk, MemDepot, MemDisk};
 use pec_types::Place;
 use std::alloc::Global;
@@ -179,6 +181,132 @@ fn stays_as_it_is(alloc: Global, disk: MemDisk) -> bool {
     match Journal::create(disk) {
         Err((CreateFault::NotEmpty, disk)) => told(alloc, disk).as_slice() == b"ab;".as_slice(),
         _ => false,
+    }
+}
+
+// The entries of `FILE`, and where each stands in it. Three calls of the disk make their journal, and each append takes
+// four, so that calls 15, 16 and 17 read them.
+static PLACES: [(Place, &[u8]); 3] = [
+    (Place { at: 13, length: 2 }, b"ab"),
+    (Place { at: 20, length: 0 }, b""),
+    (Place { at: 25, length: 3 }, b"cde"),
+];
+
+#[test]
+fn entries_stand_at_the_places_that_are_told(rt: HostRuntime) {
+    assert!(rt; are_told_their_places(rt.alloc()));
+}
+
+fn are_told_their_places(alloc: Global) -> bool {
+    match three(alloc, &[]) {
+        Some(mut journal) => {
+            are_read(alloc, &mut journal) && are_told_again(alloc, journal.into_disk())
+        }
+        None => false,
+    }
+}
+
+/// The journal of `FILE`, where each append answers its place, on a disk that fails at these calls.
+fn three(alloc: Global, failing: &[u64]) -> Option<Journal<MemDisk>> {
+    let mut journal = fresh(alloc, failing)?;
+    for (place, entry) in &PLACES {
+        if !answers(alloc, &mut journal, entry, Ok(*place)) {
+            return None;
+        }
+    }
+    Some(journal)
+}
+
+fn are_read<D: Disk>(alloc: Global, journal: &mut Journal<D>) -> bool {
+    for (place, entry) in &PLACES {
+        if !is_entry(alloc, journal, *place, entry) {
+            return false;
+        }
+    }
+    true
+}
+
+/// Whether reopening tells the places, by seven calls, and the entries are read there.
+fn are_told_again(alloc: Global, disk: MemDisk) -> bool {
+    match Journal::reopen(alloc, disk) {
+        Ok((mut journal, places)) => {
+            are_these(&places)
+                && are_read(alloc, &mut journal)
+                && journal.into_disk().calls() == 15 + 3 + 7 + 3
+        }
+        Err(_) => false,
+    }
+}
+
+fn are_these(places: &[Place]) -> bool {
+    for (number, (wanted, _)) in PLACES.iter().enumerate() {
+        if places.get(number) != Some(wanted) {
+            return false;
+        }
+    }
+    places.len() == 3
+}
+
+#[test]
+fn a_read_that_fails_leaves_the_journal_as_it_was(rt: HostRuntime) {
+    for call in 15..18 {
+        assert!(rt; fails_alone(rt.alloc(), call), "call {call}");
+    }
+}
+
+/// Whether the entry that this call reads isn't read where it fails, but all others are, and one is appended behind them.
+fn fails_alone(alloc: Global, failing: u64) -> bool {
+    match three(alloc, &[failing]) {
+        Some(mut journal) => {
+            are_read_but(alloc, &mut journal, failing) && goes_on(alloc, &mut journal)
+        }
+        None => false,
+    }
+}
+
+fn are_read_but<D: Disk>(alloc: Global, journal: &mut Journal<D>, failing: u64) -> bool {
+    let mut call = 15u64;
+    for (place, entry) in &PLACES {
+        let is_read = if call == failing {
+            is_unread(alloc, journal, *place)
+        } else {
+            is_entry(alloc, journal, *place, entry)
+        };
+        if !is_read {
+            return false;
+        }
+        call = call.saturating_add(1);
+    }
+    true
+}
+
+fn is_unread<D: Disk>(alloc: Global, journal: &mut Journal<D>, place: Place) -> bool {
+    journal.read(alloc, place).err() == Some(ReadFault::DiskFault)
+}
+
+fn goes_on<D: Disk>(alloc: Global, journal: &mut Journal<D>) -> bool {
+    let place = Place { at: 33, length: 1 };
+    !journal.spent()
+        && answers(alloc, journal, b"f", Ok(place))
+        && is_entry(alloc, journal, place, b"f")
+        && are_read(alloc, journal)
+}
+
+// Of an entry of ten bytes one is dealt.
+#[test]
+fn what_a_disk_gives_is_what_is_read(rt: HostRuntime) {
+    assert!(rt; is_given_one_of_ten(rt.alloc()));
+}
+
+fn is_given_one_of_ten(alloc: Global) -> bool {
+    let place = Place { at: 13, length: 10 };
+    let mut lengths = Vec::new(alloc);
+    let _ = lengths.push(10);
+    match Journal::reopen(alloc, Dealt::new(lengths)) {
+        Ok((mut journal, places)) => {
+            places.first() == Some(&place) && is_entry(alloc, &mut journal, place, b"\0")
+        }
+        Err(_) => false,
     }
 }
 

@@ -1,6 +1,7 @@
 //! What each request is answered: the rows in their order, targets, fields and heads, in whole and byte by byte.
 use super::desk::Mood;
 use super::serving::is_answered;
+use crate::rows::all_hold;
 use std::alloc::Global;
 
 /// A request with short words, and what it is answered where the desk takes messages of up to ten bytes from
@@ -9,7 +10,7 @@ type Row = (&'static str, (u16, &'static str));
 
 /// Short words, and what they stand for: the end of a line, two targets with what stands round them, a key and a path that
 /// are right, each a line, and the length of a message, which the request ends with.
-static WORDS: [(&str, &str); 6] = [
+static WORDS: &[(&str, &str)] = &[
     ("|", "\r\n"),
     ("{book}", "/mail/anna@alfa.example/book HTTP/1.1"),
     ("{submit}", "POST /mail/anna@alfa.example/submit HTTP/1.1"),
@@ -24,7 +25,7 @@ const ACCEPTED: &str = "accepted pec.0000007@alfa.example\n";
 pub(crate) const TEXT: &str = "text/plain";
 
 // Each row of the answers that stops a request, where the next one applies too.
-static ROWS: [Row; 18] = [
+static ROWS: &[Row] = &[
     // no empty line ends the head
     ("GET {book}|{key}", (400, "bad-request\n")),
     // row 2 before 3: no head, and no route
@@ -80,7 +81,7 @@ static ROWS: [Row; 18] = [
 ];
 
 // Addresses, routes and places in targets.
-static TARGETS: [Row; 26] = [
+static TARGETS: &[Row] = &[
     (
         "GET /mail/ANNA%40alfa.EXAMPLE/book HTTP/1.1|{key}|",
         (200, "book 0\n"),
@@ -172,7 +173,7 @@ static TARGETS: [Row; 26] = [
 ];
 
 // Fields, in submissions that have nothing else wrong.
-static FIELDS: [Row; 29] = [
+static FIELDS: &[Row] = &[
     // names in capitals, and blanks round values
     (
         "{submit}|X-KEY:chiave|X-Path: \t bob@beta.example \t|Content-LENGTH:  5 ||Salve",
@@ -270,7 +271,7 @@ static FIELDS: [Row; 29] = [
 ];
 
 // Heads in whole.
-static HEADS: [Row; 10] = [
+static HEADS: &[Row] = &[
     // empty lines in front, and lines that end with LF alone
     ("|\nGET {book}\nx-key: chiave\n\n", (200, "book 0\n")),
     // version 1.0
@@ -301,22 +302,22 @@ static HEADS: [Row; 10] = [
 
 #[test]
 fn a_request_is_answered_by_the_first_row(rt: HostRuntime) {
-    assert!(rt; first_wrong(rt.alloc(), &ROWS).is_none());
+    all_hold(&rt, first_wrong(rt.alloc(), ROWS));
 }
 
 #[test]
 fn a_target_is_a_route_as_it_stands(rt: HostRuntime) {
-    assert!(rt; first_wrong(rt.alloc(), &TARGETS).is_none());
+    all_hold(&rt, first_wrong(rt.alloc(), TARGETS));
 }
 
 #[test]
 fn fields_are_found_by_their_names(rt: HostRuntime) {
-    assert!(rt; first_wrong(rt.alloc(), &FIELDS).is_none());
+    all_hold(&rt, first_wrong(rt.alloc(), FIELDS));
 }
 
 #[test]
 fn a_head_is_read_as_a_whole(rt: HostRuntime) {
-    assert!(rt; first_wrong(rt.alloc(), &HEADS).is_none());
+    all_hold(&rt, first_wrong(rt.alloc(), HEADS));
 }
 
 /// The request of the first row that isn't answered as the row has it; none where each is.
@@ -339,9 +340,9 @@ fn is_right(alloc: Global, row: &Row) -> bool {
 /// A request without short words.
 fn written_out(alloc: Global, request: &str) -> String {
     let mut text = String::from_str(alloc, request).unwrap_or(String::new(alloc));
-    for (word, instead) in &WORDS {
+    for row in WORDS {
         text = text
-            .replace(alloc, word, instead)
+            .replace(alloc, row.0, row.1)
             .unwrap_or(String::new(alloc));
     }
     text

@@ -1,6 +1,7 @@
 //! Heads at their bounds, what is read of a connection, and connections that fail.
 use super::desk::Mood;
 use super::serving::{Exchange, NEVER, answers, serve};
+use crate::rows::holds_at;
 use crate::texts::{joined, put};
 use pec_http::Served;
 use std::alloc::Global;
@@ -9,15 +10,15 @@ const REQUEST: &[u8] = b"GET /mail/anna@alfa.example/book HTTP/1.1\r\nx-key: chi
 
 /// A request for a book whose head has so many bytes.
 fn head_of(alloc: Global, bytes: usize) -> Vec<u8> {
-    let mut request = joined(alloc, &[FRONT, b"x: "]);
+    let mut request = joined(alloc, &[FRONT.as_bytes(), b"x: "]);
     let _ = request.resize(bytes.saturating_sub(4), b'x');
     put(&mut request, b"\r\n\r\n");
     request
 }
 
 /// A request that begins so, with two lines, and has so many behind the first.
-fn head_with(alloc: Global, front: &[u8], lines: u32) -> Vec<u8> {
-    let mut request = joined(alloc, &[front]);
+fn head_with(alloc: Global, front: &str, lines: u32) -> Vec<u8> {
+    let mut request = joined(alloc, &[front.as_bytes()]);
     for _ in 1..lines {
         put(&mut request, b"x:\r\n");
     }
@@ -26,27 +27,29 @@ fn head_with(alloc: Global, front: &[u8], lines: u32) -> Vec<u8> {
 }
 
 // How many bytes a head has, and the status of the answer.
-const SIZES: [(usize, u16); 4] = [(65_535, 200), (65_536, 200), (65_537, 431), (70_000, 431)];
+static SIZES: &[(usize, u16)] = &[(65_535, 200), (65_536, 200), (65_537, 431), (70_000, 431)];
 
 #[test]
 fn a_head_has_at_most_65536_bytes(rt: HostRuntime) {
-    for (bytes, status) in &SIZES {
-        assert!(rt; has_size_answered(rt.alloc(), *bytes, *status), "{bytes}");
+    for row in SIZES {
+        holds_at(&rt, has_size_answered(rt.alloc(), row), row.0 as u64, "");
     }
 }
 
-fn has_size_answered(alloc: Global, bytes: usize, status: u16) -> bool {
-    let request = head_of(alloc, bytes);
-    request.len() == bytes && answers(alloc, &request, 1000, status, 0)
+fn has_size_answered(alloc: Global, row: &(usize, u16)) -> bool {
+    let request = head_of(alloc, row.0);
+    request.len() == row.0 && answers(alloc, &request, 1000, row.1, 0)
 }
 
 /// A request for a book, and what is no request.
-const FRONT: &[u8] = b"GET /mail/anna@alfa.example/book HTTP/1.1\r\nx-key: chiave\r\n";
+const FRONT: &str = "GET /mail/anna@alfa.example/book HTTP/1.1\r\nx-key: chiave\r\n";
 
-const NO_FRONT: &[u8] = b"GET /nowhere\r\nx-key\r\n";
+const NO_FRONT: &str = "GET /nowhere\r\nx-key\r\n";
 
-// What a head begins with, how many lines it has behind its first, and the status of the answer.
-static LINES: [(&[u8], u32, u16); 6] = [
+/// What a head begins with, how many lines it has behind its first, and the status of the answer.
+type Lines = (&'static str, u32, u16);
+
+static LINES: &[Lines] = &[
     (FRONT, 63, 200),
     (FRONT, 64, 200),
     (FRONT, 65, 431),
@@ -58,17 +61,19 @@ static LINES: [(&[u8], u32, u16); 6] = [
 
 #[test]
 fn a_head_has_at_most_64_lines(rt: HostRuntime) {
-    for (front, lines, status) in &LINES {
-        assert!(rt;
-            has_count_answered(rt.alloc(), front, *lines, *status),
-            "{lines}"
+    for row in LINES {
+        holds_at(
+            &rt,
+            has_count_answered(rt.alloc(), row),
+            u64::from(row.1),
+            row.0,
         );
     }
 }
 
-fn has_count_answered(alloc: Global, front: &[u8], lines: u32, status: u16) -> bool {
-    let request = head_with(alloc, front, lines);
-    answers(alloc, &request, 4096, status, 0)
+fn has_count_answered(alloc: Global, row: &Lines) -> bool {
+    let request = head_with(alloc, row.0, row.1);
+    answers(alloc, &request, 4096, row.2, 0)
 }
 
 // 65,536 bytes without an end are too many, and one byte fewer is a head that is cut: whatever they say.

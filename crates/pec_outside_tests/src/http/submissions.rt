@@ -3,6 +3,7 @@
 use super::answers::TEXT;
 use super::desk::Mood;
 use super::serving::{NEVER, answers, is_answered, serve};
+use crate::rows::all_hold;
 use crate::texts::put;
 use std::alloc::Global;
 
@@ -17,7 +18,7 @@ struct Told {
     wanted: (u16, &'static str),
 }
 
-static SUBMITTED: [Told; 8] = [
+static SUBMITTED: &[Told] = &[
     Told {
         mood: Mood::Accepts,
         kind: TEXT,
@@ -62,7 +63,7 @@ static SUBMITTED: [Told; 8] = [
 
 const ITEM: &[u8] = b"GET /mail/anna@alfa.example/items/7 HTTP/1.1\r\nx-key: chiave\r\n\r\n";
 
-static ITEMS: [Told; 3] = [
+static ITEMS: &[Told] = &[
     Told {
         mood: Mood::Accepts,
         kind: "message/rfc822",
@@ -80,6 +81,16 @@ static ITEMS: [Told; 3] = [
     },
 ];
 
+/// The answer of the first row that isn't given to the request; none where each is.
+fn first_wrong(alloc: Global, request: &[u8], rows: &[Told]) -> Option<&'static str> {
+    for row in rows {
+        if !is_told(alloc, request, row) {
+            return Some(row.wanted.1);
+        }
+    }
+    None
+}
+
 /// Whether the request is answered as the row has it.
 fn is_told(alloc: Global, request: &[u8], row: &Told) -> bool {
     is_answered(alloc, row.mood, request, 4096, row.kind, row.wanted)
@@ -87,16 +98,12 @@ fn is_told(alloc: Global, request: &[u8], row: &Told) -> bool {
 
 #[test]
 fn a_submission_is_answered_by_the_desk(rt: HostRuntime) {
-    for row in &SUBMITTED {
-        assert!(rt; is_told(rt.alloc(), SUBMISSION, row), "{}", row.wanted.1);
-    }
+    all_hold(&rt, first_wrong(rt.alloc(), SUBMISSION, SUBMITTED));
 }
 
 #[test]
 fn an_item_is_a_message(rt: HostRuntime) {
-    for row in &ITEMS {
-        assert!(rt; is_told(rt.alloc(), ITEM, row), "{}", row.wanted.1);
-    }
+    all_hold(&rt, first_wrong(rt.alloc(), ITEM, ITEMS));
 }
 
 #[test]
