@@ -1,5 +1,6 @@
 //! Bodies that have no parts.
 use crate::parts::head_with;
+use crate::rows::holds;
 use crate::texts::joined;
 use pec_bodies::{BodyFault, Parts};
 use pec_heads::{Head, HeadFault};
@@ -19,7 +20,8 @@ fn fault_in(alloc: Global, head: &Head, body: &str) -> Option<BodyFault> {
 
 const TYPE: &[u8] = b"multipart/x; boundary=\"b\"";
 
-static FAULTS: [(&str, BodyFault); 9] = [
+/// A body, and its fault.
+static FAULTS: &[(&str, BodyFault)] = &[
     ("", BodyFault::NoOpening),
     // a delimiter ends in a line feed
     ("--b", BodyFault::NoOpening),
@@ -46,12 +48,19 @@ static FAULTS: [(&str, BodyFault); 9] = [
 
 #[test]
 fn the_first_fault_of_a_body_is_answered(rt: HostRuntime) {
-    for (body, fault) in &FAULTS {
-        assert!(rt; has_fault(rt.alloc(), TYPE, body, Some(*fault)), "{body}");
+    for row in FAULTS {
+        holds(&rt, is_faulty(rt.alloc(), row), row.0);
     }
 }
 
-static TYPES: [(&str, Option<BodyFault>); 5] = [
+fn is_faulty(alloc: Global, row: &(&str, BodyFault)) -> bool {
+    has_fault(alloc, TYPE, row.0, Some(row.1))
+}
+
+/// A type, and the fault of a body under it, if it has one.
+type Typed = (&'static str, Option<BodyFault>);
+
+static TYPES: &[Typed] = &[
     ("multipart/x; boundary=b", None),
     ("text/x; boundary=b", Some(BodyFault::NoBoundary)),
     ("multipart; boundary=b", Some(BodyFault::NoBoundary)), // no `/`
@@ -61,12 +70,13 @@ static TYPES: [(&str, Option<BodyFault>); 5] = [
 
 #[test]
 fn a_head_of_another_type_or_with_no_boundary_gives_no_parts(rt: HostRuntime) {
-    for (value, fault) in &TYPES {
-        assert!(rt;
-            has_fault(rt.alloc(), value.as_bytes(), "--b\n\n\n--b--", *fault),
-            "{value}"
-        );
+    for row in TYPES {
+        holds(&rt, is_typed(rt.alloc(), row), row.0);
     }
+}
+
+fn is_typed(alloc: Global, row: &Typed) -> bool {
+    has_fault(alloc, row.0.as_bytes(), "--b\n\n\n--b--", row.1)
 }
 
 #[test]

@@ -1,4 +1,5 @@
 //! Brief forms of messages.
+use crate::rows::holds;
 use crate::texts::joined;
 use pec_brief::brief;
 use std::alloc::Global;
@@ -25,8 +26,10 @@ fn is_brief(alloc: Global, message: &[u8], wanted: &[u8]) -> bool {
     }
 }
 
-// A part, and the name and the digest of the attachment that it is.
-static ATTACHMENTS: [(&str, &str, &str); 11] = [
+/// A part, and the name and the digest of the attachment that it is.
+type Attachment = (&'static str, &'static str, &'static str);
+
+static ATTACHMENTS: &[Attachment] = &[
     ("Content-Disposition: attachment\n\nabc", "allegato", ABC), // no name
     (
         "CONTENT-DISPOSITION:\tATTACHMENT; FILENAME=a.txt\n\nabc",
@@ -80,14 +83,14 @@ static ATTACHMENTS: [(&str, &str, &str); 11] = [
 
 #[test]
 fn an_attachment_is_told_by_its_head_and_named_by_it(rt: HostRuntime) {
-    for (part, name, digest) in &ATTACHMENTS {
-        assert!(rt; is_replaced(rt.alloc(), part, name, digest), "{part}");
+    for row in ATTACHMENTS {
+        holds(&rt, is_replaced(rt.alloc(), row), row.0);
     }
 }
 
-fn is_replaced(alloc: Global, part: &str, name: &str, digest: &str) -> bool {
-    let wanted = replaced(alloc, name.as_bytes(), digest.as_bytes());
-    becomes(alloc, part.as_bytes(), &wanted)
+fn is_replaced(alloc: Global, row: &Attachment) -> bool {
+    let wanted = replaced(alloc, row.1.as_bytes(), row.2.as_bytes());
+    becomes(alloc, row.0.as_bytes(), &wanted)
 }
 
 /// What stands for an attachment of this name.
@@ -116,14 +119,14 @@ fn around(alloc: Global, part: &[u8]) -> Vec<u8> {
     joined(alloc, &[front, part, b"\n--X--  \nbehind\n--X\n"])
 }
 
-static PARTS: [&str; 4] = [
+static PARTS: &[&str] = &[
     "Content-Disposition: inline; filename=a\n\nabc",
     "Content-Disposition: inline\nContent-Disposition: attachment\n\nabc", // the first field counts
     "\nContent-Disposition: attachment\n\nabc", // no head
     "Content-Type: multipart/mixed; boundary=Y\n\n--Y\nContent-Disposition: attachment\n\nabc\n--Y--", // in a part alone
 ];
 
-static MESSAGES: [&str; 5] = [
+static MESSAGES: &[&str] = &[
     "",
     "no field\n\n--X\nContent-Disposition: attachment\n\nabc\n--X--", // no head
     "Content-Disposition: attachment\n\nabc", // no parts
@@ -133,16 +136,20 @@ static MESSAGES: [&str; 5] = [
 
 #[test]
 fn everything_else_stays(rt: HostRuntime) {
-    for part in &PARTS {
-        assert!(rt;
-            becomes(rt.alloc(), part.as_bytes(), part.as_bytes()),
-            "{part}"
-        );
+    for part in PARTS {
+        holds(&rt, stays_in(rt.alloc(), part.as_bytes()), part);
     }
-    for message in &MESSAGES {
-        assert!(rt;
-            is_brief(rt.alloc(), message.as_bytes(), message.as_bytes()),
-            "{message}"
-        );
+    for message in MESSAGES {
+        holds(&rt, stays(rt.alloc(), message.as_bytes()), message);
     }
+}
+
+/// Whether this part of a message stays as it is.
+fn stays_in(alloc: Global, part: &[u8]) -> bool {
+    becomes(alloc, part, part)
+}
+
+/// Whether this message stays as it is.
+fn stays(alloc: Global, message: &[u8]) -> bool {
+    is_brief(alloc, message, message)
 }

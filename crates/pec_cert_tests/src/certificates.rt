@@ -1,4 +1,5 @@
 //! Certification texts, dates and zones.
+use crate::rows::{holds, holds_at};
 use crate::texts::{is_text, put};
 use pec_cert::*;
 use pec_types::{Moment, Text};
@@ -84,8 +85,10 @@ const ADELAIDE: &str = "ACST-9:30ACDT,M10.1.0,M4.1.0/3";
 
 const NEWFOUNDLAND: &str = "NST3:30NDT,M3.2.0,M11.1.0";
 
-// Rules, seconds since 1970, and the minutes that a clock there is ahead of UTC.
-static STAMPS: [(&str, u64, i32); 18] = [
+/// A rule, seconds since 1970, and the minutes that a clock there is ahead of UTC.
+type Stamped = (&'static str, u64, i32);
+
+static STAMPS: &[Stamped] = &[
     (ITALY, 1704186000, 60), // winter
     (ITALY, 1719824400, 120), // summer
     (ITALY, 1711846799, 60), // the second before summer time
@@ -108,13 +111,14 @@ static STAMPS: [(&str, u64, i32); 18] = [
 
 #[test]
 fn a_zone_stamps_with_whole_minutes(rt: HostRuntime) {
-    for (rule, seconds, minutes) in &STAMPS {
-        assert!(rt;
-            is_stamp(stamped(rt.alloc(), rule, *seconds), *seconds, *minutes),
-            "{rule}"
-        );
+    for row in STAMPS {
+        holds(&rt, is_stamped(rt.alloc(), row), row.0);
     }
-    assert!(rt; is_no_rule(rt.alloc(), b"nonsense!"));
+    holds(&rt, is_no_rule(rt.alloc(), b"nonsense!"), "nonsense!");
+}
+
+fn is_stamped(alloc: Global, row: &Stamped) -> bool {
+    is_stamp(stamped(alloc, row.0, row.1), row.1, row.2)
 }
 
 /// Whether this is the stamp of a moment by a clock that is ahead of UTC by so many minutes.
@@ -145,8 +149,11 @@ fn zone_of(alloc: Global, rule: &[u8]) -> Option<Zone> {
     }
 }
 
-// Rules, seconds since 1970, and the date of a head.
-static HEADER_DATES: [(&str, u64, &str); 20] = [
+/// A rule, seconds since 1970, and what is printed.
+type Shown = (&'static str, u64, &'static str);
+
+// Dates of heads.
+static HEADER_DATES: &[Shown] = &[
     (ITALY, 1704186000, "Tue, 02 Jan 2024 10:00:00 +0100"), // winter
     (ITALY, 1719824400, "Mon, 01 Jul 2024 11:00:00 +0200"), // summer
     ("UTC0", 0, "Thu, 01 Jan 1970 00:00:00 +0000"), // the first second
@@ -170,8 +177,8 @@ static HEADER_DATES: [(&str, u64, &str); 20] = [
     ("NST3:30", 1672543799, "Sat, 31 Dec 2022 23:59:59 -0330"),
 ];
 
-// And the line of a text.
-static DAY_LINES: [(&str, u64, &str); 5] = [
+// Lines of texts.
+static DAY_LINES: &[Shown] = &[
     (ITALY, 1704186000, "Giorno 02/01/2024 ore 10:00:00 (+0100)"), // winter
     (ITALY, 1719824400, "Giorno 01/07/2024 ore 11:00:00 (+0200)"), // summer
     ("UTC0", 0, "Giorno 01/01/1970 ore 00:00:00 (+0000)"), // the first second
@@ -185,26 +192,20 @@ static DAY_LINES: [(&str, u64, &str); 5] = [
 
 #[test]
 fn a_stamp_is_printed_in_heads_and_texts(rt: HostRuntime) {
-    for (rule, seconds, date) in &HEADER_DATES {
-        assert!(rt;
-            is_date(rt.alloc(), stamped(rt.alloc(), rule, *seconds), date),
-            "{date}"
-        );
+    for row in HEADER_DATES {
+        holds(&rt, is_date(rt.alloc(), row), row.2);
     }
-    for (rule, seconds, line) in &DAY_LINES {
-        assert!(rt;
-            is_line(rt.alloc(), stamped(rt.alloc(), rule, *seconds), line),
-            "{line}"
-        );
+    for row in DAY_LINES {
+        holds(&rt, is_line(rt.alloc(), row), row.2);
     }
 }
 
 /// Whether the stamp is printed as this date, which is read as it.
-fn is_date(alloc: Global, stamp: Option<Stamp>, date: &str) -> bool {
-    match stamp {
+fn is_date(alloc: Global, row: &Shown) -> bool {
+    match stamped(alloc, row.0, row.1) {
         Some(stamp) => {
-            is_text(header_date(alloc, stamp).ok(), date.as_bytes())
-                && is_read_as(date.as_bytes(), stamp)
+            is_text(header_date(alloc, stamp).ok(), row.2.as_bytes())
+                && is_read_as(row.2.as_bytes(), stamp)
         }
         None => false,
     }
@@ -218,14 +219,14 @@ fn is_read_as(date: &[u8], stamp: Stamp) -> bool {
 }
 
 /// Whether the stamp is printed as this line.
-fn is_line(alloc: Global, stamp: Option<Stamp>, line: &str) -> bool {
-    match stamp {
-        Some(stamp) => is_text(day_line(alloc, stamp).ok(), line.as_bytes()),
+fn is_line(alloc: Global, row: &Shown) -> bool {
+    match stamped(alloc, row.0, row.1) {
+        Some(stamp) => is_text(day_line(alloc, stamp).ok(), row.2.as_bytes()),
         None => false,
     }
 }
 
-static NO_DATES: [&str; 17] = [
+static NO_DATES: &[&str] = &[
     "",
     "Mon, 02 Jan 2024 10:00:00 +0100", // a Tuesday
     "tue, 02 Jan 2024 10:00:00 +0100", // names have one spelling
@@ -247,17 +248,21 @@ static NO_DATES: [&str; 17] = [
 
 #[test]
 fn other_spellings_are_no_dates(rt: HostRuntime) {
-    for text in &NO_DATES {
-        assert!(rt; read_header_date(text.as_bytes()).is_none(), "{text}");
+    for text in NO_DATES {
+        holds(&rt, is_no_date(text), text);
     }
+}
+
+fn is_no_date(text: &str) -> bool {
+    read_header_date(text.as_bytes()).is_none()
 }
 
 #[test]
 fn what_is_read_is_written_again(rt: HostRuntime) {
-    for text in &[envelope(), full(), BARE] {
-        assert!(rt; is_written_again(rt.alloc(), text.as_bytes()));
+    for text in [envelope(), full(), BARE] {
+        holds(&rt, is_written_again(rt.alloc(), text.as_bytes()), text);
     }
-    assert!(rt; is_full(rt.alloc()));
+    holds(&rt, is_full(rt.alloc()), "what stands in it");
 }
 
 // Whether the text is read, and what is read is written as the same text.
@@ -298,7 +303,7 @@ fn fault_of(alloc: Global, text: &[u8]) -> Option<CertFault> {
 // A byte or more of the envelope's text, by their place and number, what stands there instead, and the fault of that text.
 type Row = (usize, usize, &'static str, CertFault);
 
-static SHAPES: [Row; 26] = [
+static SHAPES: &[Row] = &[
     (0, 1, "", CertFault::Syntax(0)), // the first byte is wanting
     (57, 1, "q", CertFault::Syntax(57)), // no kind begins so
     (58, 1, "r", CertFault::Syntax(59)), // `pr` goes on as another kind does
@@ -327,7 +332,7 @@ static SHAPES: [Row; 26] = [
     (544, 0, "x", CertFault::Syntax(544)), // bytes behind the end
 ];
 
-static VALUES: [Row; 16] = [
+static VALUES: &[Row] = &[
     (121, 1, "A", CertFault::BadAddress(121)), // capitals
     (121, 18, "", CertFault::BadAddress(121)), // nothing at all
     (126, 1, "x", CertFault::BadAddress(121)), // no `@`
@@ -348,18 +353,22 @@ static VALUES: [Row; 16] = [
 
 #[test]
 fn a_text_of_another_shape_has_its_first_fault(rt: HostRuntime) {
-    for row in &SHAPES {
-        assert!(rt; has_fault(rt.alloc(), row), "{} {}", row.0, row.2);
+    for row in SHAPES {
+        holds_at(&rt, has_fault(rt.alloc(), row), row.0 as u64, row.2);
     }
-    assert!(rt; fault_of(rt.alloc(), b"") == Some(CertFault::Syntax(0)));
+    holds(&rt, is_no_text(rt.alloc()), "nothing at all");
+}
+
+fn is_no_text(alloc: Global) -> bool {
+    fault_of(alloc, b"") == Some(CertFault::Syntax(0))
 }
 
 #[test]
 fn a_wrong_value_has_its_place(rt: HostRuntime) {
-    for row in &VALUES {
-        assert!(rt; has_fault(rt.alloc(), row), "{} {}", row.0, row.2);
+    for row in VALUES {
+        holds_at(&rt, has_fault(rt.alloc(), row), row.0 as u64, row.2);
     }
-    assert!(rt; has_the_farthest_zone(rt.alloc()));
+    holds(&rt, has_the_farthest_zone(rt.alloc()), "the farthest zone");
 }
 
 /// Whether the text that a row says has its fault.

@@ -1,10 +1,14 @@
 //! Composed bodies.
+use crate::rows::{holds, holds_at};
 use crate::texts::{put, put_number};
 use pec_bodies::{compose, composed_type};
 use pec_types::Text8;
 use std::alloc::Global;
 
-static BODIES: [(&[&str], &str); 2] = [
+/// Parts, and the body that they are composed to.
+type Body = (&'static [&'static str], &'static str);
+
+static BODIES: &[Body] = &[
     (
         &["\na", "A: b\r\n\r\n"],
         "--=_pec_0\r\n\na\r\n--=_pec_0\r\nA: b\r\n\r\n\r\n--=_pec_0--\r\n",
@@ -14,16 +18,16 @@ static BODIES: [(&[&str], &str); 2] = [
 
 #[test]
 fn each_part_stands_behind_a_delimiter_and_before_a_line_end(rt: HostRuntime) {
-    for (parts, wanted) in &BODIES {
-        assert!(rt; are_composed(rt.alloc(), parts, wanted), "{wanted}");
+    for row in BODIES {
+        holds(&rt, are_composed(rt.alloc(), row), row.1);
     }
 }
 
-/// Whether the parts are composed to this body, by the boundary of number 0.
-fn are_composed(alloc: Global, parts: &[&str], wanted: &str) -> bool {
-    let all = texts_of(alloc, parts);
+/// Whether the parts of a row are composed to its body, by the boundary of number 0.
+fn are_composed(alloc: Global, row: &Body) -> bool {
+    let all = texts_of(alloc, row.0);
     match compose(alloc, &all) {
-        Ok((number, body)) => number == 0 && body.as_slice() == wanted.as_bytes(),
+        Ok((number, body)) => number == 0 && body.as_slice() == row.1.as_bytes(),
         Err(_) => false,
     }
 }
@@ -43,8 +47,10 @@ fn text_of(alloc: Global, part: &str) -> Text8 {
     Text8::of(bytes)
 }
 
-// Parts, and the number of their boundary.
-static NUMBERS: [(&[&str], u64); 16] = [
+/// Parts, and the number of their boundary.
+type Number = (&'static [&'static str], u64);
+
+static NUMBERS: &[Number] = &[
     (&["\nx\n--=_pec_0\ny"], 1),
     (&["\n--=_pec_0"], 1), // the last piece counts as a line
     (&["--=_pec_0x"], 1), // whatever stands behind it
@@ -73,14 +79,14 @@ static NUMBERS: [(&[&str], u64); 16] = [
 
 #[test]
 fn the_boundary_has_the_least_number_that_no_line_takes(rt: HostRuntime) {
-    for (parts, wanted) in &NUMBERS {
-        assert!(rt; number_of(rt.alloc(), parts) == Some(*wanted), "{wanted}");
+    for row in NUMBERS {
+        holds_at(&rt, is_numbered(rt.alloc(), row), row.1, "");
     }
 }
 
-fn number_of(alloc: Global, parts: &[&str]) -> Option<u64> {
-    let all = texts_of(alloc, parts);
-    number_with(alloc, &all)
+fn is_numbered(alloc: Global, row: &Number) -> bool {
+    let all = texts_of(alloc, row.0);
+    number_with(alloc, &all) == Some(row.1)
 }
 
 /// The number of the boundary of these parts.
@@ -114,7 +120,8 @@ fn lines_below(alloc: Global, most: u64) -> Vec<u8> {
     part
 }
 
-static TYPES: [(u64, &str); 2] = [
+/// The number of a boundary, and the type that names it.
+static TYPES: &[(u64, &str)] = &[
     (0, "multipart/mixed; boundary=\"=_pec_0\""),
     (
         18_446_744_073_709_551_615,
@@ -124,14 +131,14 @@ static TYPES: [(u64, &str); 2] = [
 
 #[test]
 fn the_type_of_a_composed_body_names_its_boundary(rt: HostRuntime) {
-    for (number, wanted) in &TYPES {
-        assert!(rt; is_type(rt.alloc(), *number, wanted), "{number}");
+    for row in TYPES {
+        holds(&rt, is_type(rt.alloc(), row), row.1);
     }
 }
 
-fn is_type(alloc: Global, number: u64, wanted: &str) -> bool {
-    match composed_type(alloc, number) {
-        Ok(value) => value.as_slice() == wanted.as_bytes(),
+fn is_type(alloc: Global, row: &(u64, &str)) -> bool {
+    match composed_type(alloc, row.0) {
+        Ok(value) => value.as_slice() == row.1.as_bytes(),
         Err(_) => false,
     }
 }

@@ -1,56 +1,59 @@
 //! Frames: their faults, their paths, and how they are made.
+use crate::rows::holds;
 use pec_frames::{FRAME_LIMIT, FrameFault, FrameMade, frame_of, read_frame};
 use pec_types::{Address, Frame};
 use std::alloc::Global;
 
 /// Texts that are no frames, each with its fault.
-static FAULTS: [(&[u8], FrameFault); 9] = [
-    (b"", FrameFault::NoPath),
-    (b"per: bob@beta.example\r\nx", FrameFault::NoPath),
+static FAULTS: &[(&str, FrameFault)] = &[
+    ("", FrameFault::NoPath),
+    ("per: bob@beta.example\r\nx", FrameFault::NoPath),
     // A line feed alone ends no path.
-    (b"Per: bob@beta.example\nx", FrameFault::NoPath),
-    (b"Per: \r\nx", FrameFault::BadPath(5)),
-    (b"Per: bob\r\nx", FrameFault::BadPath(5)),
+    ("Per: bob@beta.example\nx", FrameFault::NoPath),
+    ("Per: \r\nx", FrameFault::BadPath(5)),
+    ("Per: bob\r\nx", FrameFault::BadPath(5)),
     // Blanks round an address aren't passed over.
-    (b"Per: a@b, c@d\r\nx", FrameFault::BadPath(9)),
-    (b"Per: a@b,\r\nx", FrameFault::BadPath(9)),
-    (b"Per: a@b,c@d,@\r\nx", FrameFault::BadPath(13)),
+    ("Per: a@b, c@d\r\nx", FrameFault::BadPath(9)),
+    ("Per: a@b,\r\nx", FrameFault::BadPath(9)),
+    ("Per: a@b,c@d,@\r\nx", FrameFault::BadPath(13)),
     // The first wrong one is the answer.
-    (b"Per: a@b,c,d\r\nx", FrameFault::BadPath(9)),
+    ("Per: a@b,c,d\r\nx", FrameFault::BadPath(9)),
 ];
 
 #[test]
 fn faults_stand_at_their_places(rt: HostRuntime) {
-    for (frame, fault) in &FAULTS {
-        assert!(rt; fault_of(rt.alloc(), frame) == Some(*fault), "{frame:?}");
+    for row in FAULTS {
+        holds(&rt, is_no_frame(rt.alloc(), row), row.0);
     }
 }
 
-fn fault_of(alloc: Global, frame: &[u8]) -> Option<FrameFault> {
-    read_frame(alloc, frame).err()
+fn is_no_frame(alloc: Global, row: &(&str, FrameFault)) -> bool {
+    read_frame(alloc, row.0.as_bytes()).err() == Some(row.1)
 }
 
 /// The frame of docs/formats.md: its path has one address, and its message begins at 23. Capitals are read as small letters.
-static PATHS: [(&[u8], &[u8], usize); 2] = [
+type Path = (&'static str, &'static str, usize);
+
+static PATHS: &[Path] = &[
     (
-        b"Per: bob@beta.example\r\nFrom: x@y.example\r\n\r\nciao",
-        b"bob@beta.example",
+        "Per: bob@beta.example\r\nFrom: x@y.example\r\n\r\nciao",
+        "bob@beta.example",
         23,
     ),
-    (b"Per: Bob@Beta.example\r\n", b"bob@beta.example", 23),
+    ("Per: Bob@Beta.example\r\n", "bob@beta.example", 23),
 ];
 
 #[test]
 fn a_path_is_read_in_lower_case(rt: HostRuntime) {
-    for (frame, address, place) in &PATHS {
-        assert!(rt; has_path(rt.alloc(), frame, address, *place), "{frame:?}");
+    for row in PATHS {
+        holds(&rt, has_path(rt.alloc(), row), row.0);
     }
 }
 
-/// Whether the frame has a path of this address alone, and its message begins there.
-fn has_path(alloc: Global, frame: &[u8], address: &[u8], place: usize) -> bool {
-    match read_frame(alloc, frame) {
-        Ok((path, begin)) => begin == place && is_one(&path, address),
+/// Whether the frame of a row has a path of its address alone, and its message begins there.
+fn has_path(alloc: Global, row: &Path) -> bool {
+    match read_frame(alloc, row.0.as_bytes()) {
+        Ok((path, begin)) => begin == row.2 && is_one(&path, row.1.as_bytes()),
         Err(_) => false,
     }
 }

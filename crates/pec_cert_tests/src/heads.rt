@@ -1,10 +1,14 @@
 //! Heads: where they end, what is found in them, and how they are written.
+use crate::rows::{holds, holds_at};
 use crate::texts::{is_value, joined, put};
 use pec_heads::{Head, HeadFault, ListFault, end_head, put_addresses, put_field};
 use pec_types::{Address, AddressFault, Class, Facts, Recipient, Text, Wish};
 use std::alloc::Global;
 
-static ENDS: [(&str, Result<usize, HeadFault>); 18] = [
+/// A text, and the place behind its head or its fault.
+type End = (&'static str, Result<usize, HeadFault>);
+
+static ENDS: &[End] = &[
     ("A: b\r\n c\n\nx", Ok(10)), // folded; both line ends
     ("A: b\r\n", Err(HeadFault::NoEnd)), // a field, no empty line
     ("", Err(HeadFault::NoEnd)), // no line at all
@@ -27,12 +31,13 @@ static ENDS: [(&str, Result<usize, HeadFault>); 18] = [
 
 #[test]
 fn a_head_ends_at_its_empty_line_or_has_the_fault_of_its_first_wrong_line(rt: HostRuntime) {
-    for (text, wanted) in &ENDS {
-        assert!(rt;
-            place_behind(rt.alloc(), text.as_bytes()) == *wanted,
-            "{text}"
-        );
+    for row in ENDS {
+        holds(&rt, ends_so(rt.alloc(), row), row.0);
     }
+}
+
+fn ends_so(alloc: Global, row: &End) -> bool {
+    place_behind(alloc, row.0.as_bytes()) == row.1
 }
 
 /// The place behind the head, or the fault.
@@ -43,7 +48,10 @@ fn place_behind(alloc: Global, text: &[u8]) -> Result<usize, HeadFault> {
     }
 }
 
-static LENGTHS: [(usize, &str, Result<usize, HeadFault>); 5] = [
+/// The bytes of a line, its end, and the place behind the head or the fault.
+type Length = (usize, &'static str, Result<usize, HeadFault>);
+
+static LENGTHS: &[Length] = &[
     (998, "\n", Ok(1000)),
     (998, "\r\n", Ok(1001)), // CRLF isn't counted
     (999, "\n", Err(HeadFault::LineTooLong(0))),
@@ -53,15 +61,14 @@ static LENGTHS: [(usize, &str, Result<usize, HeadFault>); 5] = [
 
 #[test]
 fn a_line_has_at_most_998_bytes_without_its_end(rt: HostRuntime) {
-    for (bytes, end, wanted) in &LENGTHS {
-        assert!(rt; ends_so(rt.alloc(), *bytes, end, *wanted), "{bytes}");
+    for row in LENGTHS {
+        holds_at(&rt, is_so_long(rt.alloc(), row), row.0 as u64, row.1);
     }
 }
 
-/// Whether the head of a line of so many bytes, with this end, ends there or has this fault.
-fn ends_so(alloc: Global, bytes: usize, end: &str, wanted: Result<usize, HeadFault>) -> bool {
-    let text = long_line(alloc, bytes, end);
-    place_behind(alloc, &text) == wanted
+fn is_so_long(alloc: Global, row: &Length) -> bool {
+    let text = long_line(alloc, row.0, row.1);
+    place_behind(alloc, &text) == row.2
 }
 
 /// A line of so many bytes, with this end, and an empty one.
@@ -77,7 +84,10 @@ fn long_line(alloc: Global, bytes: usize, end: &str) -> Vec<u8> {
 const FOLDED: &[u8] =
     b"Subject: \xc3\xa8\r\n b\r\n\tc \r\nTO:x\nto:\t y\nA:\n x\nC: \n\t\na: w\n\tv\nc:\n\n";
 
-static VALUES: [(&str, usize, &[u8]); 7] = [
+/// A name, which of its fields, and the value.
+type Value = (&'static str, usize, &'static [u8]);
+
+static VALUES: &[Value] = &[
     ("sUBJECT", 0, b"\xc3\xa8 b\tc"), // each continuation keeps its blank
     ("To", 0, b"x"),
     ("To", 1, b"y"), // trimmed of a tab
@@ -94,14 +104,14 @@ fn values_are_found_by_name_in_any_case_and_unfolded(rt: HostRuntime) {
 
 fn finds_values(alloc: Global) -> bool {
     match head_of(alloc, FOLDED) {
-        Some(head) => has_values(&head, &VALUES) && tells_fields(&head),
+        Some(head) => has_values(&head, VALUES) && tells_fields(&head),
         None => false,
     }
 }
 
-fn has_values(head: &Head, rows: &[(&str, usize, &[u8])]) -> bool {
-    for (name, i, wanted) in rows {
-        if !is_value(head.value(name.as_bytes(), *i), wanted) {
+fn has_values(head: &Head, rows: &[Value]) -> bool {
+    for row in rows {
+        if !is_value(head.value(row.0.as_bytes(), row.1), row.2) {
             return false;
         }
     }
@@ -118,7 +128,8 @@ fn tells_fields(head: &Head) -> bool {
         && !head.is_filled(b"D")
 }
 
-static LISTS: [(&str, &str); 7] = [
+/// A list, and its addresses, each with a space.
+static LISTS: &[(&str, &str)] = &[
     ("\"Rossi, Mario\" <m@a.it>, b@a.it,", "m@a.it b@a.it "), // a quoted comma; a blank entry
     ("a@b\nTo: C@D", "a@b c@d "), // two fields; lower case
     ("\"a\\\",b\" <a@b>", "a@b "), // a backslash takes the quote with it
@@ -130,15 +141,14 @@ static LISTS: [(&str, &str); 7] = [
 
 #[test]
 fn a_list_is_its_entries_outside_quotes(rt: HostRuntime) {
-    for (value, wanted) in &LISTS {
-        assert!(rt; lists(rt.alloc(), value, wanted), "{value}");
+    for row in LISTS {
+        holds(&rt, lists(rt.alloc(), row), row.0);
     }
 }
 
-/// Whether the field `To` with this value has these addresses, each with a space.
-fn lists(alloc: Global, value: &str, wanted: &str) -> bool {
-    match head_to(alloc, value) {
-        Some(head) => are_addresses(alloc, &head, wanted),
+fn lists(alloc: Global, row: &(&str, &str)) -> bool {
+    match head_to(alloc, row.0) {
+        Some(head) => are_addresses(alloc, &head, row.1),
         None => false,
     }
 }
@@ -172,7 +182,10 @@ pub(crate) fn head_of(alloc: Global, text: &[u8]) -> Option<Head> {
     }
 }
 
-static WRONG_LISTS: [(&str, ListFault); 13] = [
+/// A list, and its fault.
+type WrongList = (&'static str, ListFault);
+
+static WRONG_LISTS: &[WrongList] = &[
     (
         "a@b (x)",
         ListFault::BadAddress(0, AddressFault::BadDomain(3)),
@@ -196,15 +209,15 @@ static WRONG_LISTS: [(&str, ListFault); 13] = [
 
 #[test]
 fn a_wrong_list_has_the_fault_of_its_first_wrong_entry(rt: HostRuntime) {
-    for (value, fault) in &WRONG_LISTS {
-        assert!(rt; list_fault(rt.alloc(), value) == Some(*fault), "{value}");
+    for row in WRONG_LISTS {
+        holds(&rt, is_wrong_list(rt.alloc(), row), row.0);
     }
 }
 
-fn list_fault(alloc: Global, value: &str) -> Option<ListFault> {
-    match head_to(alloc, value) {
-        Some(head) => head.addresses(alloc, b"to").err(),
-        None => None,
+fn is_wrong_list(alloc: Global, row: &WrongList) -> bool {
+    match head_to(alloc, row.0) {
+        Some(head) => head.addresses(alloc, b"to").err() == Some(row.1),
+        None => false,
     }
 }
 
@@ -220,22 +233,34 @@ fn facts_are_what_the_first_fields_say(rt: HostRuntime) {
 
 fn are_full_facts(alloc: Global) -> bool {
     match facts_of(alloc, FULL) {
-        Some(facts) => says_all(&facts) && has_recipients(alloc, &facts, b"c@d+e@f+g@h "),
+        Some(facts) => {
+            let told = says_all(alloc, &facts);
+            let_go(facts);
+            told
+        }
         None => false,
     }
 }
 
-fn says_all(facts: &Facts) -> bool {
-    facts.sender.bytes() == b"a@b".as_slice()
+/// The facts end here, so that the proofs of others are spared how they do.
+fn let_go(_facts: Facts) {}
+
+fn says_all(alloc: Global, facts: &Facts) -> bool {
+    has_recipients(alloc, facts, b"c@d+e@f+g@h ")
         && facts.wish == Wish::Brief
-        && is_said(&facts.subject, b"? x")
-        && is_said(&facts.reference, b"<1>")
-        && facts.reply.bytes() == b"?".as_slice()
+        && is_text(facts.sender.bytes(), "a@b")
+        && is_said(&facts.subject, "? x")
+        && is_said(&facts.reference, "<1>")
+        && is_text(facts.reply.bytes(), "?")
 }
 
-fn is_said(found: &Option<Text>, wanted: &[u8]) -> bool {
+fn is_text(bytes: &[u8], wanted: &str) -> bool {
+    bytes == wanted.as_bytes()
+}
+
+fn is_said(found: &Option<Text>, wanted: &str) -> bool {
     match found {
-        Some(text) => text.bytes() == wanted,
+        Some(text) => is_text(text.bytes(), wanted),
         None => false,
     }
 }
@@ -283,16 +308,23 @@ fn what_a_head_leaves_out_is_absent_or_the_sender(rt: HostRuntime) {
 fn are_bare_facts(alloc: Global) -> bool {
     match facts_of(alloc, BARE) {
         Some(facts) => {
-            facts.wish == Wish::Full
-                && facts.subject.is_none()
-                && facts.reference.is_none()
-                && facts.reply.bytes() == b"a@b".as_slice()
+            let told = says_little(&facts);
+            let_go(facts);
+            told
         }
         None => false,
     }
 }
 
-static NO_FACTS: [(&str, &str); 6] = [
+fn says_little(facts: &Facts) -> bool {
+    facts.wish == Wish::Full
+        && facts.subject.is_none()
+        && facts.reference.is_none()
+        && is_text(facts.reply.bytes(), "a@b")
+}
+
+/// A head that has no facts, and what is wrong with it.
+static NO_FACTS: &[(&str, &str)] = &[
     ("To: c@d\n\n", "no From"),
     ("From: a@b\n\n", "no To"),
     ("From: a@b, a@b\nTo: c@d\n\n", "two addresses in From"),
@@ -303,8 +335,8 @@ static NO_FACTS: [(&str, &str); 6] = [
 
 #[test]
 fn a_head_without_one_sender_or_with_a_wrong_list_has_no_facts(rt: HostRuntime) {
-    for (text, reason) in &NO_FACTS {
-        assert!(rt; has_no_facts(rt.alloc(), text.as_bytes()), "{reason}");
+    for row in NO_FACTS {
+        holds(&rt, has_no_facts(rt.alloc(), row.0.as_bytes()), row.1);
     }
 }
 
@@ -327,7 +359,8 @@ fn tells_no_facts(alloc: Global, head: &Head) -> bool {
 const WHOLE: &[u8] =
     b"From: a@b\r\nTo: anna@alfa.example,\r\n bob@beta.example,\r\n anna@alfa.example\r\nCc: bob@beta.example\r\nBcc: \r\nSubject: POSTA CERTIFICATA: \r\n\r\nx";
 
-static WRITTEN: [(&str, &str); 5] = [
+/// The names of its fields, and their values.
+static WRITTEN: &[(&str, &str)] = &[
     ("From", "a@b"),
     (
         "To",
@@ -366,14 +399,14 @@ fn address(alloc: Global, text: &[u8]) -> Option<Address> {
 /// Whether the text is a head with the fields that were written and one byte behind it.
 fn has_fields(alloc: Global, text: &[u8]) -> bool {
     match Head::read(alloc, text) {
-        Ok((head, place)) => text.len() == place.saturating_add(1) && are_fields(&head, &WRITTEN),
+        Ok((head, place)) => text.len() == place.saturating_add(1) && are_fields(&head, WRITTEN),
         Err(_) => false,
     }
 }
 
 fn are_fields(head: &Head, rows: &[(&str, &str)]) -> bool {
-    for (name, wanted) in rows {
-        if !is_value(head.field(name.as_bytes()), wanted.as_bytes()) {
+    for row in rows {
+        if !is_value(head.field(row.0.as_bytes()), row.1.as_bytes()) {
             return false;
         }
     }

@@ -1,8 +1,12 @@
 //! Parameters of a value.
+use crate::rows::holds;
 use crate::texts::is_value;
 use pec_bodies::parameter;
 
-static PIECES: [(&str, Option<&str>); 16] = [
+/// A value, and its parameter `boundary`, if it has one.
+type Piece = (&'static str, Option<&'static str>);
+
+static PIECES: &[Piece] = &[
     ("a; boundary=x", Some("x")), // blanks round a piece are cut off
     ("a;\tboundary=x\t", Some("x")), // tabs too
     ("a;boundary=x;boundary=y", Some("x")), // the first of two
@@ -23,14 +27,14 @@ static PIECES: [(&str, Option<&str>); 16] = [
 
 #[test]
 fn a_parameter_is_the_first_piece_of_its_name(rt: HostRuntime) {
-    for (value, wanted) in &PIECES {
-        assert!(rt; is_piece(value, *wanted), "{value}");
+    for row in PIECES {
+        holds(&rt, is_piece(row), row.0);
     }
 }
 
-fn is_piece(value: &str, wanted: Option<&str>) -> bool {
-    let found = parameter(value.as_bytes(), b"Boundary");
-    match wanted {
+fn is_piece(row: &Piece) -> bool {
+    let found = parameter(row.0.as_bytes(), b"Boundary");
+    match row.1 {
         Some(text) => is_value(found, text.as_bytes()),
         None => found.is_none(),
     }

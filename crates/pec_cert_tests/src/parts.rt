@@ -1,5 +1,6 @@
 //! Bodies that have parts.
 use crate::heads::head_of;
+use crate::rows::holds;
 use crate::texts::{is_value, joined, put, put_number};
 use pec_bodies::{Part, Parts};
 use pec_heads::Head;
@@ -11,7 +12,8 @@ pub(crate) fn head_with(alloc: Global, value: &[u8]) -> Option<Head> {
     head_of(alloc, &text)
 }
 
-static BODIES: [(&str, &str); 8] = [
+/// A body, and its parts.
+static BODIES: &[(&str, &str)] = &[
     // line ends of one byte
     ("--b\n\na\n--b--\n", "4:\na|"),
     // of two bytes; the closing delimiter is the last piece
@@ -38,24 +40,21 @@ static BODIES: [(&str, &str); 8] = [
 
 #[test]
 fn a_part_stands_between_delimiters_without_the_line_end_before_the_second(rt: HostRuntime) {
-    for (body, wanted) in &BODIES {
-        assert!(rt;
-            has_parts(rt.alloc(), body.as_bytes(), wanted.as_bytes()),
-            "{body}"
-        );
+    for row in BODIES {
+        holds(&rt, has_parts(rt.alloc(), row), row.0);
     }
 }
 
-fn has_parts(alloc: Global, body: &[u8], wanted: &[u8]) -> bool {
+fn has_parts(alloc: Global, row: &(&str, &str)) -> bool {
     match head_with(alloc, b"Multipart/x; boundary=b") {
-        Some(head) => are_read(alloc, &head, body, wanted),
+        Some(head) => are_read(alloc, &head, row),
         None => false,
     }
 }
 
-fn are_read(alloc: Global, head: &Head, body: &[u8], wanted: &[u8]) -> bool {
-    match Parts::read(alloc, head, body) {
-        Ok(parts) => shown(alloc, &parts).as_slice() == wanted,
+fn are_read(alloc: Global, head: &Head, row: &(&str, &str)) -> bool {
+    match Parts::read(alloc, head, row.0.as_bytes()) {
+        Ok(parts) => shown(alloc, &parts).as_slice() == row.1.as_bytes(),
         Err(_) => false,
     }
 }
@@ -95,7 +94,7 @@ fn body() -> &'static [u8] {
 }
 
 // The body of each part, and its disposition.
-static PARTS: [(&str, Option<&str>); 3] = [
+static PARTS: &[(&str, Option<&str>)] = &[
     ("Buongiorno", None),
     (
         "The quick brown fox jumps over the lazy dog",
@@ -118,7 +117,7 @@ fn has_heads_and_bodies(alloc: Global) -> bool {
 
 fn has_rows(alloc: Global, head: &Head) -> bool {
     match Parts::read(alloc, head, body()) {
-        Ok(parts) => parts.count() == 3 && are_parts(&parts, &PARTS) && ends_behind(&parts, 3),
+        Ok(parts) => parts.count() == 3 && are_parts(&parts, PARTS) && ends_behind(&parts, 3),
         Err(_) => false,
     }
 }
@@ -128,8 +127,8 @@ fn ends_behind(parts: &Parts<'_>, count: usize) -> bool {
 }
 
 fn are_parts(parts: &Parts<'_>, rows: &[(&str, Option<&str>)]) -> bool {
-    for (i, (text, disposition)) in rows.iter().enumerate() {
-        if !is_body(parts.part(i), text) || !has_disposition(parts.head(i), *disposition) {
+    for (i, row) in rows.iter().enumerate() {
+        if !is_body(parts.part(i), row.0) || !has_disposition(parts.head(i), row.1) {
             return false;
         }
     }

@@ -1,5 +1,6 @@
 //! Entries and their bytes, which were written out by hand.
 use crate::entries::encoded;
+use crate::rows::holds;
 use crate::shown::shown;
 use crate::texts::{is_text, put};
 use pec_records::{Entry, EntryFault, decode};
@@ -7,7 +8,7 @@ use pec_types::Address;
 use std::alloc::Global;
 
 // Each kind of entry, by its tag: its bytes written out by hand, field by field, and what they say.
-static ENTRIES: [(&str, &str); 10] = [
+static ENTRIES: &[(&str, &str)] = &[
     (
         "00 00000007 000102030405060708090a0b0c0d0e0f101112131415161718191a1b1c1d1e1f",
         "start 7 000102030405060708090a0b0c0d0e0f101112131415161718191a1b1c1d1e1f",
@@ -47,22 +48,17 @@ static ENTRIES: [(&str, &str); 10] = [
     ),
 ];
 
-/// The table, by a function without a clause: the proofs of the tests are spared its texts.
-fn entries() -> &'static [(&'static str, &'static str)] {
-    &ENTRIES
-}
-
 #[test]
 fn each_kind_of_entry_is_its_bytes(rt: HostRuntime) {
-    for (tag, (digits, said)) in entries().iter().enumerate() {
-        assert!(rt; is_its_bytes(rt.alloc(), tag, digits, said), "{tag}");
+    for (tag, row) in ENTRIES.iter().enumerate() {
+        holds(&rt, is_its_bytes(rt.alloc(), tag, row), row.1);
     }
 }
 
-/// Whether the entry of a tag has these bytes, and they are read as what it says.
-fn is_its_bytes(alloc: Global, tag: usize, digits: &str, said: &str) -> bool {
-    let bytes = bytes_of(alloc, digits);
-    is_text(encoded(alloc, tag), &bytes) && says(alloc, &bytes, said)
+/// Whether the entry of a tag has the bytes of a row, and they are read as what it says.
+fn is_its_bytes(alloc: Global, tag: usize, row: &(&str, &str)) -> bool {
+    let bytes = bytes_of(alloc, row.0);
+    is_text(encoded(alloc, tag), &bytes) && says(alloc, &bytes, row.1)
 }
 
 /// Whether this is what the entry of these bytes says.
@@ -79,8 +75,8 @@ fn fault_of(alloc: Global, bytes: &[u8]) -> Option<EntryFault> {
 
 #[test]
 fn what_is_cut_off_ends_too_early(rt: HostRuntime) {
-    for (digits, said) in entries() {
-        assert!(rt; ends_too_early(rt.alloc(), digits), "{said}");
+    for row in ENTRIES {
+        holds(&rt, ends_too_early(rt.alloc(), row.0), row.1);
     }
 }
 
@@ -100,7 +96,7 @@ fn has_no_front(alloc: Global, bytes: &[u8]) -> bool {
 }
 
 // Bytes that are no entry, and the place of the first with which no entry goes on.
-static FAULTS: [(&str, usize); 33] = [
+static FAULTS: &[(&str, usize)] = &[
     ("0a", 0), // there are ten tags, from 0
     ("ff", 0),
     ("08 000000006593d090 00", 9), // bytes behind the end
@@ -147,14 +143,14 @@ static FAULTS: [(&str, usize); 33] = [
 
 #[test]
 fn faults_stand_at_the_first_wrong_byte(rt: HostRuntime) {
-    for (digits, place) in &FAULTS {
-        assert!(rt; has_fault_at(rt.alloc(), digits, *place), "{digits}");
+    for row in FAULTS {
+        holds(&rt, has_fault_at(rt.alloc(), row), row.0);
     }
 }
 
-fn has_fault_at(alloc: Global, digits: &str, place: usize) -> bool {
-    let bytes = bytes_of(alloc, digits);
-    fault_of(alloc, &bytes) == Some(EntryFault::Syntax(place))
+fn has_fault_at(alloc: Global, row: &(&str, usize)) -> bool {
+    let bytes = bytes_of(alloc, row.0);
+    fault_of(alloc, &bytes) == Some(EntryFault::Syntax(row.1))
 }
 
 // A path of 1,001 addresses, and an address of 254 bytes.

@@ -2,6 +2,7 @@
 ghost use Rattle.std.specs.Prelude.{◌≡◌, IfSome, [], ◌∷◌, codes};
 ghost use Rattle.pec_seal.specs.Hmac.{hmac_seals, IsKey};
 
+use crate::rows::holds;
 use crate::texts::is_text;
 use pec_seal::{HmacSealer, SealFault, Sealer, Text8, opened, seal};
 use pec_types::Text;
@@ -9,7 +10,9 @@ use std::alloc::Global;
 
 /// Keys, texts and their tags: of RFC 4231, part 4, the test cases whose keys have at most the 64 bytes of a block, and
 /// a key of a whole block, by another program.
-static TAGS: [(&[u8], &[u8], &str); 5] = [
+type Tag = (&'static [u8], &'static [u8], &'static str);
+
+static TAGS: &[Tag] = &[
     // test case 1: a key of 20 bytes
     (
         &[0x0b; 20],
@@ -44,17 +47,18 @@ static TAGS: [(&[u8], &[u8], &str); 5] = [
 
 #[test]
 fn a_tag_is_that_of_the_standard(rt: HostRuntime) {
-    for (key, text, tag) in &TAGS {
-        assert!(rt; is_tag(rt.alloc(), key, text, tag), "{tag}");
+    for row in TAGS {
+        holds(&rt, is_tag(rt.alloc(), row), row.2);
     }
 }
 
-fn is_tag(alloc: Global, key: &[u8], text: &[u8], wanted: &str) -> bool {
+fn is_tag(alloc: Global, row: &Tag) -> bool {
+    let key = row.0;
     if key.is_empty() || key.len() > 64 {
         return false;
     }
     match sealer_of(alloc, b"alfa", key) {
-        Some(sealer) => is_hexadecimal(alloc, &sealer.tag(0, text), wanted),
+        Some(sealer) => is_hexadecimal(alloc, &sealer.tag(0, row.1), row.2),
         None => false,
     }
 }
@@ -137,56 +141,56 @@ fn sealed<S: Sealer>(alloc: Global, sealer: &S, provider: u32, bytes: &[u8]) -> 
 }
 
 /// What is no seal of `alfa` under the key of [`KNOWN`], each beside its fault.
-static FAULTS: [(&[u8], SealFault); 9] = [
+static FAULTS: &[(&str, SealFault)] = &[
     // another last byte
     (
-        b"X-Sigillo: alfa; W9zBRr9gdU5qBCQmCJV1x1oAPwidJzmDnexYuWTsOEM=\r\nwhat do ya want for nothing!",
+        "X-Sigillo: alfa; W9zBRr9gdU5qBCQmCJV1x1oAPwidJzmDnexYuWTsOEM=\r\nwhat do ya want for nothing!",
         SealFault::WrongTag,
     ),
     // a name that no provider has, before the tag is looked at
     (
-        b"X-Sigillo: beta; W9zBRr9gdU5qBCQmCJV1x1oAPwidJzmDnexYuWTsOEM=\r\nwhat do ya want for nothing!",
+        "X-Sigillo: beta; W9zBRr9gdU5qBCQmCJV1x1oAPwidJzmDnexYuWTsOEM=\r\nwhat do ya want for nothing!",
         SealFault::UnknownProvider,
     ),
     // a last character with bits that stand for nothing
     (
-        b"X-Sigillo: alfa; W9zBRr9gdU5qBCQmCJV1x1oAPwidJzmDnexYuWTsOEN=\r\nwhat do ya want for nothing?",
+        "X-Sigillo: alfa; W9zBRr9gdU5qBCQmCJV1x1oAPwidJzmDnexYuWTsOEN=\r\nwhat do ya want for nothing?",
         SealFault::NoSeal,
     ),
     // 43 characters, and no `=`
     (
-        b"X-Sigillo: alfa; W9zBRr9gdU5qBCQmCJV1x1oAPwidJzmDnexYuWTsOEM\r\nwhat do ya want for nothing?",
+        "X-Sigillo: alfa; W9zBRr9gdU5qBCQmCJV1x1oAPwidJzmDnexYuWTsOEM\r\nwhat do ya want for nothing?",
         SealFault::NoSeal,
     ),
     // 45 characters
     (
-        b"X-Sigillo: alfa; W9zBRr9gdU5qBCQmCJV1x1oAPwidJzmDnexYuWTsOEM==\r\nwhat do ya want for nothing?",
+        "X-Sigillo: alfa; W9zBRr9gdU5qBCQmCJV1x1oAPwidJzmDnexYuWTsOEM==\r\nwhat do ya want for nothing?",
         SealFault::NoSeal,
     ),
     // 44 characters that stand for 33 bytes
     (
-        b"X-Sigillo: alfa; W9zBRr9gdU5qBCQmCJV1x1oAPwidJzmDnexYuWTsOEMA\r\nwhat do ya want for nothing?",
+        "X-Sigillo: alfa; W9zBRr9gdU5qBCQmCJV1x1oAPwidJzmDnexYuWTsOEMA\r\nwhat do ya want for nothing?",
         SealFault::NoSeal,
     ),
     // a line that ends with LF alone
     (
-        b"X-Sigillo: alfa; W9zBRr9gdU5qBCQmCJV1x1oAPwidJzmDnexYuWTsOEM=\nwhat do ya want for nothing?",
+        "X-Sigillo: alfa; W9zBRr9gdU5qBCQmCJV1x1oAPwidJzmDnexYuWTsOEM=\nwhat do ya want for nothing?",
         SealFault::NoSeal,
     ),
-    (b"X-Sigillo: alfa", SealFault::NoSeal), // a line that has no end
-    (b"", SealFault::NoSeal), // no line at all
+    ("X-Sigillo: alfa", SealFault::NoSeal), // a line that has no end
+    ("", SealFault::NoSeal), // no line at all
 ];
 
 #[test]
 fn what_is_no_seal_has_the_fault_that_comes_first(rt: HostRuntime) {
-    for (text, fault) in &FAULTS {
-        assert!(rt; has_fault(rt.alloc(), text, *fault), "{text:?}");
+    for row in FAULTS {
+        holds(&rt, has_fault(rt.alloc(), row), row.0);
     }
 }
 
-fn has_fault(alloc: Global, text: &[u8], fault: SealFault) -> bool {
+fn has_fault(alloc: Global, row: &(&str, SealFault)) -> bool {
     match sealer_of(alloc, b"alfa", b"Jefe") {
-        Some(sealer) => opened(&sealer, text) == Err(fault),
+        Some(sealer) => opened(&sealer, row.0.as_bytes()) == Err(row.1),
         None => false,
     }
 }
@@ -200,26 +204,26 @@ fn seals_and_opens<S: Sealer>(alloc: Global, sealer: &S, provider: u32, bytes: &
 }
 
 /// A name, and a text that is sealed under it.
-static SEALED: [(&[u8], &[u8]); 7] = [
-    (b"alfa", b""), // nothing to seal
-    (b"alfa", KNOWN), // what is sealed already
-    (b"alfa", b"\r\n"), // a line end in front
-    (b"alfa", &[0; 200]), // bytes that are no text
-    (b"", KNOWN), // a name of no byte
-    (b"a; b", KNOWN), // a name with what stands behind names
-    (b"X-Sigillo: ", KNOWN), // a name as the line begins
+static SEALED: &[(&str, &[u8])] = &[
+    ("alfa", b""), // nothing to seal
+    ("alfa", KNOWN), // what is sealed already
+    ("alfa", b"\r\n"), // a line end in front
+    ("alfa", &[0; 200]), // bytes that are no text
+    ("", KNOWN), // a name of no byte
+    ("a; b", KNOWN), // a name with what stands behind names
+    ("X-Sigillo: ", KNOWN), // a name as the line begins
 ];
 
 #[test]
 fn what_was_sealed_is_opened_whatever_name_and_text(rt: HostRuntime) {
-    for (name, bytes) in &SEALED {
-        assert!(rt; is_opened_again(rt.alloc(), name, bytes), "{name:?}");
+    for row in SEALED {
+        holds(&rt, is_opened_again(rt.alloc(), row), row.0);
     }
 }
 
-fn is_opened_again(alloc: Global, name: &[u8], bytes: &[u8]) -> bool {
-    match sealer_of(alloc, name, b"Jefe") {
-        Some(sealer) => seals_and_opens(alloc, &sealer, 0, bytes),
+fn is_opened_again(alloc: Global, row: &(&str, &[u8])) -> bool {
+    match sealer_of(alloc, row.0.as_bytes(), b"Jefe") {
+        Some(sealer) => seals_and_opens(alloc, &sealer, 0, row.1),
         None => false,
     }
 }

@@ -2,6 +2,7 @@
 
 use crate::houses::House;
 use crate::letters::{Saved, certified, letter_of, replaced};
+use crate::rows::{holds, holds_at};
 use base64::engine::general_purpose::STANDARD;
 use pec_dossier::{Last, Stop};
 use std::alloc::Global;
@@ -29,7 +30,7 @@ type Case = (&'static [Line], &'static str, Result<Last, Stop>);
 
 const DELIVERY: Saved = ("delivery", 1, BOB);
 
-static CASES: [Case; 10] = [
+static CASES: &[Case] = &[
     (&[], "check 0 0\n", Ok(Last::Done)),
     // the same receipt twice, and the message that it is about
     (
@@ -149,13 +150,15 @@ static CASES: [Case; 10] = [
 
 #[test]
 fn a_dossier_is_written_line_by_line(rt: HostRuntime) {
-    for case in &CASES {
-        assert!(rt; comes(rt.alloc(), case));
+    for case in CASES {
+        holds(&rt, comes(rt.alloc(), case), case.1);
     }
 }
 
 /// Reads or writes that fail, and what stops the run.
-static STOPS: [(&[u64], &[u64], Stop); 3] = [
+type Stopped = (&'static [u64], &'static [u64], Stop);
+
+static STOPS: &[Stopped] = &[
     (&[0], &[], Stop::ReadFault),
     (&[1], &[], Stop::ReadFault),
     (&[], &[0], Stop::WriteFault),
@@ -163,8 +166,8 @@ static STOPS: [(&[u64], &[u64], Stop); 3] = [
 
 #[test]
 fn a_device_that_fails_stops_the_run(rt: HostRuntime) {
-    for (reads, writes, stop) in &STOPS {
-        assert!(rt; stops(rt.alloc(), reads, writes, *stop));
+    for (place, row) in STOPS.iter().enumerate() {
+        holds_at(&rt, stops(rt.alloc(), row), place as u64, "");
     }
 }
 
@@ -176,12 +179,12 @@ fn comes(alloc: Global, case: &Case) -> bool {
     checked.0 == case.2 && checked.1.as_slice() == written_out(alloc, case.0, case.1).as_bytes()
 }
 
-fn stops(alloc: Global, reads: &[u64], writes: &[u64], stop: Stop) -> bool {
+fn stops(alloc: Global, row: &Stopped) -> bool {
     let Some(house) = House::new(alloc) else {
         return false;
     };
     let lines = lines_of(alloc, &house, &[Letter(DELIVERY), Letter(DELIVERY)]);
-    house.check_lines(alloc, lines, reads, writes).0 == Err(stop)
+    house.check_lines(alloc, lines, row.0, row.1).0 == Err(row.2)
 }
 
 /// What stands in the input. Where memory is wanting it lacks something, and what comes isn't what has to.
@@ -247,6 +250,6 @@ fn written_out(alloc: Global, lines: &[Line], output: &str) -> String {
     text
 }
 
-static MARKS: [&str; 7] = [
+static MARKS: &[&str] = &[
     "CERT0", "CERT1", "CERT2", "CERT3", "CERT4", "CERT5", "CERT6",
 ];

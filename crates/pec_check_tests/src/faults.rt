@@ -3,6 +3,7 @@
 
 use crate::houses::House;
 use crate::letters::{Saved, letter_of, replaced};
+use crate::rows::holds;
 use pec_check::CheckFault;
 use pec_types::Disputed::{Identifier, Moment, Recipient, Sealer, Sender, Wish};
 use pec_types::LetterFault::{self, Body, Cert, Disagree, Head, NotThis, Seal};
@@ -17,7 +18,7 @@ const DELIVERY: Saved = ("delivery", 0, "bob@beta.example");
 const ENVELOPE: Saved = ("envelope", 0, "");
 
 /// Of both, in the order of the table, up to the recipient.
-static FIRST: [Row; 7] = [
+static FIRST: &[Row] = &[
     (Head, "MIME-Version: 1.0", "MIME-Version 1.0"),
     (Body, "--=_pec_0--", "--=_pec_0"),
     (Cert, "name=\"daticert.xml\"", "name=\"dati.xml\""),
@@ -48,7 +49,7 @@ const ENVELOPED_TO: Row = (
 );
 
 /// And behind it.
-static LAST: [Row; 2] = [
+static LAST: &[Row] = &[
     (
         Disagree(Wish),
         "<ricevuta tipo=\"completa\"/>",
@@ -63,14 +64,14 @@ const ROWS: usize = 10;
 /// The rows of a letter, by what is changed in its recipient.
 fn rows(alloc: Global, recipient: Row) -> Vec<Row> {
     let mut rows = Vec::new(alloc);
-    let _ = rows.extend_from_slice(&FIRST);
+    let _ = rows.extend_from_slice(FIRST);
     let _ = rows.push(recipient);
-    let _ = rows.extend_from_slice(&LAST);
+    let _ = rows.extend_from_slice(LAST);
     rows
 }
 
 /// Letters that say of themselves that they are envelopes too, and so are judged as such.
-static BOTH: [(Saved, Row); 2] = [
+static BOTH: &[(Saved, Row)] = &[
     (
         ("delivery", 1, "bob@beta.example"),
         (
@@ -101,16 +102,20 @@ fn the_first_row_that_applies_to_an_envelope_is_its_fault(rt: HostRuntime) {
 
 #[test]
 fn a_letter_that_says_both_is_judged_as_an_envelope(rt: HostRuntime) {
-    for (saved, row) in &BOTH {
-        assert!(rt; is_fault_at(rt.alloc(), saved, &[*row], 0), "{}", saved.0);
+    for row in BOTH {
+        holds(&rt, is_fault(rt.alloc(), &row.0, row.1), row.0.0);
     }
+}
+
+/// Whether the row is the fault of the letter.
+fn is_fault(alloc: Global, saved: &Saved, row: Row) -> bool {
+    is_fault_at(alloc, saved, &[row], 0)
 }
 
 #[test]
 fn a_changed_byte_and_a_text_that_nobody_sealed_open_not(rt: HostRuntime) {
-    for saved in &[ENVELOPE, DELIVERY] {
-        assert!(rt; opens_not(rt.alloc(), saved));
-    }
+    holds(&rt, opens_not(rt.alloc(), &ENVELOPE), "envelope");
+    holds(&rt, opens_not(rt.alloc(), &DELIVERY), "delivery");
 }
 
 /// Whether each row is the fault of the letter to which it applies.
@@ -147,8 +152,8 @@ fn keeps_fault(
     fault: LetterFault,
     later: &[Row],
 ) -> bool {
-    for (_, from, to) in later {
-        let text = replaced(alloc, text, from, to);
+    for row in later {
+        let text = replaced(alloc, text, row.1, row.2);
         if !has_fault(alloc, house, by, text.as_str(), fault) {
             return false;
         }

@@ -2,6 +2,7 @@
 
 use crate::houses::House;
 use crate::letters::Saved;
+use crate::rows::holds_at;
 use pec_check::{Dossier, Finding};
 use pec_types::{Decision, Refusal};
 use std::alloc::Global;
@@ -20,7 +21,7 @@ type Case = (
     &'static [(&'static str, Option<Decision>)],
 );
 
-static CASES: [Case; 6] = [
+static CASES: &[Case] = &[
     (&[], &[]),
     // what tells no decision
     (
@@ -70,26 +71,21 @@ static CASES: [Case; 6] = [
 
 #[test]
 fn letters_prove_what_all_of_them_tell(rt: HostRuntime) {
-    for (place, (saved, wanted)) in CASES.iter().enumerate() {
-        assert!(rt; finds(rt.alloc(), saved, wanted), "case {place}");
+    for (place, case) in CASES.iter().enumerate() {
+        holds_at(&rt, finds(rt.alloc(), case), place as u64, "");
     }
 }
 
-fn finds(alloc: Global, saved: &[Saved], wanted: &[(&str, Option<Decision>)]) -> bool {
+fn finds(alloc: Global, case: &Case) -> bool {
     match House::new(alloc) {
-        Some(house) => finds_at(alloc, &house, saved, wanted),
+        Some(house) => finds_at(alloc, &house, case),
         None => false,
     }
 }
 
-fn finds_at(
-    alloc: Global,
-    house: &House,
-    saved: &[Saved],
-    wanted: &[(&str, Option<Decision>)],
-) -> bool {
+fn finds_at(alloc: Global, house: &House, case: &Case) -> bool {
     let mut dossier = Dossier::new(alloc);
-    are_added(alloc, house, &mut dossier, saved) && has_lines(alloc, &dossier, wanted)
+    are_added(alloc, house, &mut dossier, case.0) && has_lines(alloc, &dossier, case.1)
 }
 
 /// Adds what letters say. Whether all of them are genuine.
@@ -120,8 +116,8 @@ fn are_found(lines: &[Finding], wanted: &[(&str, Option<Decision>)]) -> bool {
     if lines.len() != wanted.len() {
         return false;
     }
-    for (line, (recipient, decision)) in lines.iter().zip(wanted) {
-        if line.recipient.bytes() != recipient.as_bytes() || line.decision != *decision {
+    for (line, row) in lines.iter().zip(wanted) {
+        if line.recipient.bytes() != row.0.as_bytes() || line.decision != row.1 {
             return false;
         }
     }

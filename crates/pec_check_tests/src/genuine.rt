@@ -2,6 +2,7 @@
 
 use crate::houses::House;
 use crate::letters::{Saved, certified, letter_of};
+use crate::rows::holds_at;
 use pec_check::{CheckFault, Report, SavedKind};
 use pec_types::{Address, Kind, MsgId, Refusal};
 use std::alloc::Global;
@@ -11,7 +12,7 @@ const BOB: &str = "bob@beta.example";
 const CARL: &str = "carl@beta.example";
 
 /// Genuine letters, and of which kind they are.
-static GENUINE: [(Saved, SavedKind); 11] = [
+static GENUINE: &[(Saved, SavedKind)] = &[
     (("envelope", 0, ""), SavedKind::Envelope),
     (("acceptance", 0, ""), SavedKind::Receipt(Kind::Acceptance)),
     (("charge", 1, ""), SavedKind::Receipt(Kind::Charge)),
@@ -37,7 +38,7 @@ static GENUINE: [(Saved, SavedKind); 11] = [
 ];
 
 /// Letters that are right in all but the provider that sealed them, and which had to.
-static WRONG: [(Saved, u32); 4] = [
+static WRONG: &[(Saved, u32)] = &[
     (("delivery", 0, BOB), 1),
     (("no-mailbox", 0, BOB), 1),
     (("mailbox-full", 0, CARL), 1),
@@ -46,20 +47,25 @@ static WRONG: [(Saved, u32); 4] = [
 
 #[test]
 fn a_genuine_letter_says_what_it_certifies(rt: HostRuntime) {
-    for (saved, kind) in &GENUINE {
-        assert!(rt;
-            is_genuine(rt.alloc(), saved, *kind),
-            "{} {}",
-            saved.0,
-            saved.1
+    for row in GENUINE {
+        holds_at(
+            &rt,
+            is_genuine(rt.alloc(), &row.0, row.1),
+            u64::from(row.0.1),
+            row.0.0,
         );
     }
 }
 
 #[test]
 fn another_provider_had_to_seal_it(rt: HostRuntime) {
-    for (saved, due) in &WRONG {
-        assert!(rt; is_due(rt.alloc(), saved, *due), "{} {}", saved.0, saved.1);
+    for row in WRONG {
+        holds_at(
+            &rt,
+            is_due(rt.alloc(), &row.0, row.1),
+            u64::from(row.0.1),
+            row.0.0,
+        );
     }
 }
 

@@ -79,7 +79,7 @@ type Wording = (
     &'static str,
 );
 
-static WORDINGS: [Wording; 9] = [
+static WORDINGS: &[Wording] = &[
     (
         "envelope",
         ENVELOPE,
@@ -138,7 +138,7 @@ pub(crate) type Saved = (&'static str, u32, &'static str);
 
 /// The text of a letter, which certifies the provider that seals it as its issuer; none where there is no such letter.
 pub(crate) fn letter_of(alloc: Global, saved: &Saved) -> String {
-    for wording in &WORDINGS {
+    for wording in WORDINGS {
         if wording.0 == saved.0 {
             return worded(alloc, wording, saved);
         }

@@ -16,3 +16,5 @@ mod genuine;
 mod houses;
 #[cfg(test)]
 mod letters;
+#[cfg(test)]
+mod rows;

@@ -1,6 +1,7 @@
 //! Which texts are directories, and which fault each other text has. Expected values are those of the tests that
 //! docs/formats.md lists, worked by hand.
 use crate::directories::{crowd, lines};
+use crate::rows::{all_hold, holds};
 use crate::texts::joined;
 use pec_directory::DirectoryFault::{
     self, AccountOutside, AccountTwice, BadAddress, BadField, BadKey, BadZone, DomainTwice,
@@ -20,6 +21,16 @@ const SHORT: &str =
      name = \"beta\"~mailReceipt = \"r@b.x\"~managedDomains = [\"b.x\"]~\
      key = \"00000000000000000000000000000000\"~zone = \"UTC0\"~[[provider.account]]~address = \"u@b.x\"~\
      quota = 1~key = \"k\"~[[provider.account]]~address = \"v@b.x\"~quota = 1~key = \"k\"~";
+
+/// What stands in the first of these rows that isn't right; none where each is.
+fn first_wrong(alloc: Global, rows: &[Row]) -> Option<&'static str> {
+    for row in rows {
+        if !is_right(alloc, row) {
+            return Some(row.1);
+        }
+    }
+    None
+}
 
 /// Whether the directory of short texts, changed as the row says, has the fault.
 fn is_right(alloc: Global, row: &Row) -> bool {
@@ -45,7 +56,7 @@ fn has_fault(alloc: Global, text: &str, wanted: Option<DirectoryFault>) -> bool 
     }
 }
 
-const NAMES: [Row; 12] = [
+static NAMES: &[Row] = &[
     // no closing bracket
     ("[[provider]]", "[[provider", Some(NotToml)),
     // no name
@@ -86,12 +97,10 @@ const NAMES: [Row; 12] = [
 
 #[test]
 fn a_provider_has_a_name_and_a_receipt_address(rt: HostRuntime) {
-    for row in &NAMES {
-        assert!(rt; is_right(rt.alloc(), row), "{}", row.1);
-    }
+    all_hold(&rt, first_wrong(rt.alloc(), NAMES));
 }
 
-const DOMAINS: [Row; 9] = [
+static DOMAINS: &[Row] = &[
     // a text, and no list
     (
         "managed",
@@ -152,12 +161,10 @@ const DOMAINS: [Row; 9] = [
 
 #[test]
 fn a_domain_stands_behind_posta_certificata(rt: HostRuntime) {
-    for row in &DOMAINS {
-        assert!(rt; is_right(rt.alloc(), row), "{}", row.1);
-    }
+    all_hold(&rt, first_wrong(rt.alloc(), DOMAINS));
 }
 
-const KEYS: [Row; 14] = [
+static KEYS: &[Row] = &[
     // a number
     ("key", "key = 1", Some(BadField(0, Field::Key))),
     // 31 digits
@@ -226,12 +233,10 @@ const KEYS: [Row; 14] = [
 
 #[test]
 fn a_key_is_hexadecimal_and_a_zone_a_rule(rt: HostRuntime) {
-    for row in &KEYS {
-        assert!(rt; is_right(rt.alloc(), row), "{}", row.1);
-    }
+    all_hold(&rt, first_wrong(rt.alloc(), KEYS));
 }
 
-const NUMBERS: [Row; 19] = [
+static NUMBERS: &[Row] = &[
     // below the least
     (
         "name",
@@ -322,12 +327,10 @@ const NUMBERS: [Row; 19] = [
 
 #[test]
 fn numbers_are_within_their_bounds_and_keys_are_seen(rt: HostRuntime) {
-    for row in &NUMBERS {
-        assert!(rt; is_right(rt.alloc(), row), "{}", row.1);
-    }
+    all_hold(&rt, first_wrong(rt.alloc(), NUMBERS));
 }
 
-const ACCOUNTS: [Row; 9] = [
+static ACCOUNTS: &[Row] = &[
     // a number
     ("address", "address = 1", Some(BadField(0, Field::Address))),
     // no address
@@ -378,12 +381,10 @@ const ACCOUNTS: [Row; 9] = [
 
 #[test]
 fn an_account_is_in_its_providers_domains_and_nobody_elses(rt: HostRuntime) {
-    for row in &ACCOUNTS {
-        assert!(rt; is_right(rt.alloc(), row), "{}", row.1);
-    }
+    all_hold(&rt, first_wrong(rt.alloc(), ACCOUNTS));
 }
 
-const FIRSTS: [Row; 17] = [
+static FIRSTS: &[Row] = &[
     // a name twice
     (r#"name = "b"#, r#"name = "alfa""#, Some(NameTwice(1))),
     // a domain twice
@@ -482,13 +483,13 @@ const FIRSTS: [Row; 17] = [
 
 #[test]
 fn the_first_of_two_faults_is_the_answer(rt: HostRuntime) {
-    for row in &FIRSTS {
-        assert!(rt; is_right(rt.alloc(), row), "{}", row.1);
-    }
+    all_hold(&rt, first_wrong(rt.alloc(), FIRSTS));
 }
 
-// Texts of their own.
-const TEXTS: [(&str, Option<DirectoryFault>); 10] = [
+/// A text of its own, and its fault.
+type Whole = (&'static str, Option<DirectoryFault>);
+
+static TEXTS: &[Whole] = &[
     // no text at all
     ("", Some(NoProvider)),
     // a number
@@ -528,13 +529,13 @@ const TEXTS: [(&str, Option<DirectoryFault>); 10] = [
 
 #[test]
 fn providers_are_a_list_of_tables(rt: HostRuntime) {
-    for (text, fault) in &TEXTS {
-        assert!(rt; is_read_as(rt.alloc(), text, *fault), "{text}");
+    for row in TEXTS {
+        holds(&rt, is_read_as(rt.alloc(), row), row.0);
     }
 }
 
-fn is_read_as(alloc: Global, text: &str, fault: Option<DirectoryFault>) -> bool {
-    has_fault(alloc, lines(alloc, text).as_str(), fault)
+fn is_read_as(alloc: Global, row: &Whole) -> bool {
+    has_fault(alloc, lines(alloc, row.0).as_str(), row.1)
 }
 
 // The last two accounts of these directories are at their second provider.

@@ -7,6 +7,7 @@ use crate::letter_texts::{
     HEADLESS, HEADLESS_ANOMALY, LONGEST, LONGEST_ENVELOPE, PROVA, PROVA_ANOMALY, SALVE,
     SALVE_ENVELOPE, SALVE_SEAL, UFFICIO, UFFICIO_ENVELOPE,
 };
+use crate::rows::holds_at;
 use crate::texts::{replaced, written};
 use pec_heads::Head;
 use pec_letters::{compose_anomaly, compose_envelope};
@@ -34,7 +35,7 @@ struct Row {
     letter: &'static str,
 }
 
-static ENVELOPES: [Row; 3] = [
+static ENVELOPES: &[Row] = &[
     Row {
         provider: 0,
         number: 0,
@@ -61,7 +62,7 @@ static ENVELOPES: [Row; 3] = [
     },
 ];
 
-static ANOMALIES: [Row; 2] = [
+static ANOMALIES: &[Row] = &[
     Row {
         provider: 1,
         number: 7,
@@ -80,19 +81,10 @@ static ANOMALIES: [Row; 2] = [
     },
 ];
 
-/// The tables, by functions without a clause: the proofs of the tests are then spared their texts.
-fn envelopes() -> &'static [Row] {
-    &ENVELOPES
-}
-
-fn anomalies() -> &'static [Row] {
-    &ANOMALIES
-}
-
 #[test]
 fn an_envelope_is_composed_byte_by_byte(rt: HostRuntime) {
-    for row in envelopes() {
-        assert!(rt; is_envelope(rt.alloc(), row), "{}", row.moment);
+    for row in ENVELOPES {
+        holds_at(&rt, is_envelope(rt.alloc(), row), row.moment, row.seal);
     }
 }
 
@@ -108,8 +100,8 @@ fn is_envelope(alloc: Global, row: &Row) -> bool {
 
 #[test]
 fn an_anomaly_is_composed_byte_by_byte(rt: HostRuntime) {
-    for row in anomalies() {
-        assert!(rt; is_anomaly(rt.alloc(), row), "{}", row.moment);
+    for row in ANOMALIES {
+        holds_at(&rt, is_anomaly(rt.alloc(), row), row.moment, row.seal);
     }
 }
 

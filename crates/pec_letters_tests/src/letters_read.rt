@@ -3,6 +3,7 @@
 use crate::edited::{Reader, Row, has_fault, has_fault_with, is_fault, is_unsealed};
 use crate::houses::{House, sealed};
 use crate::letter_texts::{SALVE, SALVE_ENVELOPE, SALVE_SEAL};
+use crate::rows::{holds, holds_at};
 use crate::texts::{joined, put, replaced, written};
 use pec_letters::{EnvelopeView, read_envelope};
 use pec_types::Disputed::{Identifier, Moment, Recipient, Sealer as Sealed, Sender, Wish};
@@ -10,7 +11,7 @@ use pec_types::LetterFault::{self, Body, Cert, Disagree, Head, NotThis};
 use std::alloc::Global;
 
 /// Each fault with what is changed in the envelope of `SALVE`, in the order of the table.
-static ROWS: [Row; 37] = [
+static ROWS: &[Row] = &[
     (Head, "MIME-Version: 1.0", "MIME-Version 1.0"),
     (Body, "multipart/mixed", "text/plain"),
     (Body, "boundary=\"=_pec_0\"", "boundary=\"=_pec_1\""),
@@ -126,7 +127,7 @@ static ROWS: [Row; 37] = [
 ];
 
 /// What no row looks at, and what may stand otherwise.
-static PASSED: [(&str, &str); 8] = [
+static PASSED: &[(&str, &str)] = &[
     ("Ciao", "Ciao"),
     ("<oggetto>Ciao", "<oggetto>Altro"),
     ("<oggetto>Ciao</oggetto>\n", ""),
@@ -145,13 +146,13 @@ static PASSED: [(&str, &str); 8] = [
 
 #[test]
 fn the_first_row_that_applies_is_the_fault(rt: HostRuntime) {
-    for place in 0..rows().len() {
-        assert!(rt; is_envelope_fault(rt.alloc(), place), "row {place}");
+    for place in 0..ROWS.len() {
+        holds_at(&rt, is_envelope_fault(rt.alloc(), place), place as u64, "");
     }
 }
 
 fn is_envelope_fault(alloc: Global, place: usize) -> bool {
-    match rows().get(place..) {
+    match ROWS.get(place..) {
         Some(rows) => is_fault(alloc, Reader::Envelopes, 0, salve_envelope(), rows),
         None => false,
     }
@@ -159,13 +160,13 @@ fn is_envelope_fault(alloc: Global, place: usize) -> bool {
 
 #[test]
 fn what_no_row_looks_at_is_read(rt: HostRuntime) {
-    for (from, to) in passed() {
-        assert!(rt; is_passed(rt.alloc(), from, to), "{to}");
+    for row in PASSED {
+        holds(&rt, is_passed(rt.alloc(), row), row.1);
     }
 }
 
-fn is_passed(alloc: Global, from: &str, to: &str) -> bool {
-    let letter = replaced(alloc, salve_envelope(), from, to);
+fn is_passed(alloc: Global, row: &(&str, &str)) -> bool {
+    let letter = replaced(alloc, salve_envelope(), row.0, row.1);
     is_read(alloc, letter.as_str())
 }
 
@@ -250,15 +251,7 @@ fn is_edited_to(alloc: Global, by: u32, from: &str, to: &str, fault: Option<Lett
     )
 }
 
-/// The tables and the texts, by functions without a clause: the proofs of the tests are then spared them.
-fn rows() -> &'static [Row] {
-    &ROWS
-}
-
-fn passed() -> &'static [(&'static str, &'static str)] {
-    &PASSED
-}
-
+/// The texts, by functions without a clause: the proofs of the tests are then spared them.
 fn salve() -> &'static str {
     SALVE
 }

@@ -25,4 +25,6 @@ mod receipts_composed;
 #[cfg(test)]
 mod receipts_read;
 #[cfg(test)]
+mod rows;
+#[cfg(test)]
 mod texts;

@@ -1,5 +1,6 @@
 //! What is looked up in a directory. Expected values are read off the directory's text by hand.
 use crate::directories::{address_of, directory, first_alone};
+use crate::rows::holds;
 use pec_cert::Zone;
 use pec_directory::{Account, Directory, Provider};
 use pec_types::Text;
@@ -36,52 +37,52 @@ fn are_entries(accounts: &[Account], wanted: &[Entry]) -> bool {
 /// An address, its home, and its account.
 #[derive(Clone, Copy)]
 struct Place {
-    address: &'static [u8],
+    address: &'static str,
     home: Option<u32>,
     account: Option<Entry>,
 }
 
-const PLACES: [Place; 5] = [
+static PLACES: &[Place] = &[
     // in capitals
     Place {
-        address: b"Alice@alfa.example",
+        address: "Alice@alfa.example",
         home: Some(0),
         account: Some((b"alice@alfa.example", 100, b"chiave-alice")),
     },
     Place {
-        address: b"Carl@Beta.example",
+        address: "Carl@Beta.example",
         home: Some(1),
         account: Some((b"carl@beta.example", 1, b"chiave-carl")),
     },
     // no account
     Place {
-        address: b"nobody@beta.example",
+        address: "nobody@beta.example",
         home: Some(1),
         account: None,
     },
     // in the second domain
     Place {
-        address: b"alice@due.example",
+        address: "alice@due.example",
         home: Some(0),
         account: None,
     },
     // in nobody's domain
     Place {
-        address: b"x@posta.example",
+        address: "x@posta.example",
         home: None,
         account: None,
     },
 ];
 
 // In the directory of the first provider alone.
-const PLACES_OF_FIRST: [Place; 2] = [
+static PLACES_OF_FIRST: &[Place] = &[
     Place {
-        address: b"anna@alfa.example",
+        address: "anna@alfa.example",
         home: Some(0),
         account: Some((b"anna@alfa.example", 100, b"chiave-anna")),
     },
     Place {
-        address: b"bob@beta.example",
+        address: "bob@beta.example",
         home: None,
         account: None,
     },
@@ -89,15 +90,15 @@ const PLACES_OF_FIRST: [Place; 2] = [
 
 #[test]
 fn an_address_has_a_home_and_may_be_an_account(rt: HostRuntime) {
-    for row in &PLACES {
-        assert!(rt; is_placed(rt.alloc(), false, row));
+    for row in PLACES {
+        holds(&rt, is_placed(rt.alloc(), false, row), row.address);
     }
 }
 
 #[test]
 fn a_directory_of_one_provider_has_no_other_home(rt: HostRuntime) {
-    for row in &PLACES_OF_FIRST {
-        assert!(rt; is_placed(rt.alloc(), true, row));
+    for row in PLACES_OF_FIRST {
+        holds(&rt, is_placed(rt.alloc(), true, row), row.address);
     }
 }
 
@@ -118,7 +119,7 @@ fn one_of(alloc: Global, alone: bool) -> Option<Directory> {
 }
 
 fn is_placed_in(alloc: Global, directory: &Directory, row: &Place) -> bool {
-    match address_of(alloc, row.address) {
+    match address_of(alloc, row.address.as_bytes()) {
         Some(address) => {
             directory.home_of(&address) == row.home
                 && is_found(directory.account(&address), row.account)
@@ -130,41 +131,41 @@ fn is_placed_in(alloc: Global, directory: &Directory, row: &Place) -> bool {
 /// An address, whether it is certified, the provider whose account it is, and whether it is the second one's.
 #[derive(Clone, Copy)]
 struct Standing {
-    address: &'static [u8],
+    address: &'static str,
     certified: bool,
     home: Option<u32>,
     at_beta: bool,
 }
 
-const STANDINGS: [Standing; 5] = [
+static STANDINGS: &[Standing] = &[
     Standing {
-        address: b"alice@alfa.example",
+        address: "alice@alfa.example",
         certified: true,
         home: Some(0),
         at_beta: false,
     },
     Standing {
-        address: b"bob@beta.example",
+        address: "bob@beta.example",
         certified: true,
         home: Some(1),
         at_beta: true,
     },
     // certified, and no account
     Standing {
-        address: b"nobody@beta.example",
+        address: "nobody@beta.example",
         certified: true,
         home: None,
         at_beta: false,
     },
     Standing {
-        address: b"alice@due.example",
+        address: "alice@due.example",
         certified: true,
         home: None,
         at_beta: false,
     },
     // external
     Standing {
-        address: b"x@posta.example",
+        address: "x@posta.example",
         certified: false,
         home: None,
         at_beta: false,
@@ -173,8 +174,8 @@ const STANDINGS: [Standing; 5] = [
 
 #[test]
 fn certified_addresses_and_accounts_are_told_apart(rt: HostRuntime) {
-    for row in &STANDINGS {
-        assert!(rt; is_standing(rt.alloc(), row));
+    for row in STANDINGS {
+        holds(&rt, is_standing(rt.alloc(), row), row.address);
     }
 }
 
@@ -182,7 +183,7 @@ fn is_standing(alloc: Global, row: &Standing) -> bool {
     let Some(directory) = directory(alloc) else {
         return false;
     };
-    match address_of(alloc, row.address) {
+    match address_of(alloc, row.address.as_bytes()) {
         Some(address) => {
             directory.is_certified(&address) == row.certified
                 && directory.account_home(&address) == row.home
@@ -193,61 +194,67 @@ fn is_standing(alloc: Global, row: &Standing) -> bool {
 }
 
 // Names, and the numbers of their providers, of which there are two. A capital is another byte.
-const NAMES: [(&[u8], Option<u32>); 3] = [(b"alfa", Some(0)), (b"beta", Some(1)), (b"Beta", None)];
+static NAMES: &[(&str, Option<u32>)] = &[("alfa", Some(0)), ("beta", Some(1)), ("Beta", None)];
 
 #[test]
 fn a_name_is_one_providers(rt: HostRuntime) {
-    for (name, number) in &NAMES {
-        assert!(rt; is_named(rt.alloc(), false, 2, name, *number));
+    for row in NAMES {
+        holds(&rt, is_named(rt.alloc(), false, 2, row), row.0);
     }
-    assert!(rt; is_named(rt.alloc(), true, 1, b"beta", None));
+    holds(
+        &rt,
+        is_named(rt.alloc(), true, 1, &("beta", None)),
+        "beta, unknown",
+    );
 }
 
 /// Whether the directory has so many providers, and the name is that of this one.
-fn is_named(alloc: Global, alone: bool, count: u32, name: &[u8], number: Option<u32>) -> bool {
+fn is_named(alloc: Global, alone: bool, count: u32, row: &(&str, Option<u32>)) -> bool {
     match one_of(alloc, alone) {
         Some(directory) => {
             directory.count() == count
                 && directory.provider(count).is_none()
-                && directory.named(name) == number
+                && directory.named(row.0.as_bytes()) == row.1
         }
         None => false,
     }
 }
 
-// Texts, and the providers and the numbers of the messages that they name.
-const TEXTS: [(&[u8], Option<(u32, u64)>); 11] = [
-    (b"pec.0000000@alfa.example", Some((0, 0))),
-    (b"pec.0000042@beta.example", Some((1, 42))),
+/// A text, and the provider and the number of the message that it names.
+type Named = (&'static str, Option<(u32, u64)>);
+
+static TEXTS: &[Named] = &[
+    ("pec.0000000@alfa.example", Some((0, 0))),
+    ("pec.0000042@beta.example", Some((1, 42))),
     // the last number, and the first that no message has
-    (b"pec.0999999@beta.example", Some((1, 999_999))),
-    (b"pec.1000000@beta.example", None),
+    ("pec.0999999@beta.example", Some((1, 999_999))),
+    ("pec.1000000@beta.example", None),
     // a provider's second domain, and nobody's domain
-    (b"pec.0000000@due.example", None),
-    (b"pec.0000000@posta.example", None),
+    ("pec.0000000@due.example", None),
+    ("pec.0000000@posta.example", None),
     // six digits, eight, and a byte that is no digit but worth ten
-    (b"pec.000000@alfa.example", None),
-    (b"pec.00000000@alfa.example", None),
-    (b"pec.000000:@alfa.example", None),
+    ("pec.000000@alfa.example", None),
+    ("pec.00000000@alfa.example", None),
+    ("pec.000000:@alfa.example", None),
     // a capital, and too short for a number
-    (b"Pec.0000000@alfa.example", None),
-    (b"pec.000", None),
+    ("Pec.0000000@alfa.example", None),
+    ("pec.000", None),
 ];
 
 #[test]
 fn a_text_names_a_message_where_it_is_printed_so(rt: HostRuntime) {
-    for (text, named) in &TEXTS {
-        assert!(rt; names(rt.alloc(), text, *named));
+    for row in TEXTS {
+        holds(&rt, names(rt.alloc(), row), row.0);
     }
 }
 
-fn names(alloc: Global, text: &[u8], named: Option<(u32, u64)>) -> bool {
+fn names(alloc: Global, row: &Named) -> bool {
     let Some(directory) = directory(alloc) else {
         return false;
     };
-    match directory.id_of(alloc, text) {
-        Ok(Some(id)) => named == Some((id.provider, id.number)),
-        Ok(None) => named.is_none(),
+    match directory.id_of(alloc, row.0.as_bytes()) {
+        Ok(Some(id)) => row.1 == Some((id.provider, id.number)),
+        Ok(None) => row.1.is_none(),
         Err(_) => false,
     }
 }
@@ -256,21 +263,21 @@ fn names(alloc: Global, text: &[u8], named: Option<(u32, u64)>) -> bool {
 #[derive(Clone, Copy)]
 struct Shown {
     number: u32,
-    name: &'static [u8],
-    receipts: &'static [u8],
+    name: &'static str,
+    receipts: &'static str,
     /// The first domain, and all of them.
-    first: &'static [u8],
-    domains: &'static [&'static [u8]],
+    first: &'static str,
+    domains: &'static [&'static str],
     accounts: &'static [Entry],
 }
 
-const PROVIDERS: [Shown; 2] = [
+static PROVIDERS: &[Shown] = &[
     Shown {
         number: 0,
-        name: b"alfa",
-        receipts: b"ricevute@alfa.example",
-        first: b"alfa.example",
-        domains: &[b"alfa.example", b"due.example"],
+        name: "alfa",
+        receipts: "ricevute@alfa.example",
+        first: "alfa.example",
+        domains: &["alfa.example", "due.example"],
         accounts: &[
             (b"alice@alfa.example", 100, b"chiave-alice"),
             (b"anna@alfa.example", 100, b"chiave-anna"),
@@ -278,10 +285,10 @@ const PROVIDERS: [Shown; 2] = [
     },
     Shown {
         number: 1,
-        name: b"beta",
-        receipts: b"ricevute@beta.example",
-        first: b"beta.example",
-        domains: &[b"beta.example"],
+        name: "beta",
+        receipts: "ricevute@beta.example",
+        first: "beta.example",
+        domains: &["beta.example"],
         accounts: &[
             (b"bob@beta.example", 100, b"chiave-bob"),
             (b"carl@beta.example", 1, b"chiave-carl"),
@@ -291,8 +298,8 @@ const PROVIDERS: [Shown; 2] = [
 
 #[test]
 fn a_provider_is_shown_as_its_text_says(rt: HostRuntime) {
-    for row in &PROVIDERS {
-        assert!(rt; is_shown(rt.alloc(), row));
+    for row in PROVIDERS {
+        holds(&rt, is_shown(rt.alloc(), row), row.name);
     }
 }
 
@@ -307,8 +314,8 @@ fn is_shown(alloc: Global, row: &Shown) -> bool {
 }
 
 /// Whether this is the provider's first domain; that of a third provider is empty.
-fn has_domain(directory: &Directory, number: u32, first: &[u8]) -> bool {
-    directory.first_domain(number) == first && directory.first_domain(2).is_empty()
+fn has_domain(directory: &Directory, number: u32, first: &str) -> bool {
+    directory.first_domain(number) == first.as_bytes() && directory.first_domain(2).is_empty()
 }
 
 fn is_provider(provider: Option<&Provider>, row: &Shown) -> bool {
@@ -323,15 +330,15 @@ fn is_provider(provider: Option<&Provider>, row: &Shown) -> bool {
 }
 
 fn has_texts(provider: &Provider, row: &Shown) -> bool {
-    provider.name().bytes() == row.name
-        && provider.receipts().bytes() == row.receipts
+    provider.name().bytes() == row.name.as_bytes()
+        && provider.receipts().bytes() == row.receipts.as_bytes()
         && provider.rule().bytes() == b"CET-1CEST,M3.5.0,M10.5.0/3".as_slice()
         && provider.limit() == 31_457_280
 }
 
-fn are_domains(domains: &[Text], wanted: &[&[u8]]) -> bool {
-    for (domain, bytes) in domains.iter().zip(wanted) {
-        if domain.bytes() != *bytes {
+fn are_domains(domains: &[Text], wanted: &[&str]) -> bool {
+    for (domain, text) in domains.iter().zip(wanted) {
+        if domain.bytes() != text.as_bytes() {
             return false;
         }
     }

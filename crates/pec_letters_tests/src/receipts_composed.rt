@@ -1,6 +1,7 @@
 //! Receipts, notices and acknowledgements of every kind, byte by byte, and read back.
 use crate::houses::{House, sealed};
 use crate::receipt_texts::{Form, MESSAGE, SHORT, WHOLE};
+use crate::rows::{holds, holds_at};
 use crate::texts::{replaced, written};
 use pec_directory::Directory;
 use pec_heads::Head;
@@ -18,7 +19,7 @@ const VIRUS: &str = "X-VerificaSicurezza: errore\n";
 /// A kind, who composes it, whom it names, what it is composed as, and the words in that text.
 type Row = (Kind, u32, &'static str, Form, [&'static str; 3]);
 
-static ROWS: [Row; 18] = [
+static ROWS: &[Row] = &[
     (Kind::Acceptance, 0, "", Form::Acceptance, ["", "", ""]),
     (
         Kind::NonAcceptance(Cause::Head),
@@ -130,7 +131,7 @@ static ROWS: [Row; 18] = [
 ];
 
 /// Delivery receipts of a primary recipient and of a copy, for each wish.
-static DELIVERIES: [Row; 6] = [
+static DELIVERIES: &[Row] = &[
     (
         Kind::Delivery,
         1,
@@ -175,30 +176,21 @@ static DELIVERIES: [Row; 6] = [
     ),
 ];
 
-/// The tables and the message, by functions without a clause: the proofs of the tests are then spared their texts.
-fn rows() -> &'static [Row] {
-    &ROWS
-}
-
-fn deliveries() -> &'static [Row] {
-    &DELIVERIES
-}
-
 fn message() -> &'static str {
     MESSAGE
 }
 
 #[test]
 fn every_kind_is_composed_and_read_back(rt: HostRuntime) {
-    for row in rows() {
-        assert!(rt; is_composed(rt.alloc(), row, "completa"));
+    for row in ROWS {
+        holds(&rt, is_composed(rt.alloc(), row, "completa"), row.2);
     }
 }
 
 #[test]
 fn a_delivery_receipt_has_of_the_message_what_was_wished(rt: HostRuntime) {
-    for row in deliveries() {
-        assert!(rt; is_composed(rt.alloc(), row, row.4[0]));
+    for row in DELIVERIES {
+        holds(&rt, is_composed(rt.alloc(), row, row.4[0]), row.4[0]);
     }
 }
 
@@ -276,7 +268,7 @@ type Gift = (Kind, u32, &'static str);
 
 /// What may not be given: kinds with and without a recipient, an external and a strange recipient, a provider that
 /// isn't there, and another provider than the message's.
-static NOT_GIVEN: [Gift; 8] = [
+static NOT_GIVEN: &[Gift] = &[
     (Kind::Acceptance, 0, BOB),
     (Kind::Charge, 1, BOB),
     (Kind::Delivery, 1, ""),
@@ -289,8 +281,13 @@ static NOT_GIVEN: [Gift; 8] = [
 
 #[test]
 fn no_receipt_is_given_by_or_of_one_whom_it_does_not_concern(rt: HostRuntime) {
-    for gift in &NOT_GIVEN {
-        assert!(rt; is_not_given(rt.alloc(), gift));
+    for gift in NOT_GIVEN {
+        holds_at(
+            &rt,
+            is_not_given(rt.alloc(), gift),
+            u64::from(gift.1),
+            gift.2,
+        );
     }
 }
 

@@ -2,12 +2,13 @@
 //! apply, and letters that no row refuses.
 use crate::edited::{Reader, Row, has_fault_with, is_fault};
 use crate::receipt_texts::{Form, WHOLE};
+use crate::rows::{all_hold, holds, holds_at};
 use pec_types::Disputed::{Identifier, Moment, Recipient, Sealer as Sealed, Sender, Wish};
 use pec_types::LetterFault::{self, Body, Cert, Disagree, Head, NotThis};
 use std::alloc::Global;
 
 /// Of the delivery receipt of the first recipient with the whole message, in the order of the table.
-static DELIVERED: [Row; 27] = [
+static DELIVERED: &[Row] = &[
     (
         Head,
         "MIME-Version: 1.0\nContent-Type: multipart/mixed; boundary=\"",
@@ -102,7 +103,7 @@ static DELIVERED: [Row; 27] = [
 ];
 
 /// Of the acknowledgement by which the first recipient's outcome was taken, in the order of the table.
-static ACKNOWLEDGED: [Row; 11] = [
+static ACKNOWLEDGED: &[Row] = &[
     (Head, "Subject:", "Subject"),
     (
         Disagree(Identifier),
@@ -158,7 +159,7 @@ const DELAYED: Letter = (Form::Delay, ["pre", "Entro 12 ore", "12 ore"], 0);
 const ACK: Letter = (Form::Acknowledgement, ["", "", ""], 0);
 
 /// Rows of letters of other kinds.
-static OTHERS: [(Letter, Row); 10] = [
+static OTHERS: &[(Letter, Row)] = &[
     (
         ACCEPTED,
         (Disagree(Sealed), "emittente>alfa<", "emittente>beta<"),
@@ -213,10 +214,12 @@ static OTHERS: [(Letter, Row); 10] = [
 ];
 
 /// Letters that only the message's provider may seal, sealed by another under its own name.
-static ELSEWHERE: [Letter; 3] = [ACCEPTED, REFUSED, DELAYED];
+static ELSEWHERE: &[Letter] = &[ACCEPTED, REFUSED, DELAYED];
 
 /// What no row looks at: a letter, and what is changed.
-static PASSED: [(Letter, &str, &str); 9] = [
+type Passed = (Letter, &'static str, &'static str);
+
+static PASSED: &[Passed] = &[
     (WITH_MESSAGE, WHOLE, ""),
     (WITH_MESSAGE, "<mittente>alice", "<mittente>anna"),
     (WITH_MESSAGE, "Message-ID: <avc", "Message-ID: <altro"),
@@ -236,52 +239,36 @@ static PASSED: [(Letter, &str, &str); 9] = [
     (ACK, "X-Riscontro", "X-Ricevuta: altro\nx-riscontro"),
 ];
 
-/// The tables, by functions without a clause: the proofs of the tests are then spared their texts.
-fn delivered() -> &'static [Row] {
-    &DELIVERED
-}
-
-fn acknowledged() -> &'static [Row] {
-    &ACKNOWLEDGED
-}
-
-fn others() -> &'static [(Letter, Row)] {
-    &OTHERS
-}
-
-fn elsewhere() -> &'static [Letter] {
-    &ELSEWHERE
-}
-
-fn passed() -> &'static [(Letter, &'static str, &'static str)] {
-    &PASSED
-}
-
 #[test]
 fn the_first_row_that_applies_is_the_fault(rt: HostRuntime) {
-    for place in 0..delivered().len() {
-        assert!(rt;
-            is_fault_at(rt.alloc(), &WITH_MESSAGE, delivered(), place),
-            "row {place}"
-        );
-    }
+    all_hold(&rt, first_wrong(rt.alloc(), &WITH_MESSAGE, DELIVERED));
 }
 
 #[test]
 fn the_first_row_that_applies_is_the_fault_of_an_acknowledgement(rt: HostRuntime) {
-    for place in 0..acknowledged().len() {
-        assert!(rt;
-            is_fault_at(rt.alloc(), &ACK, acknowledged(), place),
-            "row {place}"
-        );
+    all_hold(&rt, first_wrong(rt.alloc(), &ACK, ACKNOWLEDGED));
+}
+
+/// What stands in the first of the rows that isn't the letter's fault where it applies; none where each is.
+fn first_wrong(alloc: Global, letter: &Letter, rows: &[Row]) -> Option<&'static str> {
+    for (place, row) in rows.iter().enumerate() {
+        if !is_fault_at(alloc, letter, rows, place) {
+            return Some(row.2);
+        }
     }
+    None
 }
 
 #[test]
 fn letters_of_other_kinds_have_the_faults_of_their_rows(rt: HostRuntime) {
-    for (letter, row) in others() {
-        assert!(rt; is_fault_at(rt.alloc(), letter, &[*row], 0), "{}", row.2);
+    for row in OTHERS {
+        holds(&rt, is_fault_of(rt.alloc(), &row.0, row.1), row.1.2);
     }
+}
+
+/// Whether the row is the fault of the letter.
+fn is_fault_of(alloc: Global, letter: &Letter, row: Row) -> bool {
+    is_fault_at(alloc, letter, &[row], 0)
 }
 
 /// Whether the row of this place is the fault of the letter, also where a later one applies too.
@@ -295,19 +282,27 @@ fn is_fault_at(alloc: Global, letter: &Letter, rows: &[Row], place: usize) -> bo
 
 #[test]
 fn a_letter_that_the_messages_provider_alone_may_seal_is_sealed_by_no_other(rt: HostRuntime) {
-    let fault = Some(Disagree(Sealed));
-    for letter in elsewhere() {
-        assert!(rt;
-            is_edited_to(
-                rt.alloc(),
-                letter,
-                1,
-                "emittente>alfa<",
-                "emittente>beta<",
-                fault
-            )
+    for (place, letter) in ELSEWHERE.iter().enumerate() {
+        holds_at(
+            &rt,
+            is_sealed_by_another(rt.alloc(), letter),
+            place as u64,
+            "",
         );
     }
+}
+
+/// Whether the letter disagrees about who sealed it where the second provider did so under its own name.
+fn is_sealed_by_another(alloc: Global, letter: &Letter) -> bool {
+    let fault = Some(Disagree(Sealed));
+    is_edited_to(
+        alloc,
+        letter,
+        1,
+        "emittente>alfa<",
+        "emittente>beta<",
+        fault,
+    )
 }
 
 #[test]
@@ -317,12 +312,14 @@ fn any_provider_acknowledges(rt: HostRuntime) {
 
 #[test]
 fn what_no_row_looks_at_is_read(rt: HostRuntime) {
-    for (letter, from, to) in passed() {
-        assert!(rt;
-            is_edited_to(rt.alloc(), letter, letter.2, from, to, None),
-            "{to}"
-        );
+    for row in PASSED {
+        holds(&rt, is_passed(rt.alloc(), row), row.2);
     }
+}
+
+/// Whether the letter of a row is read with what is changed in it.
+fn is_passed(alloc: Global, row: &Passed) -> bool {
+    is_edited_to(alloc, &row.0, row.0.2, row.1, row.2, None)
 }
 
 /// Whether the letter with this in the place of that, sealed by this provider, has the fault; with none, whether it is

@@ -26,7 +26,7 @@ const TEXT: &str = "version: 1\n\
     ";
 
 /// How many bytes are left, and why they are no directory, up to the next row.
-static CUTS: [(usize, Option<LdifRefused>); 44] = [
+static CUTS: &[(usize, Option<LdifRefused>)] = &[
     (0, Some(Ldif(Syntax(0)))),
     (10, Some(Directory(NoProvider))),
     (13, Some(Ldif(Syntax(12)))),
@@ -76,9 +76,9 @@ static CUTS: [(usize, Option<LdifRefused>); 44] = [
 /// What is wanted of a front of so many bytes.
 fn wanted(size: usize) -> Option<LdifRefused> {
     let mut last = None;
-    for (from, told) in &CUTS {
-        if *from <= size {
-            last = *told;
+    for row in CUTS {
+        if row.0 <= size {
+            last = row.1;
         }
     }
     last

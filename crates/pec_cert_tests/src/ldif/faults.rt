@@ -1,5 +1,6 @@
 //! Which fault a text has, and where. Expected values are those of another program, which was written
 //! from what docs/formats.md says.
+use crate::rows::all_hold;
 use pec_directory::DirectoryFault::{BadField, NoProvider};
 use pec_directory::Field;
 use pec_ldif::LdifFault::{BadBase64, Change, NoDn, Orphan, Syntax};
@@ -12,9 +13,9 @@ type Row = (&'static str, Option<LdifRefused>);
 
 /// The first text that isn't told as its row has it; none where each is.
 fn first_wrong(alloc: Global, rows: &[Row]) -> Option<&'static str> {
-    for (text, wanted) in rows {
-        if !is_told(alloc, text.as_bytes(), *wanted) {
-            return Some(*text);
+    for row in rows {
+        if !is_told(alloc, row.0.as_bytes(), row.1) {
+            return Some(row.0);
         }
     }
     None
@@ -29,7 +30,7 @@ pub(crate) fn is_told(alloc: Global, text: &[u8], wanted: Option<LdifRefused>) -
 }
 
 /// First lines.
-static VERSIONS: [Row; 16] = [
+static VERSIONS: &[Row] = &[
     // nothing
     ("", Some(Ldif(Syntax(0)))),
     // empty lines alone
@@ -66,11 +67,11 @@ static VERSIONS: [Row; 16] = [
 
 #[test]
 fn the_first_line_is_the_version(rt: HostRuntime) {
-    assert!(rt; first_wrong(rt.alloc(), &VERSIONS).is_none());
+    all_hold(&rt, first_wrong(rt.alloc(), VERSIONS));
 }
 
 /// Lines, the first of which that is wrong begins at the fault's place.
-static LINES: [Row; 22] = [
+static LINES: &[Row] = &[
     // goes on behind an empty line
     ("version: 1\n\n x\n", Some(Ldif(Syntax(12)))),
     // no colon
@@ -119,11 +120,11 @@ static LINES: [Row; 22] = [
 
 #[test]
 fn a_line_is_a_name_and_a_value(rt: HostRuntime) {
-    assert!(rt; first_wrong(rt.alloc(), &LINES).is_none());
+    all_hold(&rt, first_wrong(rt.alloc(), LINES));
 }
 
 /// Records, the first of which that is wrong begins at the fault's place.
-static RECORDS: [Row; 11] = [
+static RECORDS: &[Row] = &[
     // no dn
     ("version: 1\ncn: x\n", Some(Ldif(NoDn(11)))),
     // a dn behind another
@@ -171,11 +172,11 @@ static RECORDS: [Row; 11] = [
 
 #[test]
 fn a_record_begins_with_its_name_and_says_no_change(rt: HostRuntime) {
-    assert!(rt; first_wrong(rt.alloc(), &RECORDS).is_none());
+    all_hold(&rt, first_wrong(rt.alloc(), RECORDS));
 }
 
 /// Two faults: those of an earlier record come first, then those of lines, then `NoDn`, `Change` and `Orphan`, and those of the table last.
-static PAIRS: [Row; 21] = [
+static PAIRS: &[Row] = &[
     // Syntax, BadBase64
     ("version: 1\ndn: x\nbad\nb:: Y\n", Some(Ldif(Syntax(17)))),
     // Syntax, NoDn
@@ -267,5 +268,5 @@ static PAIRS: [Row; 21] = [
 
 #[test]
 fn of_two_faults_the_first_is_told(rt: HostRuntime) {
-    assert!(rt; first_wrong(rt.alloc(), &PAIRS).is_none());
+    all_hold(&rt, first_wrong(rt.alloc(), PAIRS));
 }

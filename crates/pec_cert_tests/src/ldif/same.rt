@@ -1,5 +1,6 @@
 //! Texts of LDIF that are one directory, and what is written of a directory. Expected texts were worked by hand in what
 //! docs/formats.md says, and their base64 by another program.
+use crate::rows::holds;
 use crate::texts::{is_text, is_value, put};
 use pec_directory::Directory;
 use pec_ldif::{directory_of, is_ldif, ldif_of};
@@ -129,14 +130,19 @@ fn rewritten(alloc: Global, text: &[u8]) -> Option<Vec<u8>> {
 
 #[test]
 fn a_directory_is_written_as_records(rt: HostRuntime) {
-    assert!(rt; is_text(written(rt.alloc(), TOML), ldif()));
-    assert!(rt; is_text(written(rt.alloc(), other_toml()), other_ldif()));
+    assert!(rt; is_written_as(rt.alloc(), TOML, ldif()));
+    assert!(rt; is_written_as(rt.alloc(), other_toml(), other_ldif()));
     assert!(rt; is_text(rewritten(rt.alloc(), other_ldif()), other_ldif()));
+}
+
+/// Whether this is written of the directory that a text of TOML is.
+fn is_written_as(alloc: Global, toml: &str, wanted: &[u8]) -> bool {
+    is_text(written(alloc, toml), wanted)
 }
 
 /// What stands in the text as it is written, and what stands there instead, each wherever it does. The directory stays
 /// the same.
-static CHANGES: [&[(&str, &str)]; 5] = [
+static CHANGES: &[&[(&str, &str)]] = &[
     // names in two lines
     &[
         ("objectClass", "o\n bjectClass"),
@@ -205,11 +211,7 @@ const EXPORT: &str = "# extended LDIF\n\
     pecQuota: 100\n\
     entryUUID: 6f1f8d6e-7d3a-4b52-9a5e-0a6f5b8f2a11";
 
-/// The tables and texts, by functions without a clause: the proof of the test is spared them.
-fn changes() -> &'static [&'static [(&'static str, &'static str)]] {
-    &CHANGES
-}
-
+/// The text, by a function without a clause: the proof of the test is spared it.
 fn export() -> &'static [u8] {
     EXPORT.as_bytes()
 }
@@ -217,8 +219,8 @@ fn export() -> &'static [u8] {
 /// The text as it is written, with these changes; empty where what one of them changes doesn't stand in it.
 fn changed(alloc: Global, changes: &[(&str, &str)]) -> String {
     let mut text = String::from_str(alloc, written_text()).unwrap_or(String::new(alloc));
-    for (there, instead) in changes {
-        text = replaced(alloc, text.as_str(), there, instead);
+    for change in changes {
+        text = replaced(alloc, text.as_str(), change.0, change.1);
     }
     text
 }
@@ -253,12 +255,19 @@ fn folded(alloc: Global, text: &[u8]) -> Vec<u8> {
 
 #[test]
 fn texts_of_many_forms_are_one_directory(rt: HostRuntime) {
-    for changes in changes() {
-        assert!(rt; is_same(rt.alloc(), changed(rt.alloc(), changes).as_bytes()));
+    for changes in CHANGES {
+        assert!(rt; is_same_changed(rt.alloc(), changes));
     }
-    assert!(rt; is_same(rt.alloc(), ldif()));
-    assert!(rt; is_same(rt.alloc(), &folded(rt.alloc(), ldif())));
-    assert!(rt; is_same(rt.alloc(), export()));
+    assert!(rt; are_same(rt.alloc()));
+}
+
+fn is_same_changed(alloc: Global, changes: &[(&str, &str)]) -> bool {
+    is_same(alloc, changed(alloc, changes).as_bytes())
+}
+
+/// The text as it is written, the same in many lines, and as it is exported.
+fn are_same(alloc: Global) -> bool {
+    is_same(alloc, ldif()) && is_same(alloc, &folded(alloc, ldif())) && is_same(alloc, export())
 }
 
 /// Whether a text is the first directory.
@@ -267,7 +276,7 @@ fn is_same(alloc: Global, text: &[u8]) -> bool {
 }
 
 /// Texts, and whether their first line says that they are LDIF.
-static FIRSTS: [(&str, bool); 13] = [
+static FIRSTS: &[(&str, bool)] = &[
     ("version: 1", true),
     ("version: 1\n", true),
     ("version: 1\r\n", true),
@@ -293,8 +302,8 @@ static FIRSTS: [(&str, bool); 13] = [
 
 #[test]
 fn the_first_line_tells_what_is_ldif(rt: HostRuntime) {
-    for (text, wanted) in &FIRSTS {
-        assert!(rt; is_ldif(text.as_bytes()) == *wanted, "{text}");
+    for row in FIRSTS {
+        holds(&rt, is_ldif(row.0.as_bytes()) == row.1, row.0);
     }
 }
 
