@@ -19,6 +19,7 @@ CAUSES = {
     "bcc": "it has a blind copy",
     "size": "it is too long",
     "virus": "it has a virus",
+    "too-many": "it has too many recipients",
 }
 VALUES = {
     "ID": r"pec\.[0-9]{7}@[a-z0-9.-]+",

@@ -17,7 +17,7 @@ use pec_letter_parts::{Letter, Marking};
 use pec_types::{Address, Cause, Kind, MsgId, Refusal, Text, Wish};
 
 /// All kinds, each once.
-const KINDS: [Kind; 18] = [
+const KINDS: [Kind; 19] = [
     Kind::Acceptance,
     Kind::NonAcceptance(Cause::Head),
     Kind::NonAcceptance(Cause::From),
@@ -27,6 +27,7 @@ const KINDS: [Kind; 18] = [
     Kind::NonAcceptance(Cause::Bcc),
     Kind::NonAcceptance(Cause::Size),
     Kind::NonAcceptance(Cause::Virus),
+    Kind::NonAcceptance(Cause::TooMany),
     Kind::Charge,
     Kind::Delivery,
     Kind::DeliveryError(Refusal::NoMailbox),

@@ -79,7 +79,7 @@ pub(crate) fn read_decision(at: Cursor<'_>) -> Result<(Decision, Cursor<'_>), St
 pub(crate) fn read_cause(at: Cursor<'_>) -> Result<(Cause, Cursor<'_>), Stop<'_>>
     ensures { Gives (λ x. (x.0, standing x.1)) result (choice_at cause_table (standing at.entry)) }
 {
-    let table: [(&[u8], Cause); 8] = [
+    let table: [(&[u8], Cause); 9] = [
         (&[1], Cause::Head),
         (&[2], Cause::From),
         (&[3], Cause::To),
@@ -88,6 +88,7 @@ pub(crate) fn read_cause(at: Cursor<'_>) -> Result<(Cause, Cursor<'_>), Stop<'_>
         (&[6], Cause::Bcc),
         (&[7], Cause::Size),
         (&[8], Cause::Virus),
+        (&[9], Cause::TooMany),
     ];
     let (cause, at) = one_of(at, &table)?;
     Ok((cause, at))

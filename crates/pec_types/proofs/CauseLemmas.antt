@@ -22,6 +22,7 @@ by_place causes.ForwardPath = refl
 by_place causes.Bcc = refl
 by_place causes.Size = refl
 by_place causes.Virus = refl
+by_place causes.TooMany = refl
 
 same_some : {X : Type 0} (one other : X) → Some one ≡ Some other → one ≡ other
 same_some one other e = cc

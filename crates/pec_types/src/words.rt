@@ -66,6 +66,7 @@ impl Cause {
             Cause::Bcc => b"bcc",
             Cause::Size => b"size",
             Cause::Virus => b"virus",
+            Cause::TooMany => b"too-many",
         }
     }
 
@@ -82,6 +83,7 @@ impl Cause {
             Cause::Bcc => 6,
             Cause::Size => 7,
             Cause::Virus => 8,
+            Cause::TooMany => 9,
         }
     }
 }
