@@ -1,9 +1,11 @@
--- Addresses that are put into an index one after another are known, and no others.
-use Rattle.std.proofs.Common.{◌≡◌, ℕ, ◌+◌, ◌<◌, Bool, true, false, ◌||◌, cond, List, [], ◌∷◌, ◌++◌, length, take, Option, Some, None, refl, ap, sym, ◌∙◌, get_or}
+-- A path in the order of the recipients has their addresses. Addresses that are put into an index one after another are
+-- known, and no others.
+use Rattle.std.proofs.Common.{◌≡◌, ℕ, ◌+◌, ◌<◌, Bool, true, false, ◌||◌, ◌&&◌, cond, List, [], ◌∷◌, ◌++◌, length, take, Option, Some, None, refl, ap, sym, ◌∙◌, get_or}
 use Rattle.std.specs.Prelude.{is_some, IsSome}
 use Rattle.std.specs.List.{list_all, list_any}
 use Rattle.std.specs.Str.{bytes_eq}
 use Rattle.std.proofs.Math.Bool.{or-true}
+use Rattle.std.proofs.lemmas.Bool.{and_parts}
 use Rattle.std.proofs.lemmas.Cmp.{nat_list_eq_equiv}
 use Rattle.std.proofs.lemmas.List.Folds.{list_any_more}
 use Rattle.std.proofs.lemmas.Slice.Eq.{bytes_eq-Decides}
@@ -12,7 +14,24 @@ use Rattle.pec_types.specs.declared.messages.Recipient.{Recipient}
 use Rattle.pec_heads.specs.FactsOfHeads.{has_address}
 use Rattle.pec_index.specs.Entries.{Entries, Finds, IsAdded, value_at}
 use Rattle.pec_points.specs.AdmissionReading.{has_recipient, is_path_of}
-use Rattle.pec_points.specs.Known.{AreKnown, has_key}
+use Rattle.pec_points.specs.Known.{AreKnown, has_key, is_in_order}
+use Rattle.pec_points.proofs.SetLemmas.{set_is_path}
+
+-- ---- in the same order
+
+alike : (path : Path) (recipients : List Recipient) → is_in_order path recipients ≡ true
+    → (x : Bytes) → has_address path x ≡ has_recipient recipients x
+alike [] [] e x = refl
+alike [] (r ∷ recipients) e x = absurd cc
+alike (address ∷ path) [] e x = absurd cc
+alike (address ∷ path) (r ∷ recipients) e x =
+    let p = and_parts (bytes_eq address r.address) (is_in_order path recipients) e
+    in ap (λ y. bytes_eq y x || has_address path x) ((bytes_eq-Decides address r.address).0 p.0)
+    ∙ ap (λ t. bytes_eq r.address x || t) (alike path recipients p.1 x)
+
+pub in_order_is_path : (path : Path) (recipients : List Recipient) → is_in_order path recipients ≡ true
+    → is_path_of path recipients ≡ true
+in_order_is_path path recipients e = set_is_path path recipients (alike path recipients e)
 
 -- ---- one address more
 

@@ -6,7 +6,7 @@ ghost use Rattle.std.specs.Str.{bytes_eq};
 ghost use Rattle.pec_heads.specs.FactsOfHeads.{has_address};
 ghost use Rattle.pec_index.specs.Entries.{Key, value_at};
 ghost use Rattle.pec_points.specs.AdmissionReading.{has_recipient, is_path_of};
-ghost use Rattle.pec_points.specs.Known.{AreKnown, has_key};
+ghost use Rattle.pec_points.specs.Known.{AreKnown, has_key, is_in_order};
 
 use pec_index::Index;
 use pec_types::{Address, NoMemory, Recipient};
@@ -16,7 +16,8 @@ use std::alloc::Global;
 /// tree.
 const FEW: usize = 8;
 
-/// The path is the set of the recipients' addresses. No more of these are looked at than the path has, and one.
+/// The path is the set of the recipients' addresses. A path of up to eight is compared with no more of these than it
+/// has, and one. Mail clients give a longer one in the order of the head, and then it takes no memory.
 pub(crate) fn is_path_of(
     alloc: Global,
     path: &[Address],
@@ -26,6 +27,9 @@ pub(crate) fn is_path_of(
 {
     if path.len() <= FEW {
         return Ok(is_short_path_of(path, recipients));
+    }
+    if is_in_order(path, recipients) {
+        return Ok(true);
     }
     let is = is_long_path_of(alloc, path, recipients)?;
     Ok(is)
@@ -63,8 +67,27 @@ fn is_among(recipients: &[Recipient], address: &[u8]) -> bool
     recipients.iter().any(|r| r.address.bytes() == address)
 }
 
-/// The same by trees of both, in which an address is found without going over all of them, whatever addresses a message
-/// has.
+/// The path has the addresses of the recipients in their order.
+fn is_in_order(path: &[Address], recipients: &[Recipient]) -> bool
+    ensures { result ≡ is_in_order path.now recipients.now }
+{
+    let mut rest = path;
+    let mut others = recipients;
+    while let [address, behind @ ..] = rest {
+        let [other, further @ ..] = others else {
+            return false;
+        };
+        if address.bytes() != other.address.bytes() {
+            return false;
+        }
+        rest = behind;
+        others = further;
+    }
+    others.is_empty()
+}
+
+/// As `is_path_of`, by trees of both, in which an address is found without going over all of them, whatever addresses
+/// a message has.
 fn is_long_path_of(
     alloc: Global,
     path: &[Address],
