@@ -5,7 +5,7 @@ use Rattle.std.specs.Prelude.{map, slice_index_or, Result, Ok, Err, IfErr}
 use Rattle.std.specs.Int.{w32, to_be_bytes}
 use Rattle.std.specs.List.{All, flat_map}
 use Rattle.std.proofs.lemmas.Grind.{flat_map-append}
-use Rattle.std.proofs.lemmas.List.{map-append, take_more}
+use Rattle.std.proofs.lemmas.List.{map-append, map_more, take_more}
 use Rattle.pec_journal.specs.JournalFile.{IsFile, StandsAt, framed, front, header, open_gate, places_from, places_of}
 use Rattle.pec_journal.specs.JournalState.{JournalState}
 use Rattle.pec_journal.specs.declared.faults.OpenFault as journal
@@ -16,7 +16,7 @@ use Rattle.pec_records.specs.declared.entries.Entry.{Entry}
 use Rattle.pec_records.specs.Entry.{entry_text, CanBeWritten, IsEntry}
 use Rattle.pec_ledger.specs.Steps.{size_of}
 use Rattle.pec_chronicle.specs.Carrying.{with_entry}
-use Rattle.pec_chronicle.specs.Chronicle.{IsJournalOf, StopsAtBad}
+use Rattle.pec_chronicle.specs.Chronicle.{AreSized, IsJournalOf, StopsAtBad}
 use Rattle.pec_chronicle.specs.Faults.{opened_as}
 use Rattle.pec_chronicle.specs.declared.faults.OpenFault.TheVariants as faults
 
@@ -92,6 +92,22 @@ texts_more entries entry texts k d within so_far here =
     ∙ ap (λ (l : List Bytes). l ++ entry_text entry ∷ []) so_far
     ∙ ap (λ (text : Bytes). take k texts ++ text ∷ []) here
     ∙ sym (take_more texts k d within)
+
+-- one entry more, of the size that its place says
+pub sized_more : (entries all : List Entry) (entry : Entry) (places : List Place) (k : ℕ) (d : Place) → k < length places
+    → length entries ≡ k → AreSized entries places → all ≡ entries ++ entry ∷ []
+    → (get_or places k d).length ≡ length (entry_text entry) → (length all ≡ k + 1) × AreSized all places
+sized_more entries all entry places k d within count sized is size =
+    let size_of = λ (e : Entry). length (entry_text e) in
+    let length_of = λ (p : Place). p.length in
+    let more : length all ≡ k + 1 = omega (arith, ap length is, length-append entries (entry ∷ []), count) in
+    let so_far : map size_of entries ≡ map length_of (take k places) = rw count at sized in
+    let whole : map size_of all ≡ map length_of (take (k + 1) places) =
+    ap (λ (l : List Entry). map size_of l) is ∙ map-append size_of entries (entry ∷ [])
+    ∙ ap (λ (l : List ℕ). l ++ length (entry_text entry) ∷ []) so_far
+    ∙ ap (λ (n : ℕ). map length_of (take k places) ++ n ∷ []) (sym size)
+    ∙ sym (map_more length_of places k d within) in
+    (more, rw more whole)
 
 pub stops_at : (entries : List Entry) (texts : List Bytes) (k number : ℕ) → k < length texts → number ≡ length entries
     → map entry_text entries ≡ take k texts → All CanBeWritten entries → ((entry : Entry) → IsEntry entry (get_or texts k []) → ⊥)

@@ -1,11 +1,12 @@
 -- A provider's entries over its disk as contracts see them. The headlines are `IsJournalOf`, which bytes are the
 -- journal of entries, and `Stands`: what is on the disk, now and after a crash. This project's profile.
-use Rattle.std.specs.Prelude.{◌≡◌, ℕ, ◌+◌, ◌<◌, ◌≤◌, Bool, false, true, List, ◌∷◌, ◌++◌, length, map, Option}
+use Rattle.std.specs.Prelude.{◌≡◌, ℕ, ◌+◌, ◌<◌, ◌≤◌, Bool, false, true, List, ◌∷◌, ◌++◌, length, map, take, Option}
 use Rattle.std.specs.List.{All}
 use Rattle.pec_outside.specs.DiskModel.{Sight}
 use Rattle.pec_journal.specs.JournalFile.{IsFile, framing, header}
 use Rattle.pec_journal.specs.JournalState.{Keeps}
 use Rattle.pec_types.specs.Bytes.{Bytes}
+use Rattle.pec_types.specs.declared.places.Place.{Place}
 use Rattle.pec_records.specs.declared.entries.Entry.{Entry}
 use Rattle.pec_records.specs.Entry.{entry_text, longest_entry, CanBeWritten, IsEntry}
 use Rattle.pec_ledger.specs.Network.{chosen}
@@ -61,6 +62,11 @@ down_over past disk = record {
   spare = 0;
   places = past.places;
 }
+
+-- Each of the entries has as many bytes as the place of its number says: there are as many places, or more.
+abbrev pub AreSized : List Entry → List Place → Type 0
+AreSized entries places =
+    map (λ (entry : Entry). length (entry_text entry)) entries ≡ map (λ (place : Place). place.length) (take (length entries) places)
 
 -- So many entries of a journal file can be read, which are these, and the one behind them is none.
 pub record StopsAtBad (number : ℕ) (entries : List Entry) (texts : List Bytes) : Type 0 where

@@ -1,4 +1,4 @@
-ghost use Rattle.std.specs.Prelude.{◌≡◌, ◌≢◌, ◌+◌, ◌-◌, ◌<◌, ◌≤◌, ◌↔◌, true, false, ◌∷◌, [], length, None, Some, IsErrOf, IfOk, OnOk, IfErr, vec_len, vec_capacity};
+ghost use Rattle.std.specs.Prelude.{◌≡◌, ◌≢◌, ◌+◌, ◌-◌, ◌<◌, ◌≤◌, ◌^◌, ◌↔◌, true, false, ◌∷◌, [], length, None, Some, IsErrOf, IfOk, OnOk, IfErr, vec_len, vec_capacity};
 ghost use Rattle.std.specs.Option.{option_map};
 ghost use Rattle.std.specs.Prelude.{slice_get};
 ghost use Rattle.pec_outside.specs.DiskModel.{GrowsTo, Rests};
@@ -18,10 +18,11 @@ use crate::crashes::Past;
 use crate::drives::Drive;
 use crate::encoded::Encoded;
 use crate::faults::{AppendFault, CreateFault};
+use crate::places::place_behind;
 use pec_journal::Journal;
 use pec_outside::{Disk, a_disk_is_so};
 use pec_records::{Entry, an_entry_within_the_limits_is_short};
-use pec_types::{NoMemory, Text8};
+use pec_types::{NoMemory, Place, Text8};
 use std::alloc::Global;
 use std::marker::Model;
 
@@ -88,6 +89,16 @@ impl<D> Chronicle<D> {
         ensures whole { self.now.down ≡ false → self.now.interrupted ≡ None }
     {
         self.down
+    }
+
+    /// Where the bytes of an entry, for which room was reserved, stand once it is appended: exactly, where the journal
+    /// ends below 2 to the 64. It takes no memory.
+    pub fn next_place(&self, entry: &Encoded) -> Place
+        requires { HasRoom self.now entry.now }
+        ensures { self.now.end + framing < 2 ^ 64 → result ≡
+            record { at = self.now.end + framing; length = length (entry_text entry.now) } }
+    {
+        place_behind(self.end(), entry.bytes().len() as u32)
     }
 
     /// The bytes of the entry of a number, from 0, if there is one. It takes no memory.
@@ -260,10 +271,9 @@ impl<D: Disk> Chronicle<D> {
             Err(NoMemory) => return Err(CreateFault::NoMemory),
         };
         match self.append(encoded) {
-            Ok(()) => Ok(()),
+            Ok(_) => Ok(()),
             Err(AppendFault::DiskFault) => Err(CreateFault::DiskFault),
             Err(AppendFault::JournalFull) => unreachable!(),
-            Err(AppendFault::Down) => unreachable!(),
         }
     }
 
@@ -283,15 +293,16 @@ impl<D: Disk> Chronicle<D> {
         Ok(encoded)
     }
 
-    /// Appends an entry for which room was reserved, by four calls of the disk. After Ok a crash leaves it. It takes no
-    /// memory.
-    pub fn append(&mut self, entry: Encoded) -> Result<(), AppendFault>
-        requires { HasRoom self.old entry }
+    /// Appends an entry for which room was reserved, by four calls of the disk. After Ok a crash leaves it. It answers
+    /// the place of the entry's bytes. It takes no memory.
+    pub fn append(&mut self, entry: Encoded) -> Result<Place, AppendFault>
+        requires up { self.old.down ≡ false }
+        requires room { HasRoom self.old entry }
 
         // A crash at any moment of the call leaves the journal of the entries, or of these and the new one. After Ok it
         // leaves the new one too.
         ensures carries { D.tells → CarriesOn D.sight (ThisMay self.old.entries entry) self.old self.new }
-        ensures grows { D.tells → self.old.down ≡ false → self.old.end < length (D.sight self.old.disk).seen →
+        ensures grows { D.tells → self.old.end < length (D.sight self.old.disk).seen →
             GrowsTo (self.old.end + framing + length (entry_text entry) + 1)
             (D.sight self.old.disk) (D.sight self.new.disk) }
         ensures ok { OnOk result (self.new ≡ record self.old {
@@ -301,12 +312,12 @@ impl<D: Disk> Chronicle<D> {
           spare = self.new.spare;
           places = self.new.places;
         }) }
+        ensures place { IfOk result (λ place.
+            place ≡ record { at = self.old.end + framing; length = length (entry_text entry) }) }
 
-        // Each fault comes exactly there, the first that applies, but for the disk's, which comes only after a fault of
-        // it.
-        ensures down { IsErrOf result append.Down ↔ (self.old.down ≡ true) }
-        ensures full { IsErrOf result append.JournalFull ↔ (self.old.down ≡ false)
-            × (JOURNAL_LIMIT < self.old.end + framing + length (entry_text entry)) }
+        // A full journal comes exactly there, and a fault of the disk only after one of it.
+        ensures full { IsErrOf result append.JournalFull ↔
+            (JOURNAL_LIMIT < self.old.end + framing + length (entry_text entry)) }
         ensures disk_fault { IsErrOf result append.DiskFault →
             HasRisen (D.faults self.old.disk) (D.faults self.new.disk) }
         ensures later { D.faults self.old.disk ≤ D.faults self.new.disk }
@@ -322,13 +333,10 @@ impl<D: Disk> Chronicle<D> {
             self.new ≡ record self.old { spare = self.new.spare }) }
     {
         a_disk_is_so::<D>();
-        if self.down {
-            return Err(AppendFault::Down);
-        }
         match self.drive.append(entry.bytes()) {
-            Ok(()) => {
+            Ok(place) => {
                 self.entries.push_reserved(entry);
-                Ok(())
+                Ok(place)
             }
             Err(AppendFault::DiskFault) => {
                 self.down = true;

@@ -6,7 +6,7 @@ ghost use Rattle.pec_outside.specs.Flow.{HasRisen};
 ghost use Rattle.pec_records.specs.Entry.{entry_text};
 ghost use Rattle.pec_ledger.specs.Network.{chosen};
 ghost use Rattle.pec_chronicle.specs.Carrying.{CarriesOn, NothingMay};
-ghost use Rattle.pec_chronicle.specs.Chronicle.{Stands, down_over, past_of};
+ghost use Rattle.pec_chronicle.specs.Chronicle.{AreSized, Stands, down_over, past_of};
 ghost use Rattle.pec_chronicle.specs.Fields.{IsPast};
 ghost use Rattle.pec_chronicle.specs.declared.faults.OpenFault.TheVariants as faults;
 
@@ -17,7 +17,7 @@ use crate::faults::OpenFault;
 use crate::reopening::Unopened;
 use pec_outside::{Depot, Disk, a_disk_is_so};
 use pec_records::Entry;
-use pec_types::Text8;
+use pec_types::{Place, Text8};
 use std::alloc::Global;
 use std::marker::Model;
 
@@ -110,17 +110,19 @@ impl<D: Disk> Chronicle<D> {
     }
 
     /// Opens the entries on the disk again, after a crash or a fault: they are the entries before, with the interrupted
-    /// one or without it. They are answered once, too, for the caller to go through, and beside them what was known
-    /// before, by which it can go `back_to` there. With a fault the entries are what they were, down.
+    /// one or without it. They and the places of their bytes are answered once, too, for the caller to go through, and
+    /// beside them what was known before, by which it can go `back_to` there. With a fault the entries are what they
+    /// were, down.
     pub fn restart(
         self,
         alloc: Global,
-    ) -> Result<(Chronicle<D>, Vec<Entry>, Past), (OpenFault, Chronicle<D>)>
+    ) -> Result<(Chronicle<D>, Vec<Entry>, Vec<Place>, Past), (OpenFault, Chronicle<D>)>
         ensures found { D.tells → Stands D.sight self → IfOk result (λ read.
             (choice : Bool) × (read.0.entries ≡ self.entries ++ chosen choice self.interrupted)) }
         ensures entries { IfOk result (λ read. (read.0.entries ≡ read.1.items) × (read.0.interrupted ≡ None)
             × (read.0.down ≡ false)) }
-        ensures past { IfOk result (λ read. read.2 ≡ past_of self) }
+        ensures sized { IfOk result (λ read. AreSized read.1.items read.2.items) }
+        ensures past { IfOk result (λ read. read.3 ≡ past_of self) }
         ensures carries { D.tells → IfOk result (λ read. CarriesOn D.sight NothingMay self read.0) }
 
         // Going back carries on, too.
@@ -141,11 +143,12 @@ impl<D: Disk> Chronicle<D> {
         a_disk_is_so::<D>();
         let (disk, past) = self.part();
         match Chronicle::reopen(alloc, disk) {
-            Ok((chronicle, entries)) => Ok((chronicle, entries, past)),
+            Ok((chronicle, entries, places)) => Ok((chronicle, entries, places, past)),
             Err(
                 Unopened {
                     fault,
                     entries: _,
+                    places: _,
                     disk,
                 },
             ) => Err((fault, past.over(disk))),

@@ -1,4 +1,4 @@
-ghost use Rattle.std.specs.Prelude.{◌≡◌, ℕ, ◌+◌, ◌<◌, ◌≤◌, ◌↔◌, List, ◌∷◌, [], ◌++◌, length, IsErrOf, OnOk};
+ghost use Rattle.std.specs.Prelude.{◌≡◌, ℕ, ◌+◌, ◌<◌, ◌≤◌, ◌↔◌, List, ◌∷◌, [], ◌++◌, length, IsErrOf, IfOk, OnOk};
 ghost use Rattle.pec_outside.specs.DiskModel.{GrowsTo, LeavesOnly};
 ghost use Rattle.pec_outside.specs.Flow.{HasRisen};
 ghost use Rattle.pec_journal.specs.JournalFile.{IsBeforeOrAfter, framing};
@@ -11,7 +11,7 @@ ghost use Rattle.pec_chronicle.specs.declared.faults.AppendFault.TheVariants as 
 use crate::faults::AppendFault;
 use pec_journal::Journal;
 use pec_outside::Disk;
-use pec_types::NoMemory;
+use pec_types::{NoMemory, Place};
 use std::alloc::Global;
 
 /// What a chronicle stands over: its open journal, or after a crash the bare disk, on which nothing is appended.
@@ -55,8 +55,8 @@ impl<D> Drive<D> {
 }
 
 impl<D: Disk> Drive<D> {
-    /// Appends the bytes of an entry to the open journal. It takes no memory.
-    pub(crate) fn append(&mut self, bytes: &[u8]) -> Result<(), AppendFault>
+    /// Appends the bytes of an entry to the open journal, and answers their place. It takes no memory.
+    pub(crate) fn append(&mut self, bytes: &[u8]) -> Result<Place, AppendFault>
         requires ready { IsReady self.old }
         requires short { length bytes.now ≤ longest_entry }
         requires room { length bytes.now ≤ spare_in self.old }
@@ -70,10 +70,11 @@ impl<D: Disk> Drive<D> {
         ensures ok { D.tells → (entries : List (List ℕ)) →
             Keeps (D.sight (disk_in self.old)) entries (end_in self.old) →
             OnOk result (Keeps (D.sight (disk_in self.new)) (entries ++ bytes.now ∷ []) (end_in self.new)) }
+        ensures place { IfOk result (λ place.
+            place ≡ record { at = end_in self.old + framing; length = length bytes.now }) }
         ensures after { OnOk result (end_in self.new ≡ end_in self.old + framing + length bytes.now) }
         ensures ready { OnOk result (IsReady self.new) }
 
-        ensures up { IsErrOf result append.Down → ⊥ }
         ensures full { IsErrOf result append.JournalFull ↔
             (JOURNAL_LIMIT < end_in self.old + framing + length bytes.now) }
         ensures same { IsErrOf result append.JournalFull →
@@ -87,7 +88,7 @@ impl<D: Disk> Drive<D> {
             unreachable!();
         };
         match journal.append(bytes) {
-            Ok(_) => Ok(()),
+            Ok(place) => Ok(place),
             Err(pec_journal::AppendFault::Full) => Err(AppendFault::JournalFull),
             Err(pec_journal::AppendFault::DiskFault) => Err(AppendFault::DiskFault),
             Err(pec_journal::AppendFault::Spent) => unreachable!(),

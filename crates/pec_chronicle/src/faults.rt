@@ -26,10 +26,9 @@ pub enum OpenFault {
     NoMemory,
 }
 
-/// Why an entry was not appended. The first that applies is answered.
+/// Why an entry was not appended.
 #[derive(Clone, Copy, Debug, PartialEq, Eq)]
 pub enum AppendFault {
-    Down,
     /// The journal would end behind 1,099,511,627,776 bytes.
     JournalFull,
     /// It is down from now on, and the entry may be there after a crash, or not.

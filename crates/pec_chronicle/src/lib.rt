@@ -9,6 +9,7 @@ mod drives;
 mod encoded;
 mod faults;
 mod laws;
+mod places;
 mod reopening;
 
 pub use chronicle::Chronicle;
@@ -16,4 +17,5 @@ pub use crashes::Past;
 pub use encoded::Encoded;
 pub use faults::{AppendFault, CreateFault, OpenFault};
 pub use laws::{a_disk_holds_one_list, a_journal_ends_behind_its_entries};
+pub use places::place_behind;
 pub use reopening::Unopened;

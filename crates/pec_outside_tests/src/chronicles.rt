@@ -85,7 +85,7 @@ fn leaves(alloc: Global, cut: &Cut, kept: u64, entries: u64) -> bool {
 fn are_left(alloc: Global, chronicle: Chronicle<MemDisk>, kept: u64, entries: u64) -> bool {
     let mut depot = MemDepot::new(alloc, Vec::new(alloc), calls(alloc, &[kept]));
     match chronicle.crash(&mut depot, 0).restart(alloc) {
-        Ok((chronicle, _, _)) => chronicle.entries() == entries,
+        Ok((chronicle, _, _, _)) => chronicle.entries() == entries,
         Err(_) => false,
     }
 }
@@ -150,7 +150,7 @@ fn opened_again(alloc: Global, call: u64) -> Result<u64, Option<OpenFault>> {
 /// Over a restart that fails the entries stay, down.
 fn restarted(alloc: Global, chronicle: Chronicle<MemDisk>) -> Result<u64, Option<OpenFault>> {
     match chronicle.restart(alloc) {
-        Ok((chronicle, _, _)) => Ok(chronicle.entries()),
+        Ok((chronicle, _, _, _)) => Ok(chronicle.entries()),
         Err((fault, chronicle)) => Err(if is_left_down(&chronicle) {
             Some(fault)
         } else {
@@ -321,8 +321,17 @@ fn is_appended<D: Disk>(
 ) -> bool
     requires { IsWithinLimits entry.now }
 {
+    if chronicle.is_down() {
+        return false;
+    }
     match chronicle.reserve(alloc, entry) {
-        Ok(encoded) => chronicle.append(encoded).err() == fault,
+        Ok(encoded) => {
+            let place = chronicle.next_place(&encoded);
+            match chronicle.append(encoded) {
+                Ok(there) => there == place && fault.is_none(),
+                Err(found) => Some(found) == fault,
+            }
+        }
         Err(_) => false,
     }
 }

@@ -5,12 +5,14 @@ use Rattle.std.specs.Prelude.{IsErrAnd}
 use Rattle.std.proofs.lemmas.Result.{err_from_is_err_and}
 use Rattle.pec_types.specs.Bytes.{Bytes, Path}
 use Rattle.pec_types.specs.declared.messages.Cause.{Cause}
+use Rattle.pec_types.specs.declared.messages.Facts.{Facts}
+use Rattle.pec_ledger.specs.OfDirectory.{facts_in}
 use Rattle.pec_types.specs.declared.turns.ProviderFault.{ProviderFault}
 use Rattle.pec_types.specs.declared.turns.ProviderFault.TheVariants as faults
 use Rattle.pec_ledger.specs.Trade.{Trade}
 use Rattle.pec_plays.specs.Commands.{entry_by, screened_cause}
 use Rattle.pec_points.specs.Admission.{Looked}
-use Rattle.pec_points.specs.AdmissionReading.{screened}
+use Rattle.pec_points.specs.AdmissionReading.{admission_of, admission_with, admitted, head_in, screened}
 use Rattle.pec_points.specs.Case.{Case}
 use Rattle.pec_points.specs.declared.admission.Admission.{Admission}
 use Rattle.pec_points.specs.declared.admission.Admission.TheVariants.{Accepted, Not}
@@ -27,6 +29,16 @@ cause_screened true (Accepted facts) = refl
 cause_screened false (Accepted facts) = refl
 cause_screened true (Not cause) = refl
 cause_screened false (Not cause) = refl
+
+-- an accepted message has the facts that are told
+facts_told : (cause : Option Cause) (found : Option Facts) (facts : Facts) → admitted cause found ≡ Accepted facts → found ≡ Some facts
+facts_told None (Some f) facts e = cc
+facts_told None None facts e = cc
+facts_told (Some cause) found facts e = cc
+
+pub accepted_facts : (case : Case) (facts : Facts) → admission_of case ≡ Accepted facts → facts_in case.message ≡ Some facts
+unfolding admission_of admission_with head_in facts_in
+accepted_facts case facts e = facts_told _ _ facts e
 
 -- the fault that is handed on
 pub handed : {X : Type 0} (P : Result X ProviderFault → Type 0) (fault : ProviderFault) (result : Result X ProviderFault)

@@ -20,8 +20,8 @@ ghost use Rattle.pec_provider.specs.Provider.{Runs, RunsIn, desk_of};
 use crate::provider::Provider;
 use pec_outside::Disk;
 use pec_plays::taken_messages_have_envelopes;
-use pec_records::Entry;
 use pec_seal::Sealer;
+use pec_shelf::Draft;
 use pec_stock::enter;
 use pec_trade::House;
 use pec_types::{Mark, Moment, ProviderFault, Steps};
@@ -50,12 +50,12 @@ impl<D> Provider<D> {
 impl<D: Disk> Provider<D> {
     /// Appends an entry that is a step, and takes it in once it is durable. All memory is taken before. The answer is
     /// the marks of a clock call, and none for another entry. The acceptances that it looks up are counted as steps.
-    // It takes the entry, so that the drop of one is written here alone, and not in every call that appends.
+    // It takes the draft, so that the drop of one is written here alone, and not in every call that appends.
     pub(crate) fn append<S: Sealer>(
         &mut self,
         alloc: Global,
         house: &House<'_, S>,
-        entry: Entry,
+        entry: Draft,
         steps: &mut Steps,
     ) -> Result<Vec<Mark>, ProviderFault>
         requires up { self.old.chronicle.down ≡ false }

@@ -1,14 +1,17 @@
-ghost use Rattle.std.specs.Prelude.{◌≡◌, ℕ, ◌<◌, ◌≤◌, List, length, false, IsErrOf, IfOk, OnErr, OnOk};
+ghost use Rattle.std.specs.Prelude.{◌≡◌, ℕ, ◌<◌, ◌≤◌, List, length, false, Some, IsErrOf, IfOk, OnErr, OnOk};
+ghost use Rattle.pec_types.specs.declared.messages.Facts.{Facts as SomeFacts};
 ghost use Rattle.pec_types.specs.declared.turns.ProviderFault.TheVariants as faults;
 ghost use Rattle.pec_outside.specs.Flow.{HasRisen};
 ghost use Rattle.pec_directory.specs.Directory.{providers_of};
 ghost use Rattle.pec_records.specs.Entry.{IsWithinLimits, longest_message, most_addresses};
 ghost use Rattle.pec_ledger.specs.Ledger.{Journals, Meets};
+ghost use Rattle.pec_ledger.specs.OfDirectory.{facts_in};
 ghost use Rattle.pec_ledger.specs.Steps.{half};
 ghost use Rattle.pec_plays.specs.Commands.{Marks, Submit, Submits, Tick, entry_by, played, screened_cause, told_by};
 ghost use Rattle.pec_plays.specs.Envelopes.{HasEnvelope};
 ghost use Rattle.pec_points.specs.Admission.{Looked};
 ghost use Rattle.pec_points.specs.Case.{case_at};
+ghost use Rattle.pec_points.specs.declared.admission.Admission.TheVariants as admissions;
 ghost use Rattle.pec_screen.specs.VerdictReading.{finds};
 ghost use Rattle.pec_trade.specs.Houses.{world_at};
 ghost use Rattle.pec_trade.specs.TradeOf.{cause_at, cause_in};
@@ -27,10 +30,11 @@ use pec_points::{Admission, a_message_has_one_answer, admit};
 use pec_records::Entry;
 use pec_screen::Judge;
 use pec_seal::Sealer;
+use pec_shelf::Draft;
 use pec_stock::stands_still;
 use pec_trade::{House, a_house_is_a_trade};
 use pec_types::{
-    Address, Cause, Items, Mark, Moment, MsgId, NoMemory, ProviderFault, Steps, Submitted, Text8,
+    Address, Items, Mark, Moment, MsgId, NoMemory, ProviderFault, Steps, Submitted, Text8,
 };
 use std::alloc::Global;
 
@@ -109,13 +113,14 @@ impl<D: Disk> Provider<D> {
         what_a_provider_does_may_follow();
         stands_still(&self.chronicle);
         self.at_work(moment)?;
-        let marks = self.append(alloc, house, Entry::Ticked { moment }, steps)?;
+        let entry = Draft::plain(Entry::Ticked { moment });
+        let marks = self.append(alloc, house, entry, steps)?;
         Ok(marks)
     }
 }
 
 impl<D> Provider<D> {
-    /// The entry that a submission comes to, and what is then answered.
+    /// The entry that a submission comes to, with the facts that admission read, and what is then answered.
     fn admitted<S: Sealer, J: Judge>(
         &self,
         alloc: Global,
@@ -125,7 +130,7 @@ impl<D> Provider<D> {
         path: &[Address],
         message: &[u8],
         screens: &mut J,
-    ) -> Result<(Entry, Submitted), ProviderFault>
+    ) -> Result<(Draft, Submitted), ProviderFault>
         requires runs { RunsIn house.now self.now }
         requires path { (0 < length path.now) × (length path.now ≤ most_addresses) }
         requires message { length message.now ≤ longest_message }
@@ -152,24 +157,28 @@ impl<D> Provider<D> {
         let Some(id) = self.shelf.next_id() else {
             return Err(ProviderFault::Full);
         };
-        let cause = cause_at(alloc, house, sender, path, message, screens)?;
-        let entry = entry_by(alloc, cause, moment, sender, path, message)?;
-        Ok((entry, told_by(cause, id)))
+        let admission = admission_at(alloc, house, sender, path, message, screens)?;
+        let answer = told_by(&admission, id);
+        let entry = entry_by(alloc, admission, moment, sender, path, message)?;
+        Ok((entry, answer))
     }
 }
 
-/// Why the message isn't accepted, if so.
-fn cause_at<S: Sealer, J: Judge>(
+/// Whether the message is accepted, with the facts of its head, or why not.
+fn admission_at<S: Sealer, J: Judge>(
     alloc: Global,
     house: &House<'_, S>,
     sender: &Address,
     path: &[Address],
     message: &[u8],
     screens: &mut J,
-) -> Result<Option<Cause>, NoMemory>
+) -> Result<Admission, NoMemory>
     requires { house.now.me < length house.now.directory.now }
-    ensures cause { IfOk result (λ cause. cause ≡ screened_cause (finds (J.patterns screens.old) message.now)
+    ensures cause { IfOk result (λ admission. cause_in admission
+        ≡ screened_cause (finds (J.patterns screens.old) message.now)
         (cause_at (providers_of house.now.directory.now) house.now.me sender.now path.now message.now)) }
+    ensures facts { IfOk result (λ admission. (facts : SomeFacts) → admission ≡ admissions.Accepted facts
+        → facts_in message.now ≡ Some facts) }
     ensures looked { OnOk result (Looked (case_at (providers_of house.now.directory.now) house.now.me sender.now path.now
         message.now (finds (J.patterns screens.old) message.now)) (J.seen screens.old) (J.seen screens.new)) }
     ensures no_memory { OnErr result (J.seen screens.new ≡ J.seen screens.old) }
@@ -185,46 +194,37 @@ fn cause_at<S: Sealer, J: Judge>(
         message,
         screens,
     )?;
-    Ok(cause_in(admission))
+    Ok(admission)
 }
 
-fn cause_in(admission: Admission) -> Option<Cause>
-    ensures { result ≡ cause_in admission }
-{
-    match admission {
-        Admission::Accepted(_) => None,
-        Admission::Not(cause) => Some(cause),
-    }
-}
-
-/// The entry of a submission, by what speaks against it.
+/// The entry of a submission, by its admission, whose facts it keeps.
 fn entry_by(
     alloc: Global,
-    cause: Option<Cause>,
+    admission: Admission,
     moment: Moment,
     sender: &Address,
     path: &[Address],
     message: &[u8],
-) -> Result<Entry, NoMemory>
-    ensures { IfOk result (λ entry. entry ≡ entry_by cause moment sender.now path.now message.now) }
+) -> Result<Draft, NoMemory>
+    requires { (facts : SomeFacts) → admission ≡ admissions.Accepted facts → facts_in message.now ≡ Some facts }
+    ensures { IfOk result (λ entry. entry ≡ entry_by (cause_in admission) moment sender.now path.now message.now) }
 {
     let sender = sender.copy(alloc)?;
     let message = Text8::of(Vec::from_slice(alloc, message)?);
-    let Some(cause) = cause else {
-        return Ok(Entry::Accepted {
-            moment,
-            sender,
-            message,
-        });
+    let cause = match admission {
+        Admission::Accepted(facts) => {
+            return Ok(Draft::accepted(moment, sender, message, facts));
+        }
+        Admission::Not(cause) => cause,
     };
     let path = copied(alloc, path)?;
-    Ok(Entry::NotAccepted {
+    Ok(Draft::plain(Entry::NotAccepted {
         moment,
         sender,
         cause,
         path: Items::of(path),
         message,
-    })
+    }))
 }
 
 fn copied(alloc: Global, path: &[Address]) -> Result<Vec<Address>, NoMemory>
@@ -237,11 +237,11 @@ fn copied(alloc: Global, path: &[Address]) -> Result<Vec<Address>, NoMemory>
     Ok(copy)
 }
 
-fn told_by(cause: Option<Cause>, id: MsgId) -> Submitted
-    ensures { result ≡ told_by cause id }
+fn told_by(admission: &Admission, id: MsgId) -> Submitted
+    ensures { result ≡ told_by (cause_in admission.now) id }
 {
-    match cause {
-        Some(cause) => Submitted::NotAccepted(id, cause),
-        None => Submitted::Accepted(id),
+    match admission {
+        Admission::Not(cause) => Submitted::NotAccepted(id, *cause),
+        Admission::Accepted(_) => Submitted::Accepted(id),
     }
 }

@@ -28,8 +28,8 @@ use pec_plays::{
     what_a_provider_takes_is_an_envelope,
 };
 use pec_reception::{Received, decide, receive};
-use pec_records::Entry;
 use pec_seal::Sealer;
+use pec_shelf::Draft;
 use pec_stock::stands_still;
 use pec_trade::{House, a_house_is_a_trade};
 use pec_types::{Event, Frame, Letter, Moment, NoMemory, ProviderFault, Steps};
@@ -140,7 +140,7 @@ impl<D: Disk> Provider<D> {
         &mut self,
         alloc: Global,
         house: &House<'_, S>,
-        entry: Option<Entry>,
+        entry: Option<Draft>,
     ) -> Result<(), ProviderFault>
         requires up { self.old.chronicle.down ≡ false }
         requires runs { RunsIn house.now self.old }

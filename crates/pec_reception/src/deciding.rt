@@ -14,7 +14,7 @@ use crate::mailboxes::decision_on;
 use crate::received::Received;
 use pec_directory::Directory;
 use pec_records::Entry;
-use pec_shelf::Shelf;
+use pec_shelf::{Draft, Shelf};
 use pec_types::{Address, Event, Moment, MsgId, NoMemory};
 use std::alloc::Global;
 
@@ -60,12 +60,12 @@ fn decided(
     ensures limits { IfOk result IsLimited }
 {
     let decision = decision_on(directory, shelf, recipient);
-    let entry = Entry::Decided {
+    let entry = Draft::plain(Entry::Decided {
         moment,
         id,
         recipient: recipient.copy(alloc)?,
         decision,
-    };
+    });
     let event = Event::Decided(id, recipient.copy(alloc)?, decision);
     Ok(Received::enters(entry, event, None))
 }

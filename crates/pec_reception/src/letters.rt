@@ -23,7 +23,7 @@ use crate::standing::{Standing, stands};
 use pec_directory::Directory;
 use pec_receipts::ReceiptView;
 use pec_records::Entry;
-use pec_shelf::Shelf;
+use pec_shelf::{Draft, Shelf, recipients_named};
 use pec_types::{Address, Decision, Event, Kind, Letter, Moment, MsgId, NoMemory, Text8};
 use std::alloc::Global;
 
@@ -106,12 +106,9 @@ fn took(
       owed = Some (letters.Charge id me);
     }) }
 {
+    let named = recipients_named(alloc, message)?;
     let message = Text8::of(Vec::from_slice(alloc, message)?);
-    let entry = Entry::Took {
-        moment,
-        id,
-        message,
-    };
+    let entry = Draft::took(moment, id, message, named);
     let owed = Letter::Charge { id, by: me };
     Ok(Received::enters(entry, Event::Took(id), Some(owed)))
 }
@@ -184,7 +181,7 @@ fn charge(
     let arrived = arrivals::charge(directory, shelf, framed, view);
     match stands(shelf.me(), &arrived) {
         Standing::New => {
-            let entry = Entry::Charged { moment, id, by };
+            let entry = Draft::plain(Entry::Charged { moment, id, by });
             Some(Received::enters(entry, Event::Charged(id, by), None))
         }
         Standing::Known => {
@@ -248,14 +245,14 @@ fn learned(
     }) }
 {
     let id = view.id;
-    let entry = Entry::Learned {
+    let entry = Draft::plain(Entry::Learned {
         moment,
         id,
         recipient: recipient.copy(alloc)?,
         decision,
         decided: view.moment,
         message: Text8::of(Vec::from_slice(alloc, message)?),
-    };
+    });
     let event = Event::Learned(id, recipient.copy(alloc)?, decision);
     let owed = Letter::Ack {
         id,
@@ -329,11 +326,11 @@ fn acked(
       owed = None;
     }) }
 {
-    let entry = Entry::Acked {
+    let entry = Draft::plain(Entry::Acked {
         moment,
         id,
         recipient: recipient.copy(alloc)?,
-    };
+    });
     let event = Event::Acked(id, recipient.copy(alloc)?);
     Ok(Received::enters(entry, event, None))
 }

@@ -17,7 +17,7 @@ use crate::framed::Framed;
 use crate::received::Received;
 use pec_directory::Directory;
 use pec_records::Entry;
-use pec_shelf::{Shelf, is_among};
+use pec_shelf::{Draft, Shelf, is_among};
 use pec_types::{Address, Event, Items, Moment, NoMemory, Text8};
 use std::alloc::Global;
 
@@ -44,11 +44,11 @@ pub(crate) fn otherwise(
     }
     let count = accounts.len() as u32;
     let message = Vec::from_slice(alloc, framed.message)?;
-    let entry = Entry::Anomaly {
+    let entry = Draft::plain(Entry::Anomaly {
         moment,
         accounts: Items::of(accounts),
         message: Text8::of(message),
-    };
+    });
     Ok(Received::enters(entry, Event::Anomaly(count), None))
 }
 

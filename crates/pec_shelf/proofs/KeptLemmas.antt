@@ -1,6 +1,6 @@
 -- Books, marks and envelopes over the rows that are kept are those of the ledger, where the homes that are kept are the
 -- trade's.
-use Rattle.std.proofs.Common.{◌≡◌, ℕ, ◌+◌, ◌==◌, Bool, true, false, cond, ◌&&◌, ◌||◌, List, [], ◌∷◌, ◌++◌, length, map, refl, sym, ap, ◌∙◌, Option, Some, None, Ok, is_some, nat_lt, take, arith}
+use Rattle.std.proofs.Common.{◌≡◌, ℕ, ◌+◌, ◌==◌, Bool, true, false, cond, ◌&&◌, ◌||◌, List, [], ◌∷◌, ◌++◌, length, map, refl, sym, ap, ◌∙◌, Option, Some, None, is_some, nat_lt, take, arith}
 use Rattle.std.specs.List.{cons_option, filter, filter_map, list_any}
 use Rattle.std.specs.Option.{option_map}
 use Rattle.std.specs.Str.{bytes_eq}
@@ -21,7 +21,7 @@ use Rattle.pec_ledger.specs.Deadlines.{acceptances}
 use Rattle.pec_shelf.specs.Deadlines.{clock_at}
 use Rattle.pec_shelf.specs.Looked.{acceptances_seen}
 use Rattle.pec_shelf.specs.Lines.{awaits_at, book_rows, envelope_rows, is_at, is_heard, line_at, mark_at, marks_rows}
-use Rattle.pec_shelf.specs.Prepared.{Prepared, Takes, nothing, with_marks}
+use Rattle.pec_shelf.specs.Prepared.{AreRows, Prepared, nothing, with_marks}
 use Rattle.pec_shelf.specs.Seen.{IsFor, Seen, certified_at, certified_by, certified_in, certified_of}
 use Rattle.pec_shelf.specs.Sides.{Kept, certified_of_rows, messages_of}
 use Rattle.pec_shelf.specs.declared.certified.Certified.{Certified}
@@ -187,11 +187,9 @@ the_due trade shelf to room rows messages certified for =
 pub ticked_is : (trade : Trade) (shelf : Seen) (now : ℕ) (rows : List Kept) (clock : Clock) (marked ready : Prepared) → messages_of rows ≡ shelf.half.messages
     → certified_of_rows rows ≡ shelf.certified
     → IsFor trade shelf → marked ≡ with_marks shelf.half nothing (marks_rows shelf.me shelf.half now 0 rows) → ready ≡ record marked { clock = Some clock }
-    → clock ≡ clock_at now (acceptances_seen shelf) → Takes trade shelf.me shelf.half (entries.Ticked now) (Ok ready)
+    → clock ≡ clock_at now (acceptances_seen shelf) → AreRows trade shelf.me shelf.half (entries.Ticked now) ready
 ticked_is trade shelf now rows clock marked ready messages certified for is with told =
     let all = is ∙ ap (with_marks shelf.half nothing) (the_marks trade shelf now rows messages certified for) in
-    let stands : clock ≡ clock_at now (acceptances trade shelf.half) = told ∙ ap (clock_at now) (seen_are trade shelf for) in (
-      tt,
-      with ∙ ap (λ (p : Prepared). record p { clock = Some clock }) all
-          ∙ ap (λ (k : Clock). record (with_marks shelf.half nothing (marks_from trade shelf.me shelf.half now 0 shelf.half.messages)) { clock = Some k }) stands,
-    )
+    let stands : clock ≡ clock_at now (acceptances trade shelf.half) = told ∙ ap (clock_at now) (seen_are trade shelf for) in
+    with ∙ ap (λ (p : Prepared). record p { clock = Some clock }) all
+    ∙ ap (λ (k : Clock). record (with_marks shelf.half nothing (marks_from trade shelf.me shelf.half now 0 shelf.half.messages)) { clock = Some k }) stands

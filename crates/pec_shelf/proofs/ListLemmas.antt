@@ -1,6 +1,6 @@
 -- What tests of lists mean.
-use Rattle.std.proofs.Common.{◌≡◌, ◌↔◌, ℕ, zero, suc, ◌<◌, ◌==◌, arith, Bool, true, false, not, ◌&&◌, ◌||◌, List, [], ◌∷◌, refl, sym, ◌∙◌, IsTrue, All, Option, Some, None, is_some}
-use Rattle.std.specs.List.{list_all, list_any}
+use Rattle.std.proofs.Common.{◌≡◌, ◌↔◌, ℕ, zero, suc, ◌<◌, ◌==◌, arith, Bool, true, false, cond, not, ◌&&◌, ◌||◌, List, [], ◌∷◌, length, refl, sym, ◌∙◌, IsTrue, All, Option, Some, None, is_some}
+use Rattle.std.specs.List.{filter, list_all, list_any}
 use Rattle.std.specs.Option.{option_map}
 use Rattle.std.specs.Str.{bytes_eq}
 use Rattle.std.specs.Cmp.Lexicographic.{bytes_decides}
@@ -72,6 +72,16 @@ all_is p xs b e = (λ t. all_pass p xs (sym e ∙ of_truth b t), λ a. truth b (
 
 pub differ_is : (xs : Path) (b : Bool) → b ≡ all_differ xs → IsTrue b ↔ AllDiffer xs
 differ_is xs b e = (λ t. differ xs (sym e ∙ of_truth b t), λ d. truth b (e ∙ differ_back xs d))
+
+-- some element passes where those that pass aren't none
+pub some_pass : {X : Type 0} (p : X → Bool) (xs : List X) (b : Bool) → b ≡ list_any p xs → IsTrue b ↔ (0 < length (filter p xs))
+some_pass p [] b e = (λ t. absurd (false≢true (sym e ∙ t)), λ l. absurd (omega (arith, l)))
+some_pass p (x ∷ xs) b e = by (p x) (some_pass p xs b) e
+  where
+    by : (c : Bool) → (b ≡ list_any p xs → IsTrue b ↔ (0 < length (filter p xs))) → b ≡ c || list_any p xs
+        → IsTrue b ↔ (0 < length (cond c (x ∷ filter p xs) (filter p xs)))
+    by true more f = (λ t. omega arith, λ l. f)
+    by false more f = more f
 
 pub not_empty : (n : ℕ) (b : Bool) → b ≡ (n == 0) → b ≡ false → 0 < n
 not_empty zero b e f = absurd (false≢true (sym f ∙ e))

@@ -1,55 +1,91 @@
 -- What is answered on an entry by the directory's own trade is so for each trade of the directory.
-use Rattle.std.proofs.Common.{◌≡◌, ℕ, ◌+◌, ◌^◌, ◌<◌, ◌≤◌, arith, true, List, length, refl, sym, ap, subst, ◌∙◌, Result, Ok, Err, Some, IsOk}
-use Rattle.std.specs.Str.{bytes_eq}
-use Rattle.std.specs.Cmp.Lexicographic.{bytes_decides}
-use Rattle.pec_types.specs.Bytes.{Bytes}
+use Rattle.std.proofs.Common.{◌≡◌, ◌↔◌, ℕ, ◌+◌, ◌^◌, ◌<◌, ◌≤◌, arith, Bool, true, false, List, length, map, slice_get, refl, sym, ap, subst, ◌∙◌, Option, None, Some, Result, Ok, IfOk, IsOk, IsTrue}
+use Rattle.std.specs.Option.{option_and_then}
+use Rattle.std.proofs.lemmas.Bool.{false≢true}
+use Rattle.pec_types.specs.Bytes.{Bytes, Path}
 use Rattle.pec_types.specs.declared.messages.Facts.{Facts}
+use Rattle.pec_types.specs.declared.places.Place.{Place}
 use Rattle.pec_types.specs.declared.messages.TheConstants.{MESSAGES}
-use Rattle.pec_records.specs.Entry.{most_addresses}
 use Rattle.pec_records.specs.declared.entries.Entry.{Entry}
 use Rattle.pec_records.specs.declared.entries.Entry.TheVariants as entries
 use Rattle.pec_directory.specs.Directory.{Kept}
-use Rattle.pec_ledger.specs.Half.{Half}
+use Rattle.pec_ledger.specs.Half.{Half, Message}
+use Rattle.pec_ledger.specs.Lookups.{Accepted, accepted_at, accepted_of}
 use Rattle.pec_ledger.specs.OfDirectory.{IsOf, facts_in}
-use Rattle.pec_ledger.specs.Own.{IsFrom, Own}
+use Rattle.pec_ledger.specs.Own.{Own}
 use Rattle.pec_ledger.specs.Steps.{messages_by, moment_of, size_of}
 use Rattle.pec_ledger.specs.Trade.{Trade}
 use Rattle.pec_types.specs.Looks.{AtLeast, AtMost}
 use Rattle.pec_types.specs.Passed.{passing}
+use Rattle.pec_shelf.specs.Drafts.{facts_read, read_in}
 use Rattle.pec_shelf.specs.Looked.{Looked, LookedSo}
-use Rattle.pec_shelf.specs.Prepared.{AreWithin, HasRoomFor, Prepared, Prepares, Takes, prepared, rows_of}
-use Rattle.pec_shelf.specs.Seen.{HoldsAs, IsFor, Seen}
+use Rattle.pec_shelf.specs.Prepared.{AreRows, AreWithin, CameFrom, Drafts, HasRoomFor, IsStep, MayFollow, Prepared, prepared}
+use Rattle.pec_shelf.specs.Seen.{HoldsAs, IsFor, Seen, certified_by}
 use Rattle.pec_shelf.specs.Settled.{settled}
-use Rattle.pec_shelf.specs.declared.faults.PrepareFault.{PrepareFault}
-use Rattle.pec_shelf.specs.declared.faults.PrepareFault.TheVariants as faults
+use Rattle.pec_shelf.specs.declared.drafts.Read.TheVariants as reads
 use Rattle.pec_shelf.proofs.AcceptanceLemmas.{seen_are}
 use Rattle.pec_shelf.proofs.TradeLemmas.{from_settled, into_settled}
 
-pub at_entry : (trade : Trade) (me : ℕ) (half : Half) (entry other : Entry) (answer : Result Prepared PrepareFault) → entry ≡ other → Takes trade me half other answer
-    → Takes trade me half entry answer
-at_entry trade me half entry other answer is takes = subst (λ (e : Entry). Takes trade me half e answer) (sym is) takes
+-- what is answered on an entry is so for the same entry
+pub at_entry : {E : Type 0} (trade : Trade) (me : ℕ) (half : Half) (entry other : Entry) (answer : Result Prepared E) → entry ≡ other
+    → IfOk answer (AreRows trade me half other) → IfOk answer (AreRows trade me half entry)
+at_entry trade me half entry other answer is rows = subst (λ (e : Entry). IfOk answer (AreRows trade me half e)) (sym is) rows
+
+pub own_at : (trade : Trade) (me : ℕ) (half : Half) (entry other : Entry) (own : Bool) → entry ≡ other → (IsTrue own ↔ Own trade me half other)
+    → IsTrue own ↔ Own trade me half entry
+own_at trade me half entry other own is decides = subst (λ (e : Entry). IsTrue own ↔ Own trade me half e) (sym is) decides
+
+same_named : (a b : Path) → reads.Named a ≡ reads.Named b → a ≡ b
+same_named a b e = cc
+
+-- what was read of an envelope is what it names
+pub named_is : (entry other : Entry) (named all : Path) → entry ≡ other → read_in entry ≡ reads.Named named → read_in other ≡ reads.Named all → named ≡ all
+named_is entry other named all is read found = same_named named all (sym read ∙ ap read_in is ∙ found)
+
+same_facts : (a b : Facts) → reads.Facts a ≡ reads.Facts b → a ≡ b
+same_facts a b e = cc
+
+-- and what was read of an accepted message are its facts
+pub facts_are : (entry : Entry) (moment : ℕ) (sender message : Bytes) (facts : Facts) → entry ≡ entries.Accepted moment sender message → read_in entry ≡ reads.Facts facts
+    → facts_in message ≡ Some facts
+facts_are entry moment sender message facts is read = by (facts_in message) refl (sym (ap read_in is) ∙ read)
+  where
+    by : (o : Option Facts) → facts_in message ≡ o → facts_read o ≡ reads.Facts facts → facts_in message ≡ Some facts
+    by None f e = cc
+    by (Some found) f e = f ∙ ap Some (same_facts found facts e)
 
 figures : (ready : Prepared) (moment size : ℕ) → moment ≡ ready.adds.moment → size ≡ ready.adds.size
     → record ready { adds = record ready.adds { moment = moment; size = size } } ≡ ready
 figures ready moment size m s = rw (m, s) refl
 
-pub ready_is : (kept : List Kept) (trade : Trade) (me : ℕ) (half : Half) (entry : Entry) (rows ready : Prepared) (moment size : ℕ) → IsOf kept trade
-    → Takes (settled kept trade) me half entry (Ok rows) → ready ≡ record rows { adds = record rows.adds { moment = moment; size = size } } → moment ≡ moment_of entry
-    → size ≡ size_of entry → half.last ≤ moment → Prepares trade me half entry (Ok ready)
-ready_is kept trade me half entry rows ready moment size of takes is m s l =
-    let own = from_settled kept trade (λ (t : Trade). Own t me half entry × (rows ≡ rows_of (prepared t me half entry))) of takes in (
-      record { own = own.0; in_time = subst (λ (n : ℕ). half.last ≤ n) m l },
-      is ∙ ap (λ (r : Prepared). record r { adds = record r.adds { moment = moment; size = size } }) own.1 ∙ figures (prepared trade me half entry) moment size m s,
-    )
+pub ready_is : (kept : List Kept) (trade : Trade) (me : ℕ) (half : Half) (entry : Entry) (rows ready : Prepared) (moment size : ℕ) (place : Place) → IsOf kept trade
+    → AreRows (settled kept trade) me half entry rows → ready ≡ record rows { adds = record rows.adds { moment = moment; size = size }; place = place }
+    → moment ≡ moment_of entry → size ≡ size_of entry → ready ≡ prepared trade me half entry place
+ready_is kept trade me half entry rows ready moment size place of are is m s =
+    let own = from_settled kept trade (λ (t : Trade). AreRows t me half entry rows) of are in
+    is ∙ ap (λ (r : Prepared). record r { adds = record r.adds { moment = moment; size = size }; place = place }) own
+    ∙ figures (prepared trade me half entry place) moment size m s
 
-pub fault_is : (kept : List Kept) (trade : Trade) (me : ℕ) (half : Half) (entry : Entry) (fault : PrepareFault) → IsOf kept trade
-    → Takes (settled kept trade) me half entry (Err fault) → Prepares trade me half entry (Err fault)
-fault_is kept trade me half entry faults.NotAStep of never = λ step. never (into_settled kept trade (λ (t : Trade). Own t me half entry) of step.own)
-fault_is kept trade me half entry faults.NoMemory of never = tt
+-- an entry is drafted where it is one's own
+pub drafts_own : (kept : List Kept) (trade : Trade) (me : ℕ) (half : Half) (entry draft : Entry) (own : Bool) → IsOf kept trade
+    → (IsTrue own ↔ Own (settled kept trade) me half draft) → own ≡ true → draft ≡ entry → half.last ≤ moment_of entry → Drafts trade me half entry (Ok draft)
+drafts_own kept trade me half entry draft own of decides yes_ is late = (
+  record {
+    own = subst (λ (e : Entry). Own trade me half e) is (from_settled kept trade (λ (t : Trade). Own t me half draft) of (decides.0 yes_));
+    in_time = late;
+  },
+  is,
+)
 
-pub from_is : (kept : List Kept) (trade : Trade) (me : ℕ) (sender message : Bytes) (facts : Facts) → facts_in message ≡ Some facts → bytes_eq facts.sender sender ≡ true
-    → length facts.recipients ≤ most_addresses → IsFrom (settled kept trade) me sender message
-from_is kept trade me sender message facts are sent few = record { facts = facts; are = are; sent = (bytes_decides facts.sender sender).0 sent; few = few }
+-- and not where it isn't
+pub drafts_none : (kept : List Kept) (trade : Trade) (me : ℕ) (half : Half) (entry draft : Entry) (own : Bool) → IsOf kept trade
+    → (IsTrue own ↔ Own (settled kept trade) me half draft) → own ≡ false → draft ≡ entry → IsStep trade me half entry → ⊥
+drafts_none kept trade me half entry draft own of decides not_own is step =
+    false≢true
+    (sym not_own ∙ decides.1 (into_settled kept trade (λ (t : Trade). Own t me half draft) of (subst (λ (e : Entry). Own trade me half e) (sym is) step.own)))
+
+none_some : {X : Type 0} (x : X) → None ≡ Some x → ⊥
+none_some x e = cc
 
 -- there are still not too many messages behind an entry
 pub few_after : (trade : Trade) (me : ℕ) (half : Half) (entry : Entry) → Own trade me half entry → length half.messages ≤ MESSAGES
@@ -67,15 +103,50 @@ few_after trade me half (entries.Anomaly moment accounts message) own few = omeg
 
 -- ---- a shelf of which acceptances were looked up
 
--- what is answered on an entry is so for the shelf as it was
-pub prepares_still : (trade : Trade) (old now : Seen) (entry : Entry) (answer : Result Prepared PrepareFault) → now ≡ record old { looks = now.looks }
-    → Prepares trade now.me now.half entry answer → Prepares trade old.me old.half entry answer
-prepares_still trade old now entry answer same prepares =
-    subst (λ (m : ℕ). Prepares trade m old.half entry answer) (ap (λ (s : Seen). s.me) same)
-    (subst (λ (h : Half). Prepares trade now.me h entry answer) (ap (λ (s : Seen). s.half) same) prepares)
+-- what is prepared is so for the shelf as it was
+pub prepared_still : (trade : Trade) (old now : Seen) (entry : Entry) (place : Place) (ready : Prepared) → now ≡ record old { looks = now.looks }
+    → ready ≡ prepared trade now.me now.half entry place → ready ≡ prepared trade old.me old.half entry place
+prepared_still trade old now entry place ready same is =
+    subst (λ (m : ℕ). ready ≡ prepared trade m old.half entry place) (ap (λ (s : Seen). s.me) same)
+    (subst (λ (h : Half). ready ≡ prepared trade now.me h entry place) (ap (λ (s : Seen). s.half) same) is)
+
+-- an entry that may follow still may
+pub follows_still : (kept : List Kept) (old now : Seen) (entry : Entry) → now ≡ record old { looks = now.looks } → MayFollow kept old entry → MayFollow kept now entry
+follows_still kept old now entry same may = record {
+  trade = may.trade;
+  of = may.of;
+  step = subst (λ (h : Half). IsStep may.trade now.me h entry) (sym (ap (λ (s : Seen). s.half) same))
+      (subst (λ (m : ℕ). IsStep may.trade m old.half entry) (sym (ap (λ (s : Seen). s.me) same)) may.step);
+}
+
+-- what was prepared came from the shelf, in which only room was made
+pub came_from : (kept : List Kept) (old new : Seen) (entry : Entry) (place : Place) (ready : Prepared) → HoldsAs old new
+    → ((trade : Trade) → IsOf kept trade → IsFor trade old) → MayFollow kept old entry
+    → ((trade : Trade) → IsOf kept trade → ready ≡ prepared trade old.me old.half entry place) → CameFrom new ready
+came_from kept old new entry place ready same homes may all =
+    let is = all may.trade may.of in
+    record {
+      trade = may.trade;
+      entry = entry;
+      for = same.2 ∙ homes may.trade may.of ∙ ap (λ (h : Half). map (certified_by may.trade) h.messages) (sym same.1);
+      step = subst (λ (h : Half). IsStep may.trade new.me h entry) (sym same.1)
+          (subst (λ (m : ℕ). IsStep may.trade m old.half entry) (sym same.0) may.step);
+      is = subst (λ (p : Place). ready ≡ prepared may.trade new.me new.half entry p) (sym (ap (λ (p : Prepared). p.place) is))
+          (subst (λ (h : Half). ready ≡ prepared may.trade new.me h entry place) (sym same.1)
+          (subst (λ (m : ℕ). ready ≡ prepared may.trade m old.half entry place) (sym same.0) is));
+    }
+
+-- the message of a number that was accepted is there
+pub accepted_there : (half : Half) (n : ℕ) (message : Accepted) → accepted_at half n ≡ Some message → (submitted : Message) × (slice_get half.messages n ≡ Some submitted)
+accepted_there half n message e = by (slice_get half.messages n) refl e
+  where
+    by : (o : Option Message) → slice_get half.messages n ≡ o → option_and_then accepted_of o ≡ Some message
+        → (submitted : Message) × (slice_get half.messages n ≡ Some submitted)
+    by None f e = absurd (none_some message e)
+    by (Some m) f e = (m, f)
 
 -- the look-ups over what a shelf keeps are those over its half
-pub looked_is : {X : Type 0} (trade : Trade) (shelf : Seen) (entry : Entry) (looks steps later : ℕ) (result : Result X PrepareFault) → IsFor trade shelf
+pub looked_is : {X Y : Type 0} (trade : Trade) (shelf : Seen) (entry : Entry) (looks steps later : ℕ) (result : Result X Y) → IsFor trade shelf
     → LookedSo shelf entry looks steps later → (IsOk result → shelf.half.last ≤ moment_of entry) → Looked trade shelf entry looks steps later result
 looked_is trade shelf (entries.Start provider digest) looks steps later result for so through = so
 looked_is trade shelf (entries.Accepted moment sender message) looks steps later result for so through = so
@@ -97,7 +168,7 @@ looked_is trade shelf (entries.Anomaly moment accounts message) looks steps late
 -- only look-ups were made
 pub holds_looked : (old now : Seen) → now ≡ record old { looks = now.looks } → HoldsAs old now
 holds_looked old now same =
-    (ap (λ (s : Seen). s.me) same, ap (λ (s : Seen). s.half) same, ap (λ (s : Seen). s.certified) same, ap (λ (s : Seen). s.ticked) same)
+    (ap (λ (s : Seen). s.me) same, ap (λ (s : Seen). s.half) same, ap (λ (s : Seen). s.certified) same, ap (λ (s : Seen). s.ticked) same, ap (λ (s : Seen). s.places) same)
 
 -- and then room
 pub holds_roomy : (old now new : Seen) → now ≡ record old { looks = now.looks } → new ≡ record now { room = new.room } → HoldsAs old new
@@ -106,6 +177,7 @@ holds_roomy old now new same more = (
   ap (λ (s : Seen). s.half) more ∙ ap (λ (s : Seen). s.half) same,
   ap (λ (s : Seen). s.certified) more ∙ ap (λ (s : Seen). s.certified) same,
   ap (λ (s : Seen). s.ticked) more ∙ ap (λ (s : Seen). s.ticked) same,
+  ap (λ (s : Seen). s.places) more ∙ ap (λ (s : Seen). s.places) same,
 )
 
 -- there is room for what was prepared
@@ -123,6 +195,7 @@ room_for now new ready rows more within room entries bytes = record {
     decided = omega (arith, within.decided);
     acked = omega (arith, within.acked);
     items = omega (arith, within.items);
+    place = omega (arith, within.place);
   };
   entries = omega (arith, ap (λ (s : Seen). s.half.entries) more);
   bytes = omega (arith, ap (λ (s : Seen). s.half.end) more);

@@ -333,7 +333,7 @@ clock_or_none trade half (entries.Anomaly moment accounts message) = inr refl
 
 module _ (trade : Trade) (me : ℕ) (half : Half) (entry : Entry) (ready : Prepared) (old new : Sent) (watch set : Watch)
     (more : List Kept) (charges : List Charge) (notices : List Mark) (outcomes : List Known)
-    (watched : IsWatched watch half.last old) (side : IsSideOf me half old) (step : IsStep trade me half entry) (is : ready ≡ prepared trade me half entry)
+    (watched : IsWatched watch half.last old) (side : IsSideOf me half old) (step : IsStep trade me half entry) (is : ready ≡ prepared trade me half entry ready.place)
     (homes : certified_of_rows old.messages ≡ map (certified_by trade) half.messages)
     (adds : messages_of more ≡ ready.adds.messages) (setting : set ≡ set_by watch ready.clock) where
   more_messages : messages_of more ≡ messages_by trade me half entry
@@ -380,7 +380,7 @@ module _ (trade : Trade) (me : ℕ) (half : Half) (entry : Entry) (ready : Prepa
       let is_set : set ≡ set_by watch (Some (clock_at now watch.moments)) =
       setting ∙ ap (set_by watch) clock ∙ ap (λ (ms : List ℕ). set_by watch (Some (clock_at now ms))) times in
       let told : notices ≡ filter_map (mark_on me half now) (pairs_in 0 old.messages) =
-      marks ∙ ap (λ (p : Prepared). p.adds.marks) is ∙ ap (λ (e : Entry). (prepared trade me half e).adds.marks) same
+      marks ∙ ap (λ (p : Prepared). p.adds.marks) is ∙ ap (λ (e : Entry). (prepared trade me half e ready.place).adds.marks) same
       ∙ sym (marks_are trade me half now 0 old.messages (homes ∙ ap (map (certified_by trade)) (sym side.messages)) ∙ ap (marks_from trade me half now 0) side.messages)
       ∙ marks_on me half now 0 old.messages in
       let at : moment_of entry ≡ now = ap moment_of same in

@@ -1,4 +1,5 @@
 pub mod Deadlines
+pub mod Drafts
 pub mod Drawers
 pub mod KeyLaws
 pub mod Keys

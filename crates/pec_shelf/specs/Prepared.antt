@@ -1,13 +1,16 @@
--- What an entry is prepared as: `Prepared`, all that it adds; and what is answered on an entry, `Prepares`: exactly the
--- steps of the provider's half are taken. RFC 6109, sections 3.1 to 3.4, within this project's profile.
-use Rattle.std.specs.Prelude.{◌≡◌, ℕ, ◌+◌, ◌^◌, ◌<◌, ◌≤◌, List, [], ◌++◌, map, length, Option, None, Some, Result, Ok, Err}
+-- What an entry is prepared as: `Prepared`, all that it adds; and what is answered on an entry of a journal, `Drafts`:
+-- exactly the steps of the provider's half are drafted. RFC 6109, sections 3.1 to 3.4, within this project's profile.
+use Rattle.std.specs.Prelude.{◌≡◌, ℕ, ◌+◌, ◌^◌, ◌<◌, ◌≤◌, List, [], ◌∷◌, ◌++◌, map, length, Option, None, Some, Result, Ok, Err}
 use Rattle.std.specs.List.{flat_map}
 use Rattle.pec_types.specs.declared.mailboxes.Mark.{Mark as Told}
+use Rattle.pec_types.specs.declared.places.Place.{Place}
+use Rattle.pec_directory.specs.Directory.{Kept}
 use Rattle.pec_records.specs.declared.entries.Entry.{Entry}
 use Rattle.pec_records.specs.declared.entries.Entry.TheVariants as entries
 use Rattle.pec_ledger.specs.Along.{AllAlong}
 use Rattle.pec_ledger.specs.Deadlines.{acceptances}
 use Rattle.pec_ledger.specs.Half.{Adds, Half, Mark, empty, joined}
+use Rattle.pec_ledger.specs.OfDirectory.{IsOf}
 use Rattle.pec_ledger.specs.Own.{Own}
 use Rattle.pec_ledger.specs.Steps.{adds, messages_by, moment_of, notice_by, step}
 use Rattle.pec_ledger.specs.Trade.{Trade}
@@ -15,20 +18,27 @@ use Rattle.pec_shelf.specs.Deadlines.{clock_at}
 use Rattle.pec_shelf.specs.Seen.{IsFor, Seen, certified_by}
 use Rattle.pec_shelf.specs.declared.certified.Certified.{Certified}
 use Rattle.pec_shelf.specs.declared.deadlines.Clock.{Clock}
-use Rattle.pec_shelf.specs.declared.faults.PrepareFault.{PrepareFault}
-use Rattle.pec_shelf.specs.declared.faults.PrepareFault.TheVariants as faults
+use Rattle.pec_shelf.specs.declared.faults.DraftFault.{DraftFault}
+use Rattle.pec_shelf.specs.declared.faults.DraftFault.TheVariants as faults
 
--- An entry that was prepared: what it adds to the half, the certified recipients of the message that it adds, and where
--- the cursors of the time limits stand behind it, if it is a clock call.
+-- An entry that was prepared: what it adds to the half, the certified recipients of the message that it adds, where the
+-- cursors of the time limits stand behind it, if it is a clock call, and where its bytes will stand.
 pub record Prepared : Type 0 where
   pub adds : Adds
   pub certified : List (List Certified)
   pub clock : Option Clock
+  pub place : Place
 
 -- The entry may follow: it meets its own condition in the half, and its moment isn't before the greatest.
 pub record IsStep (trade : Trade) (me : ℕ) (half : Half) (entry : Entry) : Type 0 where
   pub own : Own trade me half entry
   pub in_time : half.last ≤ moment_of entry
+
+-- The entry is a step of the half, in some world of the directory.
+pub record MayFollow (kept : List Kept) (shelf : Seen) (entry : Entry) : Type 0 where
+  pub trade : Trade
+  pub of : IsOf kept trade
+  pub step : IsStep trade shelf.me shelf.half entry
 
 -- Each entry is a step of the half before it.
 abbrev pub AreSteps : Trade → ℕ → List Entry → Type 0
@@ -44,13 +54,18 @@ abbrev pub ticked_behind : ℕ → Option Clock → ℕ
 ticked_behind last None = last
 ticked_behind last (Some clock) = clock.at
 
--- What an entry is prepared as.
-abbrev pub prepared : Trade → ℕ → Half → Entry → Prepared
-prepared trade me half entry = record {
+-- What an entry is prepared as, whose bytes will stand at this place.
+abbrev pub prepared : Trade → ℕ → Half → Entry → Place → Prepared
+prepared trade me half entry place = record {
   adds = adds trade me half entry;
   certified = map (certified_by trade) (messages_by trade me half entry);
   clock = clock_by trade half entry;
+  place = place;
 }
+
+-- the place of what has none yet
+abbrev pub nowhere : Place
+nowhere = record { at = 0; length = 0 }
 
 -- what adds no row
 abbrev pub nothing : Prepared
@@ -69,29 +84,33 @@ nothing = record {
   };
   certified = [];
   clock = None;
+  place = nowhere;
 }
 
--- the rows alone, without a moment and without bytes
+-- the rows alone, without a moment, without bytes and without a place
 abbrev pub rows_of : Prepared → Prepared
-rows_of ready = record { adds = record ready.adds { moment = 0; size = 0 }; certified = ready.certified; clock = ready.clock }
+rows_of ready = record {
+  adds = record ready.adds { moment = 0; size = 0 };
+  certified = ready.certified;
+  clock = ready.clock;
+  place = nowhere;
+}
 
--- What is answered on an entry whose moment isn't before the greatest: its rows, exactly where it meets its own condition.
-abbrev pub Takes : Trade → ℕ → Half → Entry → Result Prepared PrepareFault → Type 0
-Takes trade me half entry (Ok ready) = Own trade me half entry × (ready ≡ rows_of (prepared trade me half entry))
-Takes trade me half entry (Err faults.NotAStep) = Own trade me half entry → ⊥
-Takes trade me half entry (Err faults.NoMemory) = Unit {0}
+-- These are the rows of an entry.
+abbrev pub AreRows : Trade → ℕ → Half → Entry → Prepared → Type 0
+AreRows trade me half entry rows = rows ≡ rows_of (prepared trade me half entry nowhere)
 
--- What is answered on an entry: it is prepared exactly where it is a step. Want of memory is free.
-abbrev pub Prepares : Trade → ℕ → Half → Entry → Result Prepared PrepareFault → Type 0
-Prepares trade me half entry (Ok ready) = IsStep trade me half entry × (ready ≡ prepared trade me half entry)
-Prepares trade me half entry (Err faults.NotAStep) = IsStep trade me half entry → ⊥
-Prepares trade me half entry (Err faults.NoMemory) = Unit {0}
+-- What is answered on an entry of a journal: it is drafted exactly where it is a step. Want of memory is free.
+abbrev pub Drafts : Trade → ℕ → Half → Entry → Result Entry DraftFault → Type 0
+Drafts trade me half entry (Ok draft) = IsStep trade me half entry × (draft ≡ entry)
+Drafts trade me half entry (Err faults.NotAStep) = IsStep trade me half entry → ⊥
+Drafts trade me half entry (Err faults.NoMemory) = Unit {0}
 
 -- the certified recipients of all messages, one after another
 abbrev pub all_of : List (List Certified) → List Certified
 all_of certified = flat_map (λ (some : List Certified). some) certified
 
--- None of the lists that a prepared entry adds is longer than this, and there are no more pairs.
+-- None of the lists that a prepared entry adds is longer than this, there are no more pairs, and its place is one.
 pub record AreWithin (ready : Prepared) (room : ℕ) : Type 0 where
   pub pairs : length (all_of ready.certified) ≤ room
   pub messages : length ready.adds.messages ≤ room
@@ -103,6 +122,7 @@ pub record AreWithin (ready : Prepared) (room : ℕ) : Type 0 where
   pub decided : length ready.adds.decided ≤ room
   pub acked : length ready.adds.acked ≤ room
   pub items : length ready.adds.items ≤ room
+  pub place : 0 < room
 
 -- The shelf has memory for what was prepared, and its figures stay below 2 to the 64.
 pub record HasRoomFor (shelf : Seen) (ready : Prepared) : Type 0 where
@@ -117,7 +137,7 @@ pub record CameFrom (shelf : Seen) (ready : Prepared) : Type 0 where
   pub entry : Entry
   pub for : IsFor trade shelf
   pub step : IsStep trade shelf.me shelf.half entry
-  pub is : ready ≡ prepared trade shelf.me shelf.half entry
+  pub is : ready ≡ prepared trade shelf.me shelf.half entry ready.place
 
 -- The shelf is the old one with what was prepared.
 pub record Goes (old new : Seen) (ready : Prepared) : Type 0 where
@@ -125,6 +145,7 @@ pub record Goes (old new : Seen) (ready : Prepared) : Type 0 where
   pub half : new.half ≡ joined old.half ready.adds
   pub certified : new.certified ≡ old.certified ++ ready.certified
   pub ticked : new.ticked ≡ ticked_behind old.ticked ready.clock
+  pub places : new.places ≡ old.places ++ ready.place ∷ []
 
 -- what was prepared, with marks and their notices
 abbrev pub with_marks : Half → Prepared → List Mark → Prepared
@@ -135,6 +156,7 @@ with_marks half ready marks = record {
   };
   certified = ready.certified;
   clock = ready.clock;
+  place = ready.place;
 }
 
 -- a mark, as a clock call tells it

@@ -1,7 +1,8 @@
--- What contracts see of the parts of a shelf: the rows of the sender's side, of the recipient's side, and of mailboxes,
--- each with the number of further rows that its lists have memory for.
+-- What contracts see of the parts of a shelf: the rows of the sender's side, of the recipient's side, and of mailboxes, and
+-- the places of entries, each with the number of further rows that its lists have memory for.
 use Rattle.std.specs.Prelude.{ℕ, ◌==◌, List, map, length, Option, Some, None, if◌then◌else◌}
 use Rattle.pec_types.specs.Bytes.{Bytes}
+use Rattle.pec_types.specs.declared.places.Place.{Place}
 use Rattle.pec_ledger.specs.Half.{Charge, Fate, Known, Mark, Message, Posted, Taken}
 use Rattle.pec_ledger.specs.Pairs.{Pair}
 use Rattle.pec_shelf.specs.declared.certified.Certified.{Certified}
@@ -30,6 +31,11 @@ pub record Received : Type 0 where
 -- All items of mailboxes.
 pub record Boxed : Type 0 where
   pub items : List Posted
+  pub room : ℕ
+
+-- Where the bytes of each entry stand, in order of taking in.
+pub record Standing : Type 0 where
+  pub places : List Place
   pub room : ℕ
 
 -- whose book has lines of a message: nobody's, where it has no certified recipient

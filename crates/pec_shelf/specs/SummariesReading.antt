@@ -1,6 +1,6 @@
 -- A provider's messages and their pairs, counted one after another, over the rows that a shelf keeps: what the code
 -- follows. It comes to the summary of `Summaries` where the homes that are kept are the trade's.
-use Rattle.std.specs.Prelude.{ℕ, ◌+◌, Bool, List, [], ◌∷◌, is_some, if◌then◌else◌}
+use Rattle.std.specs.Prelude.{ℕ, ◌+◌, Bool, List, [], ◌∷◌, if◌then◌else◌}
 use Rattle.pec_types.specs.Message.{Id}
 use Rattle.pec_types.specs.Timetable.{raised}
 use Rattle.pec_ledger.specs.Half.{Half}

@@ -3,36 +3,22 @@ ghost use Rattle.pec_types.specs.Bytes.{Bytes};
 ghost use Rattle.pec_records.specs.declared.entries.Entry.TheVariants as entries;
 ghost use Rattle.pec_ledger.specs.Steps.{anomaly_by};
 ghost use Rattle.pec_ledger.specs.Trade.{Trade};
-ghost use Rattle.pec_shelf.specs.Prepared.{Takes};
-ghost use Rattle.pec_shelf.specs.Settled.{settled};
+ghost use Rattle.pec_shelf.specs.Prepared.{AreRows};
 
-use crate::accounts::{differ, have_room};
-use crate::faults::PrepareFault;
 use crate::ready::Ready;
 use crate::rows::{Placed, PostedRow};
 use crate::shelf::Shelf;
-use pec_directory::Directory;
 use pec_types::{Address, Moment, NoMemory};
 
-/// Anomaly: one or more different accounts, each with room.
+/// Anomaly: an item for each of the accounts.
 pub(crate) fn anomaly(
     shelf: &Shelf,
-    directory: &Directory,
     moment: Moment,
     accounts: &[Address],
-) -> Result<Ready, PrepareFault>
-    ensures { (trade : Trade) (message : Bytes) → Takes (settled directory.now trade) shelf.now.me shelf.now.half
-        (entries.Anomaly moment accounts.now message) result }
+) -> Result<Ready, NoMemory>
+    ensures { (trade : Trade) (message : Bytes)
+        → IfOk result (AreRows trade shelf.now.me shelf.now.half (entries.Anomaly moment accounts.now message)) }
 {
-    if accounts.is_empty() {
-        return Err(PrepareFault::NotAStep);
-    }
-    if !differ(accounts) {
-        return Err(PrepareFault::NotAStep);
-    }
-    if !have_room(shelf, directory, accounts) {
-        return Err(PrepareFault::NotAStep);
-    }
     let mut ready = Ready::nothing(shelf.alloc);
     push_anomalies(shelf, &mut ready, moment, accounts)?;
     Ok(ready)

@@ -190,6 +190,17 @@ impl Shelf {
         Ok(here)
     }
 
+    /// The id of the next message, where one more may be.
+    pub(crate) fn id_behind(&self) -> MsgId
+        requires { length self.now.half.messages < MESSAGES }
+        ensures { result ≡ id_of self.now.me (length self.now.half.messages) }
+    {
+        MsgId {
+            provider: self.me,
+            number: self.outbox.messages().len(),
+        }
+    }
+
     /// The id of the next message, where there may be one more.
     pub fn next_id(&self) -> Option<MsgId>
         ensures { MatchOption result (MESSAGES ≤ length self.now.half.messages)

@@ -12,13 +12,12 @@ ghost use Rattle.pec_shelf.specs.Lines.{mark_at, marks_rows};
 ghost use Rattle.pec_shelf.specs.Looked.{acceptances_seen};
 ghost use Rattle.pec_records.specs.declared.entries.Entry.TheVariants as entries;
 ghost use Rattle.pec_ledger.specs.Trade.{Trade};
-ghost use Rattle.pec_shelf.specs.Prepared.{Takes, nothing, with_marks};
+ghost use Rattle.pec_shelf.specs.Prepared.{AreRows, nothing, with_marks};
 ghost use Rattle.pec_shelf.specs.Seen.{IsFor};
 ghost use Rattle.pec_shelf.specs.Sides.{messages_of};
 
 use crate::certified::Certified;
 use crate::deadlines::{Clock, Deadlines};
-use crate::faults::PrepareFault;
 use crate::outbox::Outbox;
 use crate::ready::Ready;
 use crate::receipts::receipt;
@@ -27,16 +26,13 @@ use crate::shelf::Shelf;
 use pec_types::{Address, Due, Kind, Mark, Moment, MsgId, NoMemory, timed};
 use std::alloc::Global;
 
-/// Ticked: nothing is asked of it. The marks that the time table has, each with its notice. It is told where the cursors
+/// Ticked: the marks that the time table has, each with its notice. It is told where the cursors
 /// stand behind it.
-pub(crate) fn ticked(
-    shelf: &Shelf,
-    now: Moment,
-    clock: Option<Clock>,
-) -> Result<Ready, PrepareFault>
+pub(crate) fn ticked(shelf: &Shelf, now: Moment, clock: Option<Clock>) -> Result<Ready, NoMemory>
     requires in_time { shelf.now.half.last ≤ now }
     requires clock { clock ≡ Some (clock_at now (acceptances_seen shelf.now)) }
-    ensures { (trade : Trade) → IsFor trade shelf.now → Takes trade shelf.now.me shelf.now.half (entries.Ticked now) result }
+    ensures { (trade : Trade) → IsFor trade shelf.now
+        → IfOk result (AreRows trade shelf.now.me shelf.now.half (entries.Ticked now)) }
 {
     let Some(clock) = clock else { unreachable!() };
     let (outbox, deadlines) = shelf.watched();

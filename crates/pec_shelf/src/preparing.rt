@@ -1,61 +1,56 @@
-ghost use Rattle.std.specs.Prelude.{◌≡◌, ◌<◌, ◌≤◌};
+ghost use Rattle.std.specs.Prelude.{◌≡◌, ◌<◌, IfOk};
 ghost use Rattle.pec_types.specs.declared.moments.TheConstants.{END_OF_TIME};
 ghost use Rattle.pec_ledger.specs.Trade.{Trade};
 ghost use Rattle.pec_ledger.specs.Steps.{moment_of};
 ghost use Rattle.pec_shelf.specs.Looked.{acceptances_seen, clock_seen};
-ghost use Rattle.pec_shelf.specs.Prepared.{Takes};
+ghost use Rattle.pec_shelf.specs.Prepared.{AreRows, MayFollow};
 ghost use Rattle.pec_shelf.specs.Seen.{IsFor};
 ghost use Rattle.pec_shelf.specs.Settled.{settled};
 
 use crate::anomalies::anomaly;
 use crate::deadlines::Clock;
-use crate::faults::PrepareFault;
+use crate::drafts::Draft;
 use crate::marking::ticked;
 use crate::ready::Ready;
 use crate::receptions::{acked, charged, decided, learned, took};
 use crate::shelf::Shelf;
-use crate::submissions::{accepted, not_accepted, start};
+use crate::submissions::{accepted, not_accepted};
 use pec_directory::Directory;
 use pec_records::Entry;
+use pec_types::NoMemory;
 
-/// What an entry adds, without its moment and its size, where it meets its own condition. It is told where the cursors
-/// stand behind a clock call.
+/// What an entry that is a step adds, without its moment, its size and its place. It is told where the cursors stand
+/// behind a clock call.
 pub(crate) fn rows_of(
     shelf: &Shelf,
     directory: &Directory,
-    entry: &Entry,
+    draft: &Draft,
     clock: Option<Clock>,
-) -> Result<Ready, PrepareFault>
-    requires in_time { shelf.now.half.last ≤ moment_of entry.now }
-    requires clock { clock ≡ clock_seen (acceptances_seen shelf.now) entry.now }
+) -> Result<Ready, NoMemory>
+    requires step { MayFollow directory.now shelf.now draft.now }
+    requires clock { clock ≡ clock_seen (acceptances_seen shelf.now) draft.now }
     ensures { (trade : Trade) → IsFor (settled directory.now trade) shelf.now
-        → Takes (settled directory.now trade) shelf.now.me shelf.now.half entry.now result }
+        → IfOk result (AreRows (settled directory.now trade) shelf.now.me shelf.now.half draft.now) }
 {
-    match entry {
-        Entry::Start { provider, digest } => start(shelf, directory, *provider, digest),
-        Entry::Accepted {
-            moment,
-            sender,
-            message,
-        } => accepted(shelf, directory, *moment, sender, message.bytes()),
+    match draft.entry() {
+        Entry::Start { .. } => Ok(Ready::nothing(shelf.alloc)),
+        Entry::Accepted { moment, sender, .. } => {
+            accepted(shelf, directory, *moment, sender, draft.facts())
+        }
         Entry::NotAccepted {
             moment,
             sender,
             cause,
             path,
             ..
-        } => not_accepted(shelf, directory, *moment, sender, *cause, path.as_slice()),
-        Entry::Took {
-            moment,
-            id,
-            message,
-        } => took(shelf, directory, *moment, *id, message.bytes()),
+        } => not_accepted(shelf, *moment, sender, *cause, path.as_slice()),
+        Entry::Took { moment, id, .. } => took(shelf, directory, *moment, *id, draft.named()),
         Entry::Decided {
             moment,
             id,
             recipient,
             decision,
-        } => decided(shelf, directory, *moment, *id, recipient, *decision),
+        } => decided(shelf, *moment, *id, recipient, *decision),
         Entry::Charged { moment, id, by } => charged(shelf, *moment, *id, *by),
         Entry::Learned {
             moment,
@@ -71,7 +66,7 @@ pub(crate) fn rows_of(
             moment,
             accounts,
             ..
-        } => anomaly(shelf, directory, *moment, accounts.as_slice()),
+        } => anomaly(shelf, *moment, accounts.as_slice()),
     }
 }
 

@@ -1,4 +1,5 @@
 ghost use Rattle.std.specs.Prelude.{◌≡◌, ◌↔◌, ◌<◌, [], ◌∷◌, ◌++◌, filter, length, option_map, IfOk, IsTrue, OnOk};
+ghost use Rattle.std.specs.List.{list_any};
 ghost use Rattle.pec_directory.specs.Directory.{home_of, providers_of};
 ghost use Rattle.pec_heads.specs.FactsReading.{copies_of, listed};
 ghost use Rattle.pec_ledger.specs.Lookups.{is_home};
@@ -38,7 +39,7 @@ fn read_head(alloc: Global, message: &[u8]) -> Result<Option<Head>, NoMemory>
 /// The addresses that the head of a sealed message names in `To`, and then in `Cc`: none where it has no head, or a
 /// field is no list.
 #[tactic(auto, unfolding(pec_ledger::specs::OfDirectory::recipients_named))]
-fn recipients_named(alloc: Global, message: &[u8]) -> Result<Vec<Address>, NoMemory>
+pub fn recipients_named(alloc: Global, message: &[u8]) -> Result<Vec<Address>, NoMemory>
     ensures { IfOk result (λ addresses. addresses.items ≡ recipients_named message.now) }
 {
     let Some(head) = read_head(alloc, message)? else {
@@ -149,27 +150,40 @@ pub(crate) fn recipients_here(
         ≡ filter (λ (address : Bytes). is_home provider (home_of (providers_of directory.now) address)) (recipients_named message.now)) }
 {
     let named = recipients_named(alloc, message)?;
-    let here = at_home(alloc, directory, provider, named)?;
+    let here = at_home(alloc, directory, provider, named.as_slice())?;
     Ok(here)
 }
 
 /// Those of the addresses that are at home at a provider.
-fn at_home(
+pub(crate) fn at_home(
     alloc: Global,
     directory: &Directory,
     provider: u32,
-    addresses: Vec<Address>,
+    addresses: &[Address],
 ) -> Result<Vec<Address>, NoMemory>
     ensures { IfOk result (λ here. here.items
-        ≡ filter (λ (address : Bytes). is_home provider (home_of (providers_of directory.now) address)) addresses.items) }
+        ≡ filter (λ (address : Bytes). is_home provider (home_of (providers_of directory.now) address)) addresses.now) }
 {
     let mut here = Vec::new(alloc);
     for address in addresses {
-        if is_home(directory, provider, &address) {
-            here.push(address)?;
+        if is_home(directory, provider, address) {
+            here.push(address.copy(alloc)?)?;
         }
     }
     Ok(here)
+}
+
+/// Whether some of the addresses are at home at a provider. It takes no memory.
+pub(crate) fn are_some_here(directory: &Directory, provider: u32, addresses: &[Address]) -> bool
+    ensures { result ≡ list_any (λ (address : Bytes). is_home provider (home_of (providers_of directory.now) address))
+        addresses.now }
+{
+    for address in addresses {
+        if is_home(directory, provider, address) {
+            return true;
+        }
+    }
+    false
 }
 
 fn is_home(directory: &Directory, provider: u32, address: &Address) -> bool

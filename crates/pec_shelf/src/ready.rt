@@ -9,7 +9,7 @@ use crate::outbox::SentRows;
 use crate::rows::{
     AckedRow, ChargeRow, FateRow, KnownRow, MarkRow, MessageRow, PostedRow, TakenRow,
 };
-use pec_types::{Mark, NoMemory};
+use pec_types::{Mark, NoMemory, Place};
 use std::alloc::Global;
 use std::marker::Model;
 
@@ -24,6 +24,7 @@ pub struct Ready {
     /// How many certified recipients its messages have.
     pub(crate) pairs: usize,
     pub(crate) clock: Option<Clock>,
+    pub(crate) place: Place,
 }
 
 impl Model for Ready {
@@ -48,6 +49,7 @@ impl Model for Ready {
       };
       certified = certified_of_rows ready.sent.messages.items;
       clock = ready.clock;
+      place = ready.place;
     } };
 
     ghost invariant = { λ ready. record {
@@ -68,6 +70,7 @@ impl Drop for Ready {
             answer: _,
             pairs: _,
             clock: _,
+            place: _,
         } = self;
     }
 }
@@ -95,6 +98,7 @@ impl Ready {
             answer: Vec::new(alloc),
             pairs: 0,
             clock: None,
+            place: Place { at: 0, length: 0 },
         }
     }
 
@@ -104,6 +108,7 @@ impl Ready {
           adds = record self.old.adds { messages = self.old.adds.messages ++ row.message ∷ [] };
           certified = self.old.certified ++ row.certified ∷ [];
           clock = self.old.clock;
+          place = self.old.place;
         }) }
     {
         let Some(pairs) = self.pairs.checked_add(row.certified().len()) else {
@@ -181,12 +186,13 @@ impl Ready {
         self
     }
 
-    /// At a moment, in seconds, and of so many bytes in the journal. It takes no memory.
-    pub(crate) fn with_figures(mut self, moment: u64, size: u64) -> Ready
-        ensures { result ≡ record self { adds = record self.adds { moment = moment; size = size } } }
+    /// At a moment, in seconds, of so many bytes in the journal, and at this place. It takes no memory.
+    pub(crate) fn with_figures(mut self, moment: u64, size: u64, place: Place) -> Ready
+        ensures { result ≡ record self { adds = record self.adds { moment = moment; size = size }; place = place } }
     {
         self.moment = moment;
         self.size = size;
+        self.place = place;
         self
     }
 
@@ -212,15 +218,18 @@ impl Ready {
             answer,
             pairs: _,
             clock: _,
+            place: _,
         } = self;
         (sent, received, items, answer)
     }
 
-    /// The length of its longest list, or the number of its pairs, if that is more. It takes no memory.
+    /// The length of its longest list, the number of its pairs, or 1 for its place, whichever is most. It takes no memory.
     pub(crate) fn rows(&self) -> usize
         ensures { AreWithin self.now result }
     {
-        longest(&self.sent, &self.received, self.items.len()).max(self.pairs)
+        longest(&self.sent, &self.received, self.items.len())
+            .max(self.pairs)
+            .max(1)
     }
 }
 

@@ -1,20 +1,16 @@
-ghost use Rattle.std.specs.Prelude.{◌≡◌, ◌↔◌, ℕ, [], ◌∷◌, ◌++◌, None, Some, IfOk, OnOk, IsErrOf, IsTrue, slice_get};
+ghost use Rattle.std.specs.Prelude.{◌≡◌, ◌++◌, ℕ, [], ◌∷◌, slice_get, Some, IfOk, OnOk};
 ghost use Rattle.pec_types.specs.Bytes.{Bytes};
 ghost use Rattle.pec_records.specs.declared.entries.Entry.TheVariants as entries;
-ghost use Rattle.pec_ledger.specs.Half.{ReceiptItem};
+ghost use Rattle.pec_ledger.specs.Half.{Message, ReceiptItem};
 ghost use Rattle.pec_ledger.specs.Lookups.{outcome_kind, submitter};
-ghost use Rattle.pec_ledger.specs.Own.{IsTakenPair};
+ghost use Rattle.pec_ledger.specs.OfDirectory.{recipients_named};
 ghost use Rattle.pec_ledger.specs.Pairs.{pair_of};
 ghost use Rattle.pec_ledger.specs.Steps.{placed_by};
 ghost use Rattle.pec_ledger.specs.Trade.{Trade};
-ghost use Rattle.pec_shelf.specs.Prepared.{Takes, nothing};
-ghost use Rattle.pec_shelf.specs.Seen.{IsFor};
+ghost use Rattle.pec_shelf.specs.Prepared.{AreRows, nothing};
 ghost use Rattle.pec_shelf.specs.Settled.{settled};
-ghost use Rattle.pec_shelf.specs.declared.faults.PrepareFault.TheVariants as faults;
 
-use crate::accounts::{is_among, may_decide};
-use crate::faults::PrepareFault;
-use crate::reading::{is_provider, recipients_here};
+use crate::reading::at_home;
 use crate::ready::Ready;
 use crate::receipts::receipt;
 use crate::rows::{AckedRow, ChargeRow, FateRow, KnownRow, Placed, PostedRow, TakenRow};
@@ -22,24 +18,18 @@ use crate::shelf::Shelf;
 use pec_directory::Directory;
 use pec_types::{Address, Decision, Items, Kind, Moment, MsgId, NoMemory};
 
-/// Took: the id is of a provider of the directory and was not taken, and some address of the envelope's `To` and `Cc` is
-/// at home here.
+/// Took: the addresses of the envelope that are at home here.
 pub(crate) fn took(
     shelf: &Shelf,
     directory: &Directory,
     moment: Moment,
     id: MsgId,
-    message: &[u8],
-) -> Result<Ready, PrepareFault>
-    ensures { (trade : Trade) → Takes (settled directory.now trade) shelf.now.me shelf.now.half (entries.Took moment id message.now) result }
+    named: &[Address],
+) -> Result<Ready, NoMemory>
+    ensures { (trade : Trade) (message : Bytes) → named.now ≡ recipients_named message
+        → IfOk result (AreRows (settled directory.now trade) shelf.now.me shelf.now.half (entries.Took moment id message)) }
 {
-    if !is_provider(directory, id.provider) || shelf.taken(id).is_some() {
-        return Err(PrepareFault::NotAStep);
-    }
-    let here = recipients_here(shelf.alloc, directory, shelf.me(), message)?;
-    if here.as_slice().is_empty() {
-        return Err(PrepareFault::NotAStep);
-    }
+    let here = at_home(shelf.alloc, directory, shelf.me(), named)?;
     let row = TakenRow {
         id,
         moment,
@@ -52,27 +42,17 @@ pub(crate) fn took(
     Ok(ready)
 }
 
-/// Decided: the pair was taken here and isn't decided, and the decision is the one of the table, or a virus for an account.
+/// Decided: what was decided, and the envelope where it was placed.
 pub(crate) fn decided(
     shelf: &Shelf,
-    directory: &Directory,
     moment: Moment,
     id: MsgId,
     recipient: &Address,
     decision: Decision,
-) -> Result<Ready, PrepareFault>
-    ensures { (trade : Trade) → Takes (settled directory.now trade) shelf.now.me shelf.now.half
-        (entries.Decided moment id recipient.now decision) result }
+) -> Result<Ready, NoMemory>
+    ensures { (trade : Trade)
+        → IfOk result (AreRows trade shelf.now.me shelf.now.half (entries.Decided moment id recipient.now decision)) }
 {
-    if !is_taken(shelf, id, recipient) {
-        return Err(PrepareFault::NotAStep);
-    }
-    if shelf.fate(id, recipient).is_some() {
-        return Err(PrepareFault::NotAStep);
-    }
-    if !may_decide(shelf, directory, recipient, decision) {
-        return Err(PrepareFault::NotAStep);
-    }
     let row = FateRow {
         id,
         recipient: recipient.copy(shelf.alloc)?,
@@ -84,16 +64,6 @@ pub(crate) fn decided(
     ready.push_fate(row)?;
     push_placed(shelf, &mut ready, id, recipient, decision)?;
     Ok(ready)
-}
-
-/// Whether a pair was taken here.
-fn is_taken(shelf: &Shelf, id: MsgId, recipient: &Address) -> bool
-    ensures { (trade : Trade) → IsTrue result ↔ IsTakenPair trade shelf.now.me shelf.now.half (pair_of id recipient.now) }
-{
-    match shelf.taken(id) {
-        Some(row) => is_among(recipient, row.recipients()),
-        None => false,
-    }
 }
 
 /// Adds the envelope in the recipient's mailbox, where that was decided.
@@ -122,27 +92,16 @@ fn push_placed(
     Ok(())
 }
 
-/// Charged: an accepted message of this provider, with pairs at the other one, which hasn't charged it.
-pub(crate) fn charged(
-    shelf: &Shelf,
-    moment: Moment,
-    id: MsgId,
-    by: u32,
-) -> Result<Ready, PrepareFault>
-    ensures { (trade : Trade) → IsFor trade shelf.now → Takes trade shelf.now.me shelf.now.half (entries.Charged moment id by) result }
+/// Charged: who took charge, and when.
+pub(crate) fn charged(shelf: &Shelf, moment: Moment, id: MsgId, by: u32) -> Result<Ready, NoMemory>
+    ensures { (trade : Trade) → IfOk result (AreRows trade shelf.now.me shelf.now.half (entries.Charged moment id by)) }
 {
-    if id.provider != shelf.me || shelf.charge(id, by).is_some() {
-        return Err(PrepareFault::NotAStep);
-    }
-    if !shelf.has_pairs(id.number, by) {
-        return Err(PrepareFault::NotAStep);
-    }
     let mut ready = Ready::nothing(shelf.alloc);
     ready.push_charge(ChargeRow { id, by, moment })?;
     Ok(ready)
 }
 
-/// Learned: a pair of an accepted message of this provider, whose outcome isn't known.
+/// Learned: an outcome, and the receipt of it for the account that submitted the message.
 pub(crate) fn learned(
     shelf: &Shelf,
     moment: Moment,
@@ -150,30 +109,30 @@ pub(crate) fn learned(
     recipient: &Address,
     decision: Decision,
     decided: Moment,
-) -> Result<Ready, PrepareFault>
-    ensures { (trade : Trade) (message : Bytes) → IsFor trade shelf.now → Takes trade shelf.now.me shelf.now.half
-        (entries.Learned moment id recipient.now decision decided message) result }
+) -> Result<Ready, NoMemory>
+    requires { (submitted : Message) × (slice_get shelf.now.half.messages id.number ≡ Some submitted) }
+    ensures { (trade : Trade) (message : Bytes) → IfOk result (AreRows trade shelf.now.me shelf.now.half
+        (entries.Learned moment id recipient.now decision decided message)) }
 {
-    if id.provider != shelf.me || shelf.known(id, recipient).is_some() {
-        return Err(PrepareFault::NotAStep);
-    }
-    if !shelf.has_pair(id.number, recipient) {
-        return Err(PrepareFault::NotAStep);
-    }
-    let ready = learn(shelf, moment, id, recipient, decision, decided)?;
+    let Some(account) = shelf.submitter(id.number) else {
+        unreachable!();
+    };
+    let ready = learn(shelf, account, moment, id, recipient, decision, decided)?;
     Ok(ready)
 }
 
 /// What an outcome adds.
 fn learn(
     shelf: &Shelf,
+    account: &Address,
     moment: Moment,
     id: MsgId,
     recipient: &Address,
     decision: Decision,
     decided: Moment,
-) -> Result<Ready, PrepareFault>
-    ensures rows { IfOk result (λ ready. ready ≡ record nothing {
+) -> Result<Ready, NoMemory>
+    requires { submitter shelf.now.half id.number ≡ account.now }
+    ensures { IfOk result (λ ready. ready ≡ record nothing {
       adds = record nothing.adds {
         known = record { pair = pair_of id recipient.now; decision = decision; decided = decided; moment = moment } ∷ [];
         items = record {
@@ -183,11 +142,7 @@ fn learn(
         } ∷ [];
       };
     }) }
-    ensures none { IsErrOf result faults.NotAStep → slice_get shelf.now.half.messages id.number ≡ None }
 {
-    let Some(account) = shelf.submitter(id.number) else {
-        return Err(PrepareFault::NotAStep);
-    };
     let named = recipient.copy(shelf.alloc)?;
     let item = receipt(
         shelf,
@@ -219,13 +174,11 @@ fn outcome_kind(decision: Decision) -> Kind
     }
 }
 
-/// Acked: decided here, and not acknowledged.
-pub(crate) fn acked(shelf: &Shelf, id: MsgId, recipient: &Address) -> Result<Ready, PrepareFault>
-    ensures { (trade : Trade) (moment : ℕ) → Takes trade shelf.now.me shelf.now.half (entries.Acked moment id recipient.now) result }
+/// Acked: the pair.
+pub(crate) fn acked(shelf: &Shelf, id: MsgId, recipient: &Address) -> Result<Ready, NoMemory>
+    ensures { (trade : Trade) (moment : ℕ)
+        → IfOk result (AreRows trade shelf.now.me shelf.now.half (entries.Acked moment id recipient.now)) }
 {
-    if shelf.fate(id, recipient).is_none() || shelf.is_acked(id, recipient) {
-        return Err(PrepareFault::NotAStep);
-    }
     let row = AckedRow {
         id,
         recipient: recipient.copy(shelf.alloc)?,

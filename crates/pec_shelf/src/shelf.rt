@@ -1,4 +1,4 @@
-ghost use Rattle.std.specs.Prelude.{◌≡◌, ◌+◌, ◌^◌, ◌<◌, ◌≤◌, [], map, option_map, slice_get, IfOk, OnOk};
+ghost use Rattle.std.specs.Prelude.{◌≡◌, ◌+◌, ◌^◌, ◌<◌, ◌≤◌, ◌↔◌, [], map, option_map, slice_get, IfOk, IsSome, OnOk};
 ghost use Rattle.std.specs.Option.{option_and_then};
 ghost use Rattle.pec_ledger.specs.Books.{book, mailbox_lines};
 ghost use Rattle.pec_ledger.specs.Due.{due_letters};
@@ -9,14 +9,15 @@ ghost use Rattle.pec_ledger.specs.Pairs.{pair_of};
 ghost use Rattle.pec_ledger.specs.Steps.{moment_of, size_of};
 ghost use Rattle.pec_ledger.specs.Trade.{Trade};
 ghost use Rattle.pec_shelf.specs.Looked.{Looked, LookedSo, acceptances_seen, clock_seen};
-ghost use Rattle.pec_shelf.specs.Prepared.{CameFrom, Goes, HasRoomFor, Prepares, told};
+ghost use Rattle.pec_shelf.specs.Prepared.{CameFrom, Goes, HasRoomFor, MayFollow, prepared, told};
 ghost use Rattle.pec_shelf.specs.Seen.{HoldsAs, IsFor, IsNew};
 ghost use Rattle.pec_shelf.specs.Undecided.{next_undecided};
 
 use crate::booking::book_lines;
 use crate::boxes::Boxes;
 use crate::deadlines::{Clock, Deadlines};
-use crate::faults::PrepareFault;
+use crate::drafts::Draft;
+use crate::entry_places::EntryPlaces;
 use crate::inbox::Inbox;
 use crate::outbox::Outbox;
 use crate::owing::owed;
@@ -25,7 +26,7 @@ use crate::ready::Ready;
 use crate::sizes::size_of;
 use pec_directory::Directory;
 use pec_records::Entry;
-use pec_types::{Address, BookLine, Facts, ItemLine, Letter, Mark, MsgId, NoMemory, Steps};
+use pec_types::{Address, BookLine, Facts, ItemLine, Letter, Mark, MsgId, NoMemory, Place, Steps};
 use std::alloc::Global;
 use std::marker::Model;
 
@@ -40,6 +41,7 @@ pub struct Shelf {
     pub(crate) inbox: Inbox,
     pub(crate) boxes: Boxes,
     pub(crate) deadlines: Deadlines,
+    pub(crate) places: EntryPlaces,
 }
 
 impl Model for Shelf {
@@ -67,9 +69,10 @@ impl Model for Shelf {
         items = shelf.boxes.items;
       };
       certified = certified_of_rows shelf.outbox.messages;
-      room = min shelf.outbox.room (min shelf.inbox.room (min shelf.boxes.room shelf.deadlines.room));
+      room = min shelf.outbox.room (min shelf.inbox.room (min shelf.boxes.room (min shelf.deadlines.room shelf.places.room)));
       ticked = shelf.deadlines.ticked;
       looks = shelf.deadlines.looks;
+      places = shelf.places.places;
     } };
 
     ghost invariant = { λ shelf. record {
@@ -77,6 +80,7 @@ impl Model for Shelf {
       few : length shelf.outbox.messages ≤ MESSAGES;
       full : length (pairs_in 0 shelf.outbox.messages) ≤ 1000 * length shelf.outbox.messages;
       watched : IsWatched shelf.deadlines shelf.last shelf.outbox;
+      placed : length shelf.places.places ≡ shelf.entries;
     } };
 }
 
@@ -93,6 +97,7 @@ impl Drop for Shelf {
             inbox: _,
             boxes: _,
             deadlines: _,
+            places: _,
         } = self;
     }
 }
@@ -112,33 +117,33 @@ impl Shelf {
             inbox: Inbox::new(alloc),
             boxes: Boxes::new(alloc),
             deadlines: Deadlines::new(alloc),
+            places: EntryPlaces::new(alloc),
         }
     }
 
-    /// Prepares an entry, and makes room for what it adds: nothing that is seen changes but the number of look-ups. All
-    /// entries of one shelf are prepared with one directory. A clock call looks acceptances up one by one, each of which
-    /// counts as a step.
+    /// Prepares an entry that is a step of this provider's half as what it adds. Its bytes will stand at this place. Room is
+    /// made for what it adds, and nothing that is seen changes but the number of look-ups. All entries of one shelf are prepared with one directory. A clock call looks
+    /// acceptances up one by one, each of which counts as a step.
     pub fn prepare(
         &mut self,
         directory: &Directory,
-        entry: &Entry,
+        draft: &Draft,
+        place: Place,
         steps: &mut Steps,
-    ) -> Result<Ready, PrepareFault>
-        requires { (trade : Trade) → IsOf directory.now trade → IsFor trade self.old }
-        // An entry is prepared exactly where it is a step of this provider's half, and then as what it adds.
-        ensures exact { (trade : Trade) → IsOf directory.now trade
-            → Prepares trade self.old.me self.old.half entry.now result }
+    ) -> Result<Ready, NoMemory>
+        requires homes { (trade : Trade) → IsOf directory.now trade → IsFor trade self.old }
+        requires step { MayFollow directory.now self.old draft.now }
+        ensures is { (trade : Trade) → IsOf directory.now trade
+            → IfOk result (λ ready. ready ≡ prepared trade self.old.me self.old.half draft.now place) }
+        ensures came { IfOk result (CameFrom self.new) }
         ensures room { IfOk result (HasRoomFor self.new) }
         ensures same { HoldsAs self.old self.new }
         // In a clock call at most two more look-ups than limits of pairs pass in it, and as many as pass where it is prepared.
         ensures looked { (trade : Trade) → IsOf directory.now trade
-            → Looked trade self.old entry.now self.new.looks steps.old steps.new result }
+            → Looked trade self.old draft.now self.new.looks steps.old steps.new result }
     {
-        let clock = self.look(entry, steps);
-        let ready = match self.prepared(directory, entry, clock) {
-            Ok(ready) => ready,
-            Err(fault) => return Err(fault),
-        };
+        let clock = self.look(draft.entry(), steps);
+        let ready = self.prepared(directory, draft, place, clock)?;
         self.reserve(ready.rows())?;
         Ok(ready)
     }
@@ -157,12 +162,21 @@ impl Shelf {
         self.end += ready.size;
         self.deadlines.set(ready.clock);
         let first = self.outbox.messages().len();
+        self.places.push(ready.place);
         let (sent, received, items, answer) = ready.taken_apart();
         self.deadlines.add(first, sent.messages.as_slice());
         self.outbox.add(sent);
         self.inbox.add(received);
         self.boxes.add(items);
         answer
+    }
+
+    /// Where the bytes of the entry of a number stand. It takes no memory.
+    pub fn place(&self, entry: u64) -> Option<Place>
+        ensures is { result ≡ slice_get self.now.places entry }
+        ensures there { IsSome result ↔ (entry < self.now.half.entries) }
+    {
+        self.places.get(entry)
     }
 
     /// The facts of this provider's accepted message of a number. It takes no memory.
@@ -257,29 +271,27 @@ impl Shelf {
         Some(self.deadlines.pass(*moment, steps))
     }
 
-    /// What an entry is prepared as. It is told where the cursors stand behind a clock call.
+    /// What an entry that is a step is prepared as, whose bytes will stand at this place. It is told where the cursors stand
+    /// behind a clock call.
     fn prepared(
         &self,
         directory: &Directory,
-        entry: &Entry,
+        draft: &Draft,
+        place: Place,
         clock: Option<Clock>,
-    ) -> Result<Ready, PrepareFault>
+    ) -> Result<Ready, NoMemory>
         requires homes { (trade : Trade) → IsOf directory.now trade → IsFor trade self.now }
-        requires clock { self.now.half.last ≤ moment_of entry.now → clock ≡ clock_seen (acceptances_seen self.now) entry.now }
-        ensures exact { (trade : Trade) → IsOf directory.now trade
-            → Prepares trade self.now.me self.now.half entry.now result }
+        requires step { MayFollow directory.now self.now draft.now }
+        requires clock { clock ≡ clock_seen (acceptances_seen self.now) draft.now }
+        ensures is { (trade : Trade) → IsOf directory.now trade
+            → IfOk result (λ ready. ready ≡ prepared trade self.now.me self.now.half draft.now place) }
         ensures entries { IfOk result (λ _. self.now.half.entries + 1 < 2 ^ 64) }
         ensures bytes { IfOk result (λ ready. self.now.half.end + ready.adds.size < 2 ^ 64) }
     {
-        let moment = moment_of(entry);
-        if moment < self.last() {
-            return Err(PrepareFault::NotAStep);
-        }
-        let size = self.size(entry)?;
-        match rows_of(self, directory, entry, clock) {
-            Ok(rows) => Ok(rows.with_figures(moment, size)),
-            Err(fault) => Err(fault),
-        }
+        let moment = moment_of(draft.entry());
+        let size = self.size(draft.entry())?;
+        let rows = rows_of(self, directory, draft, clock)?;
+        Ok(rows.with_figures(moment, size, place))
     }
 
     /// How many bytes longer an entry makes the journal, as long as 64 bits tell its length and its entries: no memory
@@ -305,6 +317,7 @@ impl Shelf {
         self.inbox.reserve(rows)?;
         self.boxes.reserve(rows)?;
         self.deadlines.reserve(rows)?;
+        self.places.reserve(rows)?;
         Ok(())
     }
 }

@@ -1,18 +1,16 @@
-ghost use Rattle.std.specs.Prelude.{◌≡◌, ℕ, ◌<◌, List, [], ◌∷◌, None, Some, MatchOption, IfOk, IsTrue, length};
+ghost use Rattle.std.specs.Prelude.{◌≡◌, ◌<◌, [], ◌∷◌, None, Some, IfOk, length};
 ghost use Rattle.pec_types.specs.Bytes.{Bytes};
 ghost use Rattle.pec_types.specs.declared.messages.TheConstants.{MESSAGES};
 ghost use Rattle.pec_records.specs.declared.entries.Entry.TheVariants as entries;
-ghost use Rattle.pec_directory.specs.Directory.{Kept, is_account_of, providers_of};
+ghost use Rattle.pec_directory.specs.Directory.{providers_of};
 ghost use Rattle.pec_ledger.specs.Half.{ReceiptItem};
 ghost use Rattle.pec_ledger.specs.OfDirectory.{facts_in};
-ghost use Rattle.pec_ledger.specs.Own.{IsFrom};
 ghost use Rattle.pec_ledger.specs.Pairs.{id_of};
 ghost use Rattle.pec_ledger.specs.Trade.{Trade};
-ghost use Rattle.pec_shelf.specs.Prepared.{Takes, nothing};
+ghost use Rattle.pec_shelf.specs.Prepared.{AreRows, nothing, nowhere};
 ghost use Rattle.pec_shelf.specs.Settled.{certified_among, settled};
 
-use crate::faults::PrepareFault;
-use crate::reading::{certified, facts_in};
+use crate::reading::certified;
 use crate::ready::Ready;
 use crate::receipts::receipt;
 use crate::rows::MessageRow;
@@ -21,45 +19,19 @@ use pec_directory::Directory;
 use pec_types::{Address, Cause, Facts, Items, Kind, Moment, MsgId, NoMemory};
 use std::alloc::Global;
 
-/// How many addresses a message's facts, or a path, may have.
-const MOST_ADDRESSES: usize = 1_000;
-
-/// Start: the first entry, with the provider's number and the directory's digest.
-pub(crate) fn start(
-    shelf: &Shelf,
-    directory: &Directory,
-    provider: u32,
-    digest: &[u8; 32],
-) -> Result<Ready, PrepareFault>
-    ensures { (trade : Trade) → Takes (settled directory.now trade) shelf.now.me shelf.now.half (entries.Start provider digest.now) result }
-{
-    if shelf.entries != 0 || provider != shelf.me {
-        return Err(PrepareFault::NotAStep);
-    }
-    let own = directory.digest(shelf.alloc)?;
-    if digest.as_slice() != own.as_slice() {
-        return Err(PrepareFault::NotAStep);
-    }
-    Ok(Ready::nothing(shelf.alloc))
-}
-
-/// Accepted: fewer messages than a provider may have, and the account is the sender of the facts, which have at most
-/// 1,000 recipients.
+/// Accepted: a message with its facts, and the receipt of acceptance.
 pub(crate) fn accepted(
     shelf: &Shelf,
     directory: &Directory,
     moment: Moment,
     sender: &Address,
-    message: &[u8],
-) -> Result<Ready, PrepareFault>
-    ensures { (trade : Trade) → Takes (settled directory.now trade) shelf.now.me shelf.now.half (entries.Accepted moment sender.now message.now) result }
+    facts: &Facts,
+) -> Result<Ready, NoMemory>
+    requires { length shelf.now.half.messages < MESSAGES }
+    ensures { (trade : Trade) (message : Bytes) → facts_in message ≡ Some facts.now
+        → IfOk result (AreRows (settled directory.now trade) shelf.now.me shelf.now.half (entries.Accepted moment sender.now message)) }
 {
-    let Some(id) = account_id(shelf, directory, sender) else {
-        return Err(PrepareFault::NotAStep);
-    };
-    let Some(facts) = facts_from(shelf.alloc, sender, message)? else {
-        return Err(PrepareFault::NotAStep);
-    };
+    let id = shelf.id_behind();
     let row = accepted_row(shelf, directory, moment, sender, facts)?;
     let ready = submitted(shelf, row, sender, Kind::Acceptance, id, moment)?;
     Ok(ready)
@@ -85,6 +57,7 @@ fn submitted(
       };
       certified = row.certified ∷ [];
       clock = None;
+      place = nowhere;
     }) }
 {
     let mut ready = Ready::nothing(shelf.alloc);
@@ -94,54 +67,23 @@ fn submitted(
     Ok(ready)
 }
 
-/// The facts of a message, where they are of this sender and have at most 1,000 recipients.
-#[tactic(auto, using(crate::proofs::StepLemmas::from_is))]
-fn facts_from(alloc: Global, sender: &Address, message: &[u8]) -> Result<Option<Facts>, NoMemory>
-    ensures { (kept : List Kept) (trade : Trade) (me : ℕ) → IfOk result (λ found.
-        MatchOption found (IsFrom (settled kept trade) me sender.now message.now → ⊥)
-        (λ facts. IsFrom (settled kept trade) me sender.now message.now × (facts_in message.now ≡ Some facts))) }
-{
-    let Some(facts) = facts_in(alloc, message)? else {
-        return Ok(None);
-    };
-    if facts.sender.bytes() != sender.bytes()
-        || facts.recipients.as_slice().len() > MOST_ADDRESSES
-    {
-        return Ok(None);
-    }
-    Ok(Some(facts))
-}
-
-/// The id of the next message, where an address is an account of the provider and there may be one more.
-fn account_id(shelf: &Shelf, directory: &Directory, sender: &Address) -> Option<MsgId>
-    ensures { MatchOption result
-        ((length shelf.now.half.messages < MESSAGES) × IsTrue (is_account_of (providers_of directory.now) shelf.now.me sender.now) → ⊥)
-        (λ id. (length shelf.now.half.messages < MESSAGES) × IsTrue (is_account_of (providers_of directory.now) shelf.now.me sender.now)
-        × (id ≡ id_of shelf.now.me (length shelf.now.half.messages))) }
-{
-    if !directory.is_account_of(shelf.me, sender) {
-        return None;
-    }
-    shelf.next_id()
-}
-
 fn accepted_row(
     shelf: &Shelf,
     directory: &Directory,
     moment: Moment,
     sender: &Address,
-    facts: Facts,
+    facts: &Facts,
 ) -> Result<MessageRow, NoMemory>
     ensures { IfOk result (λ row. row ≡ record {
       message = record {
         moment = moment;
         sender = sender.now;
-        facts = Some facts;
+        facts = Some facts.now;
         cause = None;
         path = [];
         entry = shelf.now.half.entries;
       };
-      certified = certified_among (providers_of directory.now) facts.recipients;
+      certified = certified_among (providers_of directory.now) facts.now.recipients;
     }) }
 {
     let recipients = certified(shelf.alloc, directory, facts.recipients.as_slice())?;
@@ -149,7 +91,7 @@ fn accepted_row(
     Ok(MessageRow {
         moment,
         sender,
-        facts: Some(facts),
+        facts: Some(facts.copy(shelf.alloc)?),
         cause: None,
         path: Items::of(Vec::new(shelf.alloc)),
         entry: shelf.entries,
@@ -157,25 +99,19 @@ fn accepted_row(
     })
 }
 
-/// NotAccepted: fewer messages than a provider may have, the account is one of the provider, and the path has 1 to 1,000
-/// addresses.
+/// NotAccepted: a message without facts, and the receipt that says why.
 pub(crate) fn not_accepted(
     shelf: &Shelf,
-    directory: &Directory,
     moment: Moment,
     sender: &Address,
     cause: Cause,
     path: &[Address],
-) -> Result<Ready, PrepareFault>
-    ensures { (trade : Trade) (message : Bytes) → Takes (settled directory.now trade) shelf.now.me shelf.now.half
-        (entries.NotAccepted moment sender.now cause path.now message) result }
+) -> Result<Ready, NoMemory>
+    requires { length shelf.now.half.messages < MESSAGES }
+    ensures { (trade : Trade) (message : Bytes) → IfOk result (AreRows trade shelf.now.me shelf.now.half
+        (entries.NotAccepted moment sender.now cause path.now message)) }
 {
-    let Some(id) = account_id(shelf, directory, sender) else {
-        return Err(PrepareFault::NotAStep);
-    };
-    if path.is_empty() || path.len() > MOST_ADDRESSES {
-        return Err(PrepareFault::NotAStep);
-    }
+    let id = shelf.id_behind();
     let row = refused_row(shelf, moment, sender, cause, path)?;
     let ready = submitted(shelf, row, sender, Kind::NonAcceptance(cause), id, moment)?;
     Ok(ready)

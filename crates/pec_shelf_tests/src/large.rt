@@ -1,4 +1,5 @@
 //! Many open pairs: clock calls in which nothing is due pass them by, and the one in which all are warned finds each.
+//! The place of each entry is kept.
 
 use crate::lines::Log;
 use crate::playing::Desk;
@@ -35,7 +36,8 @@ fn clock_calls_pass_many_open_pairs_by(rt: HostRuntime) -> Result<(), Fail> {
     }
     accept_all(rt.alloc(), &mut desk)?;
     tick_often(&mut desk)?;
-    warn_all(&mut desk)
+    warn_all(&mut desk)?;
+    places_are_kept(&desk)
 }
 
 /// Takes the messages in: none has marks.
@@ -43,7 +45,7 @@ fn accept_all(alloc: Global, desk: &mut Desk) -> Result<(), Fail> {
     let message = message_of(alloc)?;
     for _ in 0..OPEN {
         let entry = accepted(alloc, &message)?;
-        if marks_of(desk, &entry)? != 0 {
+        if marks_of(desk, entry)? != 0 {
             return Err("marks of a message".into());
         }
     }
@@ -97,9 +99,8 @@ fn before(number: usize) -> &'static [u8] {
 
 /// Clock calls in which nothing is due.
 fn tick_often(desk: &mut Desk) -> Result<(), Fail> {
-    let entry = ticked(QUIET)?;
     for _ in 0..CALLS {
-        if marks_of(desk, &entry)? != 0 {
+        if marks_of(desk, ticked(QUIET)?)? != 0 {
             return Err("marks before the time".into());
         }
     }
@@ -108,8 +109,7 @@ fn tick_often(desk: &mut Desk) -> Result<(), Fail> {
 
 /// The clock call in which each pair is warned.
 fn warn_all(desk: &mut Desk) -> Result<(), Fail> {
-    let entry = ticked(WARNED)?;
-    let Some(marks) = desk.taken_in(&entry)? else {
+    let Some(marks) = desk.taken_in(ticked(WARNED)?)? else {
         return Err("no step".into());
     };
     if marks.len() != OPEN * RECIPIENTS || !are_warnings(&marks) {
@@ -134,8 +134,22 @@ fn ticked(seconds: u64) -> Result<Entry, Fail> {
     Ok(Entry::Ticked { moment })
 }
 
+/// Each entry has the place with which it was taken in, from the first to the last.
+fn places_are_kept(desk: &Desk) -> Result<(), Fail> {
+    let last = (OPEN + CALLS) as u64 + 1;
+    for number in [0, 1, OPEN as u64, last] {
+        if !desk.has_place(number) {
+            return Err("another place".into());
+        }
+    }
+    if !desk.has_no_place(last + 1) {
+        return Err("a place of no entry".into());
+    }
+    Ok(())
+}
+
 /// How many marks an entry has, which has to be a step.
-fn marks_of(desk: &mut Desk, entry: &Entry) -> Result<usize, Fail> {
+fn marks_of(desk: &mut Desk, entry: Entry) -> Result<usize, Fail> {
     match desk.taken_in(entry)? {
         Some(marks) => Ok(marks.len()),
         None => Err("no step".into()),

@@ -10,9 +10,9 @@ use crate::steps::{Act, Id, Question, Step, address_of, entry_of, id_of};
 use pec_directory::Directory;
 use pec_records::Entry;
 use pec_script::{book_text, items_text, marks_text};
-use pec_shelf::{PrepareFault, Shelf, a_directory_has_a_trade, what_is_kept_goes_on};
+use pec_shelf::{DraftFault, Shelf, a_directory_has_a_trade, drafted, what_is_kept_goes_on};
 use pec_trial::two;
-use pec_types::{Address, Mark, NoMemory, Steps};
+use pec_types::{Address, Mark, NoMemory, Place, Steps};
 use std::alloc::Global;
 use std::test::Fail;
 
@@ -22,6 +22,8 @@ pub(crate) struct Desk {
     alloc: Global,
     directory: Directory,
     shelf: Shelf,
+    // How many entries were taken in.
+    taken: u64,
     ghost homes: { (trade : Trade) → IsOf directory trade → IsFor trade shelf },
 }
 
@@ -31,6 +33,7 @@ impl Drop for Desk {
             alloc: _,
             directory: _,
             shelf: _,
+            taken: _,
         } = self;
     }
 }
@@ -43,6 +46,7 @@ impl Desk {
             alloc,
             directory,
             shelf: Shelf::new(alloc, me),
+            taken: 0,
         })
     }
 
@@ -72,12 +76,12 @@ impl Desk {
 
     fn enter(&mut self, log: &mut Log, moment: u64, act: &Act) {
         match entry_of(self.alloc, moment, act) {
-            Some(entry) => self.take_in(log, act, &entry),
+            Some(entry) => self.take_in(log, act, entry),
             None => log.fail(),
         }
     }
 
-    fn take_in(&mut self, log: &mut Log, act: &Act, entry: &Entry) {
+    fn take_in(&mut self, log: &mut Log, act: &Act, entry: Entry) {
         match self.taken_in(entry) {
             Ok(Some(marks)) => self.add_marks(log, act, &marks),
             Ok(None) => log.put(b"not-a-step\n"),
@@ -91,16 +95,31 @@ impl Desk {
         }
     }
 
-    /// The marks of an entry, where it is a step.
-    pub(crate) fn taken_in(&mut self, entry: &Entry) -> Result<Option<Vec<Mark>>, NoMemory> {
+    /// The marks of an entry, where it is a step. Its place is that of its number.
+    pub(crate) fn taken_in(&mut self, entry: Entry) -> Result<Option<Vec<Mark>>, NoMemory> {
         a_directory_has_a_trade();
         what_is_kept_goes_on();
-        let mut steps = Steps::new();
-        match self.shelf.prepare(&self.directory, entry, &mut steps) {
-            Ok(ready) => Ok(Some(self.shelf.commit(ready))),
-            Err(PrepareFault::NotAStep) => Ok(None),
-            Err(PrepareFault::NoMemory) => Err(NoMemory),
-        }
+        let draft = match drafted(&self.shelf, &self.directory, entry) {
+            Ok(draft) => draft,
+            Err(DraftFault::NotAStep) => return Ok(None),
+            Err(DraftFault::NoMemory) => return Err(NoMemory),
+        };
+        let place = place_of(self.taken);
+        let ready = self
+            .shelf
+            .prepare(&self.directory, &draft, place, &mut Steps::new())?;
+        self.taken = self.taken.saturating_add(1);
+        Ok(Some(self.shelf.commit(ready)))
+    }
+
+    /// The shelf keeps the place of the entry of a number.
+    pub(crate) fn has_place(&self, number: u64) -> bool {
+        self.shelf.place(number) == Some(place_of(number))
+    }
+
+    /// The shelf keeps no place for the entry of a number.
+    pub(crate) fn has_no_place(&self, number: u64) -> bool {
+        self.shelf.place(number).is_none()
     }
 
     fn answer(&self, log: &mut Log, question: &Question) {
@@ -186,6 +205,14 @@ impl Desk {
             Some(row) => add_row(log, row),
             None => log.add_nothing(),
         }
+    }
+}
+
+/// A place that is no other entry's.
+fn place_of(number: u64) -> Place {
+    Place {
+        at: number,
+        length: 1,
     }
 }
 

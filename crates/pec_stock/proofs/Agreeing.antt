@@ -1,12 +1,15 @@
 -- How a shelf and entries over a disk that agree go on: nothing changes, an append fails, or an entry comes.
-use Rattle.std.proofs.Common.{◌≡◌, ℕ, ◌+◌, ◌<◌, ◌≤◌, Bool, true, false, List, [], ◌∷◌, ◌++◌, fold, refl, sym, ap, subst, ◌∙◌, arith, Option, Some, None}
+use Rattle.std.proofs.Common.{◌≡◌, ℕ, ◌+◌, ◌<◌, ◌≤◌, Bool, true, false, List, [], ◌∷◌, ◌++◌, fold, map, refl, sym, ap, subst, ◌∙◌, arith, Option, Some, None}
 use Rattle.std.proofs.lemmas.Bool.{false≢true}
 use Rattle.std.proofs.lemmas.List.{append-nil}
 use Rattle.std.proofs.lemmas.List.Sums.{fold-append}
 use Rattle.pec_types.specs.declared.moments.TheConstants.{END_OF_TIME}
 use Rattle.pec_types.specs.declared.turns.ProviderFault.{ProviderFault}
 use Rattle.pec_types.specs.declared.turns.ProviderFault.TheVariants as faults
+use Rattle.pec_types.specs.declared.places.Place.{Place}
 use Rattle.pec_directory.specs.Directory.{Kept}
+use Rattle.pec_journal.specs.JournalFile.{places_of}
+use Rattle.pec_records.specs.Entry.{entry_text}
 use Rattle.pec_records.specs.declared.entries.Entry.{Entry}
 use Rattle.pec_records.specs.declared.entries.Entry.TheVariants as entries
 use Rattle.pec_ledger.specs.Along.{AllAlong}
@@ -39,6 +42,7 @@ holds_still kept old new entries holds same = record {
   homes = λ trade of. rw (same.1, same.2) (holds.homes trade of);
   in_range = rw same.1 holds.in_range;
   ticked = same.3 ∙ holds.ticked;
+  places = same.4 ∙ holds.places;
 }
 
 -- the last clock call behind one entry more
@@ -59,18 +63,21 @@ tick_behind trade half last (entries.Ticked moment) = refl
 tick_behind trade half last (entries.Anomaly moment accounts message) = refl
 
 -- the shelf took in what an entry was prepared as
-pub holds_more : (kept : List Kept) (old new : Seen) (entries : List Entry) (entry : Entry) (some : Trade)
+pub holds_more : (kept : List Kept) (old new : Seen) (entries : List Entry) (entry : Entry) (place : Place) (some : Trade)
     → Holds kept old entries → IsOf kept some
-    → ((trade : Trade) → IsOf kept trade → Goes old new (prepared trade old.me old.half entry))
-    → ((trade : Trade) → Goes old new (prepared trade old.me old.half entry) → new.half ≡ step trade old.me old.half entry)
-    → ((trade : Trade) → IsFor trade old → Goes old new (prepared trade old.me old.half entry) → IsFor trade new)
-    → moment_of entry < END_OF_TIME → Holds kept new (with_entry entries entry)
-holds_more kept old new entries entry some holds of goes halves homes in_range = record {
+    → ((trade : Trade) → IsOf kept trade → Goes old new (prepared trade old.me old.half entry place))
+    → ((trade : Trade) → Goes old new (prepared trade old.me old.half entry place) → new.half ≡ step trade old.me old.half entry)
+    → ((trade : Trade) → IsFor trade old → Goes old new (prepared trade old.me old.half entry place) → IsFor trade new)
+    → moment_of entry < END_OF_TIME
+    → places_of (map entry_text (with_entry entries entry)) ≡ places_of (map entry_text entries) ++ place ∷ []
+    → Holds kept new (with_entry entries entry)
+holds_more kept old new entries entry place some holds of goes halves homes in_range stands = record {
   is_half = λ trade is. rw (goes trade is).me
       (halves trade (goes trade is) ∙ ap (λ (h : Half). step trade old.me h entry) (holds.is_half trade is) ∙ sym (half_push trade old.me entries entry));
   homes = λ trade is. homes trade (holds.homes trade is) (goes trade is);
   in_range = subst (λ (h : Half). h.last < END_OF_TIME) (sym (goes some of).half) (omega (arith, holds.in_range, in_range));
   ticked = (goes some of).ticked ∙ tick_behind some old.half old.ticked entry ∙ ap (λ (n : ℕ). ticked_by n entry) holds.ticked ∙ sym (tick_push entries entry);
+  places = (goes some of).places ∙ ap (λ (l : List Place). l ++ place ∷ []) holds.places ∙ sym stands;
 }
 
 -- room was made before
@@ -80,6 +87,7 @@ goes_from old between new ready same goes = record {
   half = goes.half ∙ ap (λ (h : Half). joined h ready.adds) same.1;
   certified = goes.certified ∙ ap (λ (c : List (List Certified)). c ++ ready.certified) same.2;
   ticked = goes.ticked ∙ ap (λ (n : ℕ). ticked_behind n ready.clock) same.3;
+  places = goes.places ∙ ap (λ (l : List Place). l ++ ready.place ∷ []) same.4;
 }
 
 -- ---- the provider's own entries
@@ -184,18 +192,20 @@ module _ {D : Type 0} (kept : List Kept) (old new : ChronicleState D) (before af
     agree_failed faults.NoMemory same holds = agree_still same holds
 
     -- the shelf took in what the entry was prepared as, with room made before
-    pub agree_taken : (ready : Prepared) (between : Seen) (some : Trade) → IsOf kept some → HoldsAs before between → Goes between after ready
-        → ((trade : Trade) → IsOf kept trade → ready ≡ prepared trade before.me before.half entry)
-        → ((trade : Trade) (s t : Seen) (e : Entry) → Goes s t (prepared trade s.me s.half e) → t.half ≡ step trade s.me s.half e)
-        → ((trade : Trade) (s t : Seen) (e : Entry) → IsFor trade s → Goes s t (prepared trade s.me s.half e) → IsFor trade t)
-        → moment_of entry < END_OF_TIME → Entered old new entry → Agree kept new after
-    agree_taken ready between some of same goes prepares halves homes in_range came =
+    pub agree_taken : (ready : Prepared) (between : Seen) (place : Place) (some : Trade) → IsOf kept some → HoldsAs before between → Goes between after ready
+        → ((trade : Trade) → IsOf kept trade → ready ≡ prepared trade before.me before.half entry place)
+        → ((trade : Trade) (s t : Seen) (e : Entry) (p : Place) → Goes s t (prepared trade s.me s.half e p) → t.half ≡ step trade s.me s.half e)
+        → ((trade : Trade) (s t : Seen) (e : Entry) (p : Place) → IsFor trade s → Goes s t (prepared trade s.me s.half e p) → IsFor trade t)
+        → moment_of entry < END_OF_TIME
+        → places_of (map entry_text (with_entry old.entries entry)) ≡ places_of (map entry_text old.entries) ++ place ∷ []
+        → Entered old new entry → Agree kept new after
+    agree_taken ready between place some of same goes prepares halves homes in_range stands came =
         let went = goes_from before between after ready same goes in
-        let went_so : (trade : Trade) → IsOf kept trade → Goes before after (prepared trade before.me before.half entry) =
+        let went_so : (trade : Trade) → IsOf kept trade → Goes before after (prepared trade before.me before.half entry place) =
         λ trade is. subst (Goes before after) (prepares trade is) went in
         agree_more came
-        (holds_more kept before after old.entries entry some agree.holds of went_so
-        (λ trade goes. halves trade before after entry goes) (λ trade for goes. homes trade before after entry for goes) in_range)
+        (holds_more kept before after old.entries entry place some agree.holds of went_so
+        (λ trade goes. halves trade before after entry place goes) (λ trade for goes. homes trade before after entry place for goes) in_range stands)
         (went_so some of).me (ap (λ (h : Half). h.end) (went_so some of).half)
 
 -- ---- room is made

@@ -15,20 +15,20 @@ use Rattle.pec_ledger.specs.OfDirectory.{IsOf}
 use Rattle.pec_ledger.specs.Steps.{half, size_of, step}
 use Rattle.pec_ledger.specs.Trade.{Trade}
 use Rattle.pec_chronicle.specs.Chronicle.{ChronicleState}
-use Rattle.pec_shelf.specs.Prepared.{IsStep, Prepares}
+use Rattle.pec_shelf.specs.Prepared.{Drafts, IsStep}
 use Rattle.pec_shelf.specs.Seen.{IsNew, Seen}
-use Rattle.pec_shelf.specs.declared.faults.PrepareFault.{PrepareFault}
-use Rattle.pec_shelf.specs.declared.faults.PrepareFault.TheVariants as preparing
+use Rattle.pec_shelf.specs.declared.faults.DraftFault.{DraftFault}
+use Rattle.pec_shelf.specs.declared.faults.DraftFault.TheVariants as drafting
 use Rattle.pec_stock.specs.Stock.{Agree, Holds, IsOwn}
 
 -- the faults of two answers are one where the answers are
-pub same_fault : {A : Type 0} (a b : PrepareFault) → ◌≡◌ {A = Result A PrepareFault} (Err a) (Err b) → a ≡ b
-same_fault {A} a b e = same_Some a b (ap (λ (r : Result A PrepareFault). result_err r) e)
+pub same_fault : {A : Type 0} (a b : DraftFault) → ◌≡◌ {A = Result A DraftFault} (Err a) (Err b) → a ≡ b
+same_fault {A} a b e = same_Some a b (ap (λ (r : Result A DraftFault). result_err r) e)
 
--- what isn't prepared is no step
-pub not_a_step : (trade : Trade) (me : ℕ) (h : Half) (entry : Entry) (fault : PrepareFault) → Prepares trade me h entry (Err fault)
-    → fault ≡ preparing.NotAStep → IsStep trade me h entry → ⊥
-not_a_step trade me h entry fault prepares is = subst (λ (f : PrepareFault). Prepares trade me h entry (Err f)) is prepares
+-- what isn't drafted is no step
+pub not_a_step : (trade : Trade) (me : ℕ) (h : Half) (entry : Entry) (fault : DraftFault) → Drafts trade me h entry (Err fault)
+    → fault ≡ drafting.NotAStep → IsStep trade me h entry → ⊥
+not_a_step trade me h entry fault drafts is = subst (λ (f : DraftFault). Drafts trade me h entry (Err f)) is drafts
 
 -- a new shelf has no entries
 pub holds_new : (kept : List Kept) (me : ℕ) (shelf : Seen) → IsNew me shelf → Holds kept shelf []
@@ -38,6 +38,7 @@ holds_new kept me shelf new = record {
   homes = λ trade of. rw (new.1, new.2) refl;
   in_range = rw new.1 (omega arith);
   ticked = new.3;
+  places = new.4;
 }
 
 module _ (kept : List Kept) (me : ℕ) (shelf : Seen) (new : IsNew me shelf) (trade : Trade) (of : IsOf kept trade) (digest : Bytes)

@@ -3,3 +3,5 @@ pub mod BeginningLemmas
 pub mod CarryLemmas
 pub mod LookLemmas
 pub mod OpeningLemmas
+pub mod PlaceLemmas
+pub mod WorldLemmas

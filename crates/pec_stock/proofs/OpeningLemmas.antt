@@ -1,16 +1,14 @@
 -- Why a journal that is opened again is refused, and that a provider's own never is.
-use Rattle.std.proofs.Common.{◌≡◌, ℕ, zero, suc, ◌+◌, ◌<◌, ◌⊎◌, Bool, true, false, not, List, [], ◌∷◌, ◌++◌, length, map, fold, take, get_or, inl, inr, refl, sym, ap, subst, ◌∙◌, arith, Some, Result, Ok, Err, length-append}
+use Rattle.std.proofs.Common.{◌≡◌, ℕ, zero, suc, ◌+◌, ◌<◌, ◌⊎◌, Bool, true, false, not, List, [], ◌∷◌, ◌++◌, length, map, fold, take, get_or, inl, inr, refl, sym, ap, subst, ◌∙◌, arith, Some, Result, Ok, Err}
 use Rattle.std.specs.Prelude.{◌≢◌, IfErr, slice_get}
 use Rattle.std.specs.Str.{bytes_eq}
 use Rattle.std.proofs.lemmas.Bool.{false≢true}
 use Rattle.std.proofs.lemmas.List.{take_more}
 use Rattle.std.proofs.lemmas.Slice.Eq.{bytes_eq-Decides}
-use Rattle.std.specs.List.{flat_map}
-use Rattle.std.specs.Int.{w32, to_be_bytes}
 use Rattle.std.proofs.lemmas.List.{append-nil}
 use Rattle.std.proofs.lemmas.Option.{none-some, same_Some}
 use Rattle.pec_types.specs.Bytes.{Bytes}
-use Rattle.pec_journal.specs.JournalFile.{IsBroken, IsFile, framed, front, header, open_gate}
+use Rattle.pec_journal.specs.JournalFile.{IsBroken, IsFile, front}
 use Rattle.pec_records.specs.Entry.{entry_text}
 use Rattle.pec_records.specs.declared.entries.Entry.{Entry}
 use Rattle.pec_records.specs.declared.entries.Entry.TheVariants as entries
@@ -18,7 +16,7 @@ use Rattle.pec_directory.specs.Directory.{Kept}
 use Rattle.pec_ledger.specs.Along.{AllAlong}
 use Rattle.pec_ledger.specs.Half.{Half, empty}
 use Rattle.pec_ledger.specs.OfDirectory.{IsOf}
-use Rattle.pec_ledger.specs.Steps.{half, size_of, step}
+use Rattle.pec_ledger.specs.Steps.{half, step}
 use Rattle.pec_ledger.specs.Trade.{Trade}
 use Rattle.pec_chronicle.specs.Carrying.{with_entry}
 use Rattle.pec_chronicle.specs.declared.faults.OpenFault.{OpenFault}
@@ -32,28 +30,7 @@ use Rattle.pec_stock.specs.Opening.{IsBad, IsElsewhere, IsHere, IsOutside, IsUnf
 use Rattle.pec_stock.specs.Stock.{Holds, IsOwn}
 use Rattle.pec_stock.specs.Stocking.{AllSteps}
 use Rattle.pec_stock.proofs.Agreeing.{steps_push}
-
--- ---- where a journal ends
-
-behind_gates : List Bytes → List ℕ
-behind_gates texts = flat_map (λ (text : Bytes). open_gate ∷ framed text) texts
-
-end_from : (trade : Trade) (me : ℕ) (from : Half) (list : List Entry)
-    → (fold (step trade me) from list).end ≡ from.end + length (behind_gates (map entry_text list))
-unfolding behind_gates step size_of
-end_from trade me from [] = omega arith
-end_from trade me from (e ∷ es) =
-    let rest : (fold (step trade me) (step trade me from e) es).end
-    ≡ (from.end + (5 + length (entry_text e))) + length (flat_map (λ (text : Bytes). open_gate ∷ framed text) (map entry_text es)) =
-    end_from trade me (step trade me from e) es in
-    let parts = length-append (to_be_bytes w32 (length (entry_text e))) (entry_text e) in
-    let all = length-append (framed (entry_text e)) (flat_map (λ (text : Bytes). open_gate ∷ framed text) (map entry_text es)) in
-    omega (arith, rest, parts, all)
-
--- it ends where its half says
-pub end_is : (trade : Trade) (me : ℕ) (list : List Entry) → (half trade me list).end ≡ length (front (map entry_text list))
-unfolding half behind_gates
-end_is trade me list = end_from trade me empty list ∙ sym (length-append header (flat_map (λ (text : Bytes). open_gate ∷ framed text) (map entry_text list)))
+use Rattle.pec_stock.proofs.PlaceLemmas.{end_is}
 
 -- ---- a provider's own entries
 

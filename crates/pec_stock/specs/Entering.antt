@@ -13,14 +13,8 @@ use Rattle.pec_ledger.specs.Trade.{Trade}
 use Rattle.pec_plays.specs.Steps.{longest_journal}
 use Rattle.pec_chronicle.specs.Carrying.{with_entry}
 use Rattle.pec_chronicle.specs.Chronicle.{ChronicleState}
-use Rattle.pec_shelf.specs.Prepared.{IsStep, told}
+use Rattle.pec_shelf.specs.Prepared.{told}
 use Rattle.pec_shelf.specs.Seen.{Seen}
-
--- The entry is a step of the half, in some world of the directory.
-pub record Steps (kept : List Kept) (shelf : Seen) (entry : Entry) : Type 0 where
-  pub trade : Trade
-  pub of : IsOf kept trade
-  pub step : IsStep trade shelf.me shelf.half entry
 
 -- a journal with this half has no room for an entry
 abbrev pub is_full : Half → Entry → Bool

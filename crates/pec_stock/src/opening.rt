@@ -4,26 +4,26 @@ ghost use Rattle.pec_outside.specs.Flow.{HasRisen};
 ghost use Rattle.pec_directory.specs.Canonical.{digest_of};
 ghost use Rattle.pec_directory.specs.Directory.{providers_of};
 ghost use Rattle.pec_journal.specs.JournalFile.{front};
-ghost use Rattle.pec_records.specs.Entry.{entry_text};
+ghost use Rattle.pec_records.specs.Entry.{IsWithinLimits, entry_text};
 ghost use Rattle.pec_records.specs.declared.entries.Entry.{Entry as SomeEntry};
 ghost use Rattle.pec_records.specs.declared.entries.Entry.TheVariants as entries;
 ghost use Rattle.pec_ledger.specs.Ledger.{Begins};
 ghost use Rattle.pec_ledger.specs.OfDirectory.{IsOf};
 ghost use Rattle.pec_ledger.specs.Trade.{Trade};
-ghost use Rattle.pec_chronicle.specs.Chronicle.{IsJournalOf, Stands};
+ghost use Rattle.pec_chronicle.specs.Chronicle.{AreSized, IsJournalOf, Stands};
 ghost use Rattle.pec_chronicle.specs.declared.faults.CreateFault.TheVariants as create;
 ghost use Rattle.pec_stock.specs.Opening.{CutOff, IsHere, IsOutside, IsUnfit, NotOwn, WhyNot};
 ghost use Rattle.pec_stock.specs.Stock.{Agree, Holds, IsOwn, size_made};
 ghost use Rattle.pec_stock.specs.declared.faults.ReopenFault.TheVariants as reopen;
 
 use crate::faults::ReopenFault;
-use crate::stocking::{take_all, take_in};
+use crate::stocking::{put_in, take_all};
 use pec_chronicle::{Chronicle, CreateFault, OpenFault, Unopened};
 use pec_directory::Directory;
 use pec_outside::Disk;
-use pec_records::Entry;
-use pec_shelf::{PrepareFault, Shelf, a_directory_has_a_trade};
-use pec_types::NoMemory;
+use pec_records::{Entry, an_entry_within_the_limits_is_short, encode};
+use pec_shelf::{Draft, DraftFault, Shelf, a_directory_has_a_trade};
+use pec_types::{NoMemory, Place};
 use std::alloc::Global;
 
 /// The stock of a provider on an empty disk: its journal is made, with its Start. A crash during the call may leave a disk
@@ -57,7 +57,7 @@ pub fn begin<D: Disk>(
 {
     a_directory_has_a_trade();
     match started(alloc, directory, me) {
-        Ok((start, shelf)) => match Chronicle::create(alloc, disk, &start) {
+        Ok((start, shelf)) => match Chronicle::create(alloc, disk, start.entry()) {
             Ok(chronicle) => Ok((chronicle, shelf)),
             Err(fault) => Err(fault),
         },
@@ -66,7 +66,7 @@ pub fn begin<D: Disk>(
 }
 
 /// The first entry of a provider's journal, and the half behind it.
-fn started(alloc: Global, directory: &Directory, me: u32) -> Result<(Entry, Shelf), NoMemory>
+fn started(alloc: Global, directory: &Directory, me: u32) -> Result<(Draft, Shelf), NoMemory>
     ensures start { IfOk result (λ made. made.0 ≡ entries.Start me (digest_of (providers_of directory.now))) }
     ensures me { IfOk result (λ made. made.1.me ≡ me) }
     ensures holds { IfOk result (λ made. Holds directory.now made.1 (made.0 ∷ [])) }
@@ -74,16 +74,24 @@ fn started(alloc: Global, directory: &Directory, me: u32) -> Result<(Entry, Shel
 {
     a_directory_has_a_trade();
     let digest = directory.digest(alloc)?;
-    let start = Entry::Start {
+    let start = Draft::plain(Entry::Start {
         provider: me,
         digest,
-    };
+    });
+    let size = text_size(alloc, start.entry())?;
     let mut shelf = Shelf::new(alloc, me);
-    match take_in(&mut shelf, directory, &start) {
-        Ok(()) => Ok((start, shelf)),
-        Err(PrepareFault::NoMemory) => Err(NoMemory),
-        Err(PrepareFault::NotAStep) => unreachable!(),
-    }
+    put_in(&mut shelf, directory, &start, size)?;
+    Ok((start, shelf))
+}
+
+/// How many bytes an entry is in a journal.
+fn text_size(alloc: Global, entry: &Entry) -> Result<u32, NoMemory>
+    requires { IsWithinLimits entry.now }
+    ensures { IfOk result (λ size. size ≡ length (entry_text entry.now)) }
+{
+    an_entry_within_the_limits_is_short();
+    let bytes = encode(alloc, entry)?;
+    Ok(bytes.len() as u32)
 }
 
 /// The stock of a provider over the journal on a disk, which is first made durable as it reads. It writes nothing, reads
@@ -109,7 +117,9 @@ pub fn open<D: Disk>(
 {
     a_directory_has_a_trade();
     match Chronicle::reopen(alloc, disk) {
-        Ok((chronicle, entries)) => opened(alloc, directory, me, chronicle, &entries),
+        Ok((chronicle, entries, places)) => {
+            opened(alloc, directory, me, chronicle, entries, &places)
+        }
         Err(unopened) => Err(refused(alloc, directory, me, unopened)),
     }
 }
@@ -120,18 +130,20 @@ fn opened<D>(
     directory: &Directory,
     me: u32,
     chronicle: Chronicle<D>,
-    entries: &[Entry],
+    entries: Vec<Entry>,
+    places: &[Place],
 ) -> Result<(Chronicle<D>, Shelf), (ReopenFault, D)>
-    requires entries { chronicle.entries ≡ entries.now }
+    requires entries { chronicle.entries ≡ entries.items }
+    requires sized { AreSized entries.items places.now }
     requires up { (chronicle.down ≡ false) × (chronicle.interrupted ≡ None) }
     ensures same { IfOk result (λ made. made.0 ≡ chronicle) }
     ensures disk { IfErr result (λ refused. refused.1 ≡ chronicle.disk) }
     ensures agree { IfOk result (λ made. (made.1.me ≡ me) × Agree directory.now made.0 made.1) }
-    ensures not_own { chronicle.end ≡ length (front (map entry_text entries.now)) → (trade : Trade) → IsOf directory.now trade
-        → IfErr result (λ refused. NotOwn trade me entries.now refused.0) }
+    ensures not_own { chronicle.end ≡ length (front (map entry_text entries.items)) → (trade : Trade) → IsOf directory.now trade
+        → IfErr result (λ refused. NotOwn trade me entries.items refused.0) }
     ensures no_disk_fault { IfErr result (λ refused. refused.0 ≢ reopen.DiskFault) }
 {
-    match whole(alloc, directory, me, chronicle.end(), entries) {
+    match whole(alloc, directory, me, chronicle.end(), entries, places) {
         Ok(shelf) => Ok((chronicle, shelf)),
         Err(fault) => Err((fault, chronicle.into_parts().0)),
     }
@@ -143,18 +155,20 @@ pub(crate) fn whole(
     directory: &Directory,
     me: u32,
     end: u64,
-    entries: &[Entry],
+    entries: Vec<Entry>,
+    places: &[Place],
 ) -> Result<Shelf, ReopenFault>
+    requires { AreSized entries.items places.now }
     ensures me { IfOk result (λ shelf. shelf.me ≡ me) }
-    ensures holds { IfOk result (λ shelf. Holds directory.now shelf entries.now) }
+    ensures holds { IfOk result (λ shelf. Holds directory.now shelf entries.items) }
     ensures ends { IfOk result (λ shelf. end ≡ shelf.half.end) }
-    ensures own { (trade : Trade) → IsOf directory.now trade → OnOk result (IsOwn trade me entries.now) }
-    ensures not_own { end ≡ length (front (map entry_text entries.now)) → (trade : Trade) → IsOf directory.now trade
-        → IfErr result (NotOwn trade me entries.now) }
+    ensures own { (trade : Trade) → IsOf directory.now trade → OnOk result (IsOwn trade me entries.items) }
+    ensures not_own { end ≡ length (front (map entry_text entries.items)) → (trade : Trade) → IsOf directory.now trade
+        → IfErr result (NotOwn trade me entries.items) }
     ensures no_disk_fault { IfErr result (λ fault. fault ≢ reopen.DiskFault) }
 {
     a_directory_has_a_trade();
-    let shelf = match judge(alloc, directory, me, entries) {
+    let shelf = match judge(alloc, directory, me, entries, places) {
         Ok(shelf) => shelf,
         Err(fault) => return Err(fault),
     };
@@ -172,15 +186,17 @@ fn refused<D>(
     me: u32,
     unopened: Unopened<D>,
 ) -> (ReopenFault, D)
+    requires { AreSized unopened.entries.items unopened.places.items }
     ensures why { WhyNot directory.now me unopened.fault unopened.entries.items result.0 }
     ensures disk { result.1 ≡ unopened.disk }
 {
     let Unopened {
         fault,
         entries,
+        places,
         disk,
     } = unopened;
-    (why(alloc, directory, me, fault, &entries), disk)
+    (why(alloc, directory, me, fault, entries, &places), disk)
 }
 
 fn why(
@@ -188,14 +204,16 @@ fn why(
     directory: &Directory,
     me: u32,
     fault: OpenFault,
-    entries: &[Entry],
+    entries: Vec<Entry>,
+    places: &[Place],
 ) -> ReopenFault
-    ensures { WhyNot directory.now me fault entries.now result }
+    requires { AreSized entries.items places.now }
+    ensures { WhyNot directory.now me fault entries.items result }
 {
     match fault {
         OpenFault::DiskFault => ReopenFault::DiskFault,
         OpenFault::NotAJournal(place) => ReopenFault::NotAJournal(place),
-        OpenFault::BadEntry(number) => cut_off(alloc, directory, me, entries, number),
+        OpenFault::BadEntry(number) => cut_off(alloc, directory, me, entries, places, number),
         OpenFault::NoMemory => ReopenFault::NoMemory,
     }
 }
@@ -205,12 +223,14 @@ fn cut_off(
     alloc: Global,
     directory: &Directory,
     me: u32,
-    entries: &[Entry],
+    entries: Vec<Entry>,
+    places: &[Place],
     number: u64,
 ) -> ReopenFault
-    ensures { CutOff directory.now me number entries.now result }
+    requires { AreSized entries.items places.now }
+    ensures { CutOff directory.now me number entries.items result }
 {
-    match judge(alloc, directory, me, entries) {
+    match judge(alloc, directory, me, entries, places) {
         Ok(_) => ReopenFault::BadEntry(number),
         Err(fault) => fault,
     }
@@ -221,21 +241,23 @@ fn judge(
     alloc: Global,
     directory: &Directory,
     me: u32,
-    entries: &[Entry],
+    entries: Vec<Entry>,
+    places: &[Place],
 ) -> Result<Shelf, ReopenFault>
+    requires { AreSized entries.items places.now }
     ensures me { IfOk result (λ shelf. shelf.me ≡ me) }
-    ensures holds { IfOk result (λ shelf. Holds directory.now shelf entries.now) }
-    ensures own { (trade : Trade) → IsOf directory.now trade → OnOk result (IsOwn trade me entries.now) }
-    ensures not_own { (trade : Trade) → IsOf directory.now trade → IfErr result (NotOwn trade me entries.now) }
+    ensures holds { IfOk result (λ shelf. Holds directory.now shelf entries.items) }
+    ensures own { (trade : Trade) → IsOf directory.now trade → OnOk result (IsOwn trade me entries.items) }
+    ensures not_own { (trade : Trade) → IsOf directory.now trade → IfErr result (NotOwn trade me entries.items) }
 {
-    if let Err(fault) = begins(alloc, directory, entries) {
+    if let Err(fault) = begins(alloc, directory, &entries) {
         return Err(fault);
     }
     let mut shelf = Shelf::new(alloc, me);
-    match take_all(&mut shelf, directory, entries) {
+    match take_all(&mut shelf, directory, entries, places) {
         Ok(()) => Ok(shelf),
-        Err((PrepareFault::NotAStep, number)) => Err(ReopenFault::BadEntry(number as u64)),
-        Err((PrepareFault::NoMemory, _)) => Err(ReopenFault::NoMemory),
+        Err((DraftFault::NotAStep, number)) => Err(ReopenFault::BadEntry(number as u64)),
+        Err((DraftFault::NoMemory, _)) => Err(ReopenFault::NoMemory),
     }
 }
 

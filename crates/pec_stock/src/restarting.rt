@@ -43,8 +43,8 @@ pub fn restart<D: Disk>(
 {
     a_directory_has_a_trade();
     match chronicle.restart(alloc) {
-        Ok((opened, entries, past)) => {
-            match whole(alloc, directory, shelf.me(), opened.end(), &entries) {
+        Ok((opened, entries, places, past)) => {
+            match whole(alloc, directory, shelf.me(), opened.end(), entries, &places) {
                 Ok(taken) => Ok((opened, taken)),
                 Err(fault) => Err((fault, opened.back_to(past), shelf)),
             }

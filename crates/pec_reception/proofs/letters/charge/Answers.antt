@@ -21,7 +21,7 @@ returns-in-New-clause-exact c = λ seals. λ journal. λ is.
     in let found = charged_of (half trade me journal) receipt.id receipt.by
     in let stands = charge_stands trade me journal framed now receipt New c.me.result c.charge-arrived.result
     c.me.ensures (c.charge-arrived.ensures seals journal is) c.in-New.ensures
-    in shows_new (charge_rows trade me now journal framed receipt) fits found c.enters.result _ c.enters.ensures stands
+    in shows_new (charge_rows trade me now journal framed receipt) fits found c.enters.result _ (rw c.plain-entry.ensures at c.enters.ensures) stands
     (refl, refl, refl)
 
 pub returns-in-Known-clause-exact : goal.returns-in-Known-clause-exact

@@ -29,12 +29,12 @@ returns-clause-exact c = λ seals. λ journal. λ is.
     (rw c.as_slice.ensures.value at (c.in_ok-accounts.ensures.accounts trade (of_directory kept seals)))
     (omega (arith, c.in_ok-accounts.accounts.ok.0, some))
     (omega (arith, c.in_ok-accounts.accounts.ok.0, c.len-count.ensures))
-    (rw (c.of.ensures, c.of-2.ensures, c.in_ok-message.ensures.items) at c.enters.ensures)
+    (rw (c.plain-entry.ensures, c.of.ensures, c.of-2.ensures, c.in_ok-message.ensures.items) at c.enters.ensures)
 
 pub returns-clause-limits : goal.returns-clause-limits
 returns-clause-limits c =
     placed_limited c.args.moment c.in_ok-accounts.accounts.items c.args.framed.now.message.now c.len-count.result
     c.enters.result
-    (rw (c.of.ensures, c.of-2.ensures, c.in_ok-message.ensures.items) at c.enters.ensures)
+    (rw (c.plain-entry.ensures, c.of.ensures, c.of-2.ensures, c.in_ok-message.ensures.items) at c.enters.ensures)
     (omega (arith, c.in_ok-accounts.ensures.few, c.as_slice.ensures.value, c.requires.within.path))
     c.requires.within.message

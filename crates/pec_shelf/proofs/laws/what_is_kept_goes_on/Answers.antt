@@ -3,4 +3,4 @@ use Rattle.pec_shelf.proofs.laws.what_is_kept_goes_on.Goals as goal
 
 pub returns-clause-half : goal.returns-clause-half
 unfolding step
-returns-clause-half c = λ trade old new entry goes. goes.half
+returns-clause-half c = λ trade old new entry place goes. goes.half

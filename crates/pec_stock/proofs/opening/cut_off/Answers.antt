@@ -9,5 +9,5 @@ pub returns : goal.returns
 returns c = λ trade of.
     elim c.match-judge.branch [
       | in-Ok w ↦ inl (w.result-is, w.in-Ok.ensures.own trade of)
-      | in-Err w ↦ inr (subst (λ (answer : ReopenFault). NotOwn trade c.args.me c.args.entries.now answer) (sym w.result-is) (w.in-Err.ensures.not_own trade of))
+      | in-Err w ↦ inr (subst (λ (answer : ReopenFault). NotOwn trade c.args.me c.args.entries.items answer) (sym w.result-is) (w.in-Err.ensures.not_own trade of))
     ]

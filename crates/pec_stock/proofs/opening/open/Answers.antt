@@ -7,19 +7,19 @@ use Rattle.pec_stock.proofs.opening.open.Goals as goal
 
 pub returns-in-Ok-clause-own : goal.returns-in-Ok-clause-own
 returns-in-Ok-clause-own g c = λ tells trade list of own journal.
-    let read : c.in-Ok.chronicle.entries ≡ c.deref.result.now = c.in-Ok.ensures.entries.0 ∙ sym c.deref.ensures.value in
-    let ends : c.in-Ok.chronicle.end ≡ length (front (map entry_text c.deref.result.now)) =
+    let read : c.in-Ok.chronicle.entries ≡ c.in-Ok.entries.items = c.in-Ok.ensures.entries.0 in
+    let ends : c.in-Ok.chronicle.end ≡ length (front (map entry_text c.in-Ok.entries.items)) =
     ((c.in-Ok.ensures.opened tells).1.up c.in-Ok.ensures.entries.2).ends ∙ ap (λ (l : List Entry). length (front (map entry_text l))) read in
-    refused_own (λ e. e.0) c.opened.result trade c.args.me list c.deref.result.now (sym read ∙ c.in-Ok.ensures.list tells list journal) own
+    refused_own (λ e. e.0) c.opened.result trade c.args.me list c.in-Ok.entries.items (sym read ∙ c.in-Ok.ensures.list tells list journal) own
     (c.opened.ensures.not_own ends trade of)
 
 pub returns-in-Ok-clause-unfit : goal.returns-in-Ok-clause-unfit
 returns-in-Ok-clause-unfit g c = λ tells trade of.
-    let read : c.in-Ok.chronicle.entries ≡ c.deref.result.now = c.in-Ok.ensures.entries.0 ∙ sym c.deref.ensures.value in
-    let ends : c.in-Ok.chronicle.end ≡ length (front (map entry_text c.deref.result.now)) =
+    let read : c.in-Ok.chronicle.entries ≡ c.in-Ok.entries.items = c.in-Ok.ensures.entries.0 in
+    let ends : c.in-Ok.chronicle.end ≡ length (front (map entry_text c.in-Ok.entries.items)) =
     ((c.in-Ok.ensures.opened tells).1.up c.in-Ok.ensures.entries.2).ends ∙ ap (λ (l : List Entry). length (front (map entry_text l))) read in
-    refused_unfit (λ e. e.0) c.opened.result trade c.args.me (g.D.Disk.sight c.args.disk).seen c.deref.result.now
-    (reads_all (g.D.Disk.sight c.args.disk).seen c.deref.result.now (rw (← read) (c.in-Ok.ensures.opened tells).0)) (c.opened.ensures.not_own ends trade of)
+    refused_unfit (λ e. e.0) c.opened.result trade c.args.me (g.D.Disk.sight c.args.disk).seen c.in-Ok.entries.items
+    (reads_all (g.D.Disk.sight c.args.disk).seen c.in-Ok.entries.items (rw (← read) (c.in-Ok.ensures.opened tells).0)) (c.opened.ensures.not_own ends trade of)
 
 pub returns-in-Err-clause-own : goal.returns-in-Err-clause-own
 returns-in-Err-clause-own g c = λ tells trade list of own journal.

@@ -6,8 +6,8 @@ use Rattle.pec_stock.proofs.opening.opened.Goals as goal
 pub returns-in-Ok-clause-agree : goal.returns-in-Ok-clause-agree
 returns-in-Ok-clause-agree g c = (
   c.in-Ok.ensures.me,
-  agree_with c.args.directory.now c.args.chronicle c.in-Ok.shelf c.args.entries.now c.in-Ok.ensures.holds
-      (λ trade of. subst (λ (me : ℕ). IsOwn trade me c.args.entries.now) (sym c.in-Ok.ensures.me) (c.in-Ok.ensures.own trade of))
+  agree_with c.args.directory.now c.args.chronicle c.in-Ok.shelf c.args.entries.items c.in-Ok.ensures.holds
+      (λ trade of. subst (λ (me : ℕ). IsOwn trade me c.args.entries.items) (sym c.in-Ok.ensures.me) (c.in-Ok.ensures.own trade of))
       c.requires.entries c.requires.up.1 (sym c.end.ensures ∙ c.in-Ok.ensures.ends),
 )
 

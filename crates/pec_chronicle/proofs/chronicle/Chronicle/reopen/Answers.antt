@@ -1,4 +1,4 @@
-use Rattle.std.proofs.Common.{◌≡◌, List, ℕ, ◌∙◌, subst}
+use Rattle.std.proofs.Common.{◌≡◌, List, ℕ, subst}
 use Rattle.std.specs.Prelude.{map, ◌≢◌}
 use Rattle.std.proofs.lemmas.Result.{IfOk-weaker}
 use Rattle.pec_records.specs.Entry.{entry_text}
@@ -17,7 +17,7 @@ returns-in-Ok-clause-list g c tells entries journal =
     (λ read. read.0.entries ≡ entries)
     (λ read there. c.a_disk_holds_one_list.ensures read.0.entries entries (sight c.args.disk).seen
     (subst (λ (bytes : List ℕ). IsJournalOf read.0.entries bytes) seen there.0) journal)
-    (c.read.ensures.stands tells (map entry_text entries) opened.0 (c.deref.ensures.value ∙ opened.1))
+    (c.read.ensures.stands tells (map entry_text entries) opened.0 opened.1)
 
 pub returns-in-Ok-clause-refused : goal.returns-in-Ok-clause-refused
 returns-in-Ok-clause-refused g c tells entries journal =
@@ -31,7 +31,7 @@ returns-in-Ok-clause-refused g c tells entries journal =
       λ is. let stop = bad n is in no_stop unopened.entries.items entries stop.bad stop.more stop.is journal.written stop.none,
     ))
     c.read.ensures.not_a_journal
-    (c.read.ensures.bad_entry tells (map entry_text entries) opened.0 (c.deref.ensures.value ∙ opened.1))
+    (c.read.ensures.bad_entry tells (map entry_text entries) opened.0 opened.1)
 
 pub returns-in-Err-clause-refused : goal.returns-in-Err-clause-refused
 returns-in-Err-clause-refused g c tells entries journal n =

@@ -15,7 +15,7 @@ use Rattle.pec_ledger.specs.Pairs.{id_of}
 use Rattle.pec_ledger.specs.Steps.{half}
 use Rattle.pec_plays.specs.Commands.{Submit, Submits, entry_by, played, screened_cause, told_by}
 use Rattle.pec_screen.specs.VerdictReading.{finds}
-use Rattle.pec_trade.specs.TradeOf.{trade_of}
+use Rattle.pec_trade.specs.TradeOf.{cause_in, trade_of}
 use Rattle.pec_provider.specs.Appending.{ComesTo}
 use Rattle.pec_provider.specs.Provider.{desk_of}
 use Rattle.pec_provider.proofs.PlayLemmas.{admits_handed, comes_to, no_account, no_number}
@@ -68,19 +68,19 @@ returns-clause-admits g c =
     ∙ (ap (λ (n : ℕ). id_of n (length c.self.inside.shelf.half.messages))
     (me_runs kept me _ c.args.self.now c.self.view_is c.requires.runs)
     ∙ ap (λ (n : ℕ). id_of me n) count) in
-    let submitted : c.told_by.result ≡ told_by (screened_cause found (trade.cause me c.args.sender.now c.args.path.now c.args.message.now))
+    let submitted : c.told_by-answer.result ≡ told_by (screened_cause found (trade.cause me c.args.sender.now c.args.path.now c.args.message.now))
     (id_of me (length (half trade me c.args.self.now.chronicle.entries).messages)) =
-    c.told_by.ensures ∙ (ap (λ cause. told_by cause c.in-Some.id) c.in_ok-cause.ensures.cause
+    c.told_by-answer.ensures ∙ (ap (λ cause. told_by cause c.in-Some.id) c.in_ok-admission.ensures.cause
     ∙ ap (λ i. told_by (screened_cause found (trade.cause me c.args.sender.now c.args.path.now c.args.message.now)) i) id) in
     let entry : c.in_ok-entry.entry ≡ entry_by (screened_cause found (trade.cause me c.args.sender.now c.args.path.now c.args.message.now))
     c.args.moment
     c.args.sender.now c.args.path.now c.args.message.now =
     c.in_ok-entry.ensures
     ∙ ap (λ cause. entry_by cause c.args.moment c.args.sender.now c.args.path.now c.args.message.now)
-    c.in_ok-cause.ensures.cause in
+    c.in_ok-admission.ensures.cause in
     subst (λ (e : Entry). ComesTo (λ luck sites. played trade luck sites
     (Submit me c.args.moment c.args.sender.now c.args.path.now c.args.message.now found))
-    trade me (desk_of c.args.self.now) e (Submits c.told_by.result)) (sym entry)
+    trade me (desk_of c.args.self.now) e (Submits c.told_by-answer.result)) (sym entry)
     (subst (λ (s : Submitted). ComesTo (λ luck sites. played trade luck sites
     (Submit me c.args.moment c.args.sender.now c.args.path.now c.args.message.now found))
     trade me (desk_of c.args.self.now)
@@ -106,7 +106,7 @@ returns-clause-follows g c = λ journals.
     c.args.sender.now c.args.path.now c.args.message.now =
     c.in_ok-entry.ensures
     ∙ ap (λ cause. entry_by cause c.args.moment c.args.sender.now c.args.path.now c.args.message.now)
-    c.in_ok-cause.ensures.cause in
+    c.in_ok-admission.ensures.cause in
     subst (λ (e : Entry). Meets trade journals me (half trade me c.args.self.now.chronicle.entries) e) (sym entry)
     (c.what_a_provider_does_may_follow.ensures.submissions trade c.a_house_is_a_trade.ensures.trade
     journals me c.args.moment
@@ -132,12 +132,12 @@ returns-in_err-at_work-clause-looked g c =
 pub returns-clause-limits : goal.returns-clause-limits
 returns-clause-limits g c =
     subst (λ (e : Entry). IsWithinLimits e) (sym c.in_ok-entry.ensures)
-    (within_limits c.in_ok-cause.cause c.args.moment c.args.sender.now c.args.path.now c.args.message.now c.requires.path.1
+    (within_limits (cause_in c.in_ok-admission.admission) c.args.moment c.args.sender.now c.args.path.now c.args.message.now c.requires.path.1
     c.requires.message)
 
 pub returns-clause-envelope : goal.returns-clause-envelope
 returns-clause-envelope g c =
     let trade = world_at c.args.house.now in
     subst (HasEnvelope trade) (sym c.in_ok-entry.ensures)
-    (c.what_a_provider_takes_is_an_envelope.ensures.submissions trade c.in_ok-cause.cause c.args.moment c.args.sender.now
+    (c.what_a_provider_takes_is_an_envelope.ensures.submissions trade (cause_in c.in_ok-admission.admission) c.args.moment c.args.sender.now
     c.args.path.now c.args.message.now)

@@ -1,9 +1,11 @@
-use Rattle.std.proofs.Common.{[], Global, Vec, ap, refl, is_ok, IsOk}
+use Rattle.std.proofs.Common.{[], Global, Vec, ap, refl, is_ok, IsOk, subst, Err}
 use Rattle.pec_types.specs.declared.mailboxes.Mark.{Mark}
+use Rattle.pec_records.specs.declared.entries.Entry.{Entry}
 use Rattle.pec_records.specs.declared.entries.Entry.TheVariants as entries
 use Rattle.pec_plays.specs.Commands.{Marks, Tick, played}
 use Rattle.pec_trade.specs.Houses.{world_at}
 use Rattle.pec_trade.specs.TradeOf.{trade_of}
+use Rattle.pec_provider.specs.Appending.{Appends}
 use Rattle.pec_provider.specs.Provider.{desk_of}
 use Rattle.pec_provider.proofs.FollowLemmas.{carries_entry, carries_still}
 use Rattle.pec_provider.proofs.PlayLemmas.{plays_done, plays_handed, plays_torn, tick_comes, tick_refused}
@@ -36,9 +38,9 @@ append-requires-clause-step g c =
     let of = c.a_house_is_a_trade.ensures.of in
     let journal = c.args.self.now.chronicle.entries in
     let works = c.in_ok-at_work.ensures.works kept (g.S.Sealer.seals c.args.house.now.sealer.now) me trade c.requires of in
-    enters_by kept me journal (entries.Ticked c.args.moment) trade (λ p. []) of
+    rw c.plain-entry.ensures (enters_by kept me journal (entries.Ticked c.args.moment) trade (λ p. []) of
     (c.what_a_provider_does_may_follow.ensures.clock_calls trade (λ p. []) me c.args.moment journal works.in_time
-    c.at_work.ensures.in_range)
+    c.at_work.ensures.in_range))
 
 pub returns-in_err-marks-clause-plays : goal.returns-in_err-marks-clause-plays
 returns-in_err-marks-clause-plays g c =
@@ -53,7 +55,8 @@ returns-in_err-marks-clause-plays g c =
     c.from_residual-in_err-marks.result
     c.from_residual-in_err-marks.ensures.1
     (tick_comes trade me c.args.moment desk (c.in_ok-at_work.ensures.works kept (g.S.Sealer.seals c.args.house.now.sealer.now) me trade c.requires of))
-    (c.in_err-marks.ensures.appends trade of)
+    (subst (λ (e : Entry). Appends {X = Vec Mark Global} trade me e desk (desk_of c.append.new.self) (Err c.in_err-marks.field-0.0)) c.plain-entry.ensures
+    (c.in_err-marks.ensures.appends trade of))
 
 pub returns-in_err-marks-clause-carries : goal.returns-in_err-marks-clause-carries
 returns-in_err-marks-clause-carries g c = λ tells journals.
@@ -65,7 +68,7 @@ returns-in_err-marks-clause-carries g c = λ tells journals.
     (entries.Ticked c.args.moment)
     (c.what_a_provider_does_may_follow.ensures.clock_calls trade journals me c.args.moment
     c.args.self.now.chronicle.entries works.in_time
-    c.at_work.ensures.in_range) (c.append.ensures.carries tells)
+    c.at_work.ensures.in_range) (rw c.plain-entry.ensures at (c.append.ensures.carries tells))
 
 pub returns-clause-plays : goal.returns-clause-plays
 returns-clause-plays g c =
@@ -78,7 +81,7 @@ returns-clause-plays g c =
     (Tick me c.args.moment)) trade me desk
     (desk_of c.append.new.self) (entries.Ticked c.args.moment) _ c.in_ok-marks.marks
     (tick_comes trade me c.args.moment desk (c.in_ok-at_work.ensures.works kept (g.S.Sealer.seals c.args.house.now.sealer.now) me trade c.requires of))
-    (c.in_ok-marks.ensures.appends trade of) (ap (λ l. Marks l) (c.in_ok-marks.ensures.marks trade of))
+    (rw c.plain-entry.ensures at (c.in_ok-marks.ensures.appends trade of)) (ap (λ l. Marks l) (rw c.plain-entry.ensures at (c.in_ok-marks.ensures.marks trade of)))
 
 pub returns-clause-carries : goal.returns-clause-carries
 returns-clause-carries g c = λ tells journals.
@@ -90,7 +93,7 @@ returns-clause-carries g c = λ tells journals.
     (entries.Ticked c.args.moment)
     (c.what_a_provider_does_may_follow.ensures.clock_calls trade journals me c.args.moment
     c.args.self.now.chronicle.entries works.in_time
-    c.at_work.ensures.in_range) (c.append.ensures.carries tells)
+    c.at_work.ensures.in_range) (rw c.plain-entry.ensures at (c.append.ensures.carries tells))
 
 pub returns-in_err-at_work-clause-looked : goal.returns-in_err-at_work-clause-looked
 returns-in_err-at_work-clause-looked g c =
@@ -102,11 +105,11 @@ returns-in_err-marks-clause-looked g c =
     counted_later _ c.args.self.now.shelf.looks c.append.new.self.shelf.looks c.args.steps.now c.append.new.steps (IsOk c.append.result) _
     (λ ok. absurd (never_ok c.from_residual-in_err-marks.result c.from_residual-in_err-marks.ensures.0 ok))
     (counted_of c.args.house.now.directory.now c.args.house.now.me c.args.self.now trade c.args.moment c.append.new.self.shelf.looks c.args.steps.now c.append.new.steps
-    (IsOk c.append.result) c.requires c.a_house_is_a_trade.ensures.of (c.append.ensures.looked trade c.a_house_is_a_trade.ensures.of))
+    (IsOk c.append.result) c.requires c.a_house_is_a_trade.ensures.of (rw c.plain-entry.ensures at (c.append.ensures.looked trade c.a_house_is_a_trade.ensures.of)))
 
 pub returns-clause-looked : goal.returns-clause-looked
 returns-clause-looked g c =
     let trade = trade_of c.args.house.now.directory.now (g.S.Sealer.seals c.args.house.now.sealer.now) in
     counted_later _ c.args.self.now.shelf.looks c.append.new.self.shelf.looks c.args.steps.now c.append.new.steps (IsOk c.append.result) _ (λ ok. ap is_ok c.in_ok-marks.was)
     (counted_of c.args.house.now.directory.now c.args.house.now.me c.args.self.now trade c.args.moment c.append.new.self.shelf.looks c.args.steps.now c.append.new.steps
-    (IsOk c.append.result) c.requires c.a_house_is_a_trade.ensures.of (c.append.ensures.looked trade c.a_house_is_a_trade.ensures.of))
+    (IsOk c.append.result) c.requires c.a_house_is_a_trade.ensures.of (rw c.plain-entry.ensures at (c.append.ensures.looked trade c.a_house_is_a_trade.ensures.of)))

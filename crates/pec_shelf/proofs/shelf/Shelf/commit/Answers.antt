@@ -1,5 +1,5 @@
 -- The deadlines stay those of the pairs, and messages stay few enough.
-use Rattle.std.proofs.Common.{ℕ, ◌+◌, ◌<◌, ◌≤◌, max, arith, length, length-append, sym, ap, subst, ◌∙◌}
+use Rattle.std.proofs.Common.{ℕ, ◌+◌, ◌<◌, ◌≤◌, max, arith, [], ◌∷◌, length, length-append, sym, ap, subst, ◌∙◌}
 use Rattle.std.proofs.lemmas.List.{length-map}
 use Rattle.pec_shelf.specs.Deadlines.{IsSideOf, IsWatched, Watch, pairs_in, set_by}
 use Rattle.pec_shelf.specs.Prepared.{Prepared, all_of}
@@ -82,6 +82,7 @@ invariant_of-self c =
                 (c.taken_apart-sent.ensures.messages ∙ ap (λ (p : Prepared). p.adds.messages) came.is)
                 (c.taken_apart-sent.ensures.certified ∙ ap (λ (p : Prepared). p.certified) came.is),
           ));
+      placed = omega (arith, ap length c.push.ensures, length-append c.self.inside.places.places (c.ready.inside.place ∷ []), c.self.invariant.placed);
       watched = watched_on came.trade c.args.self.now.me half came.entry c.args.ready old c.add-2.new.self c.self.inside.deadlines c.set.new.self rows
           c.taken_apart-sent.result.0.charged.items c.taken_apart-sent.result.0.marks.items c.taken_apart-sent.result.0.known.items
           watched side came.step came.is homes c.taken_apart-sent.ensures.messages setting
