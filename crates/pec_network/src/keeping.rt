@@ -17,7 +17,7 @@ use pec_trade::the_texts_are_a_trade;
 pub fn a_network_keeps_its_promises<D, S: Sealer>(network: &Network<D, S>)
     ensures stays { (luck : Luck) (command : Command)
         → Sound (world_of S.seals network.now) (sites network.now)
-        → IsUnforged (world_of S.seals network.now) (sites network.now) command
+        → IsUnforged (world_of S.seals network.now) luck (sites network.now) command
         → Sound (world_of S.seals network.now)
         (played (world_of S.seals network.now) luck (sites network.now) command).after }
     ensures kept { Sound (world_of S.seals network.now) (sites network.now)

@@ -21,17 +21,20 @@ use pec_plays::a_network_stays_sound;
 /// together.
 pub fn a_run_may_be_killed_at_any_moment<P: Depot>()
     ensures sound { (trade : Trade) → IsTrade trade → (here there : State P.D) (steps : List (Step P.D))
-        → AreSteps trade here steps → AllMoments trade P.D.sight here there steps → AreHonest trade here steps
+        → AreSteps trade (P.tells × P.D.tells) here steps → AllMoments trade P.D.sight here there steps
+        → AreHonest trade here steps
         → Sound trade here.sites → AllStandIn P.D.sight here → (number : ℕ) → number ≤ length steps
         → Sound trade (state_at number here there steps).sites
         × AllStandIn P.D.sight (state_at number here there steps) }
     ensures follows { P.D.tells → (trade : Trade) → IsTrade trade → (here there : State P.D) (steps : List (Step P.D))
-        → AreSteps trade here steps → AllMoments trade P.D.sight here there steps → AreHonest trade here steps
+        → AreSteps trade (P.tells × P.D.tells) here steps → AllMoments trade P.D.sight here there steps
+        → AreHonest trade here steps
         → Sound trade here.sites → AllStandIn P.D.sight here → AreSeen here → (number : ℕ) → number ≤ length steps
         → (provider : ℕ) (bytes : Bytes) → IsKilledIn P.D.sight number here there steps provider bytes
         → FollowsSo trade (state_at number here there steps).sites provider bytes }
     ensures fit { P.D.tells → (trade : Trade) → IsTrade trade → (here there : State P.D) (steps : List (Step P.D))
-        → AreSteps trade here steps → AllMoments trade P.D.sight here there steps → AreHonest trade here steps
+        → AreSteps trade (P.tells × P.D.tells) here steps → AllMoments trade P.D.sight here there steps
+        → AreHonest trade here steps
         → Sound trade here.sites → AllStandIn P.D.sight here → AreSeen here → (number : ℕ) → number ≤ length steps
         → (journals : List (List Entry)) → length journals ≡ trade.providers
         → ((provider : ℕ) → provider < trade.providers → (bytes : Bytes)

@@ -49,7 +49,8 @@ pub fn acts_are_joined<P: Depot>()
 pub fn an_act_is_done<P: Depot>()
     ensures played { (trade : Trade) (providers : List Provider) (command : Command) (luck : Luck)
         (here there : Point P.D) (stop : Option Stop)
-        → IsCall trade here.state.sites here.state.counts there.state.counts command luck there.state.sites
+        → IsCall trade (P.tells × P.D.tells) here.state.sites here.state.counts there.state.counts command luck
+        there.state.sites
         → (P.tells × P.D.tells → IsMoment trade P.D.sight here.state there.state) → NoneFell here there
         → IsWritten (answer_text providers (played trade luck here.state.sites command).answer) here there stop
         → Goes trade providers (P.tells × P.D.tells) P.D.sight (Plays command ∷ []) here there stop }

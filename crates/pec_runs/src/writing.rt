@@ -33,7 +33,7 @@ pub fn answers_are_whole_lines()
 pub fn faults_are_counted()
     ensures { (trade : Trade) (lucks : List Luck) (sites : List Site) (commands : List Command) (from upto : ℕ → ℕ)
         → RoseAlong trade lucks sites commands from upto → (provider : ℕ)
-        → RoseBy (faults_told provider commands (script trade lucks sites commands).answers)
+        → RoseBy (faults_told trade provider commands (script trade lucks sites commands).answers)
         (from provider) (upto provider) }
 {}
 

@@ -1,6 +1,8 @@
 ghost use Rattle.std.specs.Prelude.{◌≡◌};
+ghost use Rattle.pec_stock.specs.Opening.{as_reopened};
 ghost use Rattle.pec_stock.specs.declared.faults.ReopenFault.TheVariants as reopen;
 
+use pec_chronicle::OpenFault;
 use pec_types::NoMemory;
 
 /// Why a journal was not opened again, in the order in which the causes are looked for.
@@ -23,5 +25,18 @@ impl From<NoMemory> for ReopenFault {
 
     fn from(_: NoMemory) -> Self {
         ReopenFault::NoMemory
+    }
+}
+
+impl From<OpenFault> for ReopenFault {
+    ghost from_gives = { λ was fault. fault ≡ as_reopened was };
+
+    fn from(fault: OpenFault) -> Self {
+        match fault {
+            OpenFault::DiskFault => ReopenFault::DiskFault,
+            OpenFault::NotAJournal(place) => ReopenFault::NotAJournal(place),
+            OpenFault::BadEntry(number) => ReopenFault::BadEntry(number),
+            OpenFault::NoMemory => ReopenFault::NoMemory,
+        }
     }
 }
