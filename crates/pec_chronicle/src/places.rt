@@ -1,10 +1,8 @@
 ghost use Rattle.std.specs.Prelude.{◌≡◌, ◌+◌, ◌<◌, ◌^◌};
 ghost use Rattle.pec_journal.specs.JournalFile.{framing};
 
+use pec_journal::FRAMING;
 use pec_types::Place;
-
-/// How many bytes an entry takes in a journal beside its own.
-const FRAMING: u64 = 5;
 
 /// Where the bytes of an entry, so many, stand that comes behind a journal which ends there: exactly, where the end is
 /// below 2 to the 64 with what an entry takes beside its own bytes. It takes no memory.

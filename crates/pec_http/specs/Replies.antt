@@ -53,6 +53,7 @@ fault_reply faults.Full = plain statuses.InsufficientStorage (codes "full")
 fault_reply faults.JournalFull = plain statuses.InsufficientStorage (codes "journal-full")
 fault_reply faults.DiskFault = plain statuses.ServiceUnavailable (codes "fault disk")
 fault_reply faults.NoMemory = memory_reply
+fault_reply (faults.Changed entry) = plain statuses.ServiceUnavailable (codes "changed " ++ decimal entry)
 
 -- What became of a submission at a provider of this first domain; row 17 where it isn't accepted.
 abbrev pub submitted_reply : Bytes → Result Submitted ProviderFault → Reply

@@ -26,8 +26,8 @@ const NO_ENTRIES: [u8; 9] = *b"PECJRN1\n\0";
 
 const HEADER_LENGTH: u64 = 8;
 
-/// How many bytes an entry takes beside its own.
-const FRAMING: u64 = 5;
+/// How many bytes an entry takes in a journal beside its own. This project's profile.
+pub const FRAMING: u64 = 5;
 
 const OPEN_GATE: u8 = 1;
 

@@ -20,7 +20,6 @@ ghost use Rattle.pec_letter_facts.specs.Questions.{marking_of};
 ghost use Rattle.pec_letter_facts.specs.ReadBack.{IsReadAs};
 ghost use Rattle.pec_seal.specs.Seals.{Seals};
 ghost use Rattle.pec_letters.specs.Anomalies.{IsAnomaly, anomaly_contents, anomaly_heading, anomaly_text, anomaly_word};
-ghost use Rattle.pec_letters.specs.Enclosed.{enclosure_of};
 ghost use Rattle.pec_letters.specs.Envelopes.{IsEnvelope, envelope_parts, envelope_text};
 ghost use Rattle.pec_letters.specs.Fitting.{Fits, HasFacts, IsSentFrom};
 ghost use Rattle.pec_letters.specs.Seen.{IsSeen, IsUnseen, Seen, named_in};
@@ -37,7 +36,7 @@ use pec_letter_facts::{
     what_is_certified_can_be_written, what_is_composed_passes,
 };
 use pec_letter_parts::{a_letter_has_one_text, a_text_is_one_letter};
-use pec_seal::{Sealer, what_opens_stands_behind_its_line};
+use pec_seal::Sealer;
 use pec_types::printable_is_said_of_each_byte;
 
 /// The law of views: each text is seen as one envelope or has one fault, never both, and `view` gives it.
@@ -93,15 +92,6 @@ pub fn what_is_composed_is_seen<S: Sealer>()
     a_composed_letter_is_read_back();
     what_is_composed_passes();
     a_text_is_one_letter::<S>();
-}
-
-/// The law of what envelopes carry: what a text carries by its form is what is seen in it where it is seen as an envelope, whoever
-/// seals and whatever providers there are.
-pub fn what_is_seen_is_enclosed()
-    ensures { (seals : Seals) (providers : List Provider) (text : Bytes) (seen : Seen) → view seals providers text ≡ Ok seen
-        → enclosure_of text ≡ Some (record { facts = seen.facts; original = seen.original }) }
-{
-    what_opens_stands_behind_its_line();
 }
 
 /// The law of anomalies as texts: a message is one anomaly of a provider, a number and a moment at most, the one that

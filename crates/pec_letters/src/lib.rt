@@ -4,16 +4,14 @@
 
 mod anomalies;
 mod asking;
-mod enclosing;
 mod envelopes;
 mod laws;
 mod reading;
 
 pub use anomalies::compose_anomaly;
-pub use enclosing::{Enclosure, enclosed};
 pub use envelopes::compose_envelope;
 pub use laws::{
     a_message_has_one_anomaly, a_message_has_one_envelope, a_text_is_one_envelope,
-    an_anomaly_is_no_letter, what_is_composed_is_seen, what_is_seen_is_enclosed,
+    an_anomaly_is_no_letter, what_is_composed_is_seen,
 };
 pub use reading::{EnvelopeView, envelope_in, has_envelope_head, read_envelope};

@@ -11,7 +11,7 @@ use Rattle.pec_ledger.specs.OfDirectory.{IsOf}
 use Rattle.pec_ledger.specs.Steps.{half}
 use Rattle.pec_ledger.specs.Trade.{Trade}
 use Rattle.pec_chronicle.specs.Chronicle.{ChronicleState, down_over, past_of}
-use Rattle.pec_shelf.specs.Prepared.{AreSteps, IsStep, MayFollow}
+use Rattle.pec_shelf.specs.Prepared.{AreSteps, IsStep, IsStepOf}
 use Rattle.pec_plays.specs.Envelopes.{HaveEnvelopes}
 use Rattle.pec_seal.specs.Seals.{Seals}
 use Rattle.pec_shelf.specs.Seen.{Seen}
@@ -37,7 +37,7 @@ end_runs kept me provider trade runs of up = runs.agree.ends up
 -- a step of its entries is one of its shelf
 pub step_runs : {D : Type 0} {seals : Seals} (kept : List Kept) (me : ℕ) (provider : ProviderState D) (entry : Entry)
     → Runs kept seals me provider
-    → MayEnter kept me provider.chronicle.entries entry → MayFollow kept provider.shelf entry
+    → MayEnter kept me provider.chronicle.entries entry → IsStepOf kept provider.shelf entry
 step_runs kept me provider entry runs may = record {
   trade = may.trade;
   of = may.of;

@@ -85,6 +85,7 @@ IsRefusal refusals.Full = Unit {0}
 IsRefusal refusals.NoItem = Unit {0}
 IsRefusal refusals.JournalFull = Unit {0}
 IsRefusal refusals.NoMemory = Unit {0}
+IsRefusal (refusals.Changed entry) = entry < 2 ^ 64
 
 -- the fault of a line, which has a line of its own; the argument's number is that of a `u8`
 abbrev pub IsLineRefusal : LineFault → Type 0

@@ -209,6 +209,11 @@ static TURNS: &[Row] = &[
         text: "beta fault disk\nround\n",
     },
     Row {
+        printed: Printed::Turn(0, Some(Fault::Changed(7))),
+        form: None,
+        text: "beta changed 7\nround\n",
+    },
+    Row {
         printed: Printed::Turn(2, Some(Fault::NoMemory)),
         form: None,
         text: "beta sent alfa 2\nround\n",
@@ -251,6 +256,11 @@ static REFUSALS: &[Row] = &[
         printed: Printed::Refusal(Fault::JournalFull),
         form: None,
         text: "journal-full\n",
+    },
+    Row {
+        printed: Printed::Refusal(Fault::Changed(18_446_744_073_709_551_615)),
+        form: None,
+        text: "changed 18446744073709551615\n",
     },
     Row {
         printed: Printed::Refusal(Fault::NoMemory),

@@ -2,7 +2,7 @@ ghost use Rattle.std.specs.Prelude.{◌≡◌, ◌↔◌, IfOk, IsTrue};
 ghost use Rattle.pec_ledger.specs.OfDirectory.{IsOf};
 ghost use Rattle.pec_ledger.specs.Own.{Own};
 ghost use Rattle.pec_ledger.specs.Trade.{Trade};
-ghost use Rattle.pec_shelf.specs.Prepared.{Drafts, MayFollow};
+ghost use Rattle.pec_shelf.specs.Prepared.{Drafts, IsStepOf};
 ghost use Rattle.pec_shelf.specs.Seen.{IsFor};
 ghost use Rattle.pec_shelf.specs.Settled.{settled};
 
@@ -24,7 +24,7 @@ pub fn drafted(shelf: &Shelf, directory: &Directory, entry: Entry) -> Result<Dra
     requires { (trade : Trade) → IsOf directory.now trade → IsFor trade shelf.now }
     ensures exact { (trade : Trade) → IsOf directory.now trade
         → Drafts trade shelf.now.me shelf.now.half entry result }
-    ensures follows { IfOk result (MayFollow directory.now shelf.now) }
+    ensures follows { IfOk result (IsStepOf directory.now shelf.now) }
 {
     if moment_of(&entry) < shelf.last() {
         return Err(DraftFault::NotAStep);

@@ -9,7 +9,7 @@ ghost use Rattle.pec_ledger.specs.Pairs.{pair_of};
 ghost use Rattle.pec_ledger.specs.Steps.{moment_of, size_of};
 ghost use Rattle.pec_ledger.specs.Trade.{Trade};
 ghost use Rattle.pec_shelf.specs.Looked.{Looked, LookedSo, acceptances_seen, clock_seen};
-ghost use Rattle.pec_shelf.specs.Prepared.{CameFrom, Goes, HasRoomFor, MayFollow, prepared, told};
+ghost use Rattle.pec_shelf.specs.Prepared.{CameFrom, Goes, HasRoomFor, IsStepOf, prepared, told};
 ghost use Rattle.pec_shelf.specs.Seen.{HoldsAs, IsFor, IsNew};
 ghost use Rattle.pec_shelf.specs.Undecided.{next_undecided};
 
@@ -132,7 +132,7 @@ impl Shelf {
         steps: &mut Steps,
     ) -> Result<Ready, NoMemory>
         requires homes { (trade : Trade) → IsOf directory.now trade → IsFor trade self.old }
-        requires step { MayFollow directory.now self.old draft.now }
+        requires step { IsStepOf directory.now self.old draft.now }
         ensures is { (trade : Trade) → IsOf directory.now trade
             → IfOk result (λ ready. ready ≡ prepared trade self.old.me self.old.half draft.now place) }
         ensures came { IfOk result (CameFrom self.new) }
@@ -281,7 +281,7 @@ impl Shelf {
         clock: Option<Clock>,
     ) -> Result<Ready, NoMemory>
         requires homes { (trade : Trade) → IsOf directory.now trade → IsFor trade self.now }
-        requires step { MayFollow directory.now self.now draft.now }
+        requires step { IsStepOf directory.now self.now draft.now }
         requires clock { clock ≡ clock_seen (acceptances_seen self.now) draft.now }
         ensures is { (trade : Trade) → IsOf directory.now trade
             → IfOk result (λ ready. ready ≡ prepared trade self.now.me self.now.half draft.now place) }

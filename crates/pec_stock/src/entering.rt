@@ -7,7 +7,7 @@ ghost use Rattle.pec_ledger.specs.Trade.{Trade};
 ghost use Rattle.pec_chronicle.specs.Carrying.{CarriesOn, NothingMay, ThisMay};
 ghost use Rattle.pec_chronicle.specs.Chronicle.{HasRoom};
 ghost use Rattle.pec_shelf.specs.Looked.{Looked};
-ghost use Rattle.pec_shelf.specs.Prepared.{MayFollow};
+ghost use Rattle.pec_shelf.specs.Prepared.{IsStepOf};
 ghost use Rattle.pec_stock.specs.Entering.{AreMarks, Entered, Failed, OnlyMay};
 ghost use Rattle.pec_stock.specs.Stock.{Agree};
 
@@ -39,7 +39,7 @@ pub fn enter<D: Disk>(
     requires up { chronicle.old.down ≡ false }
     requires agree { Agree directory.now chronicle.old shelf.old }
     requires limits { IsWithinLimits draft.now }
-    requires step { MayFollow directory.now shelf.old draft.now }
+    requires step { IsStepOf directory.now shelf.old draft.now }
     ensures marks { IfOk result (λ marks. AreMarks directory.now shelf.old draft.now marks.items) }
     ensures entered { OnOk result (Entered chronicle.old chronicle.new draft.now) }
     ensures failed { IfErr result (Failed chronicle.old chronicle.new draft.now) }

@@ -7,7 +7,7 @@ ghost use Rattle.pec_ledger.specs.Steps.{half};
 ghost use Rattle.pec_ledger.specs.Trade.{Trade};
 ghost use Rattle.pec_chronicle.specs.Carrying.{with_entry};
 ghost use Rattle.pec_chronicle.specs.Chronicle.{AreSized};
-ghost use Rattle.pec_shelf.specs.Prepared.{IsStep, MayFollow};
+ghost use Rattle.pec_shelf.specs.Prepared.{IsStep, IsStepOf};
 ghost use Rattle.pec_shelf.specs.declared.faults.DraftFault.TheVariants as drafting;
 ghost use Rattle.pec_stock.specs.Stock.{Holds};
 ghost use Rattle.pec_stock.specs.Stocking.{AllSteps, StepsUpTo};
@@ -83,7 +83,7 @@ pub(crate) fn put_in(
     size: u32,
 ) -> Result<(), NoMemory>
     requires holds { (entries : List SomeEntry) × Holds directory.now shelf.old entries }
-    requires step { MayFollow directory.now shelf.old draft.now }
+    requires step { IsStepOf directory.now shelf.old draft.now }
     requires sized { size ≡ length (entry_text draft.now) }
     ensures taken { (entries : List SomeEntry) → Holds directory.now shelf.old entries →
         OnOk result (Holds directory.now shelf.new (with_entry entries draft.now)) }

@@ -66,10 +66,12 @@ impl Cause {
             Cause::Bcc => b"bcc",
             Cause::Size => b"size",
             Cause::Virus => b"virus",
+            Cause::TooMany => b"too-many",
         }
     }
 
-    /// The cause's place, from 1, in the order in which causes are looked for. It takes no memory. This project's profile.
+    /// The cause's number, by which journals keep it: its place among all causes, from 1. It takes no memory. This
+    /// project's profile.
     pub fn number(self) -> u8
         ensures { result ≡ cause_number self }
     {
@@ -82,9 +84,29 @@ impl Cause {
             Cause::Bcc => 6,
             Cause::Size => 7,
             Cause::Virus => 8,
+            Cause::TooMany => 9,
         }
     }
+
+    /// All causes, each once, in the order of their numbers. It takes no memory.
+    pub fn all() -> &'static [Cause]
+        ensures { result.now ≡ all_causes }
+    {
+        &ALL_CAUSES
+    }
 }
+
+const ALL_CAUSES: [Cause; 9] = [
+    Cause::Head,
+    Cause::From,
+    Cause::To,
+    Cause::ReversePath,
+    Cause::ForwardPath,
+    Cause::Bcc,
+    Cause::Size,
+    Cause::Virus,
+    Cause::TooMany,
+];
 
 /// Each cause stands at its place among all of them. So what passes for all, by going through them, passes for each, and
 /// what finds all finds each.
