@@ -10,8 +10,8 @@ use pec_heads::{first_line, lines_have_their_size};
 use pec_types::NoMemory;
 use std::alloc::Global;
 
-/// The least number whose boundary is free: no line of a part begins with `--=_pec_n`, where the last piece of a part counts
-/// as a line. The parts are looked at where they stand, and may be handed in as pieces of whole lines.
+/// The least number whose boundary is free: no line of a part begins with `--=_pec_n`, where the last piece of a part
+/// counts as a line. The parts are looked at where they stand, and may be handed in as pieces of whole lines.
 pub fn free_number(alloc: Global, parts: &[&[u8]]) -> Result<u64, NoMemory>
     ensures { IfOk result (λ n. IsLeastFree (map (λ part. part.now) parts.now) n) }
 {

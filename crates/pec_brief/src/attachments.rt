@@ -10,7 +10,8 @@ use pec_types::NoMemory;
 use sha2::{Digest, Sha256};
 use std::alloc::{AllocError, Global};
 
-/// Whether a part with this head is an attachment: its first `Content-Disposition` begins with `attachment` (RFC 2183, section 2.2).
+/// Whether a part with this head is an attachment: its first `Content-Disposition` begins with `attachment` (RFC 2183,
+/// section 2.2).
 #[tactic(auto, unfolding(crate::specs::Attachments::is_attachment))]
 pub(crate) fn is_attachment(head: &Head) -> bool
     ensures { result ≡ is_attachment head.now }
@@ -124,8 +125,8 @@ fn safe_byte(byte: u8) -> u8
     }
 }
 
-/// The name that a head gives an attachment: `filename` of its `Content-Disposition`, or else `name` of its `Content-Type` (RFC 2183,
-/// section 2.3).
+/// The name that a head gives an attachment: `filename` of its `Content-Disposition`, or else `name` of its
+/// `Content-Type` (RFC 2183, section 2.3).
 #[tactic(auto, unfolding(crate::specs::Attachments::given_name))]
 fn given_name(head: &Head) -> &[u8]
     ensures { result.now ≡ given_name head.now }

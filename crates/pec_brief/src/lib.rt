@@ -1,5 +1,5 @@
-//! The brief form of a message: in the place of each attachment stands its digest, and every other byte stays (RFC 6109, section 3.1,
-//! for what it is for; this project's profile).
+//! The brief form of a message: in the place of each attachment stands its digest, and every other byte stays (RFC
+//! 6109, section 3.1, for what it is for; this project's profile).
 #![tactic(auto)]
 
 mod attachments;

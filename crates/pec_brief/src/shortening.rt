@@ -11,8 +11,8 @@ use pec_heads::{Head, HeadFault, a_text_has_one_reading};
 use pec_types::NoMemory;
 use std::alloc::{AllocError, Global};
 
-/// The law of brief forms: a message has one, and `brief_of` gives it. A message without attachments is its own, and what stands outside
-/// of attachments is unchanged.
+/// The law of brief forms: a message has one, and `brief_of` gives it. A message without attachments is its own, and
+/// what stands outside of attachments is unchanged.
 pub fn a_message_has_one_brief_form()
     ensures told { (original brief : Bytes) → (brief_of original ≡ brief) ↔ IsBrief original brief }
     ensures plain { (original brief : Bytes) → HasNoAttachment original → IsBrief original brief → brief ≡ original }
@@ -23,9 +23,9 @@ pub fn a_message_has_one_brief_form()
     parts_stand_in_order();
 }
 
-/// The brief form of a message: a part is an attachment where its first `Content-Disposition` begins with `attachment`, and in its place
-/// stands a text with the digest of its body as it stands. Every other byte stays. The message itself where it has no head or no parts,
-/// or where that would have more than `BRIEF_LIMIT` bytes. This project's profile.
+/// The brief form of a message: a part is an attachment where its first `Content-Disposition` begins with `attachment`,
+/// and in its place stands a text with the digest of its body as it stands. Every other byte stays. The message itself
+/// where it has no head or no parts, or where that would have more than `BRIEF_LIMIT` bytes. This project's profile.
 pub fn brief(alloc: Global, original: &[u8]) -> Result<Vec<u8>, NoMemory>
     ensures brief { IfOk result (λ brief. IsBrief original.now brief.items) }
     // The same answer as a function of the bytes, for definitions that build on it.
@@ -84,8 +84,8 @@ fn short_behind(
     }
 }
 
-/// The message with something in the place of each attachment. It stops where that grows too long, so that no more memory is taken than
-/// for that and the part at hand.
+/// The message with something in the place of each attachment. It stops where that grows too long, so that no more
+/// memory is taken than for that and the part at hand.
 fn shorten(
     alloc: Global,
     original: &[u8],

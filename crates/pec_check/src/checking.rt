@@ -50,9 +50,9 @@ impl From<NoMemory> for CheckFault {
 
 /// What a saved message says that is a genuine letter of certified mail (RFC 6109, section 3, within this project's
 /// profile): a provider of the directory sealed it, it is seen as what its head says, and the right provider sealed it.
-/// The fault is `Letter` where it isn't seen so, with the fault of the envelope or the receipt that its head says it is;
-/// and then `WrongProvider` where a receipt tells what was decided of a message and another provider had to seal that.
-/// Want of memory is `Letter(NoMemory)`. It doesn't say that the letter was ever sent.
+/// The fault is `Letter` where it isn't seen so, with the fault of the envelope or the receipt that its head says it
+/// is; and then `WrongProvider` where a receipt tells what was decided of a message and another provider had to seal
+/// that. Want of memory is `Letter(NoMemory)`. It doesn't say that the letter was ever sent.
 pub fn check<S: Sealer>(
     alloc: Global,
     sealer: &S,

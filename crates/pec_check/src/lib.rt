@@ -1,5 +1,5 @@
-//! Checking the letters that a party saved: which are genuine, and what they prove together (RFC 6109, section 3, for the
-//! letters; what is genuine is this project's profile).
+//! Checking the letters that a party saved: which are genuine, and what they prove together (RFC 6109, section 3, for
+//! the letters; what is genuine is this project's profile).
 #![tactic(auto)]
 
 mod checking;

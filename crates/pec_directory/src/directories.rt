@@ -101,8 +101,8 @@ impl Directory {
         read_text(alloc, text)
     }
 
-    /// The directory that a table is, of the form that docs/formats.md has, or the first fault of its tests; of the table
-    /// only what stands at the keys of that form is looked at. This project's profile.
+    /// The directory that a table is, of the form that docs/formats.md has, or the first fault of its tests; of the
+    /// table only what stands at the keys of that form is looked at. This project's profile.
     pub fn from_table(alloc: Global, whole: &Table) -> Result<Directory, DirectoryFault>
         // Providers are answered exactly where the table says them and they are lawful; and otherwise the fault of the
         // first test that is met.
@@ -214,8 +214,8 @@ impl Directory {
         self.providers.get(number as usize)
     }
 
-    /// The rule of the zone of the provider of a number, from 0, as the directory has it (POSIX.1-2024, TZ). It takes no
-    /// memory.
+    /// The rule of the zone of the provider of a number, from 0, as the directory has it (POSIX.1-2024, TZ). It takes
+    /// no memory.
     #[tactic(auto, unfolding(crate::specs::Directory::rule_of))]
     pub fn rule(&self, provider: u32) -> Option<&[u8]>
         ensures { option_map (λ rule. rule.now) result ≡ rule_of (providers_of self.now) provider }

@@ -37,8 +37,8 @@ pub fn a_directory_is_told_exactly()
     what_is_read_is_in_lower_case();
 }
 
-/// The law of tables: the walk over a whole table is one with what its tables say, as `a_directory_is_told_exactly` says
-/// it of a text; and of the whole table only what stands at its key `provider` counts.
+/// The law of tables: the walk over a whole table is one with what its tables say, as `a_directory_is_told_exactly`
+/// says it of a text; and of the whole table only what stands at its key `provider` counts.
 pub fn a_table_is_told_exactly()
     ensures told { (whole : Data) → TellsExactly (IsOfTable whole) (IsTableFault whole) (directory_in whole) }
     ensures looks_up { (whole other : Data) → get (codes "provider") whole ≡ get (codes "provider") other

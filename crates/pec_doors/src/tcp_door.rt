@@ -16,8 +16,8 @@ use std::time::Duration;
 #[cfg(test)]
 mod tests;
 
-/// A TCP port of this machine alone (127.0.0.1). What its clients send isn't told, nor what reaches them. This project's
-/// profile.
+/// A TCP port of this machine alone (127.0.0.1). What its clients send isn't told, nor what reaches them. This
+/// project's profile.
 ///
 /// The port is opened as the first connection is asked for, so a door at which none is asks nothing of the system.
 #[derive(Drop)]
@@ -45,8 +45,8 @@ impl<R> Model for TcpDoor<R> {
 }
 
 impl<R> TcpDoor<R> {
-    /// The door at a port, which isn't opened yet. The reads and writes of a connection take no longer than `limit`, all
-    /// of them together. A limit of 0 lets no connection in.
+    /// The door at a port, which isn't opened yet. The reads and writes of a connection take no longer than `limit`,
+    /// all of them together. A limit of 0 lets no connection in.
     pub fn new(system: R, port: u16, limit: Duration) -> TcpDoor<R>
         ensures { result ≡ shut port (as_nanos limit) }
     {
@@ -122,8 +122,8 @@ impl<R: Net<Listener = TcpListener, Stream = TcpStream> + Clock + Copy> Door for
 
     ghost faulty_counted = { λ door. u64_of door.faulty };
 
-    /// As in the trait. It waits for a client as long as none comes. It fails where the port can't be opened, as one that
-    /// is taken, where the system can't give a connection, where 2^64 - 1 are out, and where the limit is 0.
+    /// As in the trait. It waits for a client as long as none comes. It fails where the port can't be opened, as one
+    /// that is taken, where the system can't give a connection, where 2^64 - 1 are out, and where the limit is 0.
     fn accept(&mut self) -> Result<TcpConnection<R>, Failed>
         ensures fresh { IfOk result (λ connection. as_u64 connection.faults ≡ 0) }
         ensures ok { OnOk result (self.new.out ≡ self.old.out + 1) }

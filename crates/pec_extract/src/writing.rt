@@ -18,8 +18,8 @@ pub struct Totals {
     pub pending: u64,
 }
 
-/// Writes the header of an extract, its first record. The fault is `WriteFault` where the sink failed: then a front of the
-/// header was written.
+/// Writes the header of an extract, its first record. The fault is `WriteFault` where the sink failed: then a front of
+/// the header was written.
 pub fn write_header<W: Sink>(alloc: Global, out: &mut W) -> Result<(), ExtractFault>
     ensures ok { OnOk result (W.held out.new ≡ followed_by (W.held out.old) (record_text header)) }
     ensures err { OnErr result (WrotePart (W.held out.old) (W.held out.new) (record_text header)) }
@@ -41,8 +41,8 @@ pub fn write_header<W: Sink>(alloc: Global, out: &mut W) -> Result<(), ExtractFa
     write_record(alloc, &fields, out)
 }
 
-/// Writes the totals of an extract, its last record. The fault is `WriteFault` where the sink failed: then a front of the
-/// record was written.
+/// Writes the totals of an extract, its last record. The fault is `WriteFault` where the sink failed: then a front of
+/// the record was written.
 pub fn write_totals<W: Sink>(
     alloc: Global,
     totals: &Totals,

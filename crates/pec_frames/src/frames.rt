@@ -19,8 +19,8 @@ const FRONT: &[u8] = b"Per: ";
 
 const END: &[u8] = b"\r\n";
 
-/// The law of frames: each text is a frame, of one path and with its message at one place, or has one fault; `framed_of` tells
-/// which.
+/// The law of frames: each text is a frame, of one path and with its message at one place, or has one fault;
+/// `framed_of` tells which.
 pub fn a_text_is_one_frame()
     ensures { (text : Bytes) → TellsExactly (λ (read : Path × ℕ). IsFrame text read.0 read.1) (IsFrameFault text) (framed_of text) }
 {
@@ -59,8 +59,8 @@ pub fn frame_of(alloc: Global, path: &[Address], message: &[u8]) -> Result<Frame
     Ok(Frame::of(Text8::of(bytes)))
 }
 
-/// The path of a frame, in lower case, and the place where its message begins. The faults are looked for in the order of the
-/// type: a place in a path is that of the first entry that is no address, or of the 1,001st.
+/// The path of a frame, in lower case, and the place where its message begins. The faults are looked for in the order
+/// of the type: a place in a path is that of the first entry that is no address, or of the 1,001st.
 pub fn read_frame(alloc: Global, frame: &[u8]) -> Result<(Vec<Address>, usize), FrameFault>
     ensures reads { ReadsExactly (λ (read : Path × ℕ). IsFrame frame.now read.0 read.1) (IsFrameFault frame.now) faults.NoMemory
         (seen_as (λ read. (read.0.items, read.1)) result) }

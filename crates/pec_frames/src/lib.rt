@@ -1,5 +1,5 @@
-//! Frames: what one provider hands to another, a path and a message (this project's profile, in place of the forward path of RFC
-//! 5321, section 3.3).
+//! Frames: what one provider hands to another, a path and a message (this project's profile, in place of the forward
+//! path of RFC 5321, section 3.3).
 #![tactic(auto)]
 
 mod faults;

@@ -4,8 +4,8 @@ use Rattle.std.proofs.lemmas.Bool.{and_from, and_parts, both_ways, eqb-true, ne_
 use Rattle.std.proofs.lemmas.List.{append-nil}
 use Rattle.std.specs.Char.{is_ascii_alphanumeric}
 use Rattle.std.specs.List.{AllByRecursion, flat_map, join_with_byte, list_all}
-use Rattle.pec_types.specs.Address.{IsAddress, IsLowerAddress, is_atom_byte, lowered}
-use Rattle.pec_heads.proofs.AddressBytes.{Avoids, none_in}
+use Rattle.pec_types.specs.Address.{Avoids, IsAddress, IsLowerAddress, is_atom_byte, lowered}
+use Rattle.pec_types.proofs.AddressBytes.{none_in}
 use Rattle.pec_heads.specs.Bytes.{AreBlanks, NonePass, begins_blank, ends_blank, is_blank, trimmed}
 use Rattle.pec_heads.specs.Heads.{IsLine, is_control, is_name}
 use Rattle.pec_types.specs.Bytes.{is_quote}

@@ -4,11 +4,11 @@ use Rattle.std.proofs.lemmas.Bool.{false≢true, and_parts, eqb-true, ne_eqb, no
 use Rattle.std.proofs.lemmas.List.Folds.{list_any-append}
 use Rattle.std.specs.Char.{is_ascii_alphanumeric}
 use Rattle.std.specs.List.{list_all}
-use Rattle.pec_types.specs.Address.{is_atom_byte, IsAddress}
+use Rattle.pec_types.specs.Address.{Avoids, is_atom_byte, IsAddress}
 use Rattle.pec_heads.specs.Bytes.{is_blank, AreBlanks, NonePass, trimmed}
 use Rattle.pec_types.specs.Bytes.{is_quote}
 use Rattle.pec_heads.specs.Lists.{is_mark, has_mark, IsAngled, IsBare, IsEntry}
-use Rattle.pec_heads.proofs.AddressBytes.{Avoids, none_in}
+use Rattle.pec_types.proofs.AddressBytes.{none_in}
 use Rattle.pec_heads.proofs.BlankLemmas.{trimmed_is}
 
 atom_60 : (b : ℕ) → is_atom_byte b ≡ true → b ≡ 60 → ⊥

@@ -7,12 +7,12 @@ use Rattle.std.specs.List.{list_all, list_any}
 use Rattle.std.specs.Char.{is_ascii_alphanumeric}
 use Rattle.std.specs.Int.{is_in_range}
 use Rattle.pec_types.specs.Text.{is_unprintable, AllPrintable}
-use Rattle.pec_types.specs.Address.{is_atom_byte, IsLowerAddress}
+use Rattle.pec_types.specs.Address.{Avoids, is_atom_byte, IsLowerAddress}
 use Rattle.pec_heads.specs.Bytes.{NonePass, before_cut, cut_blanks, is_blank, skip_blanks, trimmed}
 use Rattle.pec_heads.specs.FactsOfHeads.{front_of, printed_byte, printed, short_text, unless_nothing}
 use Rattle.pec_heads.specs.declared.TheConstants.{TEXT_LIMIT}
 use Rattle.pec_heads.proofs.Places.{none_of, no_place}
-use Rattle.pec_heads.proofs.AddressBytes.{Avoids, none_in}
+use Rattle.pec_types.proofs.AddressBytes.{none_in}
 use Rattle.pec_heads.proofs.BlankLemmas.{trimmed_is}
 
 -- ---- printed values

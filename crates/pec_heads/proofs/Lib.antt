@@ -1,4 +1,3 @@
-pub mod AddressBytes
 pub mod Tools
 pub mod Places
 pub mod LineLemmas

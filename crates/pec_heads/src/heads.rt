@@ -181,8 +181,9 @@ impl Head {
         read_facts(alloc, &self.fields)
     }
 
-    /// The subject that letters about the message repeat, also where the head has no facts: the first `Subject`, printable,
-    /// cut to 900 bytes and trimmed. `None` where there is no such field or nothing is left. This project's profile.
+    /// The subject that letters about the message repeat, also where the head has no facts: the first `Subject`,
+    /// printable, cut to 900 bytes and trimmed. `None` where there is no such field or nothing is left. This project's
+    /// profile.
     pub fn subject(&self, alloc: Global) -> Result<Option<Text>, NoMemory>
         ensures { IfOk result (λ found. found ≡ text_of (codes "Subject") self.now) }
     {

@@ -20,8 +20,8 @@ pub fn a_spaced_path_has_one_reading()
     a_text_is_cut_in_one_way();
 }
 
-/// The bytes of a request are seen in one way: they are the head of one request at most, and what is seen of them is one
-/// thing.
+/// The bytes of a request are seen in one way: they are the head of one request at most, and what is seen of them is
+/// one thing.
 pub fn a_request_is_seen_in_one_way()
     ensures head { (text : Bytes) (request other : Request) → IsRequest text request → IsRequest text other → request ≡ other }
     ensures seen { (input : Bytes) (seen other : Seen) → Sees input seen → Sees input other → seen ≡ other }

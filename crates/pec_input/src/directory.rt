@@ -41,8 +41,8 @@ pub fn a_directory_is_read_from_its_ldif()
 }
 
 /// What the bytes of a directory are taken for: its providers, or its first fault. Bytes whose first line that isn't
-/// empty and is no comment is `version: 1` are LDIF (RFC 2849), and all others TOML. Bytes that are no UTF-8 are no TOML.
-/// This project's profile.
+/// empty and is no comment is `version: 1` are LDIF (RFC 2849), and all others TOML. Bytes that are no UTF-8 are no
+/// TOML. This project's profile.
 #[tactic(auto, unfolding(crate::specs::Directory::directory_in))]
 pub fn open_directory(alloc: Global, bytes: &[u8]) -> Result<Opened, NoMemory>
     ensures { IfOk result (λ opened. opened_shown opened ≡ directory_in bytes.now) }

@@ -9,8 +9,8 @@ use pec_types::NoMemory;
 use std::alloc::Global;
 
 /// `refused directory FAULT`, a line: the fault by its word, and by the numbers of the provider, from 0, and of its
-/// account, from 1, where 0 is its receipt address, or, for a text of LDIF, by the place in bytes from 0. Want of memory
-/// has no line, and comes back as itself. This project's profile.
+/// account, from 1, where 0 is its receipt address, or, for a text of LDIF, by the place in bytes from 0. Want of
+/// memory has no line, and comes back as itself. This project's profile.
 #[tactic(auto, unfolding(crate::specs::Faults::refused_directory_text))]
 pub fn refused_directory_text(alloc: Global, why: LdifRefused) -> Result<Vec<u8>, NoMemory>
     ensures { IfOk result (λ text. text.items ≡ refused_directory_text why) }

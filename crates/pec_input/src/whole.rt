@@ -15,8 +15,8 @@ pub enum Whole {
     TooLong,
 }
 
-/// Reads an input to its end, all of which is a directory, a line `%%` too. One that is too long isn't read further. Where
-/// it fails, how far it read is open. This project's profile.
+/// Reads an input to its end, all of which is a directory, a line `%%` too. One that is too long isn't read further.
+/// Where it fails, how far it read is open. This project's profile.
 pub fn read_whole<S: Source>(alloc: Global, source: &mut S) -> Result<Whole, InputFault>
     ensures whole { IfOk result (λ whole. IsWhole whole (S.left source.old) (S.left source.new)) }
     // A fault is told only where the source's count of faults rose.

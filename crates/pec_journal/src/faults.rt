@@ -17,8 +17,8 @@ pub enum CreateFault {
 #[derive(Clone, Copy, Debug, PartialEq, Eq)]
 pub enum OpenFault {
     DiskFault,
-    /// The bytes are no journal file: the place of the header, the gate or the length that isn't there, or of the length
-    /// of an entry that runs past the end.
+    /// The bytes are no journal file: the place of the header, the gate or the length that isn't there, or of the
+    /// length of an entry that runs past the end.
     NotAJournal(u64),
     NoMemory,
 }

@@ -26,8 +26,8 @@ const NO_ENTRIES: [u8; 9] = *b"PECJRN1\n\0";
 
 const HEADER_LENGTH: u64 = 8;
 
-/// How many bytes an entry takes beside its own.
-const FRAMING: u64 = 5;
+/// How many bytes an entry takes in a journal beside its own. This project's profile.
+pub const FRAMING: u64 = 5;
 
 const OPEN_GATE: u8 = 1;
 
@@ -98,9 +98,9 @@ impl<D> Journal<D> {
 }
 
 impl<D: Disk> Journal<D> {
-    /// A journal with no entry on an empty disk. It takes no memory. A crash during the call may leave a disk that holds
-    /// bytes and is no journal, but no more of them than the journal has, or than it may have left before. With a fault
-    /// the disk comes back.
+    /// A journal with no entry on an empty disk. It takes no memory. A crash during the call may leave a disk that
+    /// holds bytes and is no journal, but no more of them than the journal has, or than it may have left before. With a
+    /// fault the disk comes back.
     pub fn create(mut disk: D) -> Result<Journal<D>, (CreateFault, D)>
         ensures created { D.tells → IfOk result (λ journal. Keeps (D.sight journal.disk) [] journal.end) }
         ensures bytes { D.tells → IfOk result (λ journal. (D.sight journal.disk).seen ≡ header ++ closed_gate ∷ []) }
@@ -132,8 +132,8 @@ impl<D: Disk> Journal<D> {
         }
     }
 
-    /// Puts an entry behind the others, by four calls of the disk: a write behind the closed gate, a sync, a write of the
-    /// gate, a sync. It answers the place of the entry's bytes. It takes no memory.
+    /// Puts an entry behind the others, by four calls of the disk: a write behind the closed gate, a sync, a write of
+    /// the gate, a sync. It answers the place of the entry's bytes. It takes no memory.
     pub fn append(&mut self, bytes: &[u8]) -> Result<Place, AppendFault>
         requires { length bytes.now ≤ self.old.spare }
 
@@ -152,7 +152,8 @@ impl<D: Disk> Journal<D> {
         ensures after { OnOk result (self.new ≡
             record { disk = self.new.disk; end = self.old.end + framing + length bytes.now; spent = false; spare = self.new.spare }) }
 
-        // Each fault comes exactly there, the first that applies, but for the disk's, which comes only after a fault of it.
+        // Each fault comes exactly there, the first that applies, but for the disk's, which comes only after a fault of
+        // it.
         ensures spent { IsErrOf result append.Spent ↔ (self.old.spent ≡ true) }
         ensures too_long { IsErrOf result append.TooLong ↔ (self.old.spent ≡ false) × (ENTRY_LIMIT < length bytes.now) }
         ensures full { IsErrOf result append.Full ↔ (self.old.spent ≡ false) × (length bytes.now ≤ ENTRY_LIMIT)
@@ -189,9 +190,9 @@ impl<D: Disk> Journal<D> {
         }
     }
 
-    /// The bytes of the entry at a place that `append` or `reopen` answered, by one call of the disk. Where the disk gives
-    /// fewer, which one that tells its bytes never does, those are the answer. A fault of the disk doesn't make the journal
-    /// spent.
+    /// The bytes of the entry at a place that `append` or `reopen` answered, by one call of the disk. Where the disk
+    /// gives fewer, which one that tells its bytes never does, those are the answer. A fault of the disk doesn't make
+    /// the journal spent.
     pub fn read(&mut self, alloc: Global, place: Place) -> Result<Vec<u8>, ReadFault>
         ensures entry { D.tells → (entries : List (List ℕ)) (entry : List ℕ) → IsFile entries (D.sight self.old.disk).seen →
             StandsAt place entry entries → IfOk result (λ bytes. bytes.items ≡ entry) }

@@ -8,5 +8,5 @@ mod reopening;
 mod room;
 
 pub use faults::{AppendFault, CreateFault, OpenFault, ReadFault};
-pub use journal::{ENTRY_LIMIT, JOURNAL_LIMIT, Journal};
+pub use journal::{ENTRY_LIMIT, FRAMING, JOURNAL_LIMIT, Journal};
 pub use laws::{a_file_has_one_list, entries_stand_at_their_places};

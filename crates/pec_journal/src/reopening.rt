@@ -31,8 +31,8 @@ enum Stand {
 }
 
 impl<D: Disk> Journal<D> {
-    /// The journal on a disk, which is first made durable as it reads, and the places of the entries' bytes, in order. It
-    /// reads gates and lengths alone, and writes nothing. With a fault the disk comes back.
+    /// The journal on a disk, which is first made durable as it reads, and the places of the entries' bytes, in order.
+    /// It reads gates and lengths alone, and writes nothing. With a fault the disk comes back.
     pub fn reopen(alloc: Global, mut disk: D) -> Result<(Journal<D>, Vec<Place>), (OpenFault, D)>
         // What was opened is the file of a list: these are its places, and a crash leaves it.
         ensures opened { D.tells → IfOk result (λ read. (entries : List (List ℕ)) × IsFile entries (D.sight disk).seen

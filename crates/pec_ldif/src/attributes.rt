@@ -60,8 +60,8 @@ pub fn a_line_is_one_attribute()
     ensures { (line : Shown) → TellsExactly (IsAttribute line) (IsAttributeFault line) (attribute_of line) }
 {}
 
-/// The attribute that a line says (RFC 2849): a name, `:`, any spaces and a plain value, or a name, `::`, any spaces and
-/// base64 of UTF-8. This project's profile.
+/// The attribute that a line says (RFC 2849): a name, `:`, any spaces and a plain value, or a name, `::`, any spaces
+/// and base64 of UTF-8. This project's profile.
 pub fn read_attribute(alloc: Global, line: &Line) -> Result<Attribute, LdifFault>
     ensures reads { ReadsExactly (IsAttribute line.now) (IsAttributeFault line.now) faults.NoMemory result }
     // The same answer as a function of the line, for definitions that build on it.

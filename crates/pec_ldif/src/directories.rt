@@ -11,8 +11,8 @@ use crate::tables::table_of;
 use pec_directory::{Directory, a_table_is_told_exactly};
 use std::alloc::Global;
 
-/// The law of directories in LDIF: each text is the directory of one list of providers, or is refused for one reason, and
-/// `directory_in_ldif` tells which.
+/// The law of directories in LDIF: each text is the directory of one list of providers, or is refused for one reason,
+/// and `directory_in_ldif` tells which.
 pub fn an_ldif_directory_is_told_exactly()
     ensures { (text : Bytes) → TellsExactly (IsLdifDirectory text) (IsLdifRefusal text) (directory_in_ldif text) }
 {
@@ -20,11 +20,11 @@ pub fn an_ldif_directory_is_told_exactly()
     a_table_is_told_exactly();
 }
 
-/// The directory that a text of LDIF is (RFC 2849, content records), or why it is none: a fault of the text, at its place
-/// in bytes from 0, or else the first fault of the table of its records. This project's profile.
+/// The directory that a text of LDIF is (RFC 2849, content records), or why it is none: a fault of the text, at its
+/// place in bytes from 0, or else the first fault of the table of its records. This project's profile.
 pub fn directory_of(alloc: Global, text: &[u8]) -> Result<Directory, LdifRefused>
-    // Providers are answered exactly where the text is LDIF and the table of its records says them, and they are lawful;
-    // and otherwise the one reason why not.
+    // Providers are answered exactly where the text is LDIF and the table of its records says them, and they are
+    // lawful; and otherwise the one reason why not.
     ensures reads { ReadsExactly (IsLdifDirectory text.now) (IsLdifRefusal text.now) refusals.NoMemory
         (seen_as providers_of result) }
     // The same answer as a function of the text, for definitions that build on it.

@@ -8,8 +8,8 @@ ghost use Rattle.pec_ldif.specs.Writing.{ldif_text};
 use pec_directory::a_table_is_told_exactly;
 use pec_types::{an_address_has_its_bytes_alone, an_address_is_told_exactly};
 
-/// The law of the round trip: the text of a lawful directory is LDIF by its first line, and is read as that directory, so
-/// with its canonical text.
+/// The law of the round trip: the text of a lawful directory is LDIF by its first line, and is read as that directory,
+/// so with its canonical text.
 pub fn what_is_written_is_read()
     ensures first { (providers : List Provider) → is_ldif (ldif_text providers) ≡ true }
     ensures read { (providers : List Provider) → IsLawful providers

@@ -10,8 +10,8 @@ use pec_directory::{Account, Directory, Provider};
 use pec_types::{NoMemory, Text};
 use std::alloc::{AllocError, Global};
 
-/// The text of a directory in LDIF (RFC 2849): `version: 1`, and for each provider and each of its accounts an empty line
-/// and a record. A value that begins with `:` or `<` is written in base64. This project's profile.
+/// The text of a directory in LDIF (RFC 2849): `version: 1`, and for each provider and each of its accounts an empty
+/// line and a record. A value that begins with `:` or `<` is written in base64. This project's profile.
 #[tactic(auto, unfolding(crate::specs::Writing::ldif_text))]
 pub fn ldif_of(alloc: Global, directory: &Directory) -> Result<Vec<u8>, NoMemory>
     ensures { IfOk result (λ text. text.items ≡ ldif_text (providers_of directory.now)) }

@@ -12,8 +12,8 @@ use pec_letter_parts::join_lines;
 use pec_types::{Address, Facts, Items, MsgId, NoMemory, Recipient, Text, Wish, id_text};
 use std::alloc::{AllocError, Global};
 
-/// What a letter reports of a message, beside the facts of its head: of which kind the letter is and what went wrong, which
-/// receipt is wished, to whom it was delivered, for whom it was taken in charge, and words on the error.
+/// What a letter reports of a message, beside the facts of its head: of which kind the letter is and what went wrong,
+/// which receipt is wished, to whom it was delivered, for whom it was taken in charge, and words on the error.
 #[derive(Drop)]
 pub struct Report {
     pub kind: CertKind,
@@ -24,8 +24,8 @@ pub struct Report {
     pub detail: Option<Text>,
 }
 
-/// What a letter certifies of a message of these facts: `issuer` is the name of the provider that composes the letter, and `stamp`
-/// the moment on its clock (RFC 6109, section 4.4, within this project's profile).
+/// What a letter certifies of a message of these facts: `issuer` is the name of the provider that composes the letter,
+/// and `stamp` the moment on its clock (RFC 6109, section 4.4, within this project's profile).
 #[tactic(auto, unfolding(crate::specs::Certifying::certificate_of))]
 pub fn certificate(
     alloc: Global,
@@ -103,8 +103,8 @@ fn typed(
     Ok(all)
 }
 
-/// The text for people: when, who, about what, the name of the message, and a phrase that says what happened (this project's
-/// profile).
+/// The text for people: when, who, about what, the name of the message, and a phrase that says what happened (this
+/// project's profile).
 #[tactic(auto, unfolding(crate::specs::Certifying::told_text))]
 pub fn told_text(
     alloc: Global,

@@ -1,5 +1,5 @@
-//! What letters of certified mail say of a message and how they are asked about it: what envelopes and receipts have in common
-//! (RFC 6109, sections 3 and 4.4, within this project's profile). Which letters there are, the crates above say.
+//! What letters of certified mail say of a message and how they are asked about it: what envelopes and receipts have in
+//! common (RFC 6109, sections 3 and 4.4, within this project's profile). Which letters there are, the crates above say.
 #![tactic(auto)]
 
 mod certifying;

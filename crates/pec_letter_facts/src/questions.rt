@@ -23,8 +23,8 @@ pub fn is_first(head: &Head, name: &[u8], wanted: &[u8]) -> bool
     }
 }
 
-/// What a head says its letter is, and the value of the field that says it: an acknowledgement wherever it has that field, or
-/// else a receipt, or else an envelope. It takes no memory.
+/// What a head says its letter is, and the value of the field that says it: an acknowledgement wherever it has that
+/// field, or else a receipt, or else an envelope. It takes no memory.
 #[tactic(auto, unfolding(crate::specs::Questions::marking_of))]
 pub fn marking(head: &Head) -> Option<(Marking, &[u8])>
     ensures { option_map (λ found. (found.0, found.1.now)) result ≡ marking_of head.now }
@@ -39,8 +39,8 @@ pub fn marking(head: &Head) -> Option<(Marking, &[u8])>
     Some((Marking::Transport, kind))
 }
 
-/// The message that a letter is about: its certified name is that of a message of the directory's providers, and the field of
-/// this name is that name in angle brackets. `None` says that it isn't so.
+/// The message that a letter is about: its certified name is that of a message of the directory's providers, and the
+/// field of this name is that name in angle brackets. `None` says that it isn't so.
 #[tactic(auto, unfolding(crate::specs::Questions::id_named))]
 pub fn id_named(
     alloc: Global,

@@ -39,8 +39,8 @@ use pec_heads::{
 };
 use pec_types::printable_is_said_of_each_byte;
 
-/// The law of names: the name of a message of a provider of a lawful directory is printable and has at most 248 bytes, and the
-/// address that the provider writes from is one.
+/// The law of names: the name of a message of a provider of a lawful directory is printable and has at most 248 bytes,
+/// and the address that the provider writes from is one.
 pub fn a_name_is_one_short_line()
     ensures printable { (providers : List Provider) (id : Id) → IsLawful providers → id.provider < length providers
         → AllPrintable (name_of providers id) }
@@ -53,8 +53,8 @@ pub fn a_name_is_one_short_line()
     printable_is_said_of_each_byte();
 }
 
-/// The law of what is certified: in a lawful directory the certificate of a message with printable facts and a recipient can be
-/// written; the facts of a head are such facts, and the name of a provider can stand in a certificate.
+/// The law of what is certified: in a lawful directory the certificate of a message with printable facts and a
+/// recipient can be written; the facts of a head are such facts, and the name of a provider can stand in a certificate.
 pub fn what_is_certified_can_be_written()
     ensures written { (providers : List Provider) (issuer : Bytes) (id : Id) (stamp : Instant) (facts : FactsShown) (report : ReportShown)
         → IsLawful providers → id.provider < length providers → AllPrintable issuer
@@ -68,8 +68,8 @@ pub fn what_is_certified_can_be_written()
     printable_is_said_of_each_byte();
 }
 
-/// The law of values: these, of which the heads of letters are made, are printable and short enough to stand in one line, and what
-/// has no blank at its ends is read as it is written.
+/// The law of values: these, of which the heads of letters are made, are printable and short enough to stand in one
+/// line, and what has no blank at its ends is read as it is written.
 pub fn a_value_is_one_line()
     ensures angled { (name : Bytes) → AllPrintable name → length name ≤ 900 → IsShortLine (angled name) }
     ensures text { (text : Bytes) → IsShortText text → IsWholeLine text }
@@ -82,8 +82,8 @@ pub fn a_value_is_one_line()
     printable_is_said_of_each_byte();
 }
 
-/// The law of composed letters: a text with a heading that may stand is read, and what is found in it is what it was composed of;
-/// and where its contents have a certificate, it is a letter.
+/// The law of composed letters: a text with a heading that may stand is read, and what is found in it is what it was
+/// composed of; and where its contents have a certificate, it is a letter.
 pub fn a_composed_letter_is_read_back()
     ensures read { (seals : Seals) (provider : ℕ) (heading : HeadingShown) (contents : ContentsShown) (text : Bytes)
         → CanBeHeaded heading → IsLetterText seals provider heading (parts_of contents) text
@@ -107,7 +107,8 @@ pub fn a_composed_letter_is_read_back()
     what_is_composed_is_read_again();
 }
 
-/// The law of questions: what a letter says that was composed of a certificate and of a head passes each question that readers ask.
+/// The law of questions: what a letter says that was composed of a certificate and of a head passes each question that
+/// readers ask.
 pub fn what_is_composed_passes()
     ensures id { (providers : List Provider) (id : Id) (field : Bytes) (letter : LetterShown) → IsLawful providers
         → id.provider < length providers → id.number < MESSAGES → letter.cert.id ≡ name_of providers id

@@ -4,8 +4,8 @@ ghost use Rattle.pec_letter_parts.specs.Contents.{behind_line, lines_text, part_
 use pec_types::NoMemory;
 use std::alloc::{AllocError, Global};
 
-/// What a part of a letter is: the text for people, the message that the letter carries (`postacert.eml`), or what it certifies
-/// (`daticert.xml`).
+/// What a part of a letter is: the text for people, the message that the letter carries (`postacert.eml`), or what it
+/// certifies (`daticert.xml`).
 #[derive(Clone, Copy, Debug, PartialEq, Eq)]
 pub enum PartKind {
     Text,
@@ -28,7 +28,8 @@ impl PartKind {
     }
 }
 
-/// What stands in the parts of a letter. The message and the certification text are slices: they are copied into the letter alone.
+/// What stands in the parts of a letter. The message and the certification text are slices: they are copied into the
+/// letter alone.
 #[derive(Clone, Copy)]
 pub struct Contents<'a> {
     /// The text for people.

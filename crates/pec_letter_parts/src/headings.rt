@@ -35,8 +35,8 @@ impl Marking {
     }
 }
 
-/// What stands in the head of a letter, field by field, in the order of the fields. What is absent makes no field, and neither
-/// does a list without addresses.
+/// What stands in the head of a letter, field by field, in the order of the fields. What is absent makes no field, and
+/// neither does a list without addresses.
 #[derive(Clone, Copy)]
 pub struct Heading<'a> {
     pub marking: Marking,

@@ -18,7 +18,8 @@ use pec_seal::{Sealer, opened, sealing_and_opening};
 use pec_types::LetterFault;
 use std::alloc::Global;
 
-/// A text that opened: the provider that sealed it, the head of what was sealed, and what is behind that, a slice of the text.
+/// A text that opened: the provider that sealed it, the head of what was sealed, and what is behind that, a slice of
+/// the text.
 #[derive(Drop)]
 pub struct Headed<'a> {
     pub sealer: u32,
@@ -54,8 +55,8 @@ pub fn a_head_has_one_letter()
     a_text_has_one_answer();
 }
 
-/// The law of what is read of texts: one head behind a seal or a fault, and so one letter or a fault, never both; `headed_of` and
-/// `letter_of` give them.
+/// The law of what is read of texts: one head behind a seal or a fault, and so one letter or a fault, never both;
+/// `headed_of` and `letter_of` give them.
 pub fn a_text_is_one_letter<S: Sealer>()
     ensures headed { (sealer : S) (text : Bytes) → TellsExactly (IsHeaded (S.seals sealer) text) (IsUnheaded (S.seals sealer) text) (headed_of (S.seals sealer) text) }
     ensures letter { (sealer : S) (text : Bytes) → TellsExactly (IsLetter (S.seals sealer) text) (IsUnread (S.seals sealer) text) (letter_of (S.seals sealer) text) }
@@ -66,8 +67,8 @@ pub fn a_text_is_one_letter<S: Sealer>()
 }
 
 impl<'a> Headed<'a> {
-    /// Who sealed a text, and the head of what was sealed; what is behind the head is a slice of the text. The fault is `Seal` where
-    /// no provider sealed the text, and otherwise `Head` where what was sealed has no head.
+    /// Who sealed a text, and the head of what was sealed; what is behind the head is a slice of the text. The fault is
+    /// `Seal` where no provider sealed the text, and otherwise `Head` where what was sealed has no head.
     pub fn read<S: Sealer>(
         alloc: Global,
         sealer: &S,
@@ -81,8 +82,8 @@ impl<'a> Headed<'a> {
         read_headed(alloc, sealer, text)
     }
 
-    /// The letter behind the head. The fault is `Body` where there are no parts, and otherwise `Cert` where no part is named
-    /// `daticert.xml` or the first such part's body is no certification text.
+    /// The letter behind the head. The fault is `Body` where there are no parts, and otherwise `Cert` where no part is
+    /// named `daticert.xml` or the first such part's body is no certification text.
     pub fn letter(self, alloc: Global) -> Result<Letter<'a>, LetterFault>
         ensures reads { ReadsExactly (IsLetterIn (headed_shown self.entry)) (IsUnreadIn (headed_shown self.entry)) faults.NoMemory (seen_as letter_shown result) }
         // The same answer as a function of what was read, for definitions that build on it.

@@ -1,5 +1,5 @@
-//! What all letters of certified mail share: their heads, their parts, their seal, and the rows that every reader of letters asks
-//! (RFC 6109, section 3, within this project's profile). Which letters there are, the crates above say.
+//! What all letters of certified mail share: their heads, their parts, their seal, and the rows that every reader of
+//! letters asks (RFC 6109, section 3, within this project's profile). Which letters there are, the crates above say.
 #![tactic(auto)]
 
 mod contents;

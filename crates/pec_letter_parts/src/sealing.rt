@@ -26,8 +26,8 @@ pub fn a_letter_has_one_text()
     parts_have_one_composed_body();
 }
 
-/// The letter with this head and these contents, sealed by a provider. Each byte of the message is written once into the letter,
-/// and once more behind the line of the seal. This project's profile.
+/// The letter with this head and these contents, sealed by a provider. Each byte of the message is written once into
+/// the letter, and once more behind the line of the seal. This project's profile.
 pub fn compose_letter<S: Sealer>(
     alloc: Global,
     sealer: &S,

@@ -5,4 +5,3 @@ mod PlaceLemmas
 mod RowLemmas
 mod AnomalyLemmas
 mod BehindLemmas
-mod EnclosedLemmas

@@ -1,5 +1,5 @@
 -- What is seen of a letter has passed each row of the table.
-use Rattle.std.proofs.Common.{◌≡◌, Bool, true, ◌&&◌, List, map, Option, Some, Result, Ok, codes, ap, sym, ◌∙◌, subst}
+use Rattle.std.proofs.Common.{◌≡◌, Bool, true, ◌&&◌, List, map, Option, Some, Result, Ok, codes, ap, sym, ◌∙◌}
 use Rattle.std.proofs.lemmas.Bool.{and_parts}
 use Rattle.std.specs.Option.{is_none}
 use Rattle.pec_types.specs.Bytes.{Bytes}
@@ -52,31 +52,6 @@ module _ (providers : List Provider) (letter : Letter) where
       let a = claimed (is_wished facts letter) (Disagree disputed.Wish) (λ wish. on_date original id facts) seen e
       in let b = claimed (is_dated letter) (Disagree disputed.Moment) (λ date. Ok (record { id = id; moment = letter.cert.stamp.moment; facts = facts; original = original })) seen a.1
       in cc
-
-  by_recipients : (original : Bytes) (id : Id) (facts : Facts) (seen : Seen) → on_recipients original id facts ≡ Ok seen
-      → (original ≡ seen.original) × (facts ≡ seen.facts)
-  by_recipients original id facts seen e =
-      let r = claimed (are_recipients providers facts letter) (Disagree disputed.Recipient) (λ recipients. on_wish original id facts) seen e
-      in let a = claimed (is_wished facts letter) (Disagree disputed.Wish) (λ wish. on_date original id facts) seen r.1
-      in let b = claimed (is_dated letter) (Disagree disputed.Moment) (λ date. Ok (record { id = id; moment = letter.cert.stamp.moment; facts = facts; original = original })) seen a.1
-      in (cc, cc)
-
-  -- What is seen is the message in its part, with the facts of its head.
-  pub original_passed : (seen : Seen) → seen_of providers letter ≡ Ok seen
-      → (body_of message_name letter.parts ≡ Some seen.original) × (facts_in seen.original letter ≡ Some seen.facts)
-  unfolding seen_of
-  original_passed seen e =
-      let a = claimed (is_envelope letter) NotThis (λ kind. on_original) seen e
-      in let original = known_as (body_of message_name letter.parts) NotThis (λ original. on_id original) seen a.1
-      in let id = known_as (id_named providers (codes "Message-ID") letter) (Disagree disputed.Identifier) (λ id. on_sealer original.0 id) seen original.1.1
-      in let d = claimed (is_sealed_at_home providers id.0 letter) (Disagree disputed.Sealer) (λ sealer. on_home original.0 id.0) seen id.1.1
-      in let h = claimed (is_from_home providers id.0 letter) (Disagree disputed.Sender) (λ home. on_facts original.0 id.0) seen d.1
-      in let facts = known_as (facts_in original.0 letter) (Disagree disputed.Sender) (λ facts. on_recipients original.0 id.0 facts) seen h.1
-      in let same = by_recipients original.0 id.0 facts.0 seen facts.1.1
-      in (
-        original.1.0 ∙ ap Some same.0,
-        subst (λ (o : Bytes). facts_in o letter ≡ Some seen.facts) same.0 (facts.1.0 ∙ ap Some same.1),
-      )
 
   -- The recipients of what is seen have passed their row.
   pub recipients_passed : (seen : Seen) → seen_of providers letter ≡ Ok seen → are_recipients providers seen.facts letter ≡ true

@@ -4,5 +4,4 @@ pub mod Anomalies
 pub mod Seen
 pub mod SeenReading
 pub mod Behind
-pub mod Enclosed
 pub mod Views

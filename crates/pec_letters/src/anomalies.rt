@@ -16,9 +16,9 @@ use std::alloc::{AllocError, Global};
 
 const PHRASE: &[u8] = b"Messaggio non di posta certificata; e' allegato.";
 
-/// The anomaly envelope in which a provider of the directory hands on a message that isn't certified mail to it (RFC 6109, section
-/// 3.2, within this project's profile): the message is attached as it came. `number` is that of the entry that the provider keeps
-/// of it.
+/// The anomaly envelope in which a provider of the directory hands on a message that isn't certified mail to it (RFC
+/// 6109, section 3.2, within this project's profile): the message is attached as it came. `number` is that of the entry
+/// that the provider keeps of it.
 pub fn compose_anomaly<S: Sealer>(
     alloc: Global,
     sealer: &S,

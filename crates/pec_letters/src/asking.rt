@@ -81,8 +81,8 @@ pub(crate) fn facts_read(alloc: Global, message: &[u8]) -> Result<Option<Facts>,
     }
 }
 
-/// Whether the certified recipients have their right types and are those of the facts, and so are the addresses of `To` and `Cc`,
-/// and nobody is certified to have received the message.
+/// Whether the certified recipients have their right types and are those of the facts, and so are the addresses of `To`
+/// and `Cc`, and nobody is certified to have received the message.
 #[tactic(auto, unfolding(crate::specs::Seen::are_recipients))]
 pub(crate) fn are_recipients(
     alloc: Global,

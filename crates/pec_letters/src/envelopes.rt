@@ -22,9 +22,9 @@ use pec_seal::Sealer;
 use pec_types::{Address, Class, Facts, Items, MESSAGES, Moment, MsgId, NoMemory, Recipient, Text};
 use std::alloc::{AllocError, Global};
 
-/// The transport envelope of a message that its sender's provider accepted at this moment (RFC 6109, section 3.1.1, within this
-/// project's profile): the provider seals it, names the message and its recipients, attaches the original as it was handed in, and
-/// certifies what its head says. The envelope is the same for every provider that it goes to.
+/// The transport envelope of a message that its sender's provider accepted at this moment (RFC 6109, section 3.1.1,
+/// within this project's profile): the provider seals it, names the message and its recipients, attaches the original
+/// as it was handed in, and certifies what its head says. The envelope is the same for every provider that it goes to.
 pub fn compose_envelope<S: Sealer>(
     alloc: Global,
     sealer: &S,

@@ -20,7 +20,6 @@ ghost use Rattle.pec_letter_facts.specs.Questions.{marking_of};
 ghost use Rattle.pec_letter_facts.specs.ReadBack.{IsReadAs};
 ghost use Rattle.pec_seal.specs.Seals.{Seals};
 ghost use Rattle.pec_letters.specs.Anomalies.{IsAnomaly, anomaly_contents, anomaly_heading, anomaly_text, anomaly_word};
-ghost use Rattle.pec_letters.specs.Enclosed.{enclosure_of};
 ghost use Rattle.pec_letters.specs.Envelopes.{IsEnvelope, envelope_parts, envelope_text};
 ghost use Rattle.pec_letters.specs.Fitting.{Fits, HasFacts, IsSentFrom};
 ghost use Rattle.pec_letters.specs.Seen.{IsSeen, IsUnseen, Seen, named_in};
@@ -37,7 +36,7 @@ use pec_letter_facts::{
     what_is_certified_can_be_written, what_is_composed_passes,
 };
 use pec_letter_parts::{a_letter_has_one_text, a_text_is_one_letter};
-use pec_seal::{Sealer, what_opens_stands_behind_its_line};
+use pec_seal::Sealer;
 use pec_types::printable_is_said_of_each_byte;
 
 /// The law of views: each text is seen as one envelope or has one fault, never both, and `view` gives it.
@@ -52,8 +51,8 @@ pub fn a_text_is_one_envelope<S: Sealer>()
     a_text_is_one_letter::<S>();
 }
 
-/// The law of envelopes as texts: a message is one envelope at most, the one that `envelope_text` gives, so that no two texts are an
-/// envelope of one message; and where its parts have less than 2^64 bytes together, it is one.
+/// The law of envelopes as texts: a message is one envelope at most, the one that `envelope_text` gives, so that no two
+/// texts are an envelope of one message; and where its parts have less than 2^64 bytes together, it is one.
 pub fn a_message_has_one_envelope()
     ensures only { (seals : Seals) (kept : List Kept) (id : Id) (moment : ℕ) (facts : FactsShown) (original text : Bytes)
         → IsEnvelope seals kept id moment facts original text → envelope_text seals kept id moment facts original ≡ Some text }
@@ -73,8 +72,8 @@ pub fn a_message_has_one_envelope()
     parts_have_one_composed_body();
 }
 
-/// The law of envelopes that are seen: the view of the envelope of a message that its sender's provider sends is what it was
-/// composed of.
+/// The law of envelopes that are seen: the view of the envelope of a message that its sender's provider sends is what
+/// it was composed of.
 pub fn what_is_composed_is_seen<S: Sealer>()
     ensures { (sealer : S) (kept : List Kept) (id : Id) (moment : ℕ) (facts : FactsShown) (original text : Bytes)
         → IsLawful (providers_of kept) → HasFacts original facts → IsSentFrom (providers_of kept) id facts
@@ -95,15 +94,6 @@ pub fn what_is_composed_is_seen<S: Sealer>()
     a_text_is_one_letter::<S>();
 }
 
-/// The law of what envelopes carry: what a text carries by its form is what is seen in it where it is seen as an envelope, whoever
-/// seals and whatever providers there are.
-pub fn what_is_seen_is_enclosed()
-    ensures { (seals : Seals) (providers : List Provider) (text : Bytes) (seen : Seen) → view seals providers text ≡ Ok seen
-        → enclosure_of text ≡ Some (record { facts = seen.facts; original = seen.original }) }
-{
-    what_opens_stands_behind_its_line();
-}
-
 /// The law of anomalies as texts: a message is one anomaly of a provider, a number and a moment at most, the one that
 /// `anomaly_text` gives.
 pub fn a_message_has_one_anomaly()
@@ -113,8 +103,8 @@ pub fn a_message_has_one_anomaly()
     a_letter_has_one_text();
 }
 
-/// The law of anomalies that are read: an anomaly has a head that says what it is, and is no letter, since it certifies nothing; so
-/// it is seen as no envelope.
+/// The law of anomalies that are read: an anomaly has a head that says what it is, and is no letter, since it certifies
+/// nothing; so it is seen as no envelope.
 pub fn an_anomaly_is_no_letter<S: Sealer>()
     ensures head { (sealer : S) (kept : List Kept) (provider number moment : ℕ) (message text : Bytes)
         → IsLawful (providers_of kept) → number < 2 ^ 64 → moment < END_OF_TIME

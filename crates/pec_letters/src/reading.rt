@@ -24,8 +24,8 @@ use pec_seal::Sealer;
 use pec_types::{Disputed, Facts, LetterFault, Moment, MsgId};
 use std::alloc::Global;
 
-/// What is seen of an envelope: the message, when it was accepted, the facts of its head, and the message as it was handed in, a
-/// slice of the envelope.
+/// What is seen of an envelope: the message, when it was accepted, the facts of its head, and the message as it was
+/// handed in, a slice of the envelope.
 #[derive(Drop)]
 pub struct EnvelopeView<'a> {
     pub id: MsgId,
@@ -34,10 +34,10 @@ pub struct EnvelopeView<'a> {
     pub original: &'a [u8],
 }
 
-/// What is seen of a text that is an envelope, or the first row that applies of why it is none: no provider sealed it, or what was
-/// sealed has no head, no parts, or no certification text; it is a letter of another kind; or what it says disagrees, on the
-/// message, the provider that sealed it, the sender, the recipients, the wish or the moment (RFC 6109, section 2.1.2, within this
-/// project's profile).
+/// What is seen of a text that is an envelope, or the first row that applies of why it is none: no provider sealed it,
+/// or what was sealed has no head, no parts, or no certification text; it is a letter of another kind; or what it says
+/// disagrees, on the message, the provider that sealed it, the sender, the recipients, the wish or the moment (RFC
+/// 6109, section 2.1.2, within this project's profile).
 pub fn read_envelope<'a, S: Sealer>(
     alloc: Global,
     sealer: &S,

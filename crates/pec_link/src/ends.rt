@@ -10,8 +10,8 @@ use std::marker::Model;
 /// The most frames that wait on a link. This project's profile.
 pub const MOST_FRAMES: usize = 64;
 
-/// The end of a link that puts frames. It may be held by another thread than the end that takes them. Contracts see which ring it
-/// belongs to, all that was ever put, and how many places it knows to be free.
+/// The end of a link that puts frames. It may be held by another thread than the end that takes them. Contracts see
+/// which ring it belongs to, all that was ever put, and how many places it knows to be free.
 #[derive(Drop)]
 pub struct Putter {
     end: Producer<Frame>,
@@ -34,8 +34,8 @@ impl Model for Putter {
     ghost invariant = { λ putter. producer_capacity putter.end ≡ MOST_FRAMES };
 }
 
-/// The end of a link that takes frames. Contracts see which ring it belongs to, all that was ever taken, and the frames that it
-/// knows to wait, oldest first.
+/// The end of a link that takes frames. Contracts see which ring it belongs to, all that was ever taken, and the frames
+/// that it knows to wait, oldest first.
 #[derive(Drop)]
 pub struct Taker {
     end: Consumer<Frame>,
@@ -64,8 +64,8 @@ pub fn new_link(alloc: Global) -> Result<(Putter, Taker), NoMemory>
     Ok((Putter { end: putter }, Taker { end: taker }))
 }
 
-/// How many frames wait on the link of these two ends. From then on the putter knows all free places, and the taker all frames
-/// that wait. It takes no memory.
+/// How many frames wait on the link of these two ends. From then on the putter knows all free places, and the taker all
+/// frames that wait. It takes no memory.
 pub fn waiting(putter: &mut Putter, taker: &mut Taker) -> usize
     requires { ArePair putter.old taker.old }
     ensures settled { AreSettled putter.new taker.new }
@@ -85,8 +85,8 @@ impl Putter {
         ensures ring { self.new.ring ≡ self.old.ring }
         ensures put { OnOk result (self.new.put ≡ self.old.put ++ frame ∷ []) }
         ensures room { OnOk result (self.old.free ≤ self.new.free + 1) }
-        // It comes back only where no place is known to be free: where at least as many frames were put since `waiting` as there
-        // were free places then. All that was put is then as before.
+        // It comes back only where no place is known to be free: where at least as many frames were put since `waiting`
+        // as there were free places then. All that was put is then as before.
         ensures full { OnErr result (self.old.free ≡ 0) }
         ensures back { IfErr result (λ given. given ≡ frame) }
         ensures unchanged { OnErr result (self.new.put ≡ self.old.put) }
@@ -99,8 +99,8 @@ impl Putter {
 }
 
 impl Taker {
-    /// Takes the frame that has waited longest; none exactly where none is known to wait: where as many frames were taken since
-    /// `waiting` as waited then. It takes no memory.
+    /// Takes the frame that has waited longest; none exactly where none is known to wait: where as many frames were
+    /// taken since `waiting` as waited then. It takes no memory.
     pub fn take(&mut self) -> Option<Frame>
         ensures ring { self.new.ring ≡ self.old.ring }
         ensures taken { self.new.taken ≡ self.old.taken ++ option_to_list result }

@@ -12,8 +12,8 @@ use pec_types::{Frame, NoMemory};
 use std::alloc::Global;
 use std::marker::Model;
 
-/// Both ends of a link at rest: no frame waits that the taker doesn't know. Contracts see the frames that wait, oldest first, at
-/// most 64.
+/// Both ends of a link at rest: no frame waits that the taker doesn't know. Contracts see the frames that wait, oldest
+/// first, at most 64.
 #[derive(Drop)]
 pub struct Link {
     putter: Putter,
@@ -104,8 +104,8 @@ impl Link {
         self.taker.known()
     }
 
-    /// Takes out the frame at a place, counted from 0, and forgets it. `NoFrame` exactly where no frame waits there. It takes no
-    /// memory.
+    /// Takes out the frame at a place, counted from 0, and forgets it. `NoFrame` exactly where no frame waits there. It
+    /// takes no memory.
     pub fn lose(&mut self, place: usize) -> Result<(), LinkFault>
         ensures lost { OnOk result ((place < length self.old) × (self.new ≡ without place self.old)) }
         ensures no_frame { IfErr result (λ fault. (fault ≡ faults.NoFrame) × (length self.old ≤ place)) }
@@ -114,8 +114,8 @@ impl Link {
         turning::lose(&mut self.putter, &mut self.taker, place)
     }
 
-    /// Exchanges the frame at a place, counted from 0, with the next one. `NoFrame` exactly where one of the two doesn't wait. It
-    /// takes no memory.
+    /// Exchanges the frame at a place, counted from 0, with the next one. `NoFrame` exactly where one of the two
+    /// doesn't wait. It takes no memory.
     pub fn swap(&mut self, place: usize) -> Result<(), LinkFault>
         ensures swapped { OnOk result ((place + 1 < length self.old) × (self.new ≡ swapped place self.old)) }
         ensures no_frame { IfErr result (λ fault. (fault ≡ faults.NoFrame) × (length self.old ≤ place + 1)) }
@@ -124,8 +124,8 @@ impl Link {
         turning::swap(&mut self.putter, &mut self.taker, place)
     }
 
-    /// Puts a copy of the frame at a place, counted from 0, behind those that wait. `NoFrame` exactly where no frame waits there,
-    /// and otherwise `Full` exactly where 64 wait.
+    /// Puts a copy of the frame at a place, counted from 0, behind those that wait. `NoFrame` exactly where no frame
+    /// waits there, and otherwise `Full` exactly where 64 wait.
     pub fn repeat(&mut self, alloc: Global, place: usize) -> Result<(), LinkFault>
         ensures repeated { OnOk result ((place < length self.old) × (length self.old < MOST_FRAMES) × (self.new ≡ repeated place self.old)) }
         ensures no_frame { IfErr result (λ fault. fault ≡ faults.NoFrame → length self.old ≤ place) }

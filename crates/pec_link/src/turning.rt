@@ -9,8 +9,9 @@ use crate::faults::LinkFault;
 use pec_types::Frame;
 use std::alloc::Global;
 
-/// Takes out the frame at a place of the link of these two ends, counted from 0, and forgets it. `NoFrame` exactly where no frame
-/// waits there. All frames that waited are taken, each once, and the others put again in their order. It takes no memory.
+/// Takes out the frame at a place of the link of these two ends, counted from 0, and forgets it. `NoFrame` exactly
+/// where no frame waits there. All frames that waited are taken, each once, and the others put again in their order. It
+/// takes no memory.
 pub fn lose(putter: &mut Putter, taker: &mut Taker, place: usize) -> Result<(), LinkFault>
     requires { ArePair putter.old taker.old }
     ensures settled { AreSettled putter.new taker.new }
@@ -30,8 +31,8 @@ pub fn lose(putter: &mut Putter, taker: &mut Taker, place: usize) -> Result<(), 
     Ok(())
 }
 
-/// Exchanges the frame at a place of the link of these two ends, counted from 0, with the next one. `NoFrame` exactly where one
-/// of the two doesn't wait. All frames that waited are taken, each once, and put again. It takes no memory.
+/// Exchanges the frame at a place of the link of these two ends, counted from 0, with the next one. `NoFrame` exactly
+/// where one of the two doesn't wait. All frames that waited are taken, each once, and put again. It takes no memory.
 pub fn swap(putter: &mut Putter, taker: &mut Taker, place: usize) -> Result<(), LinkFault>
     requires { ArePair putter.old taker.old }
     ensures settled { AreSettled putter.new taker.new }
@@ -53,9 +54,9 @@ pub fn swap(putter: &mut Putter, taker: &mut Taker, place: usize) -> Result<(), 
     Ok(())
 }
 
-/// Puts a copy of the frame at a place of the link of these two ends, counted from 0, behind those that wait. `NoFrame` exactly
-/// where no frame waits there, and otherwise `Full` exactly where 64 wait. All frames that waited are taken, each once, and put
-/// again in their order, also where there is no memory for the copy.
+/// Puts a copy of the frame at a place of the link of these two ends, counted from 0, behind those that wait. `NoFrame`
+/// exactly where no frame waits there, and otherwise `Full` exactly where 64 wait. All frames that waited are taken,
+/// each once, and put again in their order, also where there is no memory for the copy.
 pub fn repeat(
     alloc: Global,
     putter: &mut Putter,
@@ -89,7 +90,8 @@ pub fn repeat(
     Ok(())
 }
 
-/// Takes the frame at a place, counted from 0, and before it those in front of it, each of which is put again behind the others.
+/// Takes the frame at a place, counted from 0, and before it those in front of it, each of which is put again behind
+/// the others.
 fn take_at(putter: &mut Putter, taker: &mut Taker, place: usize) -> Frame
     requires settled { AreSettled putter.old taker.old }
     requires within { place < length taker.old.waiting }

@@ -1,4 +1,5 @@
-//! What a load is: a directory of two providers, and a script that is made for it, of as many messages as are asked for.
+//! What a load is: a directory of two providers, and a script that is made for it, of as many messages as are asked
+//! for.
 #![tactic(auto)]
 
 mod directory;

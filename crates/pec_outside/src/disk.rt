@@ -7,8 +7,8 @@ use crate::streams::Failed;
 
 /// Bytes by place that outlive the program. This project's profile.
 ///
-/// Until a sync is answered, a crash may leave any bytes in each range that was written, by a failed write too, and past
-/// the old end. All other bytes stay. After a sync that is answered a crash leaves what a read gives.
+/// Until a sync is answered, a crash may leave any bytes in each range that was written, by a failed write too, and
+/// past the old end. All other bytes stay. After a sync that is answered a crash leaves what a read gives.
 pub trait Disk: Counted {
     // Whether the disk tells what it holds. Nothing is said of the content of one that doesn't.
     ghost tells: { Type 0 };
@@ -33,8 +33,8 @@ pub trait Disk: Counted {
         ensures later { Self.faults self.old ≤ Self.faults self.new }
         ensures cause { OnErr result (HasRisen (Self.faults self.old) (Self.faults self.new)) };
 
-    /// Writes the piece over what stands at place `at`, and past the end. What it does is said where `at` is at most the
-    /// size. After `Failed` the range may hold any bytes.
+    /// Writes the piece over what stands at place `at`, and past the end. What it does is said where `at` is at most
+    /// the size. After `Failed` the range may hold any bytes.
     fn write_at(&mut self, at: u64, piece: &[u8]) -> Result<(), Failed>
         ensures written { tells → at ≤ length (sight self.old).seen →
             OnOk result ((sight self.new).seen ≡ written (sight self.old).seen at piece.now) }

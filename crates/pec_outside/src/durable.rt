@@ -6,9 +6,9 @@ use crate::counts::Counted;
 use crate::disk::Disk;
 use crate::streams::Failed;
 
-/// A write and a sync. Where a crash leaves what a read gives, a crash at any moment of the call leaves these bytes with
-/// the piece's range torn, and a crash after `Ok` all of the piece. Whatever a crash left before, no image grows past the
-/// piece's end.
+/// A write and a sync. Where a crash leaves what a read gives, a crash at any moment of the call leaves these bytes
+/// with the piece's range torn, and a crash after `Ok` all of the piece. Whatever a crash left before, no image grows
+/// past the piece's end.
 pub fn write_through<D: Disk>(disk: &mut D, at: u64, piece: &[u8]) -> Result<(), Failed>
     ensures written { D.tells → at ≤ length (D.sight disk.old).seen →
         OnOk result ((D.sight disk.new).seen ≡ written (D.sight disk.old).seen at piece.now) }

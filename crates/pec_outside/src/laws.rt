@@ -16,8 +16,9 @@ pub fn a_disk_is_so<D: Disk>()
     ensures reads { D.tells → (disk : D) → (D.sight disk).may_leave (D.sight disk).seen }
 {}
 
-/// What `MemDisk::image` answers is one of the images that a crash of the disk may leave, or may have left since any moment
-/// up to that of the call, and it holds that durably. The front of a log up to the call of a number has that many calls.
+/// What `MemDisk::image` answers is one of the images that a crash of the disk may leave, or may have left since any
+/// moment up to that of the call, and it holds that durably. The front of a log up to the call of a number has that
+/// many calls.
 pub fn an_image_is_one_that_a_crash_leaves()
     ensures left { (log : List Step) (calls kept since : ℕ) → since ≤ length (front_of calls log) →
         LeftSince log since (held_of (after_crash (front_of calls log) kept)).bytes }

@@ -1,6 +1,6 @@
-//! The outside as the program sees it: where bytes come from and where they go.
-//! What reads or writes is generic over these traits. The memory forms tell what they hold, and fail where they are told.
-//! Their drops are written out, so that to drop one is a call wherever it is done, and not the drops of all that it holds.
+//! The outside as the program sees it: where bytes come from and where they go. What reads or writes is generic over
+//! these traits. The memory forms tell what they hold, and fail where they are told. Their drops are written out, so
+//! that to drop one is a call wherever it is done, and not the drops of all that it holds.
 #![tactic(auto)]
 
 mod calls;

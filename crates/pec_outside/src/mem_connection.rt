@@ -38,7 +38,8 @@ impl Drop for MemConnection {
 }
 
 impl MemConnection {
-    /// A connection over a request. `failing` are the numbers of its reads and writes that fail, counted together from 0.
+    /// A connection over a request. `failing` are the numbers of its reads and writes that fail, counted together from
+    /// 0.
     pub(crate) fn new(alloc: Global, request: Vec<u8>, failing: Vec<u64>) -> MemConnection
         ensures { result ≡ unread request.items failing.items }
     {
@@ -82,7 +83,8 @@ impl Stream for MemConnection {
 }
 
 impl Source for MemConnection {
-    /// As in the trait. It fails exactly where the call is named, and gives as many bytes as the room and the rest allow.
+    /// As in the trait. It fails exactly where the call is named, and gives as many bytes as the room and the rest
+    /// allow.
     fn read(&mut self, room: &mut [u8]) -> Result<usize, Failed>
         ensures within { IfOk result (λ n. n ≤ length room.old) }
         ensures taken { IfOk result (λ n. self.old.rest ≡ take n room.new ++ self.new.rest) }

@@ -61,9 +61,9 @@ impl Drop for MemDepot {
 }
 
 impl MemDepot {
-    /// Sixteen places with nothing kept. `failing` has for each provider the numbers of the calls that fail of its first
-    /// disk; past its end none fails. The k-th crash keeps the first pending bytes, as many as stand at k in `kept`, and
-    /// none past its end. It takes no memory, and keeps the allocator for the disks.
+    /// Sixteen places with nothing kept. `failing` has for each provider the numbers of the calls that fail of its
+    /// first disk; past its end none fails. The k-th crash keeps the first pending bytes, as many as stand at k in
+    /// `kept`, and none past its end. It takes no memory, and keeps the allocator for the disks.
     pub fn new(alloc: Global, failing: Vec<Vec<u64>>, kept: Vec<u64>) -> MemDepot
         ensures { result ≡ no_disks (failing_of failing.items) kept.items }
     {

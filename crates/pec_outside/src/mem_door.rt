@@ -51,9 +51,9 @@ impl Drop for MemDoor {
 }
 
 impl MemDoor {
-    /// A door at which a connection comes in over each request, in order. `failing` are the numbers of the calls of `accept`
-    /// that fail, counted from 0. Connection i fails at those of its reads and writes, counted together from 0, that
-    /// `broken[i]` names, and at none past the end of the list. It takes no memory, and keeps the allocator.
+    /// A door at which a connection comes in over each request, in order. `failing` are the numbers of the calls of
+    /// `accept` that fail, counted from 0. Connection i fails at those of its reads and writes, counted together from
+    /// 0, that `broken[i]` names, and at none past the end of the list. It takes no memory, and keeps the allocator.
     pub fn new(
         alloc: Global,
         requests: Vec<Vec<u8>>,
@@ -106,8 +106,8 @@ impl Door for MemDoor {
 
     ghost faulty_counted = { λ door. u64_of door.faulty };
 
-    /// As in the trait. It makes the room that `close` needs. It fails where `failing` names the call and where no request
-    /// is left; want of memory is a fault too.
+    /// As in the trait. It makes the room that `close` needs. It fails where `failing` names the call and where no
+    /// request is left; want of memory is a fault too.
     fn accept(&mut self) -> Result<MemConnection, Failed>
         ensures fresh { IfOk result (λ connection. as_u64 connection.calls.faults ≡ 0) }
         ensures came { IfOk result (λ connection. self.old.requests ≡ connection.rest ∷ self.new.requests) }

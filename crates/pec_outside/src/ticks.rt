@@ -9,7 +9,8 @@ use pec_types::Moment;
 
 /// A clock. This project's profile.
 pub trait Ticks: Counted {
-    // The moments that it will answer, in order, and behind the last of them that one again. None: the clock doesn't tell.
+    // The moments that it will answer, in order, and behind the last of them that one again. None: the clock doesn't
+    // tell.
     ghost coming: { Self → Option (List ℕ) };
 
     /// The moment. A clock that stands at or past the bound of moments has none to answer, and fails. A call that fails

@@ -59,8 +59,8 @@ pub fn a_message_has_one_answer()
 
 /// The admission of a message that an account submits for a forward path, at the provider of a number of the directory,
 /// from 0 (RFC 6109, section 3.1.1). The limit is the one that the directory gives this provider, in bytes. The screens
-/// are the provider's; they look at the message where no row before theirs refuses it. They look last, so want of memory
-/// comes before any of them does.
+/// are the provider's; they look at the message where no row before theirs refuses it. They look last, so want of
+/// memory comes before any of them does.
 pub fn admit<J: Judge>(
     alloc: Global,
     directory: &Directory,

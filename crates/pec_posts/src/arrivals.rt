@@ -92,8 +92,8 @@ impl Arrivals {
         self.links[from as usize].repeat(alloc, place)
     }
 
-    /// Puts a frame from outside behind those that wait on the link from a provider. `Full` exactly where 64 wait. It takes
-    /// no memory.
+    /// Puts a frame from outside behind those that wait on the link from a provider. `Full` exactly where 64 wait. It
+    /// takes no memory.
     pub fn inject(&mut self, from: u32, frame: Frame) -> Result<(), LinkFault>
         requires { from < length self.old }
         ensures put { OnOk result ((length (waiting_from self.old from) < link_size)
@@ -108,8 +108,8 @@ impl Arrivals {
         }
     }
 
-    /// Takes its links apart. The end that puts on each goes behind those of the row of its provider, and the ends that take
-    /// go into an empty list. It takes no memory.
+    /// Takes its links apart. The end that puts on each goes behind those of the row of its provider, and the ends that
+    /// take go into an empty list. It takes no memory.
     pub(crate) fn part(self, rows: &mut [Vec<Putter>], mut takers: Vec<Taker>) -> Takers
         requires rows { length rows.old ≡ length self }
         requires room { (from : ℕ) (row : _) → from < length rows.old
@@ -126,8 +126,8 @@ impl Arrivals {
         Takers::of(takers)
     }
 
-    /// Puts links together, each of the first end of the row of its provider, which then lacks it, and of an end that takes.
-    /// They go into an empty list. It takes no memory.
+    /// Puts links together, each of the first end of the row of its provider, which then lacks it, and of an end that
+    /// takes. They go into an empty list. It takes no memory.
     pub(crate) fn join(rows: &mut [Putters], takers: Takers, mut links: Vec<Link>) -> Arrivals
         requires rows { length takers ≤ length rows.old }
         requires paired { ArePaired rows.old takers }

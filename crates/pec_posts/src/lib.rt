@@ -1,5 +1,5 @@
-//! The links of a network, by the provider for which the frames on them wait. For a round they are taken apart, and behind it put
-//! together again.
+//! The links of a network, by the provider for which the frames on them wait. For a round they are taken apart, and
+//! behind it put together again.
 #![tactic(auto)]
 
 mod arrivals;

@@ -24,8 +24,9 @@ pub fn trays<T: Drop>(alloc: Global, count: u32) -> Result<Vec<Vec<T>>, NoMemory
     Ok(trays)
 }
 
-/// Takes the links of all providers apart: the ends that put go into the rows of the providers that put, the ends that take
-/// into lists of their own, one for each provider that takes. The ends of each know all of each other. It takes no memory.
+/// Takes the links of all providers apart: the ends that put go into the rows of the providers that put, the ends that
+/// take into lists of their own, one for each provider that takes. The ends of each know all of each other. It takes no
+/// memory.
 pub fn part(
     arrivals: &mut Vec<Arrivals>,
     rows: &mut [Vec<Putter>],
@@ -51,8 +52,8 @@ pub fn part(
     }
 }
 
-/// Puts the links of all providers together, of ends in rows. On each waits what was put there and isn't taken. The rows are
-/// emptied. It takes no memory.
+/// Puts the links of all providers together, of ends in rows. On each waits what was put there and isn't taken. The
+/// rows are emptied. It takes no memory.
 pub fn join(
     rows: &mut [Putters],
     takers: Vec<Takers>,

@@ -160,9 +160,13 @@ row_of kinds.Ack = record {
   said = None;
 }
 
+-- The kinds without a cause.
+abbrev pub other_kinds : List Kind
+other_kinds =
+    kinds.Acceptance ∷ kinds.Charge ∷ kinds.Delivery ∷ kinds.DeliveryError refusals.NoMailbox
+    ∷ kinds.DeliveryError refusals.MailboxFull ∷ kinds.DeliveryError refusals.Virus ∷ kinds.Warning ∷ kinds.Notice
+    ∷ kinds.LateNotice ∷ kinds.Ack ∷ []
+
 -- All kinds, each once.
 abbrev pub all_kinds : List Kind
-all_kinds =
-    kinds.Acceptance ∷ map (λ (cause : Cause). kinds.NonAcceptance cause) all_causes ++ kinds.Charge ∷ kinds.Delivery
-    ∷ kinds.DeliveryError refusals.NoMailbox ∷ kinds.DeliveryError refusals.MailboxFull ∷ kinds.DeliveryError refusals.Virus
-    ∷ kinds.Warning ∷ kinds.Notice ∷ kinds.LateNotice ∷ kinds.Ack ∷ []
+all_kinds = map kinds.NonAcceptance all_causes ++ other_kinds

@@ -1,10 +1,10 @@
-ghost use Rattle.std.specs.Prelude.{◌≡◌, ◌==◌, ◌&&◌, Some, find};
+ghost use Rattle.std.specs.Prelude.{◌≡◌, ◌==◌, ◌&&◌, Some, find, map};
 ghost use Rattle.std.specs.List.{list_any};
 ghost use Rattle.std.specs.Option.{option_map};
 ghost use Rattle.pec_directory.specs.Directory.{providers_of};
 ghost use Rattle.pec_letter_parts.specs.Views.{letter_shown};
 ghost use Rattle.pec_letter_facts.specs.Questions.{marking_of};
-ghost use Rattle.pec_receipts.specs.Kinds.{all_kinds};
+ghost use Rattle.pec_types.specs.declared.receipts.Kind.TheVariants as kinds;
 ghost use Rattle.pec_receipts.specs.Seen.{are_recipients, error_number, is_certified_one, is_delivered, is_detail, is_marked, is_of, is_one, is_receipted, is_sealed, is_wished, kind_number, kind_of, says};
 ghost use Rattle.pec_receipts.specs.Views.{row_shown, said_shown};
 
@@ -16,17 +16,9 @@ use pec_letter_facts::{are_typed, is_sealed_by_issuer, is_wish_marked, marking};
 use pec_letter_parts::{Letter, Marking};
 use pec_types::{Address, Cause, Kind, MsgId, Refusal, Text, Wish};
 
-/// All kinds, each once.
-const KINDS: [Kind; 18] = [
+/// The kinds without a cause.
+const OTHER_KINDS: [Kind; 10] = [
     Kind::Acceptance,
-    Kind::NonAcceptance(Cause::Head),
-    Kind::NonAcceptance(Cause::From),
-    Kind::NonAcceptance(Cause::To),
-    Kind::NonAcceptance(Cause::ReversePath),
-    Kind::NonAcceptance(Cause::ForwardPath),
-    Kind::NonAcceptance(Cause::Bcc),
-    Kind::NonAcceptance(Cause::Size),
-    Kind::NonAcceptance(Cause::Virus),
     Kind::Charge,
     Kind::Delivery,
     Kind::DeliveryError(Refusal::NoMailbox),
@@ -43,7 +35,20 @@ const KINDS: [Kind; 18] = [
 pub(crate) fn kind_of(letter: &Letter<'_>) -> Option<Kind>
     ensures { result ≡ kind_of (letter_shown letter.now) }
 {
-    first_kind(&KINDS, letter)
+    refused_kind(Cause::all(), letter).or(first_kind(&OTHER_KINDS, letter))
+}
+
+/// The kind of a notice for the first of these causes for which a letter is one.
+fn refused_kind(causes: &[Cause], letter: &Letter<'_>) -> Option<Kind>
+    ensures { result ≡ find (is_of (letter_shown letter.now)) (map kinds.NonAcceptance causes.now) }
+{
+    for cause in causes {
+        let kind = Kind::NonAcceptance(*cause);
+        if is_of(letter, kind) {
+            return Some(kind);
+        }
+    }
+    None
 }
 
 /// The first of these kinds of which a letter is.
@@ -154,7 +159,8 @@ fn has_words(detail: &Option<Text>, wanted: &[u8]) -> bool
     }
 }
 
-/// Whether the provider that sealed the letter is its issuer, and that of the message where no other may compose the kind.
+/// Whether the provider that sealed the letter is its issuer, and that of the message where no other may compose the
+/// kind.
 #[tactic(auto, unfolding(crate::specs::Seen::is_sealed))]
 pub(crate) fn is_sealed(directory: &Directory, id: MsgId, row: &Row, letter: &Letter<'_>) -> bool
     ensures { result ≡ is_sealed (providers_of directory.now) id (row_shown row.now) (letter_shown letter.now) }

@@ -34,8 +34,8 @@ use pec_seal::{Sealer, seal};
 use pec_types::{NoMemory, Text, Wish, each_cause_is_one_of_all};
 use std::alloc::Global;
 
-/// The law of receipts as texts: what is said is one text at most, the one that `receipt_text` gives; what a provider may give is that
-/// text; and where its parts have less than 2^64 bytes together, there is one.
+/// The law of receipts as texts: what is said is one text at most, the one that `receipt_text` gives; what a provider
+/// may give is that text; and where its parts have less than 2^64 bytes together, there is one.
 pub fn a_receipt_has_one_text()
     ensures only { (seals : Seals) (kept : List Kept) (receipt : ReceiptShown) (original text : Bytes)
         → IsReceipt seals kept receipt original text → receipt_text seals kept receipt original ≡ Some text }
@@ -58,9 +58,10 @@ pub fn a_receipt_has_one_text()
     each_cause_is_one_of_all();
 }
 
-/// The receipt, notice or acknowledgement that says this, sealed by the provider that composes it (RFC 6109, sections 3.1 to 3.3, within
-/// this project's profile). The message as it was handed in, `original`, stands in a delivery receipt alone: whole for a primary
-/// recipient where all of it was wished, and in its brief form where that was wished.
+/// The receipt, notice or acknowledgement that says this, sealed by the provider that composes it (RFC 6109, sections
+/// 3.1 to 3.3, within this project's profile). The message as it was handed in, `original`, stands in a delivery
+/// receipt alone: whole for a primary recipient where all of it was wished, and in its brief form where that was
+/// wished.
 pub fn compose<S: Sealer>(
     alloc: Global,
     sealer: &S,

@@ -10,10 +10,10 @@ use pec_directory::Directory;
 use pec_types::{Address, Recipient, Text};
 
 impl Receipt {
-    /// Whether a provider of the directory may give the receipt, for which `compose` asks: the providers that it names are the
-    /// directory's and the message's is the home of its sender; the facts have a recipient and no subject of more than 900 bytes; a
-    /// recipient is named exactly where the kind has one, and is a certified one of the message's; and the message's provider composes
-    /// what no other may. It takes no memory.
+    /// Whether a provider of the directory may give the receipt, for which `compose` asks: the providers that it names
+    /// are the directory's and the message's is the home of its sender; the facts have a recipient and no subject of
+    /// more than 900 bytes; a recipient is named exactly where the kind has one, and is a certified one of the
+    /// message's; and the message's provider composes what no other may. It takes no memory.
     pub fn can_be_given(&self, directory: &Directory) -> bool
         ensures { IsTrue result ↔ CanBeGiven (providers_of directory.now) self.now }
     {

@@ -33,8 +33,8 @@ use pec_types::{
     an_address_is_told_exactly, each_cause_is_one_of_all, printable_is_said_of_each_byte,
 };
 
-/// The law of views: what is seen of a receipt or a notice is what it was composed of, whatever its kind. So a text of one kind is seen
-/// as no other, and as no other's.
+/// The law of views: what is seen of a receipt or a notice is what it was composed of, whatever its kind. So a text of
+/// one kind is seen as no other, and as no other's.
 pub fn what_is_certified_is_seen<S: Sealer>()
     ensures { (sealer : S) (kept : List Kept) (receipt : ReceiptShown) (said : Said) (original text : Bytes)
         → IsLawful (providers_of kept) → CanBeGiven (providers_of kept) receipt → ArePrintable receipt.facts
@@ -89,8 +89,8 @@ pub fn what_is_given_is_seen<S: Sealer>()
     an_acknowledgement_is_seen::<S>();
 }
 
-/// The law of other letters: a letter whose head says that it is an envelope's is seen as no receipt, whatever it certifies; and where
-/// no letter is read behind such a head, as with an anomaly, the fault is the letter's.
+/// The law of other letters: a letter whose head says that it is an envelope's is seen as no receipt, whatever it
+/// certifies; and where no letter is read behind such a head, as with an anomaly, the fault is the letter's.
 pub fn an_envelope_is_no_receipt<S: Sealer>()
     ensures letter { (sealer : S) (providers : List Provider) (text : Bytes) (letter : LetterShown) (word : Bytes)
         → IsLetter (S.seals sealer) text letter → marking_of letter.head ≡ Some (markings.Transport, word)

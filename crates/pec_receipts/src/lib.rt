@@ -1,5 +1,5 @@
-//! Receipts, notices and acknowledgements of certified mail: composed, and read (RFC 6109, sections 3.1 to 3.3, within this project's
-//! profile).
+//! Receipts, notices and acknowledgements of certified mail: composed, and read (RFC 6109, sections 3.1 to 3.3, within
+//! this project's profile).
 #![tactic(auto)]
 
 mod asking;

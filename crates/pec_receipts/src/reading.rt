@@ -24,8 +24,8 @@ use pec_seal::Sealer;
 use pec_types::{Address, AddressFault, Disputed, Kind, LetterFault, Moment, MsgId};
 use std::alloc::{AllocError, Global};
 
-/// What is read of a receipt, a notice or an acknowledgement: its kind, the message, the provider that sealed it, when what it says came
-/// to be, and the recipient, where the kind names one.
+/// What is read of a receipt, a notice or an acknowledgement: its kind, the message, the provider that sealed it, when
+/// what it says came to be, and the recipient, where the kind names one.
 #[derive(Drop)]
 pub struct ReceiptView {
     pub kind: Kind,
@@ -44,11 +44,11 @@ pub fn a_text_is_one_receipt<S: Sealer>()
     a_head_has_one_letter();
 }
 
-/// What a text says that is a receipt, a notice or an acknowledgement (RFC 6109, sections 3.1 to 3.3, within this project's profile). The
-/// faults, in the order in which they are looked for: `Seal`, `Head`, `Body` and `Cert` where no letter is read of it; `NotThis` where head
-/// and certification text aren't together those of a kind; and `Disagree` where they dispute the message, the provider that sealed it, the
-/// sender, a recipient, the wish or the moment. An acknowledgement has a head alone, which is asked for the message, the recipient and the
-/// moment.
+/// What a text says that is a receipt, a notice or an acknowledgement (RFC 6109, sections 3.1 to 3.3, within this
+/// project's profile). The faults, in the order in which they are looked for: `Seal`, `Head`, `Body` and `Cert` where
+/// no letter is read of it; `NotThis` where head and certification text aren't together those of a kind; and `Disagree`
+/// where they dispute the message, the provider that sealed it, the sender, a recipient, the wish or the moment. An
+/// acknowledgement has a head alone, which is asked for the message, the recipient and the moment.
 pub fn read<S: Sealer>(
     alloc: Global,
     sealer: &S,

@@ -4,8 +4,8 @@ ghost use Rattle.pec_receipts.specs.Receipts.{has_address, or_nothing, place_amo
 
 use pec_types::{Address, Facts, Kind, Moment, MsgId, Recipient};
 
-/// What a receipt or a notice says: of which kind it is, which message it is about, which provider composes it, when what it says came
-/// to be, the facts of the message, and the recipient, where the kind names one.
+/// What a receipt or a notice says: of which kind it is, which message it is about, which provider composes it, when
+/// what it says came to be, the facts of the message, and the recipient, where the kind names one.
 #[derive(Drop)]
 pub struct Receipt {
     pub kind: Kind,

@@ -1,5 +1,6 @@
 mod AddressLoopLemmas
 mod AddressRestLemmas
+mod CauseLemmas
 mod EntryLaws
 mod EntryLemmas
 mod FieldLaws

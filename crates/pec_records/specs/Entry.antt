@@ -51,7 +51,7 @@ decision_field (decisions.Refused refusals.NoMailbox) = 1 ∷ []
 decision_field (decisions.Refused refusals.MailboxFull) = 2 ∷ []
 decision_field (decisions.Refused refusals.Virus) = 3 ∷ []
 
--- the number of a cause in the order in which causes are looked for
+-- the number of a cause
 abbrev pub cause_field : Cause → Bytes
 cause_field cause = cause_number cause ∷ []
 

@@ -88,8 +88,11 @@ decision_table =
     (0 ∷ [], decisions.Placed) ∷ (1 ∷ [], decisions.Refused refusals.NoMailbox)
     ∷ (2 ∷ [], decisions.Refused refusals.MailboxFull) ∷ (3 ∷ [], decisions.Refused refusals.Virus) ∷ []
 
+abbrev pub cause_rows : List Cause → List (Bytes × Cause)
+cause_rows causes = map (λ (cause : Cause). (cause_field cause, cause)) causes
+
 abbrev pub cause_table : List (Bytes × Cause)
-cause_table = map (λ (cause : Cause). (cause_field cause, cause)) all_causes
+cause_table = cause_rows all_causes
 
 abbrev pub tag_table : List (Bytes × Tag)
 tag_table =

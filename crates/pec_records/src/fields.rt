@@ -2,10 +2,10 @@ ghost use Rattle.std.specs.Prelude.{◌≡◌, ◌<◌, IfOk};
 ghost use Rattle.pec_grammar.specs.Grammar.{choice_at};
 ghost use Rattle.pec_grammar.specs.Reading.{standing, Gives, MayGive};
 ghost use Rattle.pec_records.specs.EntryReading.{moment_at, number_32_at, id_from, id_at, bytes_at};
-ghost use Rattle.pec_records.specs.EntryReading.{decision_table, cause_table, tag_table};
+ghost use Rattle.pec_records.specs.EntryReading.{decision_table, cause_rows, cause_table, tag_table};
 
 use crate::tags::Tag;
-use pec_grammar::{Cursor, ReadError, Stop, number, one_of, raw};
+use pec_grammar::{Cursor, ReadError, Stop, number, one_of, raw, word};
 use pec_types::{Cause, Decision, END_OF_TIME, MESSAGES, Moment, MsgId, Refusal, Text8};
 use std::alloc::Global;
 
@@ -75,22 +75,26 @@ pub(crate) fn read_decision(at: Cursor<'_>) -> Result<(Decision, Cursor<'_>), St
     Ok((decision, at))
 }
 
-/// Reads a cause, by its number in the order in which causes are looked for.
+/// Reads a cause, by its number.
 pub(crate) fn read_cause(at: Cursor<'_>) -> Result<(Cause, Cursor<'_>), Stop<'_>>
     ensures { Gives (λ x. (x.0, standing x.1)) result (choice_at cause_table (standing at.entry)) }
 {
-    let table: [(&[u8], Cause); 8] = [
-        (&[1], Cause::Head),
-        (&[2], Cause::From),
-        (&[3], Cause::To),
-        (&[4], Cause::ReversePath),
-        (&[5], Cause::ForwardPath),
-        (&[6], Cause::Bcc),
-        (&[7], Cause::Size),
-        (&[8], Cause::Virus),
-    ];
-    let (cause, at) = one_of(at, &table)?;
+    let (cause, at) = one_cause(at, Cause::all())?;
     Ok((cause, at))
+}
+
+/// Reads the number of one of these causes.
+fn one_cause<'a>(at: Cursor<'a>, causes: &[Cause]) -> Result<(Cause, Cursor<'a>), Stop<'a>>
+    ensures { Gives (λ x. (x.0, standing x.1)) result (choice_at (cause_rows causes.now) (standing at.entry)) }
+{
+    let mut at = at;
+    for cause in causes {
+        match word(at, &[cause.number()]) {
+            Ok(after) => return Ok((*cause, after)),
+            Err(stop) => at = at.tried(stop),
+        }
+    }
+    Err(Stop { rest: at.farthest })
 }
 
 /// Reads the tag that an entry begins with.

@@ -1,4 +1,5 @@
-//! The ends of a network's links in rows, one row for each provider: what its worker holds while the turns of a round run.
+//! The ends of a network's links in rows, one row for each provider: what its worker holds while the turns of a round
+//! run.
 #![tactic(auto)]
 
 mod laws;

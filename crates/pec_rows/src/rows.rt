@@ -53,8 +53,8 @@ impl Putters {
         self.ends.remove(0)
     }
 
-    /// Puts frames, a list for each provider by number, behind all that was put on the links to them. It takes no memory, and
-    /// copies no frame.
+    /// Puts frames, a list for each provider by number, behind all that was put on the links to them. It takes no
+    /// memory, and copies no frame.
     pub fn put_all(&mut self, mut out: Vec<Items<Frame>>)
         requires { CanPut self.old out.items }
         ensures { ArePut self.old out.items self.new }
@@ -81,8 +81,8 @@ impl Takers {
         self.ends
     }
 
-    /// Takes the frame that is next, from the first provider from which one is known to wait; none exactly where none is. It
-    /// takes no memory.
+    /// Takes the frame that is next, from the first provider from which one is known to wait; none exactly where none
+    /// is. It takes no memory.
     pub fn take(&mut self) -> Option<Frame>
         ensures taken { frames_in (waits self.old) ≡ option_to_list result ++ frames_in (waits self.new) }
         ensures left { waits self.new ≡ without_first 1 (waits self.old) }

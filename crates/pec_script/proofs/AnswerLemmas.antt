@@ -102,6 +102,7 @@ refusal_are_rows refusals.Full is = (record { some = omega arith; words = (text_
 refusal_are_rows refusals.NoItem is = (record { some = omega arith; words = (text_word (codes "no-item") refl, tt) }, tt)
 refusal_are_rows refusals.JournalFull is = (record { some = omega arith; words = (text_word (codes "journal-full") refl, tt) }, tt)
 refusal_are_rows refusals.NoMemory is = tt
+refusal_are_rows (refusals.Changed entry) is = (record { some = omega arith; words = (text_word (codes "changed") refl, (decimal_word entry is, tt)) }, tt)
 
 one_refusal_row : (fault other : ProviderFault) → IsRefusal fault → IsRefusal other → refusal_rows [] fault ≡ refusal_rows [] other → fault ≡ other
 unfolding begins first_row
@@ -122,6 +123,9 @@ one_refusal_row refusals.JournalFull refusals.JournalFull is also e = refl
 one_refusal_row refusals.JournalFull other is also e = absurd (rows_apart _ _ e refl)
 one_refusal_row refusals.NoMemory refusals.NoMemory is also e = refl
 one_refusal_row refusals.NoMemory other is also e = absurd (rows_apart _ _ e refl)
+one_refusal_row (refusals.Changed entry) (refusals.Changed other) is also e =
+    let number : decimal entry ≡ decimal other = cc in ap (λ m. refusals.Changed m) (one_decimal entry other is also number)
+one_refusal_row (refusals.Changed entry) other is also e = absurd (rows_apart _ _ e refl)
 
 pub one_refusal : CutsTold → (fault other : ProviderFault) → IsRefusal fault → IsRefusal other → fault_text fault ≡ fault_text other → fault ≡ other
 unfolding fault_text

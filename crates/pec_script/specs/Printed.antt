@@ -76,6 +76,7 @@ abbrev pub IsSubmitted : List Provider → Submitted → Type 0
 IsSubmitted providers (submitted.Accepted id) = IsNamed providers id
 IsSubmitted providers (submitted.NotAccepted id cause) = IsNamed providers id
 
+-- a refusal, which has a line of its own; the number of an entry is that of a `u64`
 abbrev pub IsRefusal : ProviderFault → Type 0
 IsRefusal refusals.DiskFault = Unit {0}
 IsRefusal refusals.Down = Unit {0}
@@ -85,6 +86,7 @@ IsRefusal refusals.Full = Unit {0}
 IsRefusal refusals.NoItem = Unit {0}
 IsRefusal refusals.JournalFull = Unit {0}
 IsRefusal refusals.NoMemory = Unit {0}
+IsRefusal (refusals.Changed entry) = entry < 2 ^ 64
 
 -- the fault of a line, which has a line of its own; the argument's number is that of a `u8`
 abbrev pub IsLineRefusal : LineFault → Type 0

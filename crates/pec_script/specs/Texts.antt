@@ -150,6 +150,7 @@ refusal_word refusals.Full = Some (codes "full")
 refusal_word refusals.NoItem = Some (codes "no-item")
 refusal_word refusals.JournalFull = Some (codes "journal-full")
 refusal_word refusals.NoMemory = None
+refusal_word (refusals.Changed entry) = Some (codes "changed")
 
 -- what stands behind it
 abbrev pub refusal_rest : ProviderFault → Row
@@ -161,6 +162,7 @@ refusal_rest refusals.Full = []
 refusal_rest refusals.NoItem = []
 refusal_rest refusals.JournalFull = []
 refusal_rest refusals.NoMemory = []
+refusal_rest (refusals.Changed entry) = decimal entry ∷ []
 
 -- a line of these words behind others, where there is a first one
 abbrev pub line_behind : Row → Option Bytes → Row → List Row

@@ -8,8 +8,8 @@ use pec_directory::Directory;
 use pec_types::{BookLine, Decision, Moment, NoMemory, id_text};
 use std::alloc::Global;
 
-/// The lines of a book: for each of its lines `ID RECIPIENT CLASS ACCEPTED CHARGED WARNED NOTICED OUTCOME`, and `book COUNT`. This
-/// project's profile.
+/// The lines of a book: for each of its lines `ID RECIPIENT CLASS ACCEPTED CHARGED WARNED NOTICED OUTCOME`, and `book
+/// COUNT`. This project's profile.
 #[tactic(auto, unfolding(crate::specs::Texts::book_text))]
 pub fn book_text(
     alloc: Global,

@@ -76,9 +76,9 @@ pub enum Command {
 }
 
 impl Command {
-    /// The command that a line says: words that stand apart by one space each, the first of which is the command's and the others
-    /// its arguments. A provider is named, a moment and a place are in decimal, a path is one to 1,000 addresses joined by commas,
-    /// and bytes are in padded base64 (RFC 4648, section 4). This project's profile.
+    /// The command that a line says: words that stand apart by one space each, the first of which is the command's and
+    /// the others its arguments. A provider is named, a moment and a place are in decimal, a path is one to 1,000
+    /// addresses joined by commas, and bytes are in padded base64 (RFC 4648, section 4). This project's profile.
     pub fn read(alloc: Global, line: &[u8], directory: &Directory) -> Result<Command, LineFault>
         // A command is answered exactly where the line says it, and otherwise the one fault that the line has.
         ensures reads { ReadsExactly (IsCommand (providers_of directory.now) line.now) (IsLineFault (providers_of directory.now) line.now) faults.NoMemory result }

@@ -23,8 +23,8 @@ use pec_directory::{a_first_domain_is_one_providers, a_text_names_one_message};
 use pec_types::{an_address_is_told_exactly, each_cause_is_one_of_all, lower_addresses_pass};
 use pec_words::{a_number_has_one_spelling, a_path_has_one_reading, a_text_is_cut_in_one_way};
 
-/// A line has one reading: it is told to say a command exactly where it says that one, and to have a fault exactly where it has
-/// that one.
+/// A line has one reading: it is told to say a command exactly where it says that one, and to have a fault exactly
+/// where it has that one.
 pub fn a_line_has_one_reading()
     ensures { (providers : List Provider) (line : Bytes) → TellsExactly (IsCommand providers line) (IsLineFault providers line) (command_of providers line) }
 {
@@ -46,7 +46,8 @@ pub fn a_text_has_one_list_of_lines()
     a_text_is_cut_in_one_way();
 }
 
-/// In lines no name belongs to two messages: it has the first domain of the message's own provider, which no other has first.
+/// In lines no name belongs to two messages: it has the first domain of the message's own provider, which no other has
+/// first.
 pub fn a_name_has_one_message()
     ensures { (providers : List Provider) (id other : Id) → IsLawful providers → IsNamed providers id → IsNamed providers other
         → id_of providers id ≡ id_of providers other → id ≡ other }

@@ -9,7 +9,8 @@ use pec_directory::Directory;
 use pec_types::{ItemKind, ItemLine, Kind, NoMemory};
 use std::alloc::Global;
 
-/// The lines of a mailbox: for each item `PLACE KIND ID RECIPIENT`, with places from 0, and `mailbox COUNT`. This project's profile.
+/// The lines of a mailbox: for each item `PLACE KIND ID RECIPIENT`, with places from 0, and `mailbox COUNT`. This
+/// project's profile.
 #[tactic(auto, unfolding(crate::specs::Texts::items_text))]
 pub fn items_text(
     alloc: Global,

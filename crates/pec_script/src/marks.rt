@@ -8,8 +8,8 @@ use pec_directory::Directory;
 use pec_types::{Due, Mark, NoMemory};
 use std::alloc::Global;
 
-/// The lines of a clock call: for each mark `warned ID RECIPIENT`, `noticed ID RECIPIENT` or `noticed-late ID RECIPIENT`, and
-/// `ticked`. This project's profile.
+/// The lines of a clock call: for each mark `warned ID RECIPIENT`, `noticed ID RECIPIENT` or `noticed-late ID
+/// RECIPIENT`, and `ticked`. This project's profile.
 #[tactic(auto, unfolding(crate::specs::Texts::marks_text))]
 pub fn marks_text(alloc: Global, directory: &Directory, marks: &[Mark]) -> Result<Vec<u8>, NoMemory>
     ensures { IfOk result (λ text. text.items ≡ marks_text (providers_of directory.now) marks.now) }

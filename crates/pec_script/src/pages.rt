@@ -5,8 +5,8 @@ ghost use Rattle.pec_script.specs.Pages.{line_after};
 use pec_types::NoMemory;
 use std::alloc::Global;
 
-/// Text that grows at its end, line by line: a line is begun with its first word, and ended behind its last. This project's
-/// profile.
+/// Text that grows at its end, line by line: a line is begun with its first word, and ended behind its last. This
+/// project's profile.
 #[derive(Drop)]
 pub struct Page {
     pub text: Vec<u8>,

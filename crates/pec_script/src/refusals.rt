@@ -8,8 +8,8 @@ use pec_directory::Directory;
 use pec_types::{NoMemory, ProviderFault};
 use std::alloc::Global;
 
-/// The line of what a provider refuses: `no-account`, `down`, `clock-back LAST`, `full`, `no-item`, `journal-full` or `fault disk`.
-/// Want of memory has no line. This project's profile.
+/// The line of what a provider refuses: `no-account`, `down`, `clock-back LAST`, `full`, `no-item`, `journal-full`,
+/// `fault disk` or `changed ENTRY`. Want of memory has no line. This project's profile.
 #[tactic(auto, unfolding(crate::specs::Texts::fault_text))]
 pub fn fault_text(
     alloc: Global,
@@ -60,6 +60,7 @@ fn refusal_word(fault: ProviderFault) -> Option<&'static [u8]>
         ProviderFault::NoItem => Some(b"no-item"),
         ProviderFault::JournalFull => Some(b"journal-full"),
         ProviderFault::NoMemory => None,
+        ProviderFault::Changed(_) => Some(b"changed"),
     }
 }
 
@@ -74,6 +75,10 @@ fn add_rest(page: Page, fault: ProviderFault) -> Result<Page, NoMemory>
         }
         ProviderFault::ClockBack(last) => {
             let page = page.number(last.seconds())?.end()?;
+            Ok(page)
+        }
+        ProviderFault::Changed(entry) => {
+            let page = page.number(entry)?.end()?;
             Ok(page)
         }
         _ => {

@@ -10,8 +10,8 @@ use pec_directory::Directory;
 use pec_types::{Event, Letter, NoMemory, ProviderFault, Turn};
 use std::alloc::Global;
 
-/// The lines of a round: for each turn what the provider did and the peers to which it put letters, each line behind the provider's
-/// name, and why the turn ended early; and `round`. This project's profile.
+/// The lines of a round: for each turn what the provider did and the peers to which it put letters, each line behind
+/// the provider's name, and why the turn ended early; and `round`. This project's profile.
 #[tactic(auto, unfolding(crate::specs::Texts::turns_text))]
 pub fn turns_text(alloc: Global, directory: &Directory, turns: &[Turn]) -> Result<Vec<u8>, NoMemory>
     ensures { IfOk result (λ text. text.items ≡ turns_text (providers_of directory.now) turns.now) }

@@ -131,29 +131,6 @@ opens_once seals provider other bytes more text lawful is also =
     let same : (provider, bytes) ≡ (other, more) = cc both in
     (ap (λ (found : ℕ × List ℕ). found.0) same, ap (λ (found : ℕ × List ℕ). found.1) same)
 
--- ---- behind the line of a text that opens
-
-pub behind_opened : (seals : Seals) (provider : ℕ) (bytes text : List ℕ) → opened_of seals text ≡ Ok (provider, bytes)
-    → option_map (λ (line : Line). line.bytes) (line_at text) ≡ Some bytes
-unfolding opened_of
-behind_opened seals provider bytes text is = by_line (line_at text) is
-  where
-    by_test : (line : Line) (number : ℕ) (b : Bool)
-        → cond {A = Result (ℕ × List ℕ) SealFault} b (Ok (number, line.bytes)) (Err WrongTag) ≡ Ok (provider, bytes)
-        → line.bytes ≡ bytes
-    by_test line number true e =
-        let found : (number, line.bytes) ≡ (provider, bytes) = cc e in ap (λ (found : ℕ × List ℕ). found.1) found
-    by_test line number false e = cc e
-
-    by_number : (line : Line) (number : Option ℕ) → known_at seals line number ≡ Ok (provider, bytes) → line.bytes ≡ bytes
-    by_number line None e = cc e
-    by_number line (Some number) e = by_test line number _ e
-
-    by_line : (o : Option Line) → opened_at seals o ≡ Ok (provider, bytes)
-        → option_map (λ (line : Line). line.bytes) o ≡ Some bytes
-    by_line None e = cc e
-    by_line (Some line) e = ap Some (by_number line _ e)
-
 -- ---- the clauses of `opened`
 
 pub record Told (seals : Seals) (text : List ℕ) (r : Result (ℕ × Bor (List ℕ)) SealFault) : Type 0 where

@@ -11,8 +11,8 @@ use pec_types::{NoMemory, Text, Text8};
 use std::alloc::Global;
 
 /// Providers that seal by HMAC-SHA-256 (RFC 2104 over FIPS 180-4), each under a key of its own of 1 to 64 bytes. A
-/// provider's number is its place in the list of names. The tag under a number without a provider is that of an empty key.
-/// A tag begins behind the pads of its key, which were hashed when the sealer was made.
+/// provider's number is its place in the list of names. The tag under a number without a provider is that of an empty
+/// key. A tag begins behind the pads of its key, which were hashed when the sealer was made.
 #[derive(Drop)]
 pub struct HmacSealer {
     names: Vec<Text>,
@@ -27,8 +27,8 @@ pub struct HmacSealer {
 }
 
 impl HmacSealer {
-    /// The sealer of the providers of these names, in the order of their numbers, with their keys in the same order. Want
-    /// of memory is its one error.
+    /// The sealer of the providers of these names, in the order of their numbers, with their keys in the same order.
+    /// Want of memory is its one error.
     pub fn new(alloc: Global, names: Vec<Text>, keys: Vec<Text8>) -> Result<HmacSealer, NoMemory>
         requires paired { vec_len names ≡ vec_len keys }
         requires few { vec_len names < 4_294_967_296 }

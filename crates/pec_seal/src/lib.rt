@@ -11,6 +11,4 @@ mod seals;
 pub use hmac::HmacSealer;
 pub use pec_types::Text8;
 pub use sealers::Sealer;
-pub use seals::{
-    SealFault, behind_line, opened, seal, sealing_and_opening, what_opens_stands_behind_its_line,
-};
+pub use seals::{SealFault, opened, seal, sealing_and_opening};

@@ -1,6 +1,6 @@
-ghost use Rattle.std.specs.Prelude.{◌≡◌, ℕ, ◌↔◌, List, Some, Ok, Option, Result, IsSome, IfOk, OnErr, IsErrOf, option_map};
+ghost use Rattle.std.specs.Prelude.{◌≡◌, ℕ, ◌↔◌, List, Some, Ok, Result, IsSome, IfOk, OnErr, IsErrOf};
 ghost use Rattle.pec_seal.specs.Seals.{HasLine, HasNoSeal, HasUnknownName, HasWrongTag, IsSealedByNone, Line, Seals, sealed};
-ghost use Rattle.pec_seal.specs.Opening.{line_at, opened_of};
+ghost use Rattle.pec_seal.specs.Opening.{opened_of};
 ghost use Rattle.pec_seal.specs.Views.{opened_shown};
 
 use crate::lines::{read_line, write_line};
@@ -19,8 +19,8 @@ pub enum SealFault {
     WrongTag,
 }
 
-/// The bytes, sealed by a provider: the line `X-Sigillo: NAME; TAG` CRLF with the provider's name and the base64 (RFC 4648,
-/// section 4) of its tag for the bytes, and the bytes. This project's profile.
+/// The bytes, sealed by a provider: the line `X-Sigillo: NAME; TAG` CRLF with the provider's name and the base64 (RFC
+/// 4648, section 4) of its tag for the bytes, and the bytes. This project's profile.
 pub fn seal<S: Sealer>(
     alloc: Global,
     sealer: &S,
@@ -71,22 +71,6 @@ pub fn opened<'a, S: Sealer>(sealer: &S, message: &'a [u8]) -> Result<(u32, &'a 
     }
     Ok((provider, line.bytes))
 }
-
-/// The bytes behind the seal line of a text, whoever sealed it: for a text that is known to open, what it opens as. It takes no
-/// memory, and looks at no tag.
-pub fn behind_line(message: &[u8]) -> Option<&[u8]>
-    ensures { option_map (λ bytes. bytes.now) result ≡ option_map (λ line. line.bytes) (line_at message.now) }
-{
-    let line = read_line(message)?;
-    Some(line.bytes)
-}
-
-/// What a text opens as is what stands behind its seal line, whoever seals.
-#[tactic(auto, using(crate::proofs::OpeningLaws::behind_opened))]
-pub fn what_opens_stands_behind_its_line()
-    ensures { (seals : Seals) (provider : ℕ) (bytes text : List ℕ) → opened_of seals text ≡ Ok (provider, bytes)
-        → option_map (λ (line : Line). line.bytes) (line_at text) ≡ Some bytes }
-{}
 
 /// What sealing and opening are to each other, for every sealer and every text.
 pub fn sealing_and_opening<S: Sealer>()

@@ -146,6 +146,7 @@ impl Told for ProviderFault {
         add(words, fault_word(*self))?;
         match self {
             ProviderFault::ClockBack(last) => add_number(alloc, words, last.seconds()),
+            ProviderFault::Changed(entry) => add_number(alloc, words, *entry),
             _ => Ok(()),
         }
     }
@@ -161,6 +162,7 @@ fn fault_word(fault: ProviderFault) -> &'static [u8] {
         ProviderFault::NoItem => b"no-item",
         ProviderFault::JournalFull => b"journal-full",
         ProviderFault::NoMemory => b"no-memory",
+        ProviderFault::Changed(_) => b"changed",
     }
 }
 

@@ -15,13 +15,7 @@ place cause = cause_number cause - 1
 -- each cause stands at its place
 pub by_place : (cause : Cause) → slice_get all_causes (place cause) ≡ Some cause
 by_place causes.Head = refl
-by_place causes.From = refl
-by_place causes.To = refl
-by_place causes.ReversePath = refl
-by_place causes.ForwardPath = refl
-by_place causes.Bcc = refl
-by_place causes.Size = refl
-by_place causes.Virus = refl
+by_place other = refl
 
 same_some : {X : Type 0} (one other : X) → Some one ≡ Some other → one ≡ other
 same_some one other e = cc

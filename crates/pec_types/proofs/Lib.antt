@@ -1,4 +1,4 @@
-mod AddressBytes
+pub mod AddressBytes
 pub mod AddressLaws
 mod AddressStepLemmas
 mod CauseLemmas

@@ -48,13 +48,13 @@ cause_word causes.Bcc = codes "bcc"
 cause_word causes.Size = codes "size"
 cause_word causes.Virus = codes "virus"
 
--- All causes, in the order in which they are looked for.
+-- All causes, each once, in the order of their numbers. A new one comes last: journals keep the numbers.
 abbrev pub all_causes : List Cause
 all_causes =
     causes.Head ∷ causes.From ∷ causes.To ∷ causes.ReversePath ∷ causes.ForwardPath ∷ causes.Bcc ∷ causes.Size
     ∷ causes.Virus ∷ []
 
--- the place of a cause among them, from 1
+-- the number of a cause: its place among them, from 1
 abbrev pub cause_number : Cause → ℕ
 cause_number causes.Head = 1
 cause_number causes.From = 2

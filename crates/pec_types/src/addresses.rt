@@ -27,7 +27,8 @@ pub enum AddressFault {
     /// The first byte from which the local part can't be continued to a right one, or the place of the `@` where
     /// only its end is wrong.
     BadLocal(usize),
-    /// The first byte from which the domain can't be continued to a right one, or the text's end where only its end is wrong.
+    /// The first byte from which the domain can't be continued to a right one, or the text's end where only its end is
+    /// wrong.
     BadDomain(usize),
     NoMemory,
 }

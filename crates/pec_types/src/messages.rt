@@ -61,7 +61,8 @@ pub enum Decision {
     Refused(Refusal),
 }
 
-/// Why a provider doesn't accept a message, in the order in which the causes are looked for (RFC 6109, section 3.1.1).
+/// Why a provider doesn't accept a message (RFC 6109, section 3.1.1). In which order causes are looked for stands with
+/// the admission of messages.
 #[derive(Clone, Copy, Debug, PartialEq, Eq)]
 pub enum Cause {
     /// The head doesn't conform.

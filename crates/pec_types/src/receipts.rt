@@ -1,7 +1,7 @@
 use crate::messages::{Cause, Refusal};
 
-/// What a receipt or a notice says (RFC 6109, sections 3.1 to 3.3). All of them name one message; those from `Delivery` to
-/// `LateNotice`, and `Ack`, name one of its recipients too.
+/// What a receipt or a notice says (RFC 6109, sections 3.1 to 3.3). All of them name one message; those from `Delivery`
+/// to `LateNotice`, and `Ack`, name one of its recipients too.
 #[derive(Clone, Copy, Debug, PartialEq, Eq)]
 pub enum Kind {
     /// The sender's provider accepted the message.

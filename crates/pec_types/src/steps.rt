@@ -3,8 +3,8 @@ ghost use Rattle.pec_types.specs.Timetable.{raised};
 
 use std::marker::Model;
 
-/// How many look-ups a call has made, for contracts alone: no running call tells it. It stays at its greatest value, 2 to
-/// the 64 less 1, once it is there. This project's profile.
+/// How many look-ups a call has made, for contracts alone: no running call tells it. It stays at its greatest value, 2
+/// to the 64 less 1, once it is there. This project's profile.
 #[derive(Drop)]
 pub struct Steps {
     number: u64,

@@ -55,6 +55,9 @@ pub enum ProviderFault {
     /// The journal has no room for the entry.
     JournalFull,
     NoMemory,
+    /// What its journal gave back of the entry of this number, from 0, isn't what the call needs. From then on it is
+    /// down.
+    Changed(u64),
 }
 
 impl From<AllocError> for ProviderFault {

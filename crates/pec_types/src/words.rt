@@ -69,7 +69,8 @@ impl Cause {
         }
     }
 
-    /// The cause's place, from 1, in the order in which causes are looked for. It takes no memory. This project's profile.
+    /// The cause's number, by which journals keep it: its place among all causes, from 1. It takes no memory. This
+    /// project's profile.
     pub fn number(self) -> u8
         ensures { result ≡ cause_number self }
     {
@@ -84,10 +85,28 @@ impl Cause {
             Cause::Virus => 8,
         }
     }
+
+    /// All causes, each once, in the order of their numbers. It takes no memory.
+    pub fn all() -> &'static [Cause]
+        ensures { result.now ≡ all_causes }
+    {
+        &ALL_CAUSES
+    }
 }
 
-/// Each cause stands at its place among all of them. So what passes for all, by going through them, passes for each, and
-/// what finds all finds each.
+const ALL_CAUSES: [Cause; 8] = [
+    Cause::Head,
+    Cause::From,
+    Cause::To,
+    Cause::ReversePath,
+    Cause::ForwardPath,
+    Cause::Bcc,
+    Cause::Size,
+    Cause::Virus,
+];
+
+/// Each cause stands at its place among all of them. So what passes for all, by going through them, passes for each,
+/// and what finds all finds each.
 pub fn each_cause_is_one_of_all()
     ensures place { (cause : CauseShown) → slice_get all_causes (cause_number cause - 1) ≡ Some cause }
     ensures passes { (test : CauseShown → Bool) → list_all test all_causes ≡ true → (cause : CauseShown) → test cause ≡ true }

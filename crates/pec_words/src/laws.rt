@@ -12,7 +12,8 @@ pub fn a_text_is_cut_in_one_way()
     ensures { (separator : ℕ) (text : Bytes) (parts : List Bytes) → IsCut separator text parts ↔ (slice_split (is_at separator) text ≡ parts) }
 {}
 
-/// A number is read from a text exactly where the text is that number as it is printed, and the number is below the bound.
+/// A number is read from a text exactly where the text is that number as it is printed, and the number is below the
+/// bound.
 pub fn a_number_has_one_spelling()
     ensures { (bound : ℕ) (text : Bytes) (number : ℕ) → bound ≤ 2 ^ 64 → (number_below bound text ≡ Some number) ↔ IsNumber bound text number }
 {}

@@ -1,5 +1,5 @@
-//! How the words of a line are read, whoever writes the line: texts that are cut at a separator, numbers in decimal, and
-//! paths of addresses.
+//! How the words of a line are read, whoever writes the line: texts that are cut at a separator, numbers in decimal,
+//! and paths of addresses.
 #![tactic(auto)]
 
 mod cuts;

@@ -18,8 +18,8 @@ pub fn number_below(text: &[u8], bound: u64) -> Option<u64>
     below(bound, number)
 }
 
-/// The number that one or more digits give, with zeros in front or without; `None` where it is 2 ^ 64 or more, or a byte
-/// is no digit. It takes no memory. This project's profile.
+/// The number that one or more digits give, with zeros in front or without; `None` where it is 2 ^ 64 or more, or a
+/// byte is no digit. It takes no memory. This project's profile.
 #[tactic(auto, using(crate::proofs::NumberLemmas::with_digits_is), unfolding(crate::specs::Numbers::digits_number))]
 pub fn digits_number(text: &[u8]) -> Option<u64>
     ensures { result ≡ digits_number text.now }

@@ -179,8 +179,8 @@ fn write_on<S: Sink>(output: &mut S) {
     }
 }
 
-// How many readings the clock has, and how many reads and writes are made of the ten that the limit of 200 ms leaves time
-// for. A clock that can't be read any more ends it too.
+// How many readings the clock has, and how many reads and writes are made of the ten that the limit of 200 ms leaves
+// time for. A clock that can't be read any more ends it too.
 const TRICKLES: [(u32, u32, u32); 5] = [(99, 10, 0), (99, 0, 10), (99, 4, 6), (1, 1, 0), (2, 1, 0)];
 
 #[test]
