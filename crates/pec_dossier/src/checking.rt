@@ -14,8 +14,8 @@ use pec_outside::{Sink, Source, write_all};
 use pec_trade::sealer_of;
 use std::alloc::Global;
 
-/// Checks the messages that the lines of an input save, each of which is the base64 of one (RFC 4648, section 4): which are
-/// genuine letters of the directory's providers, and what they prove together. What is told of a message is written
+/// Checks the messages that the lines of an input save, each of which is the base64 of one (RFC 4648, section 4): which
+/// are genuine letters of the directory's providers, and what they prove together. What is told of a message is written
 /// before the next line is read. Empty lines and those that begin with `#` are passed over. This project's profile.
 pub fn check_lines<S: Source, W: Sink>(
     alloc: Global,

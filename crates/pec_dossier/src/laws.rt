@@ -23,13 +23,13 @@ use pec_ledger::arrivals_are_true;
 
 /// What a status says of a run that checks a dossier.
 pub fn a_status_says_what_was_checked()
-    // Status 0: the input is a dossier whose lines were read to their end; what is told of each message was written, and
-    // behind it what all prove together.
+    // Status 0: the input is a dossier whose lines were read to their end; what is told of each message was written,
+    // and behind it what all prove together.
     ensures done { (unread before after : Option Bytes) (ran : Checked statuses.Done unread before after)
         → (dossier : Dossier) × (dossier_in ran.parts ≡ Ok dossier) × (dossier.saved.end ≡ ends.Done)
         × (after ≡ followed_by before (saved_text dossier.providers None dossier.saved)) }
-    // Statuses 3 and 12: the input ends so before its end, after the lines of the messages before; and its last line was
-    // written.
+    // Statuses 3 and 12: the input ends so before its end, after the lines of the messages before; and its last line
+    // was written.
     ensures ended { (status : Status) (unread before after : Option Bytes)
         → (status ≡ statuses.Refused) ⊎ (status ≡ statuses.InputTooLong)
         → (ran : Checked status unread before after)
@@ -53,9 +53,9 @@ pub fn a_status_says_what_was_checked()
         ≡ length messages }
 {}
 
-/// Genuine letters never contradict each other where no provider lies: of texts of licensed letters, or of mailbox items,
-/// of journals that are Fit, no pair has a conflict, and each proof tells the decision by which the pair is decided. It
-/// rests on the law that a pair has one outcome.
+/// Genuine letters never contradict each other where no provider lies: of texts of licensed letters, or of mailbox
+/// items, of journals that are Fit, no pair has a conflict, and each proof tells the decision by which the pair is
+/// decided. It rests on the law that a pair has one outcome.
 pub fn no_conflict()
     ensures worlds { (kept : List Kept) (seals : Seals) → IsTrade (trade_of kept seals)
         → (journals : Journals) → Fit (trade_of kept seals) journals

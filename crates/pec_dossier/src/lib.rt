@@ -1,6 +1,6 @@
-//! Runs that come near no disk. Checking a dossier: a party hands in the letters that it saved, line by line, and is told
-//! which of them are genuine and what they prove together (RFC 6109, section 3, for the letters; the lines are this
-//! project's profile). And writing a directory as another text, of which the definitions and a law stand here.
+//! Runs that come near no disk. Checking a dossier: a party hands in the letters that it saved, line by line, and is
+//! told which of them are genuine and what they prove together (RFC 6109, section 3, for the letters; the lines are
+//! this project's profile). And writing a directory as another text, of which the definitions and a law stand here.
 #![tactic(auto)]
 
 mod checking;

@@ -21,8 +21,8 @@ pub fn a_world_is_there()
     ensures { IsTrade small }
 {}
 
-/// What the laws ask for can be had, so that none is said of nothing: a message that was accepted, a receipt of each kind
-/// that is composed of one (a notice of non-acceptance is composed of none), and a journal that follows a state.
+/// What the laws ask for can be had, so that none is said of nothing: a message that was accepted, a receipt of each
+/// kind that is composed of one (a notice of non-acceptance is composed of none), and a journal that follows a state.
 pub fn the_premises_are_met()
     ensures sent { IsSent small first (to_one anna) }
     ensures acceptance { CanBeComposed small (receipt_on kinds.Acceptance None) (to_one anna) }

@@ -19,8 +19,8 @@ ghost use Rattle.pec_ledger.specs.Trade.{Receipt, SeenEnvelope, SeenReceipt, Tra
 ghost use Rattle.pec_ledger.specs.TradeLaws.{IsTrade, letter_in};
 
 /// In journals that are Fit each accepted message has its original at its entry, each taken one its envelope, each row
-/// licenses its letter, each licensed letter has one text, a pair is decided at its recipient's home alone, where it was
-/// taken, a pair is known at its message's provider alone, and each item has its bytes.
+/// licenses its letter, each licensed letter has one text, a pair is decided at its recipient's home alone, where it
+/// was taken, a pair is known at its message's provider alone, and each item has its bytes.
 pub fn rows_have_their_texts()
     ensures originals { (trade : Trade) (journals : Journals) → Fit trade journals → (id : Id) (message : Accepted)
         → accepted_in trade journals id ≡ Some message → (original : Bytes) × HasOriginal trade journals id message original }
@@ -49,8 +49,8 @@ pub fn rows_have_their_texts()
         → Contains (ledger trade journals provider).items posted → IsSome (item_text trade provider (journals provider) posted) }
 {}
 
-/// In every journal, whatever else it holds, an accepted message has its original at its entry, and its row has the facts
-/// of that.
+/// In every journal, whatever else it holds, an accepted message has its original at its entry, and its row has the
+/// facts of that.
 pub fn an_accepted_message_has_its_original()
     ensures { (trade : Trade) (provider : ℕ) (journal : List Entry) (number : ℕ) (message : Accepted)
         → accepted_at (half trade provider journal) number ≡ Some message
@@ -99,8 +99,8 @@ pub fn texts_are_seen()
         → ((letter : SomeLetter) × IsLicensedText trade journals letter bytes) ⊎ ((me : ℕ) → letter_in trade me bytes ≡ None) }
 {}
 
-/// A genuine message that is seen as an envelope, a charge, an outcome or an acknowledgement meets the joint condition of
-/// the entry that is made of it.
+/// A genuine message that is seen as an envelope, a charge, an outcome or an acknowledgement meets the joint condition
+/// of the entry that is made of it.
 pub fn arrivals_are_true()
     ensures took { (trade : Trade) (journals : Journals) → Fit trade journals → IsTrade trade
         → (provider : ℕ) (bytes : Bytes) (id : Id) (moment : ℕ) (original : Bytes)

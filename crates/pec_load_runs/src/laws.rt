@@ -20,8 +20,8 @@ use pec_load::{a_load_has_its_commands, a_load_has_its_directory};
 use pec_outside::Depot;
 use pec_runs::a_line_is_one_thing;
 
-/// What a load plays is within all limits and refused nowhere: the run begins, with all of the load's commands. So it ends
-/// by its script's end, by a device, for want of memory, or since a disk isn't empty.
+/// What a load plays is within all limits and refused nowhere: the run begins, with all of the load's commands. So it
+/// ends by its script's end, by a device, for want of memory, or since a disk isn't empty.
 pub fn a_load_is_played_as_a_run<P: Depot>()
     ensures begun { (finds : Finds) (count : ℕ) → count ≤ MOST_MESSAGES
         → stage_of (load_asked finds) false (parts_of (raw_lines (load_input count))) ≡ Begun Run (load_script finds count) }
@@ -44,7 +44,8 @@ pub fn a_load_is_played_as_a_run<P: Depot>()
 
 /// What a status says of a run that plays a load.
 pub fn a_status_says_what_a_load_told<P: Depot>()
-    // Status 0: both journals were made, all commands were played, and the summary of the state behind them was written.
+    // Status 0: both journals were made, all commands were played, and the summary of the state behind them was
+    // written.
     ensures done { (finds : Finds) (count : ℕ) (before after : Option Bytes) (depot left : P) (old new : Counts)
         → count ≤ MOST_MESSAGES
         → (load : LoadRan (P.tells × P.D.tells) P.D.sight count finds statuses.Done before after (P.home depot)

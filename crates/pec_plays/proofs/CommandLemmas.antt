@@ -5,21 +5,24 @@ use Rattle.std.proofs.lemmas.Bool.{cases_eq, cases_lt, ltb-false, ltb-true}
 use Rattle.std.proofs.lemmas.List.{append-nil, get_or-set_other, get_or-set_same, set_past}
 use Rattle.std.proofs.lemmas.List.Elements.{All-append, All-drop, All-push, All-take}
 use Rattle.std.proofs.lemmas.Option.{none-some, same_Some}
+use Rattle.std.specs.Option.{unwrap_or}
 use Rattle.pec_types.specs.Bytes.{Bytes, Path}
 use Rattle.pec_types.specs.declared.messages.Cause.{Cause}
 use Rattle.pec_types.specs.declared.messages.TheConstants.{MESSAGES}
 use Rattle.pec_types.specs.declared.moments.TheConstants.{END_OF_TIME}
+use Rattle.pec_types.specs.declared.turns.ProviderFault.{ProviderFault}
 use Rattle.pec_records.specs.Entry.{most_addresses}
 use Rattle.pec_records.specs.declared.entries.Entry.{Entry}
 use Rattle.pec_records.specs.declared.entries.Entry.TheVariants as entries
-use Rattle.pec_ledger.specs.Half.{Half}
+use Rattle.pec_ledger.specs.Half.{Half, Posted}
+use Rattle.pec_ledger.specs.Items.{item_text}
 use Rattle.pec_ledger.specs.Ledger.{Follows, Journals, Meets}
 use Rattle.pec_ledger.specs.Network.{AreGenuine, IsGenuine, IsNext, Site, Sound, frames_between, journal_at, journals_of, site_at, Stays, Appends, Fails, Restarts}
 use Rattle.pec_ledger.specs.Own.{Own}
 use Rattle.pec_ledger.specs.Steps.{half, moment_of}
 use Rattle.pec_ledger.specs.Trade.{Trade}
 use Rattle.pec_ledger.specs.TradeLaws.{IsTrade}
-use Rattle.pec_plays.specs.Commands.{Answer, Luck, Played, append, appended, asked, at_work, entry_by, injected, lost, messages_at, put_again, restarted, restarted_site, screened_cause, stopped_site, submitted, swapped, swapped_at, ticked, with_entry, with_frames, with_site}
+use Rattle.pec_plays.specs.Commands.{Answer, Luck, Played, append, appended, asked, at_work, entry_by, injected, lost, messages_at, put_again, read_back, restarted, restarted_site, screened_cause, shown, shown_bytes, stopped_site, submitted, swapped, swapped_at, ticked, with_entry, with_frames, with_site}
 use Rattle.pec_plays.specs.Rounds.{link_size, with_waiting}
 use Rattle.pec_plays.specs.Steps.{has_no_room}
 use Rattle.pec_plays.specs.Turns.{broken, last_of}
@@ -221,7 +224,19 @@ module _ (trade : Trade) (world : IsTrade trade) (laws : StateLaws trade) where
   -- ---- what accounts are shown
 
   pub next_asked : (sites : List Site) (show : ℕ → Half → Played) (found : Option ℕ) → Sound trade sites
-      → ((provider : ℕ) (half : Half) → (show provider half).after ≡ sites) → IsNext trade sites (asked sites show trade found).after
-  next_asked sites show None sound same = next_as_it_was trade laws sites sound
-  next_asked sites show (Some p) sound same =
-      by_test sites (site_at sites p).up _ _ (λ up. subst (IsNext trade sites) (sym (same p (half trade p (journal_at sites p)))) (next_as_it_was trade laws sites sound)) (λ down. next_as_it_was trade laws sites sound)
+      → ((provider : ℕ) (half : Half) → IsNext trade sites (show provider half).after) → IsNext trade sites (asked sites show trade found).after
+  next_asked sites show None sound next = next_as_it_was trade laws sites sound
+  next_asked sites show (Some p) sound next =
+      by_test sites (site_at sites p).up _ _ (λ up. next p (half trade p (journal_at sites p))) (λ down. next_as_it_was trade laws sites sound)
+
+  next_read : (read : Option ProviderFault) (bytes : Bytes) (sites : List Site) (p : ℕ) → Sound trade sites → IsNext trade sites (read_back read bytes sites p).after
+  next_read None bytes sites p sound = next_as_it_was trade laws sites sound
+  next_read (Some fault) bytes sites p sound = next_crashed sites p sound
+
+  next_bytes : (luck : Luck) (sites : List Site) (p : ℕ) (text : Option Bytes) → Sound trade sites → IsNext trade sites (shown_bytes luck sites p text).after
+  next_bytes luck sites p None sound = next_as_it_was trade laws sites sound
+  next_bytes luck sites p (Some bytes) sound = next_read luck.read (unwrap_or luck.shown bytes) sites p sound
+
+  pub next_shown : (luck : Luck) (sites : List Site) (p : ℕ) (found : Option Posted) → Sound trade sites → IsNext trade sites (shown trade luck sites p found).after
+  next_shown luck sites p None sound = next_as_it_was trade laws sites sound
+  next_shown luck sites p (Some posted) sound = next_bytes luck sites p (item_text trade p (journal_at sites p) posted) sound

@@ -1,10 +1,12 @@
 -- Each command only appends: every journal goes on as it was.
 use Rattle.std.proofs.Common.{ℕ, List, [], ◌∷◌, Bool, true, false, inl, inr, length, refl, ap, sym, subst, ◌∙◌, nat_lt, Option, Some, None}
 use Rattle.std.specs.Prelude.{slice_get, slice_set, if◌then◌else◌}
+use Rattle.std.specs.Option.{unwrap_or}
 use Rattle.std.proofs.lemmas.Bool.{cases_lt}
 use Rattle.std.proofs.lemmas.List.{append-nil}
 use Rattle.pec_types.specs.Bytes.{Bytes, Path}
 use Rattle.pec_types.specs.declared.messages.TheConstants.{MESSAGES}
+use Rattle.pec_types.specs.declared.turns.ProviderFault.{ProviderFault}
 use Rattle.pec_records.specs.declared.entries.Entry.{Entry}
 use Rattle.pec_records.specs.declared.entries.Entry.TheVariants as entries
 use Rattle.pec_ledger.specs.Along.{GoesOnAs}
@@ -14,7 +16,7 @@ use Rattle.pec_ledger.specs.Items.{item_text}
 use Rattle.pec_ledger.specs.Lookups.{mailbox}
 use Rattle.pec_ledger.specs.Network.{Site, chosen, frames_between, journal_at, site_at}
 use Rattle.pec_ledger.specs.Trade.{Trade}
-use Rattle.pec_plays.specs.Commands.{Answer, Command, Luck, Played, Submit, Tick, Round, Lose, Repeat, Swap, Inject, Crash, Restart, Book, Mailbox, Show, Lines, Items, account_home, answers, append, appended, asked, at_work, injected, lost, messages_at, played, put_again, restarted, restarted_site, shown, shown_bytes, stopped_site, submitted, swapped, swapped_at, with_entry, with_frames, with_site}
+use Rattle.pec_plays.specs.Commands.{Answer, Command, Luck, Played, Submit, Tick, Round, Lose, Repeat, Swap, Inject, Crash, Restart, Book, Mailbox, Show, Lines, Items, account_home, answers, append, appended, asked, at_work, injected, lost, messages_at, played, put_again, read_back, restarted, restarted_site, shown, shown_bytes, stopped_site, submitted, swapped, swapped_at, with_entry, with_frames, with_site}
 use Rattle.pec_plays.specs.Rounds.{link_size, rounded, turns_of, with_waiting}
 use Rattle.pec_plays.specs.Steps.{has_no_room}
 use Rattle.pec_plays.specs.Turns.{broken, last_of}
@@ -99,13 +101,17 @@ module _ (trade : Trade) (sites : List Site) where
   asked_goes_on show None same = as_they_are
   asked_goes_on show (Some p) same = by_test (site_at sites p).up _ _ (same p _) as_they_are
 
-  bytes_go_on : (text : Option Bytes) → GoOn (shown_bytes sites text).after
-  bytes_go_on None = as_they_are
-  bytes_go_on (Some bytes) = as_they_are
+  read_goes_on : (read : Option ProviderFault) (bytes : Bytes) (p : ℕ) → GoOn (read_back read bytes sites p).after
+  read_goes_on None bytes p = as_they_are
+  read_goes_on (Some fault) bytes p = with_one p (stopped_site (site_at sites p)) (itself (journal_at sites p))
 
-  shown_goes_on : (p : ℕ) (found : Option Posted) → GoOn (shown trade sites p found).after
-  shown_goes_on p None = as_they_are
-  shown_goes_on p (Some posted) = bytes_go_on (item_text trade p (journal_at sites p) posted)
+  bytes_go_on : (luck : Luck) (p : ℕ) (text : Option Bytes) → GoOn (shown_bytes luck sites p text).after
+  bytes_go_on luck p None = as_they_are
+  bytes_go_on luck p (Some bytes) = read_goes_on luck.read (unwrap_or luck.shown bytes) p
+
+  shown_goes_on : (luck : Luck) (p : ℕ) (found : Option Posted) → GoOn (shown trade luck sites p found).after
+  shown_goes_on luck p None = as_they_are
+  shown_goes_on luck p (Some posted) = bytes_go_on luck p (item_text trade p (journal_at sites p) posted)
 
   pub played_goes_on : (luck : Luck) (command : Command) → GoOn (played trade luck sites command).after
   unfolding played
@@ -123,5 +129,5 @@ module _ (trade : Trade) (sites : List Site) where
   played_goes_on luck (Mailbox address) =
       asked_goes_on (λ (p : ℕ) (h : Half). answers sites (Items (mailbox_lines h address))) (account_home trade address (trade.home address)) (λ p h. as_they_are)
   played_goes_on luck (Show address place) =
-      asked_goes_on (λ (p : ℕ) (h : Half). shown trade sites p (slice_get (mailbox h address) place)) (account_home trade address (trade.home address))
-      (λ p h. shown_goes_on p (slice_get (mailbox h address) place))
+      asked_goes_on (λ (p : ℕ) (h : Half). shown trade luck sites p (slice_get (mailbox h address) place)) (account_home trade address (trade.home address))
+      (λ p h. shown_goes_on luck p (slice_get (mailbox h address) place))

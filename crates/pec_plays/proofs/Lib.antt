@@ -23,4 +23,3 @@ pub mod ShortLemmas
 pub mod ToldLemmas
 pub mod TurnLemmas
 pub mod ComposedLemmas
-pub mod EnvelopeLemmas

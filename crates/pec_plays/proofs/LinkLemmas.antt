@@ -8,6 +8,7 @@ use Rattle.pec_types.specs.Bytes.{Bytes}
 use Rattle.pec_types.specs.declared.letters.Letter.{Letter}
 use Rattle.pec_records.specs.declared.entries.Entry.{Entry}
 use Rattle.pec_ledger.specs.Due.{due_letters, owed_letters}
+use Rattle.pec_ledger.specs.Half.{Half}
 use Rattle.pec_ledger.specs.Network.{Site, site_at}
 use Rattle.pec_ledger.specs.Steps.{half}
 use Rattle.pec_ledger.specs.Trade.{Trade}
@@ -51,6 +52,10 @@ one_at_most (Some y) ys n l = omega arith
 fewer : {X Y : Type 0} (f : X → Option Y) (xs : List X) → length (filter_map f xs) ≤ length xs
 fewer f [] = omega arith
 fewer f (x ∷ xs) = one_at_most (f x) (filter_map f xs) (length xs) (fewer f xs)
+
+pub letters_fit : (trade : Trade) (p : ℕ) (h : Half) (to room : ℕ) (owed : List Letter) → length (due_letters trade p h to room owed) ≤ room
+unfolding due_letters
+letters_fit trade p h to room owed = let cut = length-take room (owed_letters trade p h to owed) in omega (arith, cut)
 
 pub due_fit : (trade : Trade) (p : ℕ) (es : List Entry) (to room : ℕ) (owed : List Letter) → length (due_frames trade p es to room owed) ≤ room
 unfolding due_frames due_letters

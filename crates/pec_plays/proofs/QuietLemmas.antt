@@ -1,11 +1,13 @@
 -- Runs without faults are one: a turn without faults is cut in one way.
 use Rattle.std.proofs.Common.{◌≡◌, ℕ, zero, suc, ◌+◌, ◌<◌, List, [], ◌∷◌, ◌++◌, Bool, true, false, inl, inr, length, take, refl, ap, sym, subst, ◌∙◌, arith, nat_lt, Option, Some, None}
 use Rattle.std.specs.Prelude.{slice_get, slice_set, slice_index_or, if◌then◌else◌}
+use Rattle.std.specs.Option.{unwrap_or}
 use Rattle.std.proofs.lemmas.Bool.{cases_lt, false≢true}
 use Rattle.std.proofs.lemmas.List.Elements.{All-cons, All-head, All-nil, All-tail}
 use Rattle.std.proofs.lemmas.Option.{none-some, same_Some}
 use Rattle.pec_types.specs.Bytes.{Bytes, Path}
 use Rattle.pec_types.specs.declared.messages.TheConstants.{MESSAGES}
+use Rattle.pec_types.specs.declared.turns.ProviderFault.{ProviderFault}
 use Rattle.pec_types.specs.declared.turns.ProviderFault.TheVariants as faults
 use Rattle.pec_records.specs.declared.entries.Entry.{Entry}
 use Rattle.pec_records.specs.declared.entries.Entry.TheVariants as entries
@@ -14,13 +16,14 @@ use Rattle.pec_ledger.specs.Half.{Half, Posted}
 use Rattle.pec_ledger.specs.Items.{item_text}
 use Rattle.pec_ledger.specs.Lookups.{mailbox}
 use Rattle.pec_ledger.specs.Network.{Site, chosen, empty_site, frames_between, journal_at, site_at}
+use Rattle.pec_ledger.specs.Steps.{half}
 use Rattle.pec_ledger.specs.Trade.{Trade}
-use Rattle.pec_plays.specs.Commands.{Answer, Command, Luck, Played, IsUp, Refuses, Restarted, Turns, Submit, Tick, Round, Lose, Repeat, Swap, Inject, Crash, Restart, Book, Mailbox, Show, Lines, Items, account_home, answers, append, appended, asked, at_work, messages_at, played, put_again, restarted, restarted_site, shown, shown_bytes, stopped_site, submitted, swapped, swapped_at, ticked, with_entry, with_frames, with_site}
-use Rattle.pec_plays.specs.Possible.{AllQuiet, HaveRoom, IsCalm, IsFull, IsQuiet, MayCut, MayMeet, NoneInterrupted, later_cut, quiet_cut, quiet_luck, quiet_lucks}
+use Rattle.pec_plays.specs.Commands.{Answer, Command, Luck, Played, IsUp, Refuses, Restarted, Turns, Submit, Tick, Round, Lose, Repeat, Swap, Inject, Crash, Restart, Book, Mailbox, Show, Lines, Items, account_home, answers, append, appended, asked, at_work, messages_at, played, put_again, read_back, restarted, restarted_site, shown, shown_bytes, stopped_site, submitted, swapped, swapped_at, ticked, with_entry, with_frames, with_site}
+use Rattle.pec_plays.specs.Possible.{AllQuiet, GaveWhatWasKept, HaveRoom, IsCalm, IsFull, IsOfKept, IsQuiet, MayCut, MayMeet, NoneInterrupted, later_cut, quiet_cut, quiet_luck, quiet_lucks}
 use Rattle.pec_plays.specs.Rounds.{Rounded, delivered, link_size, outs_of, rooms_of, rounded, told_from, turns_from, turns_of, with_waiting}
 use Rattle.pec_plays.specs.Scripts.{onto, script}
 use Rattle.pec_plays.specs.Steps.{Step, has_no_room}
-use Rattle.pec_plays.specs.Turns.{Cut, Turned, Whole, Fails, Full, Stops, cut_turn, frames_in, last_of, not_begun, plan, turned}
+use Rattle.pec_plays.specs.Turns.{Cut, Turned, Whole, Fails, Full, Stops, Other, cut_turn, frames_in, last_of, not_begun, plan, turned}
 use Rattle.pec_plays.proofs.DeliveryLemmas.{after_is, past_the_end}
 use Rattle.pec_plays.proofs.SiteLemmas.{put_cases}
 
@@ -51,16 +54,18 @@ full_later s steps n false e is more =
 pub calm_cut : (steps : List Step) (cut : Cut) → MayCut steps cut → IsCalm cut → cut ≡ quiet_cut steps
 calm_cut [] Whole may calm = refl
 calm_cut [] (Full n) may calm = absurd (none-some may.step may.there)
-calm_cut steps (Fails n) may calm = absurd calm
+calm_cut steps (Fails n fault) may calm = absurd calm
 calm_cut steps (Stops n) may calm = absurd calm
+calm_cut steps (Other out) may calm = absurd calm
 calm_cut (s ∷ steps) Whole may calm = whole_is s steps s.full refl may (λ room. calm_cut steps Whole room tt)
 calm_cut (s ∷ steps) (Full zero) may calm = full_here s steps s.full refl may
 calm_cut (s ∷ steps) (Full (suc n)) may calm = full_later s steps n s.full refl may (λ is. calm_cut steps (Full n) is tt)
 
 later_may : (s : Step) (steps : List Step) (cut : Cut) → s.full ≡ false → MayCut steps cut → IsCalm cut → MayCut (s ∷ steps) (later_cut cut)
 later_may s steps Whole e may calm = All-cons (λ (x : Step). x.full ≡ false) s steps e may
-later_may s steps (Fails n) e may calm = absurd calm
+later_may s steps (Fails n fault) e may calm = absurd calm
 later_may s steps (Stops n) e may calm = absurd calm
+later_may s steps (Other out) e may calm = absurd calm
 later_may s steps (Full n) e may calm = record {
   before = All-cons (λ (x : Step). x.full ≡ false) s (take n steps) e may.before;
   step = may.step;
@@ -70,9 +75,10 @@ later_may s steps (Full n) e may calm = record {
 
 later_calm : (cut : Cut) → IsCalm cut → IsCalm (later_cut cut)
 later_calm Whole calm = tt
-later_calm (Fails n) calm = calm
+later_calm (Fails n fault) calm = calm
 later_calm (Full n) calm = tt
 later_calm (Stops n) calm = calm
+later_calm (Other out) calm = calm
 
 calm_by : (full : Bool) (steps : List Step) → IsCalm (quiet_cut steps) → IsCalm (cut_by full steps)
 calm_by true steps calm = tt
@@ -131,6 +137,23 @@ module _ (trade : Trade) (sites : List Site) (a b : Luck) (quiet_a : IsQuiet a) 
   restarted_one p site none =
       ap (λ (fails : Bool). restarted_as fails p site (restarted_site a.found site)) (quiet_a.works ∙ sym quiet_b.works)
       ∙ ap (restarted_as b.fails p site) (found_nothing site a.found b.found none)
+
+  -- ---- items
+
+  bytes_one : (p : ℕ) (text : Option Bytes) → shown_bytes a sites p text ≡ shown_bytes b sites p text
+  bytes_one p None = refl
+  bytes_one p (Some bytes) =
+      ap (λ (read : Option ProviderFault). read_back read (unwrap_or a.shown bytes) sites p) (quiet_a.reads ∙ sym quiet_b.reads)
+      ∙ ap (λ (shown : Option Bytes). read_back b.read (unwrap_or shown bytes) sites p) (quiet_a.shows ∙ sym quiet_b.shows)
+
+  shown_one : (p : ℕ) (found : Option Posted) → shown trade a sites p found ≡ shown trade b sites p found
+  shown_one p None = refl
+  shown_one p (Some posted) = bytes_one p (item_text trade p (journal_at sites p) posted)
+
+  asked_one : (f g : ℕ → Half → Played) (found : Option ℕ) → ((p : ℕ) (h : Half) → f p h ≡ g p h) → asked sites f trade found ≡ asked sites g trade found
+  asked_one f g None same = refl
+  asked_one f g (Some p) same =
+      ap (λ (x : Played). if (site_at sites p).up then x else answers sites (Refuses faults.Down)) (same p (half trade p (journal_at sites p)))
 
   -- ---- rounds
 
@@ -207,7 +230,10 @@ module _ (trade : Trade) (sites : List Site) (a b : Luck) (quiet_a : IsQuiet a) 
   played_one (Restart p) none may_a may_b = restarted_one p (site_at sites p) (none p)
   played_one (Book address) none may_a may_b = refl
   played_one (Mailbox address) none may_a may_b = refl
-  played_one (Show address place) none may_a may_b = refl
+  played_one (Show address place) none may_a may_b =
+      asked_one (λ (p : ℕ) (h : Half). shown trade a sites p (slice_get (mailbox h address) place))
+      (λ (p : ℕ) (h : Half). shown trade b sites p (slice_get (mailbox h address) place)) (account_home trade address (trade.home address))
+      (λ p h. shown_one p (slice_get (mailbox h address) place))
 
 -- ---- no entry is interrupted by a command without faults
 
@@ -250,19 +276,24 @@ module _ (trade : Trade) (sites : List Site) (luck : Luck) (quiet : IsQuiet luck
   none_asked show None same = none
   none_asked show (Some p) same = none_by (site_at sites p).up _ _ (same p _) none
 
-  none_bytes : (text : Option Bytes) → NoneInterrupted (shown_bytes sites text).after
-  none_bytes None = none
-  none_bytes (Some bytes) = none
+  none_read : (read : Option ProviderFault) (bytes : Bytes) (p : ℕ) → NoneInterrupted (read_back read bytes sites p).after
+  none_read None bytes p = none
+  none_read (Some fault) bytes p = with_none p (stopped_site (site_at sites p)) (none p)
 
-  none_shown : (p : ℕ) (found : Option Posted) → NoneInterrupted (shown trade sites p found).after
+  none_bytes : (p : ℕ) (text : Option Bytes) → NoneInterrupted (shown_bytes luck sites p text).after
+  none_bytes p None = none
+  none_bytes p (Some bytes) = none_read luck.read (unwrap_or luck.shown bytes) p
+
+  none_shown : (p : ℕ) (found : Option Posted) → NoneInterrupted (shown trade luck sites p found).after
   none_shown p None = none
-  none_shown p (Some posted) = none_bytes (item_text trade p (journal_at sites p) posted)
+  none_shown p (Some posted) = none_bytes p (item_text trade p (journal_at sites p) posted)
 
   cut_keeps : (p : ℕ) (rooms : ℕ → ℕ) (site : Site) (steps : List Step) (cut : Cut) → IsCalm cut → (cut_turn trade p rooms site steps cut).site.interrupted ≡ site.interrupted
   cut_keeps p rooms site steps Whole calm = refl
-  cut_keeps p rooms site steps (Fails n) calm = absurd calm
+  cut_keeps p rooms site steps (Fails n fault) calm = absurd calm
   cut_keeps p rooms site steps (Full n) calm = refl
   cut_keeps p rooms site steps (Stops n) calm = absurd calm
+  cut_keeps p rooms site steps (Other out) calm = absurd calm
 
   keeps_by : (site : Site) (t : Bool) (x y : Turned) → x.site.interrupted ≡ site.interrupted → y.site.interrupted ≡ site.interrupted
       → (if t then x else y).site.interrupted ≡ site.interrupted
@@ -306,7 +337,7 @@ module _ (trade : Trade) (sites : List Site) (luck : Luck) (quiet : IsQuiet luck
   none_behind (Mailbox address) =
       none_asked (λ (p : ℕ) (h : Half). answers sites (Items (mailbox_lines h address))) (account_home trade address (trade.home address)) (λ p h. none)
   none_behind (Show address place) =
-      none_asked (λ (p : ℕ) (h : Half). shown trade sites p (slice_get (mailbox h address) place)) (account_home trade address (trade.home address))
+      none_asked (λ (p : ℕ) (h : Half). shown trade luck sites p (slice_get (mailbox h address) place)) (account_home trade address (trade.home address))
       (λ p h. none_shown p (slice_get (mailbox h address) place))
 
 -- ---- scripts
@@ -330,19 +361,19 @@ script_one trade (x ∷ a) (y ∷ b) sites (command ∷ commands) e none quiet_a
 pub quiet_there : (trade : Trade) (sites : List Site) (command : Command) → MayMeet trade (quiet_luck trade sites command) sites command × IsQuiet (quiet_luck trade sites command)
 quiet_there trade sites (Round now) = (
   λ p l up late. quiet_may (plan trade p now (site_at sites p).journal (frames_in (site_at sites p).waiting)),
-  record { cuts = λ p. quiet_is_calm (plan trade p now (site_at sites p).journal (frames_in (site_at sites p).waiting)); works = refl },
+  record { cuts = λ p. quiet_is_calm (plan trade p now (site_at sites p).journal (frames_in (site_at sites p).waiting)); works = refl; reads = refl; shows = refl },
 )
-quiet_there trade sites (Submit p now sender path message found) = (tt, record { cuts = λ p. tt; works = refl })
-quiet_there trade sites (Tick p now) = (tt, record { cuts = λ p. tt; works = refl })
-quiet_there trade sites (Lose from to place) = (tt, record { cuts = λ p. tt; works = refl })
-quiet_there trade sites (Repeat from to place) = (tt, record { cuts = λ p. tt; works = refl })
-quiet_there trade sites (Swap from to place) = (tt, record { cuts = λ p. tt; works = refl })
-quiet_there trade sites (Inject from to frame) = (tt, record { cuts = λ p. tt; works = refl })
-quiet_there trade sites (Crash p) = (tt, record { cuts = λ p. tt; works = refl })
-quiet_there trade sites (Restart p) = (tt, record { cuts = λ p. tt; works = refl })
-quiet_there trade sites (Book address) = (tt, record { cuts = λ p. tt; works = refl })
-quiet_there trade sites (Mailbox address) = (tt, record { cuts = λ p. tt; works = refl })
-quiet_there trade sites (Show address place) = (tt, record { cuts = λ p. tt; works = refl })
+quiet_there trade sites (Submit p now sender path message found) = (tt, record { cuts = λ p. tt; works = refl; reads = refl; shows = refl })
+quiet_there trade sites (Tick p now) = (tt, record { cuts = λ p. tt; works = refl; reads = refl; shows = refl })
+quiet_there trade sites (Lose from to place) = (tt, record { cuts = λ p. tt; works = refl; reads = refl; shows = refl })
+quiet_there trade sites (Repeat from to place) = (tt, record { cuts = λ p. tt; works = refl; reads = refl; shows = refl })
+quiet_there trade sites (Swap from to place) = (tt, record { cuts = λ p. tt; works = refl; reads = refl; shows = refl })
+quiet_there trade sites (Inject from to frame) = (tt, record { cuts = λ p. tt; works = refl; reads = refl; shows = refl })
+quiet_there trade sites (Crash p) = (tt, record { cuts = λ p. tt; works = refl; reads = refl; shows = refl })
+quiet_there trade sites (Restart p) = (tt, record { cuts = λ p. tt; works = refl; reads = refl; shows = refl })
+quiet_there trade sites (Book address) = (tt, record { cuts = λ p. tt; works = refl; reads = refl; shows = refl })
+quiet_there trade sites (Mailbox address) = (tt, record { cuts = λ p. tt; works = refl; reads = refl; shows = refl })
+quiet_there trade sites (Show address place) = (tt, record { cuts = λ p. tt; works = refl; reads = refl; shows = refl })
 
 pub quiet_along : (trade : Trade) (sites : List Site) (commands : List Command) → AllQuiet trade (quiet_lucks trade sites commands) sites commands
 quiet_along trade sites [] = tt
@@ -353,3 +384,15 @@ quiet_along trade sites (command ∷ commands) =
 pub quiet_enough : (trade : Trade) (sites : List Site) (commands : List Command) → length (quiet_lucks trade sites commands) ≡ length commands
 quiet_enough trade sites [] = refl
 quiet_enough trade sites (command ∷ commands) = ap suc (quiet_enough trade (played trade (quiet_luck trade sites command) sites command).after commands)
+
+-- ---- without faults each read gave what was kept
+
+calm_is_kept : (cut : Cut) → IsCalm cut → IsOfKept cut
+calm_is_kept Whole calm = tt
+calm_is_kept (Fails n fault) calm = absurd calm
+calm_is_kept (Full n) calm = tt
+calm_is_kept (Stops n) calm = absurd calm
+calm_is_kept (Other out) calm = absurd calm
+
+pub quiet_is_kept : (luck : Luck) → IsQuiet luck → GaveWhatWasKept luck
+quiet_is_kept luck quiet p = calm_is_kept (luck.cuts p) (quiet.cuts p)

@@ -3,8 +3,8 @@ use Rattle.std.proofs.Common.{◌≡◌, ℕ, zero, suc, ◌+◌, ◌-◌, ◌<�
 use Rattle.std.specs.Prelude.{IsSome, slice_index_or, if◌then◌else◌}
 use Rattle.std.specs.Option.{option_to_list}
 use Rattle.std.proofs.lemmas.Bool.{cases_lt, ltb-false}
-use Rattle.std.proofs.lemmas.List.{append-nil, get_or_past, length-append, length-drop}
-use Rattle.std.proofs.lemmas.List.Elements.{All-append, All-drop, All-nil}
+use Rattle.std.proofs.lemmas.List.{append-nil, get_or_past, length-append, length-drop, length-take}
+use Rattle.std.proofs.lemmas.List.Elements.{All-append, All-cons, All-drop, All-head, All-nil, All-tail, All-take}
 use Rattle.pec_types.specs.Bytes.{Bytes}
 use Rattle.pec_types.specs.declared.letters.Letter.{Letter}
 use Rattle.pec_types.specs.declared.turns.ProviderFault.{ProviderFault}
@@ -18,7 +18,7 @@ use Rattle.pec_ledger.specs.Trade.{Trade}
 use Rattle.pec_ledger.specs.TradeLaws.{IsTrade}
 use Rattle.pec_plays.specs.Rounds.{delivered, delivered_to, link_size, outs_of, rooms_of, rounded, turns_from, turns_of}
 use Rattle.pec_plays.specs.Steps.{Step}
-use Rattle.pec_plays.specs.Turns.{Cut, Turned, Whole, Fails as FailsAt, Full, Stops, cut_turn, entries_of, entry_at, frames_in, last_of, not_begun, owed_of, plan, puts_from, turned, without_first}
+use Rattle.pec_plays.specs.Turns.{Cut, Turned, Whole, Fails as FailsAt, Full, Stops, Other, cut_turn, entries_of, entry_at, frames_in, last_of, not_begun, owed_of, plan, puts_from, that_fit, turned, without_first}
 use Rattle.pec_plays.proofs.DeliveryLemmas.{after_is, after_length, out_at, outs_length, past_the_end, turn_in, turn_is, turns_length}
 use Rattle.pec_plays.proofs.FrameLemmas.{TextLaws, due_genuine}
 use Rattle.pec_plays.specs.Frames.{due_frames}
@@ -74,11 +74,12 @@ module _ (trade : Trade) (world : IsTrade trade) (laws : StateLaws trade) (sites
       → Follows trade (journals_of sites) p (half trade p (journal_at sites p)) (entries_of steps)
       → (cut : Cut) → Became p (cut_turn trade p rooms (site_at sites p) steps cut)
   cut_became p rooms steps up follows Whole new j i u = appends p up (entries_of steps) follows new j i
-  cut_became p rooms steps up follows (FailsAt n) new j i u = broken_at p up steps n follows (entry_at steps n) refl new j i u
+  cut_became p rooms steps up follows (FailsAt n fault) new j i u = broken_at p up steps n follows (entry_at steps n) refl new j i u
   cut_became p rooms steps up follows (Full n) new j i u =
       appends p up (entries_of (take n steps)) (front_follows trade world (journals_of sites) arrivals p 0 (half trade p (journal_at sites p)) n steps follows) new j i
   cut_became p rooms steps up follows (Stops n) new j i u =
       appends p up (entries_of (take n steps)) (front_follows trade world (journals_of sites) arrivals p 0 (half trade p (journal_at sites p)) n steps follows) new j i
+  cut_became p rooms steps up follows (Other out) new j i u = appends p up (entries_of steps) follows new j i
 
   by_test : (p : ℕ) (b : Bool) (x y : Turned) → (b ≡ true → Became p x) → (b ≡ false → Became p y) → Became p (if b then x else y)
   by_test p true x y taken passed = taken refl
@@ -103,9 +104,10 @@ module _ (trade : Trade) (world : IsTrade trade) (laws : StateLaws trade) (sites
 
   cut_leaves : (p : ℕ) (rooms : ℕ → ℕ) (steps : List Step) (cut : Cut) → LeavesGenuine (cut_turn trade p rooms (site_at sites p) steps cut)
   cut_leaves p rooms steps Whole = left_genuine (journals_of sites) (length steps) (site_at sites p).waiting (λ k. sound.genuine k p)
-  cut_leaves p rooms steps (FailsAt n) = left_genuine (journals_of sites) (n + 1) (site_at sites p).waiting (λ k. sound.genuine k p)
+  cut_leaves p rooms steps (FailsAt n fault) = left_genuine (journals_of sites) (n + 1) (site_at sites p).waiting (λ k. sound.genuine k p)
   cut_leaves p rooms steps (Full n) = left_genuine (journals_of sites) (n + 1) (site_at sites p).waiting (λ k. sound.genuine k p)
   cut_leaves p rooms steps (Stops n) = left_genuine (journals_of sites) (n + 1) (site_at sites p).waiting (λ k. sound.genuine k p)
+  cut_leaves p rooms steps (Other out) = left_genuine (journals_of sites) (length steps) (site_at sites p).waiting (λ k. sound.genuine k p)
 
   leaves_by : (b : Bool) (x y : Turned) → LeavesGenuine x → LeavesGenuine y → LeavesGenuine (if b then x else y)
   leaves_by true x y a b = a
@@ -127,28 +129,49 @@ module _ (trade : Trade) (world : IsTrade trade) (laws : StateLaws trade) (sites
   puts_genuine J texts p rooms owed to (suc count) zero = due_genuine trade world J texts p to (rooms to) owed
   puts_genuine J texts p rooms owed to (suc count) (suc k) = puts_genuine J texts p rooms owed (to + 1) count k
 
-  abbrev PutsGenuine : ℕ → Turned → Type 0
-  PutsGenuine p turn = (J : Journals) → TextLaws trade J → J p ≡ turn.site.journal → (k : ℕ) → AreGenuine trade J (slice_index_or turn.out k [])
+  -- where other frames are put than those that are due, they are genuine
+  abbrev GivenGenuine : Journals → Cut → Type 0
+  GivenGenuine J cut = (out : List (List Bytes)) → cut ≡ Other out → AreGenuine trade J (frames_in out)
 
-  cut_puts : (p : ℕ) (rooms : ℕ → ℕ) (steps : List Step) (cut : Cut) → PutsGenuine p (cut_turn trade p rooms (site_at sites p) steps cut)
-  cut_puts p rooms steps Whole J texts e k =
+  front_genuine : (J : Journals) (xs ys : List Bytes) → AreGenuine trade J (xs ++ ys) → AreGenuine trade J xs
+  front_genuine J [] ys all = All-nil (IsGenuine trade J)
+  front_genuine J (x ∷ xs) ys all =
+      All-cons (IsGenuine trade J) x xs (All-head (IsGenuine trade J) x (xs ++ ys) all) (front_genuine J xs ys (All-tail (IsGenuine trade J) x (xs ++ ys) all))
+
+  rest_genuine : (J : Journals) (xs ys : List Bytes) → AreGenuine trade J (xs ++ ys) → AreGenuine trade J ys
+  rest_genuine J [] ys all = all
+  rest_genuine J (x ∷ xs) ys all = rest_genuine J xs ys (All-tail (IsGenuine trade J) x (xs ++ ys) all)
+
+  fit_genuine : (J : Journals) (rooms : ℕ → ℕ) (to : ℕ) (out : List (List Bytes)) → AreGenuine trade J (frames_in out) → (k : ℕ)
+      → AreGenuine trade J (slice_index_or (that_fit rooms to out) k [])
+  fit_genuine J rooms to [] good k = All-nil (IsGenuine trade J)
+  fit_genuine J rooms to (frames ∷ out) good zero = All-take (IsGenuine trade J) (rooms to) frames (front_genuine J frames (frames_in out) good)
+  fit_genuine J rooms to (frames ∷ out) good (suc k) = fit_genuine J rooms (to + 1) out (rest_genuine J frames (frames_in out) good) k
+
+  abbrev PutsGenuine : ℕ → Cut → Turned → Type 0
+  PutsGenuine p cut turn = (J : Journals) → TextLaws trade J → GivenGenuine J cut → J p ≡ turn.site.journal
+      → (k : ℕ) → AreGenuine trade J (slice_index_or turn.out k [])
+
+  cut_puts : (p : ℕ) (rooms : ℕ → ℕ) (steps : List Step) (cut : Cut) → PutsGenuine p cut (cut_turn trade p rooms (site_at sites p) steps cut)
+  cut_puts p rooms steps Whole J texts given e k =
       subst (λ (es : List Entry). AreGenuine trade J (slice_index_or (puts_from trade p es rooms (owed_of steps) 0 trade.providers) k [])) e
       (puts_genuine J texts p rooms (owed_of steps) 0 trade.providers k)
-  cut_puts p rooms steps (FailsAt n) J texts e k = All-nil (IsGenuine trade J)
-  cut_puts p rooms steps (Full n) J texts e k = All-nil (IsGenuine trade J)
-  cut_puts p rooms steps (Stops n) J texts e k = All-nil (IsGenuine trade J)
+  cut_puts p rooms steps (FailsAt n fault) J texts given e k = All-nil (IsGenuine trade J)
+  cut_puts p rooms steps (Full n) J texts given e k = All-nil (IsGenuine trade J)
+  cut_puts p rooms steps (Stops n) J texts given e k = All-nil (IsGenuine trade J)
+  cut_puts p rooms steps (Other out) J texts given e k = fit_genuine J rooms 0 out (given out refl) k
 
-  puts_by : (p : ℕ) (b : Bool) (x y : Turned) → PutsGenuine p x → PutsGenuine p y → PutsGenuine p (if b then x else y)
-  puts_by p true x y a b = a
-  puts_by p false x y a b = b
+  puts_by : (p : ℕ) (cut : Cut) (b : Bool) (x y : Turned) → PutsGenuine p cut x → PutsGenuine p cut y → PutsGenuine p cut (if b then x else y)
+  puts_by p cut true x y a b = a
+  puts_by p cut false x y a b = b
 
-  turn_puts : (p now : ℕ) (rooms : ℕ → ℕ) (cut : Cut) → PutsGenuine p (turned trade p now rooms cut (site_at sites p))
+  turn_puts : (p now : ℕ) (rooms : ℕ → ℕ) (cut : Cut) → PutsGenuine p cut (turned trade p now rooms cut (site_at sites p))
   unfolding turned
   turn_puts p now rooms cut =
-      puts_by p (site_at sites p).up _ _
-      (puts_by p (nat_lt now (last_of trade p (journal_at sites p))) _ _ (λ J texts e k. All-nil (IsGenuine trade J))
+      puts_by p cut (site_at sites p).up _ _
+      (puts_by p cut (nat_lt now (last_of trade p (journal_at sites p))) _ _ (λ J texts given e k. All-nil (IsGenuine trade J))
       (cut_puts p rooms (plan trade p now (journal_at sites p) (frames_in (site_at sites p).waiting)) cut))
-      (λ J texts e k. All-nil (IsGenuine trade J))
+      (λ J texts given e k. All-nil (IsGenuine trade J))
 
   -- ---- what waits after a delivery
 
@@ -173,9 +196,10 @@ module _ (trade : Trade) (world : IsTrade trade) (laws : StateLaws trade) (sites
 
   cut_leaves_fewer : (p : ℕ) (rooms : ℕ → ℕ) (steps : List Step) (cut : Cut) → LeavesFewer p (cut_turn trade p rooms (site_at sites p) steps cut)
   cut_leaves_fewer p rooms steps Whole k = left_fewer (length steps) (site_at sites p).waiting k
-  cut_leaves_fewer p rooms steps (FailsAt n) k = left_fewer (n + 1) (site_at sites p).waiting k
+  cut_leaves_fewer p rooms steps (FailsAt n fault) k = left_fewer (n + 1) (site_at sites p).waiting k
   cut_leaves_fewer p rooms steps (Full n) k = left_fewer (n + 1) (site_at sites p).waiting k
   cut_leaves_fewer p rooms steps (Stops n) k = left_fewer (n + 1) (site_at sites p).waiting k
+  cut_leaves_fewer p rooms steps (Other out) k = left_fewer (length steps) (site_at sites p).waiting k
 
   fewer_by : (p : ℕ) (b : Bool) (x y : Turned) → LeavesFewer p x → LeavesFewer p y → LeavesFewer p (if b then x else y)
   fewer_by p true x y a b = a
@@ -201,13 +225,23 @@ module _ (trade : Trade) (world : IsTrade trade) (laws : StateLaws trade) (sites
       subst (λ (n : ℕ). length (slice_index_or (puts_from trade p es rooms owed (to + 1) count) k []) ≤ rooms n) (let z : (to + 1) + k ≡ to + suc k = omega arith in z)
       (puts_fit p es rooms owed (to + 1) count k)
 
+  that_fits : (rooms : ℕ → ℕ) (to : ℕ) (out : List (List Bytes)) (k : ℕ) → length (slice_index_or (that_fit rooms to out) k []) ≤ rooms (to + k)
+  that_fits rooms to [] k = omega arith
+  that_fits rooms to (frames ∷ out) zero =
+      subst (λ (n : ℕ). length (take (rooms to) frames) ≤ rooms n) (let z : to ≡ to + 0 = omega arith in z) (let few = length-take (rooms to) frames in omega (arith, few))
+  that_fits rooms to (frames ∷ out) (suc k) =
+      subst (λ (n : ℕ). length (slice_index_or (that_fit rooms (to + 1) out) k []) ≤ rooms n) (let z : (to + 1) + k ≡ to + suc k = omega arith in z)
+      (that_fits rooms (to + 1) out k)
+
   cut_puts_fit : (p : ℕ) (rooms : ℕ → ℕ) (steps : List Step) (cut : Cut) → PutsFit rooms (cut_turn trade p rooms (site_at sites p) steps cut)
   cut_puts_fit p rooms steps Whole k =
       subst (λ (n : ℕ). length (slice_index_or (puts_from trade p (journal_at sites p ++ entries_of steps) rooms (owed_of steps) 0 trade.providers) k []) ≤ rooms n)
       (let z : 0 + k ≡ k = omega arith in z) (puts_fit p (journal_at sites p ++ entries_of steps) rooms (owed_of steps) 0 trade.providers k)
-  cut_puts_fit p rooms steps (FailsAt n) k = omega arith
+  cut_puts_fit p rooms steps (FailsAt n fault) k = omega arith
   cut_puts_fit p rooms steps (Full n) k = omega arith
   cut_puts_fit p rooms steps (Stops n) k = omega arith
+  cut_puts_fit p rooms steps (Other out) k =
+      subst (λ (n : ℕ). length (slice_index_or (that_fit rooms 0 out) k []) ≤ rooms n) (let z : 0 + k ≡ k = omega arith in z) (that_fits rooms 0 out k)
 
   fit_by : (rooms : ℕ → ℕ) (b : Bool) (x y : Turned) → PutsFit rooms x → PutsFit rooms y → PutsFit rooms (if b then x else y)
   fit_by rooms true x y a b = a
@@ -261,32 +295,37 @@ module _ (trade : Trade) (world : IsTrade trade) (laws : StateLaws trade) (sites
     waits_on p frames good =
         laws.frames (journals_of sites) (journals_of after) (λ q. goes_on trade laws sites after q (each_happens q)) frames good
 
-    puts_are : (to k : ℕ) → AreGenuine trade (journals_of after) (slice_index_or (slice_index_or (outs_of turns) k []) to [])
-    puts_are to k =
+    abbrev AllGiven : Type 0
+    AllGiven = (p : ℕ) (out : List (List Bytes)) → p < length sites → cuts p ≡ Other out → AreGenuine trade (journals_of after) (frames_in out)
+
+    puts_are : AllGiven → (to k : ℕ) → AreGenuine trade (journals_of after) (slice_index_or (slice_index_or (outs_of turns) k []) to [])
+    puts_are given to k =
         elim (cases_lt k (length sites)) [
           | inl l ↦ subst (λ (out : List (List Bytes)). AreGenuine trade (journals_of after) (slice_index_or out to [])) (sym (out_at turns k (turn_of k) (turn_is trade now cuts sites k l)))
-              (turn_puts k now (rooms_of sites k) (cuts k) (journals_of after) (texts (journals_of after) fit_after) (ap (λ (s : Site). s.journal) (after_is trade now cuts sites k l)) to)
+              (turn_puts k now (rooms_of sites k) (cuts k) (journals_of after) (texts (journals_of after) fit_after) (λ out e. given k out l e) (ap (λ (s : Site). s.journal) (after_is trade now cuts sites k l)) to)
           | inr l ↦ subst (λ (out : List (List Bytes)). AreGenuine trade (journals_of after) (slice_index_or out to []))
               (sym (get_or_past (outs_of turns) k [] (let e = outs_length turns ∙ turns_length trade now sites cuts 0 sites in omega (arith, e))))
               (All-nil (IsGenuine trade (journals_of after)))
         ]
 
-    frames_after : (from to : ℕ) → AreGenuine trade (journals_of after) (frames_between after from to)
-    frames_after from to =
+    frames_after : AllGiven → (from to : ℕ) → AreGenuine trade (journals_of after) (frames_between after from to)
+    frames_after given from to =
         elim (cases_lt to (length sites)) [
           | inl l ↦ subst (λ (s : Site). AreGenuine trade (journals_of after) (slice_index_or s.waiting from [])) (sym (after_is trade now cuts sites to l))
-              (delivery_genuine (journals_of after) to (outs_of turns) (turn_of to).site.waiting (puts_are to)
+              (delivery_genuine (journals_of after) to (outs_of turns) (turn_of to).site.waiting (puts_are given to)
               (λ k. waits_on to (slice_index_or (turn_of to).site.waiting k []) (turn_leaves to now (rooms_of sites to) (cuts to) k)) from)
           | inr l ↦ subst (λ (s : Site). AreGenuine trade (journals_of after) (slice_index_or s.waiting from [])) (sym (past_the_end trade now cuts sites to l))
               (waits_on to (frames_between sites from to) (sound.genuine from to))
         ]
 
-    pub next_rounded : IsNext trade sites (rounded trade now cuts sites).sites
+    pub next_rounded : ((p : ℕ) (out : List (List Bytes)) → p < length sites → cuts p ≡ Other out
+        → AreGenuine trade (journals_of (rounded trade now cuts sites).sites) (frames_in out))
+        → IsNext trade sites (rounded trade now cuts sites).sites
     unfolding rounded turns_of
-    next_rounded = record {
+    next_rounded given = record {
       count = after_length trade now cuts sites;
       each = λ p. laws.each sites after p (each_happens p);
-      genuine = frames_after;
+      genuine = frames_after given;
     }
 
     put_for : (from to : ℕ) → length (slice_index_or (slice_index_or (outs_of turns) from []) to []) ≤ rooms_of sites from to

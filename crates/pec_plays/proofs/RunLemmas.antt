@@ -2,11 +2,13 @@
 use Rattle.std.proofs.Common.{◌≡◌, ℕ, suc, ◌+◌, ◌<◌, ◌≤◌, List, [], ◌∷◌, ◌++◌, Bool, true, false, inl, inr, length, refl, ap, sym, subst, ◌∙◌, arith, nat_lt, Option, Some, None}
 use Rattle.std.specs.Prelude.{slice_get, if◌then◌else◌}
 use Rattle.std.specs.List.{find, flat_map}
+use Rattle.std.specs.Option.{unwrap_or}
 use Rattle.std.proofs.lemmas.Bool.{cases_eq, cases_lt}
 use Rattle.std.proofs.lemmas.Option.{none-some, same_Some, slice_get_past}
 use Rattle.pec_types.specs.Bytes.{Bytes}
 use Rattle.pec_types.specs.declared.turns.Event.{Event}
 use Rattle.pec_types.specs.declared.messages.TheConstants.{MESSAGES}
+use Rattle.pec_types.specs.declared.turns.ProviderFault.{ProviderFault}
 use Rattle.pec_records.specs.declared.entries.Entry.{Entry}
 use Rattle.pec_records.specs.declared.entries.Entry.TheVariants as entries
 use Rattle.pec_ledger.specs.Along.{AllDiffer, GoesOnAs, times}
@@ -21,7 +23,7 @@ use Rattle.pec_ledger.specs.Guarantees.{OneOutcome}
 use Rattle.pec_ledger.specs.Pairs.{Pair, same_pair}
 use Rattle.pec_ledger.specs.Steps.{half}
 use Rattle.pec_ledger.specs.Trade.{Trade}
-use Rattle.pec_plays.specs.Commands.{Answer, Command, Luck, Played, Submit, Tick, Round, Lose, Repeat, Swap, Inject, Crash, Restart, Book, Mailbox, Show, Lines, Items, account_home, answers, append, appended, asked, at_work, messages_at, played, put_again, shown, shown_bytes, swapped, swapped_at}
+use Rattle.pec_plays.specs.Commands.{Answer, Command, Luck, Played, Submit, Tick, Round, Lose, Repeat, Swap, Inject, Crash, Restart, Book, Mailbox, Show, Lines, Items, account_home, answers, append, appended, asked, at_work, messages_at, played, put_again, read_back, shown, shown_bytes, swapped, swapped_at}
 use Rattle.pec_plays.specs.Steps.{has_no_room}
 use Rattle.pec_plays.specs.Rounds.{delivered, link_size, outs_of, rooms_of, rounded, told_from, turns_from, turns_of}
 use Rattle.pec_plays.specs.Scripts.{AllUnforged, IsUnforged, script}
@@ -194,13 +196,17 @@ module _ (trade : Trade) (names : Event → List Pair) (rows : Half → List Pai
   asked_names sites show None same = refl
   asked_names sites show (Some p) same = by_test (site_at sites p).up _ _ (same p _) refl
 
-  bytes_names : (sites : List Site) (text : Option Bytes) → NamesNone (shown_bytes sites text)
-  bytes_names sites None = refl
-  bytes_names sites (Some bytes) = refl
+  read_names : (read : Option ProviderFault) (bytes : Bytes) (sites : List Site) (p : ℕ) → NamesNone (read_back read bytes sites p)
+  read_names None bytes sites p = refl
+  read_names (Some fault) bytes sites p = refl
 
-  shown_names : (sites : List Site) (p : ℕ) (found : Option Posted) → NamesNone (shown trade sites p found)
-  shown_names sites p None = refl
-  shown_names sites p (Some posted) = bytes_names sites (item_text trade p (journal_at sites p) posted)
+  bytes_names : (luck : Luck) (sites : List Site) (p : ℕ) (text : Option Bytes) → NamesNone (shown_bytes luck sites p text)
+  bytes_names luck sites p None = refl
+  bytes_names luck sites p (Some bytes) = read_names luck.read (unwrap_or luck.shown bytes) sites p
+
+  shown_names : (luck : Luck) (sites : List Site) (p : ℕ) (found : Option Posted) → NamesNone (shown trade luck sites p found)
+  shown_names luck sites p None = refl
+  shown_names luck sites p (Some posted) = bytes_names luck sites p (item_text trade p (journal_at sites p) posted)
 
   home_grows : (sites : List Site) (luck : Luck) (command : Command) (pair : Pair) (at : Option ℕ)
       → at_home (journals_of sites) pair at ≤ at_home (journals_of (played trade luck sites command).after) pair at
@@ -252,13 +258,13 @@ module _ (trade : Trade) (names : Event → List Pair) (rows : Half → List Pai
       (asked_names sites (λ (p : ℕ) (h : Half). answers sites (Items (mailbox_lines h address))) (account_home trade address (trade.home address)) (λ p h. refl))
   command_grows sites luck (Show address place) one =
       names_none sites luck (Show address place)
-      (asked_names sites (λ (p : ℕ) (h : Half). shown trade sites p (slice_get (mailbox h address) place)) (account_home trade address (trade.home address))
-      (λ p h. shown_names sites p (slice_get (mailbox h address) place)))
+      (asked_names sites (λ (p : ℕ) (h : Half). shown trade luck sites p (slice_get (mailbox h address) place)) (account_home trade address (trade.home address))
+      (λ p h. shown_names luck sites p (slice_get (mailbox h address) place)))
 
   -- ---- scripts
 
   module _ (one : (sites : List Site) → Sound trade sites → Once rows home trade (journals_of sites))
-      (next : (luck : Luck) (sites : List Site) (command : Command) → Sound trade sites → IsUnforged trade sites command → Sound trade (played trade luck sites command).after)
+      (next : (luck : Luck) (sites : List Site) (command : Command) → Sound trade sites → IsUnforged trade luck sites command → Sound trade (played trade luck sites command).after)
       (ends : (lucks : List Luck) (sites : List Site) (commands : List Command) → Sound trade sites → AllUnforged trade lucks sites commands
       → Sound trade (script trade lucks sites commands).after) where
     script_grows : (lucks : List Luck) (sites : List Site) (commands : List Command) → Sound trade sites → AllUnforged trade lucks sites commands → (pair : Pair)
@@ -322,7 +328,7 @@ module _ (trade : Trade) (outcome : (J : Journals) → Fit trade J → OneOutcom
         (λ row e. n (ap (λ (q : ℕ). Some q) (knowns J fit p pair row e).ours));
   }
 
-  module _ (next : (luck : Luck) (sites : List Site) (command : Command) → Sound trade sites → IsUnforged trade sites command → Sound trade (played trade luck sites command).after)
+  module _ (next : (luck : Luck) (sites : List Site) (command : Command) → Sound trade sites → IsUnforged trade luck sites command → Sound trade (played trade luck sites command).after)
       (ends : (lucks : List Luck) (sites : List Site) (commands : List Command) → Sound trade sites → AllUnforged trade lucks sites commands
       → Sound trade (script trade lucks sites commands).after)
       (lucks : List Luck) (sites : List Site) (commands : List Command) (sound : Sound trade sites) (given : AllUnforged trade lucks sites commands) where

@@ -1,10 +1,11 @@
 -- An answer settles the state behind it: of two lucks with one answer the state is one.
 use Rattle.std.proofs.Common.{◌≡◌, ℕ, suc, ◌+◌, ◌-◌, ◌≤◌, min, List, [], ◌∷◌, ◌++◌, Bool, true, false, inl, inr, length, take, drop, map, refl, ap, sym, subst, ◌∙◌, arith, nat_lt, Option, Some, None}
-use Rattle.std.specs.Prelude.{if◌then◌else◌}
-use Rattle.std.specs.Option.{option_and_then, option_to_list}
+use Rattle.std.specs.Prelude.{slice_get, if◌then◌else◌}
+use Rattle.std.specs.List.{AllByRecursion}
+use Rattle.std.specs.Option.{option_and_then, option_to_list, unwrap_or}
 use Rattle.std.proofs.lemmas.Bool.{cases_lt}
 use Rattle.std.proofs.lemmas.List.{drop_all, length-append, length-map, length-take, take_all}
-use Rattle.std.proofs.lemmas.Option.{slice_get_past}
+use Rattle.std.proofs.lemmas.Option.{none-some, same_Some, slice_get_past}
 use Rattle.pec_types.specs.Bytes.{Bytes, Path}
 use Rattle.pec_types.specs.declared.turns.Event.{Event}
 use Rattle.pec_types.specs.declared.turns.ProviderFault.{ProviderFault}
@@ -13,14 +14,19 @@ use Rattle.pec_types.specs.declared.turns.Turn.{Turn}
 use Rattle.pec_types.specs.declared.messages.TheConstants.{MESSAGES}
 use Rattle.pec_records.specs.declared.entries.Entry.{Entry}
 use Rattle.pec_records.specs.declared.entries.Entry.TheVariants as entries
+use Rattle.pec_ledger.specs.Half.{Half, Posted}
+use Rattle.pec_ledger.specs.Items.{item_text}
+use Rattle.pec_ledger.specs.Lookups.{mailbox}
 use Rattle.pec_ledger.specs.Network.{Site, chosen, journal_at, site_at}
+use Rattle.pec_ledger.specs.Steps.{half}
 use Rattle.pec_ledger.specs.Trade.{Trade}
-use Rattle.pec_plays.specs.Commands.{Answer, Command, Luck, Played, IsUp, Turns, Restarted, Refuses, Submit, Tick, Round, Lose, Repeat, Swap, Inject, Crash, Restart, Book, Mailbox, Show, answers, append, appended, at_work, messages_at, played, restarted, restarted_site, submitted, ticked, with_site}
+use Rattle.pec_plays.specs.Commands.{Answer, Command, Luck, Played, IsUp, Turns, Restarted, Refuses, Submit, Tick, Round, Lose, Repeat, Swap, Inject, Crash, Restart, Book, Mailbox, Show, account_home, answers, append, appended, asked, at_work, messages_at, played, read_back, restarted, restarted_site, shown, shown_bytes, submitted, ticked, with_site}
+use Rattle.pec_plays.specs.Possible.{GaveWhatWasKept, IsOfKept, IsOfRead}
 use Rattle.pec_plays.specs.Reception.{arrive}
 use Rattle.pec_plays.specs.Rounds.{delivered, outs_of, rooms_of, rounded, told_from, turns_from, turns_of}
 use Rattle.pec_plays.specs.Scripts.{script}
 use Rattle.pec_plays.specs.Steps.{Step, has_no_room}
-use Rattle.pec_plays.specs.Turns.{Cut, Turned, Whole, Fails, Full, Stops, behind, broken, cut_turn, entries_of, entry_at, events_of, frames_in, last_of, plan, stopped, turned, without_first}
+use Rattle.pec_plays.specs.Turns.{Cut, Turned, Whole, Fails, Full, Stops, Other, behind, broken, cut_turn, entries_of, entry_at, events_of, frames_in, last_of, plan, stopped, turned, without_first}
 
 -- ---- tests that both sides make
 
@@ -105,6 +111,28 @@ module _ (trade : Trade) (sites : List Site) (a b : Luck) where
   restarted_settled p site =
       settled_else site.up _ _ _ (works_or_not a.fails b.fails (answers sites (Refuses faults.DiskFault)) _ _ refl refl refl (restarted_so p site a.found b.found))
 
+  -- ---- items
+
+  read_settled : (p : ℕ) (x y : Option ProviderFault) (b c : Bytes) → Settled (read_back x b sites p) (read_back y c sites p)
+  read_settled p None None b c = λ e. refl
+  read_settled p (Some f) (Some g) b c = λ e. refl
+  read_settled p None (Some g) b c = λ e. absurd (let t = ap is_refusal e in cc)
+  read_settled p (Some f) None b c = λ e. absurd (let t = ap is_refusal e in cc)
+
+  bytes_settled : (p : ℕ) (text : Option Bytes) → Settled (shown_bytes a sites p text) (shown_bytes b sites p text)
+  bytes_settled p None = λ e. refl
+  bytes_settled p (Some bytes) = read_settled p a.read b.read (unwrap_or a.shown bytes) (unwrap_or b.shown bytes)
+
+  shown_settled : (p : ℕ) (found : Option Posted) → Settled (shown trade a sites p found) (shown trade b sites p found)
+  shown_settled p None = λ e. refl
+  shown_settled p (Some posted) = bytes_settled p (item_text trade p (journal_at sites p) posted)
+
+  asked_settled : (f g : ℕ → Half → Played) (found : Option ℕ) → ((p : ℕ) (h : Half) → Settled (f p h) (g p h))
+      → Settled (asked sites f trade found) (asked sites g trade found)
+  asked_settled f g None same = λ e. refl
+  asked_settled f g (Some p) same =
+      settled_by (site_at sites p).up _ _ (answers sites (Refuses faults.Down)) (same p (half trade p (journal_at sites p)))
+
 -- ---- turns
 
 none_left : (n : ℕ) (links : List (List Bytes)) → length (frames_in links) ≤ n → without_first n links ≡ map (λ (link : List Bytes). []) links
@@ -161,12 +189,20 @@ ended_so site steps n m fault same =
         → (let t : Turned = record { site = x; events = es; out = []; ended = Some fault } in let u : Turned = record { site = y; events = fs; out = []; ended = Some fault } in t ≡ u)
     turns_so x y es fs e f = rw (e, f) refl
 
-failed_so : (site : Site) (steps : List Step) (n m : ℕ) (fault : ProviderFault) → SameEnd site steps n m
-    → record (stopped site steps n fault) { site = broken (behind site (take n steps) (n + 1)) (entry_at steps n) }
-    ≡ record (stopped site steps m fault) { site = broken (behind site (take m steps) (m + 1)) (entry_at steps m) }
-failed_so site steps n m fault same =
-    ap (λ (t : Turned). record t { site = broken t.site (entry_at steps n) }) (ended_so site steps n m fault same)
-    ∙ ap (λ (i : Option Entry). record (stopped site steps m fault) { site = broken (behind site (take m steps) (m + 1)) i }) same.entry
+failed_so : (site : Site) (steps : List Step) (n m : ℕ) (f g : ProviderFault) → SameEnd site steps n m → f ≡ g
+    → record (stopped site steps n f) { site = broken (behind site (take n steps) (n + 1)) (entry_at steps n) }
+    ≡ record (stopped site steps m g) { site = broken (behind site (take m steps) (m + 1)) (entry_at steps m) }
+failed_so site steps n m f g same e =
+    ap (λ (t : Turned). record t { site = broken t.site (entry_at steps n) }) (ended_so site steps n m f same)
+    ∙ ap (λ (i : Option Entry). record (stopped site steps m f) { site = broken (behind site (take m steps) (m + 1)) i }) same.entry
+    ∙ ap (λ (h : ProviderFault). record (stopped site steps m h) { site = broken (behind site (take m steps) (m + 1)) (entry_at steps m) }) e
+
+-- a fault of a read is neither that of a full journal nor want of memory
+not_full : (fault : ProviderFault) → IsOfRead fault → Some fault ≡ Some faults.JournalFull → ⊥
+not_full fault read e = subst IsOfRead (same_Some fault faults.JournalFull e) read
+
+not_stopped : (fault : ProviderFault) → IsOfRead fault → Some fault ≡ Some faults.NoMemory → ⊥
+not_stopped fault read e = subst IsOfRead (same_Some fault faults.NoMemory e) read
 
 -- the fault by which a turn ended
 abbrev code : Option ProviderFault → ℕ
@@ -177,25 +213,28 @@ code (Some faults.NoMemory) = 3
 code (Some _) = 4
 
 cut_settled : (trade : Trade) (p : ℕ) (rooms : ℕ → ℕ) (site : Site) (steps : List Step) (a b : Cut) → length (frames_in site.waiting) ≤ length steps
+    → IsOfKept a → IsOfKept b
     → (cut_turn trade p rooms site steps a).events ≡ (cut_turn trade p rooms site steps b).events
     → (cut_turn trade p rooms site steps a).ended ≡ (cut_turn trade p rooms site steps b).ended
     → cut_turn trade p rooms site steps a ≡ cut_turn trade p rooms site steps b
-cut_settled trade p rooms site steps Whole Whole few e f = refl
-cut_settled trade p rooms site steps (Fails n) (Fails m) few e f = failed_so site steps n m faults.DiskFault (same_end site steps n m few e)
-cut_settled trade p rooms site steps (Full n) (Full m) few e f = ended_so site steps n m faults.JournalFull (same_end site steps n m few e)
-cut_settled trade p rooms site steps (Stops n) (Stops m) few e f = ended_so site steps n m faults.NoMemory (same_end site steps n m few e)
-cut_settled trade p rooms site steps Whole (Fails m) few e f = absurd (let c = ap code f in omega (arith, c))
-cut_settled trade p rooms site steps Whole (Full m) few e f = absurd (let c = ap code f in omega (arith, c))
-cut_settled trade p rooms site steps Whole (Stops m) few e f = absurd (let c = ap code f in omega (arith, c))
-cut_settled trade p rooms site steps (Fails n) Whole few e f = absurd (let c = ap code f in omega (arith, c))
-cut_settled trade p rooms site steps (Fails n) (Full m) few e f = absurd (let c = ap code f in omega (arith, c))
-cut_settled trade p rooms site steps (Fails n) (Stops m) few e f = absurd (let c = ap code f in omega (arith, c))
-cut_settled trade p rooms site steps (Full n) Whole few e f = absurd (let c = ap code f in omega (arith, c))
-cut_settled trade p rooms site steps (Full n) (Fails m) few e f = absurd (let c = ap code f in omega (arith, c))
-cut_settled trade p rooms site steps (Full n) (Stops m) few e f = absurd (let c = ap code f in omega (arith, c))
-cut_settled trade p rooms site steps (Stops n) Whole few e f = absurd (let c = ap code f in omega (arith, c))
-cut_settled trade p rooms site steps (Stops n) (Fails m) few e f = absurd (let c = ap code f in omega (arith, c))
-cut_settled trade p rooms site steps (Stops n) (Full m) few e f = absurd (let c = ap code f in omega (arith, c))
+cut_settled trade p rooms site steps Whole Whole few k l e f = refl
+cut_settled trade p rooms site steps (Fails n x) (Fails m y) few k l e f = failed_so site steps n m x y (same_end site steps n m few e) (same_Some x y f)
+cut_settled trade p rooms site steps (Full n) (Full m) few k l e f = ended_so site steps n m faults.JournalFull (same_end site steps n m few e)
+cut_settled trade p rooms site steps (Stops n) (Stops m) few k l e f = ended_so site steps n m faults.NoMemory (same_end site steps n m few e)
+cut_settled trade p rooms site steps Whole (Fails m y) few k l e f = absurd (none-some y f)
+cut_settled trade p rooms site steps Whole (Full m) few k l e f = absurd (let c = ap code f in omega (arith, c))
+cut_settled trade p rooms site steps Whole (Stops m) few k l e f = absurd (let c = ap code f in omega (arith, c))
+cut_settled trade p rooms site steps (Fails n x) Whole few k l e f = absurd (none-some x (sym f))
+cut_settled trade p rooms site steps (Fails n x) (Full m) few k l e f = absurd (not_full x k f)
+cut_settled trade p rooms site steps (Fails n x) (Stops m) few k l e f = absurd (not_stopped x k f)
+cut_settled trade p rooms site steps (Full n) Whole few k l e f = absurd (let c = ap code f in omega (arith, c))
+cut_settled trade p rooms site steps (Full n) (Fails m y) few k l e f = absurd (not_full y l (sym f))
+cut_settled trade p rooms site steps (Full n) (Stops m) few k l e f = absurd (let c = ap code f in omega (arith, c))
+cut_settled trade p rooms site steps (Stops n) Whole few k l e f = absurd (let c = ap code f in omega (arith, c))
+cut_settled trade p rooms site steps (Stops n) (Fails m y) few k l e f = absurd (not_stopped y l (sym f))
+cut_settled trade p rooms site steps (Stops n) (Full m) few k l e f = absurd (let c = ap code f in omega (arith, c))
+cut_settled trade p rooms site steps (Other x) b few k l e f = absurd k
+cut_settled trade p rooms site steps a (Other y) few k l e f = absurd l
 
 module _ (trade : Trade) (now : ℕ) where
   more_steps : (p : ℕ) (es : List Entry) (frames : List Bytes) → length frames ≤ length (plan trade p now es frames)
@@ -217,15 +256,15 @@ module _ (trade : Trade) (now : ℕ) where
   else_test true x y z s = λ e f. refl
   else_test false x y z s = s
 
-  turned_settled : (p : ℕ) (rooms : ℕ → ℕ) (site : Site) (a b : Cut)
+  turned_settled : (p : ℕ) (rooms : ℕ → ℕ) (site : Site) (a b : Cut) → IsOfKept a → IsOfKept b
       → (turned trade p now rooms a site).events ≡ (turned trade p now rooms b site).events
       → (turned trade p now rooms a site).ended ≡ (turned trade p now rooms b site).ended
       → turned trade p now rooms a site ≡ turned trade p now rooms b site
   unfolding turned
-  turned_settled p rooms site a b =
+  turned_settled p rooms site a b k l =
       by_test site.up _ _ _
       (else_test (nat_lt now (last_of trade p site.journal)) _ _ _
-      (cut_settled trade p rooms site (plan trade p now site.journal (frames_in site.waiting)) a b (more_steps p site.journal (frames_in site.waiting))))
+      (cut_settled trade p rooms site (plan trade p now site.journal (frames_in site.waiting)) a b (more_steps p site.journal (frames_in site.waiting)) k l))
 
   abbrev events_in : List Turn → List Event
   events_in [] = []
@@ -242,21 +281,21 @@ module _ (trade : Trade) (now : ℕ) where
   both_turns : (x y : Turned) (xs ys : List Turned) → x ≡ y → xs ≡ ys → x ∷ xs ≡ y ∷ ys
   both_turns x y xs ys e f = rw (e, f) refl
 
-  turns_settled : (all : List Site) (a b : ℕ → Cut) (number : ℕ) (ss : List Site)
+  turns_settled : (all : List Site) (a b : ℕ → Cut) → ((p : ℕ) → IsOfKept (a p)) → ((p : ℕ) → IsOfKept (b p)) → (number : ℕ) (ss : List Site)
       → told_from number (turns_from trade now all a number ss) ≡ told_from number (turns_from trade now all b number ss)
       → turns_from trade now all a number ss ≡ turns_from trade now all b number ss
-  turns_settled all a b number [] e = refl
-  turns_settled all a b number (s ∷ ss) e =
+  turns_settled all a b k l number [] e = refl
+  turns_settled all a b k l number (s ∷ ss) e =
       both_turns (turned trade number now (rooms_of all number) (a number) s) (turned trade number now (rooms_of all number) (b number) s)
       (turns_from trade now all a (number + 1) ss) (turns_from trade now all b (number + 1) ss)
-      (turned_settled number (rooms_of all number) s (a number) (b number)
+      (turned_settled number (rooms_of all number) s (a number) (b number) (k number) (l number)
       (ap events_in e) (ap ended_in e))
-      (turns_settled all a b (number + 1) ss (ap tail_of e))
+      (turns_settled all a b k l (number + 1) ss (ap tail_of e))
 
-  rounded_settled : (sites : List Site) (a b : ℕ → Cut) → (rounded trade now a sites).turns ≡ (rounded trade now b sites).turns
+  rounded_settled : (sites : List Site) (a b : ℕ → Cut) → ((p : ℕ) → IsOfKept (a p)) → ((p : ℕ) → IsOfKept (b p)) → (rounded trade now a sites).turns ≡ (rounded trade now b sites).turns
       → (rounded trade now a sites).sites ≡ (rounded trade now b sites).sites
   unfolding rounded turns_of
-  rounded_settled sites a b e = ap (λ (turns : List Turned). delivered (outs_of turns) 0 turns) (turns_settled sites a b 0 sites e)
+  rounded_settled sites a b k l e = ap (λ (turns : List Turned). delivered (outs_of turns) 0 turns) (turns_settled sites a b k l 0 sites e)
 
 -- ---- commands and scripts
 
@@ -264,20 +303,23 @@ abbrev turns_told : Answer → List Turn
 turns_told (Turns turns) = turns
 turns_told _ = []
 
-pub played_settled : (trade : Trade) (sites : List Site) (command : Command) (a b : Luck) → Settled (played trade a sites command) (played trade b sites command)
+pub played_settled : (trade : Trade) (sites : List Site) (command : Command) (a b : Luck) → GaveWhatWasKept a → GaveWhatWasKept b → Settled (played trade a sites command) (played trade b sites command)
 unfolding played
-played_settled trade sites (Submit p now sender path message found) a b = submitted_settled trade sites a b p now sender path message found
-played_settled trade sites (Tick p now) a b = ticked_settled trade sites a b p now
-played_settled trade sites (Round now) a b = λ e. rounded_settled trade now sites a.cuts b.cuts (ap turns_told e)
-played_settled trade sites (Lose from to place) a b = λ e. refl
-played_settled trade sites (Repeat from to place) a b = λ e. refl
-played_settled trade sites (Swap from to place) a b = λ e. refl
-played_settled trade sites (Inject from to frame) a b = λ e. refl
-played_settled trade sites (Crash p) a b = λ e. refl
-played_settled trade sites (Restart p) a b = restarted_settled trade sites a b p (site_at sites p)
-played_settled trade sites (Book address) a b = λ e. refl
-played_settled trade sites (Mailbox address) a b = λ e. refl
-played_settled trade sites (Show address place) a b = λ e. refl
+played_settled trade sites (Submit p now sender path message found) a b k l = submitted_settled trade sites a b p now sender path message found
+played_settled trade sites (Tick p now) a b k l = ticked_settled trade sites a b p now
+played_settled trade sites (Round now) a b k l = λ e. rounded_settled trade now sites a.cuts b.cuts k l (ap turns_told e)
+played_settled trade sites (Lose from to place) a b k l = λ e. refl
+played_settled trade sites (Repeat from to place) a b k l = λ e. refl
+played_settled trade sites (Swap from to place) a b k l = λ e. refl
+played_settled trade sites (Inject from to frame) a b k l = λ e. refl
+played_settled trade sites (Crash p) a b k l = λ e. refl
+played_settled trade sites (Restart p) a b k l = restarted_settled trade sites a b p (site_at sites p)
+played_settled trade sites (Book address) a b k l = λ e. refl
+played_settled trade sites (Mailbox address) a b k l = λ e. refl
+played_settled trade sites (Show address place) a b k l =
+    asked_settled trade sites a b (λ (p : ℕ) (h : Half). shown trade a sites p (slice_get (mailbox h address) place))
+    (λ (p : ℕ) (h : Half). shown trade b sites p (slice_get (mailbox h address) place)) (account_home trade address (trade.home address))
+    (λ p h. shown_settled trade sites a b p (slice_get (mailbox h address) place))
 
 abbrev first_answer : Answer → List Answer → Answer
 first_answer other [] = other
@@ -287,17 +329,17 @@ abbrev later_answers : List Answer → List Answer
 later_answers [] = []
 later_answers (answer ∷ answers) = answers
 
-pub script_settled : (trade : Trade) (sites : List Site) (commands : List Command) (a b : List Luck)
+pub script_settled : (trade : Trade) (sites : List Site) (commands : List Command) (a b : List Luck) → AllByRecursion GaveWhatWasKept a → AllByRecursion GaveWhatWasKept b
     → (script trade a sites commands).answers ≡ (script trade b sites commands).answers → (script trade a sites commands).after ≡ (script trade b sites commands).after
-script_settled trade sites [] [] [] e = refl
-script_settled trade sites [] [] (y ∷ b) e = refl
-script_settled trade sites [] (x ∷ a) [] e = refl
-script_settled trade sites [] (x ∷ a) (y ∷ b) e = refl
-script_settled trade sites (command ∷ commands) [] [] e = refl
-script_settled trade sites (command ∷ commands) [] (y ∷ b) e = absurd (let n = ap length e in omega (arith, n))
-script_settled trade sites (command ∷ commands) (x ∷ a) [] e = absurd (let n = ap length e in omega (arith, n))
-script_settled trade sites (command ∷ commands) (x ∷ a) (y ∷ b) e =
-    let same = played_settled trade sites command x y (ap (first_answer IsUp) e)
+script_settled trade sites [] [] [] k l e = refl
+script_settled trade sites [] [] (y ∷ b) k l e = refl
+script_settled trade sites [] (x ∷ a) [] k l e = refl
+script_settled trade sites [] (x ∷ a) (y ∷ b) k l e = refl
+script_settled trade sites (command ∷ commands) [] [] k l e = refl
+script_settled trade sites (command ∷ commands) [] (y ∷ b) k l e = absurd (let n = ap length e in omega (arith, n))
+script_settled trade sites (command ∷ commands) (x ∷ a) [] k l e = absurd (let n = ap length e in omega (arith, n))
+script_settled trade sites (command ∷ commands) (x ∷ a) (y ∷ b) k l e =
+    let same = played_settled trade sites command x y k.0 l.0 (ap (first_answer IsUp) e)
     in let rest : (script trade a (played trade x sites command).after commands).answers ≡ (script trade b (played trade x sites command).after commands).answers =
     ap later_answers e ∙ sym (ap (λ (after : List Site). (script trade b after commands).answers) same)
-    in script_settled trade (played trade x sites command).after commands a b rest ∙ ap (λ (after : List Site). (script trade b after commands).after) same
+    in script_settled trade (played trade x sites command).after commands a b k.1 l.1 rest ∙ ap (λ (after : List Site). (script trade b after commands).after) same

@@ -1,18 +1,21 @@
 -- No command makes a link longer than 64 frames.
 use Rattle.std.proofs.Common.{◌≡◌, ℕ, ◌+◌, ◌≤◌, List, [], ◌∷◌, ◌++◌, Bool, true, false, length, take, drop, refl, ap, sym, subst, arith, nat_lt, Option, Some, None}
 use Rattle.std.specs.Prelude.{if◌then◌else◌}
+use Rattle.std.specs.Option.{unwrap_or}
 use Rattle.std.proofs.lemmas.Bool.{ltb-true}
 use Rattle.std.proofs.lemmas.List.{length-append, length-drop, length-take}
 use Rattle.std.proofs.lemmas.Option.{none-some, same_Some}
 use Rattle.pec_types.specs.Bytes.{Bytes, Path}
 use Rattle.pec_types.specs.declared.messages.TheConstants.{MESSAGES}
+use Rattle.pec_types.specs.declared.turns.ProviderFault.{ProviderFault}
 use Rattle.pec_records.specs.declared.entries.Entry.{Entry}
 use Rattle.pec_records.specs.declared.entries.Entry.TheVariants as entries
-use Rattle.pec_ledger.specs.Half.{Half}
+use Rattle.pec_ledger.specs.Half.{Half, Posted}
+use Rattle.pec_ledger.specs.Items.{item_text}
 use Rattle.pec_ledger.specs.Network.{Site, frames_between, journal_at, site_at}
 use Rattle.pec_ledger.specs.Steps.{half}
 use Rattle.pec_ledger.specs.Trade.{Trade}
-use Rattle.pec_plays.specs.Commands.{Answer, Luck, Played, append, appended, asked, at_work, injected, lost, messages_at, put_again, restarted, restarted_site, stopped_site, submitted, swapped, swapped_at, ticked, with_entry, with_site}
+use Rattle.pec_plays.specs.Commands.{Answer, Luck, Played, append, appended, asked, at_work, injected, lost, messages_at, put_again, read_back, restarted, restarted_site, shown, shown_bytes, stopped_site, submitted, swapped, swapped_at, ticked, with_entry, with_site}
 use Rattle.pec_plays.specs.Rounds.{link_size}
 use Rattle.pec_plays.specs.Scripts.{LinksAreShort}
 use Rattle.pec_plays.specs.Steps.{has_no_room}
@@ -110,7 +113,18 @@ module _ (trade : Trade) (sites : List Site) (short : LinksAreShort sites) where
       (λ down. by_test luck.fails _ _ (λ e. short)
       (λ e. short_with sites p (restarted_site luck.found (site_at sites p)) short (λ from. short from p)))
 
-  pub short_asked : (show : ℕ → Half → Played) (found : Option ℕ) → ((provider : ℕ) (half : Half) → (show provider half).after ≡ sites) → LinksAreShort (asked sites show trade found).after
-  short_asked show None same = short
-  short_asked show (Some p) same =
-      by_test (site_at sites p).up _ _ (λ up. subst LinksAreShort (sym (same p (half trade p (journal_at sites p)))) short) (λ down. short)
+  pub short_asked : (show : ℕ → Half → Played) (found : Option ℕ) → ((provider : ℕ) (half : Half) → LinksAreShort (show provider half).after) → LinksAreShort (asked sites show trade found).after
+  short_asked show None more = short
+  short_asked show (Some p) more = by_test (site_at sites p).up _ _ (λ up. more p (half trade p (journal_at sites p))) (λ down. short)
+
+  short_read : (read : Option ProviderFault) (bytes : Bytes) (p : ℕ) → LinksAreShort (read_back read bytes sites p).after
+  short_read None bytes p = short
+  short_read (Some fault) bytes p = short_crashed p
+
+  short_bytes : (luck : Luck) (p : ℕ) (text : Option Bytes) → LinksAreShort (shown_bytes luck sites p text).after
+  short_bytes luck p None = short
+  short_bytes luck p (Some bytes) = short_read luck.read (unwrap_or luck.shown bytes) p
+
+  pub short_shown : (luck : Luck) (p : ℕ) (found : Option Posted) → LinksAreShort (shown trade luck sites p found).after
+  short_shown luck p None = short
+  short_shown luck p (Some posted) = short_bytes luck p (item_text trade p (journal_at sites p) posted)

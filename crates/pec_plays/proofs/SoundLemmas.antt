@@ -7,23 +7,22 @@ use Rattle.pec_types.specs.Bytes.{Bytes}
 use Rattle.pec_records.specs.declared.entries.Entry.{Entry}
 use Rattle.pec_ledger.specs.Along.{GoesOnAs}
 use Rattle.pec_ledger.specs.Books.{book, mailbox_lines}
-use Rattle.pec_ledger.specs.Half.{Half, Posted}
-use Rattle.pec_ledger.specs.Items.{item_text}
+use Rattle.pec_ledger.specs.Half.{Half}
 use Rattle.pec_ledger.specs.Ledger.{Fit, Journals}
 use Rattle.pec_ledger.specs.Lookups.{mailbox}
 use Rattle.pec_ledger.specs.Network.{FollowsState, IsNext, Site, Sound, frames_between, journal_at, journals_of}
 use Rattle.pec_ledger.specs.Trade.{Trade}
 use Rattle.pec_ledger.specs.TradeLaws.{IsTrade}
-use Rattle.pec_plays.specs.Commands.{Command, Luck, Submit, Tick, Round, Lose, Repeat, Swap, Inject, Crash, Restart, Book, Mailbox, Show, Lines, Items, account_home, answers, played, shown, shown_bytes, swapped_at}
+use Rattle.pec_plays.specs.Commands.{Command, Luck, Submit, Tick, Round, Lose, Repeat, Swap, Inject, Crash, Restart, Book, Mailbox, Show, Lines, Items, account_home, answers, played, shown, swapped_at}
 use Rattle.pec_plays.specs.Scripts.{AllUnforged, IsUnforged, LinksAreShort, ShortAlong, SoundAlong, script}
 use Rattle.pec_plays.specs.Steps.{Step}
-use Rattle.pec_plays.specs.Turns.{Cut, Whole, Fails, Full, Stops, cut_turn, entries_of, entry_at, events_of}
-use Rattle.pec_plays.proofs.CommandLemmas.{next_asked, next_crashed, next_injected, next_lost, next_put_again, next_restarted, next_submitted, next_swapped, next_ticked}
+use Rattle.pec_plays.specs.Turns.{Cut, Whole, Fails, Full, Stops, Other, cut_turn, entries_of, entry_at, events_of}
+use Rattle.pec_plays.proofs.CommandLemmas.{next_asked, next_crashed, next_injected, next_lost, next_put_again, next_restarted, next_shown, next_submitted, next_swapped, next_ticked}
 use Rattle.pec_plays.proofs.FrameLemmas.{TextLaws}
 use Rattle.pec_plays.proofs.PlanLemmas.{parted}
 use Rattle.pec_plays.proofs.RoundLemmas.{next_rounded, short_rounded}
-use Rattle.pec_plays.proofs.ShortLemmas.{short_asked, short_crashed, short_injected, short_lost, short_put_again, short_restarted, short_submitted, short_swapped, short_ticked}
-use Rattle.pec_plays.proofs.SiteLemmas.{StateLaws}
+use Rattle.pec_plays.proofs.ShortLemmas.{short_asked, short_crashed, short_injected, short_lost, short_put_again, short_restarted, short_shown, short_submitted, short_swapped, short_ticked}
+use Rattle.pec_plays.proofs.SiteLemmas.{StateLaws, next_as_it_was}
 use Rattle.pec_plays.proofs.StepLemmas.{ArrivalLaws}
 
 -- what the ledger's laws say
@@ -34,22 +33,14 @@ pub record LedgerLaws (trade : Trade) : Type 0 where
   pub texts : (J : Journals) → Fit trade J → TextLaws trade J
 
 module _ (trade : Trade) (world : IsTrade trade) (laws : LedgerLaws trade) where
-  bytes_show_nothing_new : (sites : List Site) (text : Option Bytes) → (shown_bytes sites text).after ≡ sites
-  bytes_show_nothing_new sites None = refl
-  bytes_show_nothing_new sites (Some bytes) = refl
-
-  shows_nothing_new : (sites : List Site) (p : ℕ) (found : Option Posted) → (shown trade sites p found).after ≡ sites
-  shows_nothing_new sites p None = refl
-  shows_nothing_new sites p (Some posted) = bytes_show_nothing_new sites (item_text trade p (journal_at sites p) posted)
-
-  pub next_played : (luck : Luck) (sites : List Site) (command : Command) → Sound trade sites → IsUnforged trade sites command
+  pub next_played : (luck : Luck) (sites : List Site) (command : Command) → Sound trade sites → IsUnforged trade luck sites command
       → IsNext trade sites (played trade luck sites command).after
   unfolding played
   next_played luck sites (Submit p now sender path message found) sound given =
       next_submitted trade world laws.states luck sites p now sender path message found sound given.0 given.1 given.2
   next_played luck sites (Tick p now) sound given = next_ticked trade world laws.states luck sites p now sound given
   next_played luck sites (Round now) sound given =
-      next_rounded trade world laws.states sites sound (laws.arrivals (journals_of sites) sound.fit) (laws.images sites sound) laws.texts now given luck.cuts
+      next_rounded trade world laws.states sites sound (laws.arrivals (journals_of sites) sound.fit) (laws.images sites sound) laws.texts now given.0 luck.cuts given.1
   next_played luck sites (Lose from to place) sound given = next_lost trade world laws.states sites from to place sound
   next_played luck sites (Repeat from to place) sound given =
       next_put_again trade world laws.states sites from to place (slice_get (frames_between sites from to) place) refl sound
@@ -59,14 +50,14 @@ module _ (trade : Trade) (world : IsTrade trade) (laws : LedgerLaws trade) where
   next_played luck sites (Crash p) sound given = next_crashed trade world laws.states sites p sound
   next_played luck sites (Restart p) sound given = next_restarted trade world laws.states luck sites p sound
   next_played luck sites (Book address) sound given =
-      next_asked trade world laws.states sites (λ (p : ℕ) (h : Half). answers sites (Lines (book trade p h address))) (account_home trade address (trade.home address)) sound (λ p h. refl)
+      next_asked trade world laws.states sites (λ (p : ℕ) (h : Half). answers sites (Lines (book trade p h address))) (account_home trade address (trade.home address)) sound (λ p h. next_as_it_was trade laws.states sites sound)
   next_played luck sites (Mailbox address) sound given =
-      next_asked trade world laws.states sites (λ (p : ℕ) (h : Half). answers sites (Items (mailbox_lines h address))) (account_home trade address (trade.home address)) sound (λ p h. refl)
+      next_asked trade world laws.states sites (λ (p : ℕ) (h : Half). answers sites (Items (mailbox_lines h address))) (account_home trade address (trade.home address)) sound (λ p h. next_as_it_was trade laws.states sites sound)
   next_played luck sites (Show address place) sound given =
-      next_asked trade world laws.states sites (λ (p : ℕ) (h : Half). shown trade sites p (slice_get (mailbox h address) place)) (account_home trade address (trade.home address)) sound
-      (λ p h. shows_nothing_new sites p (slice_get (mailbox h address) place))
+      next_asked trade world laws.states sites (λ (p : ℕ) (h : Half). shown trade luck sites p (slice_get (mailbox h address) place)) (account_home trade address (trade.home address)) sound
+      (λ p h. next_shown trade world laws.states luck sites p (slice_get (mailbox h address) place) sound)
 
-  pub sound_played : (luck : Luck) (sites : List Site) (command : Command) → Sound trade sites → IsUnforged trade sites command
+  pub sound_played : (luck : Luck) (sites : List Site) (command : Command) → Sound trade sites → IsUnforged trade luck sites command
       → Sound trade (played trade luck sites command).after
   sound_played luck sites command sound given =
       laws.states.next sites (played trade luck sites command).after sound (next_played luck sites command sound given)
@@ -88,13 +79,13 @@ module _ (trade : Trade) (world : IsTrade trade) (laws : LedgerLaws trade) where
 -- ---- links
 
 module _ (trade : Trade) (world : IsTrade trade) (laws : LedgerLaws trade) where
-  pub short_played : (luck : Luck) (sites : List Site) (command : Command) → Sound trade sites → IsUnforged trade sites command → LinksAreShort sites
+  pub short_played : (luck : Luck) (sites : List Site) (command : Command) → Sound trade sites → IsUnforged trade luck sites command → LinksAreShort sites
       → LinksAreShort (played trade luck sites command).after
   unfolding played
   short_played luck sites (Submit p now sender path message found) sound given short = short_submitted trade sites short luck p now sender path message found
   short_played luck sites (Tick p now) sound given short = short_ticked trade sites short luck p now
   short_played luck sites (Round now) sound given short =
-      short_rounded trade world laws.states sites sound (laws.arrivals (journals_of sites) sound.fit) (laws.images sites sound) laws.texts now given luck.cuts short
+      short_rounded trade world laws.states sites sound (laws.arrivals (journals_of sites) sound.fit) (laws.images sites sound) laws.texts now given.0 luck.cuts short
   short_played luck sites (Lose from to place) sound given short = short_lost trade sites short from to place
   short_played luck sites (Repeat from to place) sound given short = short_put_again trade sites short from to (slice_get (frames_between sites from to) place)
   short_played luck sites (Swap from to place) sound given short = short_swapped trade sites short from to place (swapped_at place (frames_between sites from to)) refl
@@ -102,12 +93,12 @@ module _ (trade : Trade) (world : IsTrade trade) (laws : LedgerLaws trade) where
   short_played luck sites (Crash p) sound given short = short_crashed trade sites short p
   short_played luck sites (Restart p) sound given short = short_restarted trade sites short luck p
   short_played luck sites (Book address) sound given short =
-      short_asked trade sites short (λ (p : ℕ) (h : Half). answers sites (Lines (book trade p h address))) (account_home trade address (trade.home address)) (λ p h. refl)
+      short_asked trade sites short (λ (p : ℕ) (h : Half). answers sites (Lines (book trade p h address))) (account_home trade address (trade.home address)) (λ p h. short)
   short_played luck sites (Mailbox address) sound given short =
-      short_asked trade sites short (λ (p : ℕ) (h : Half). answers sites (Items (mailbox_lines h address))) (account_home trade address (trade.home address)) (λ p h. refl)
+      short_asked trade sites short (λ (p : ℕ) (h : Half). answers sites (Items (mailbox_lines h address))) (account_home trade address (trade.home address)) (λ p h. short)
   short_played luck sites (Show address place) sound given short =
-      short_asked trade sites short (λ (p : ℕ) (h : Half). shown trade sites p (slice_get (mailbox h address) place)) (account_home trade address (trade.home address))
-      (λ p h. shows_nothing_new trade world laws sites p (slice_get (mailbox h address) place))
+      short_asked trade sites short (λ (p : ℕ) (h : Half). shown trade luck sites p (slice_get (mailbox h address) place)) (account_home trade address (trade.home address))
+      (λ p h. short_shown trade sites short luck p (slice_get (mailbox h address) place))
 
   pub short_along : (lucks : List Luck) (sites : List Site) (commands : List Command) → Sound trade sites → AllUnforged trade lucks sites commands → LinksAreShort sites
       → ShortAlong trade lucks sites commands
@@ -128,9 +119,10 @@ front_events n steps =
 pub cut_is_front : (trade : Trade) (p : ℕ) (rooms : ℕ → ℕ) (site : Site) (steps : List Step) (cut : Cut)
     → GoesOnAs (cut_turn trade p rooms site steps cut).events (cut_turn trade p rooms site steps Whole).events
 cut_is_front trade p rooms site steps Whole = ([], sym (append-nil (events_of steps)))
-cut_is_front trade p rooms site steps (Fails n) = front_events n steps
+cut_is_front trade p rooms site steps (Fails n fault) = front_events n steps
 cut_is_front trade p rooms site steps (Full n) = front_events n steps
 cut_is_front trade p rooms site steps (Stops n) = front_events n steps
+cut_is_front trade p rooms site steps (Other out) = ([], sym (append-nil (events_of steps)))
 
 front_entries : (es : List Entry) (n : ℕ) (steps : List Step) → GoesOnAs (es ++ entries_of (take n steps)) (es ++ entries_of steps)
 front_entries es n steps =
@@ -143,6 +135,7 @@ front_entries es n steps =
 pub cut_has_front : (trade : Trade) (p : ℕ) (rooms : ℕ → ℕ) (site : Site) (steps : List Step) (cut : Cut)
     → GoesOnAs (cut_turn trade p rooms site steps cut).site.journal (cut_turn trade p rooms site steps Whole).site.journal
 cut_has_front trade p rooms site steps Whole = ([], sym (append-nil (site.journal ++ entries_of steps)))
-cut_has_front trade p rooms site steps (Fails n) = front_entries site.journal n steps
+cut_has_front trade p rooms site steps (Fails n fault) = front_entries site.journal n steps
 cut_has_front trade p rooms site steps (Full n) = front_entries site.journal n steps
 cut_has_front trade p rooms site steps (Stops n) = front_entries site.journal n steps
+cut_has_front trade p rooms site steps (Other out) = ([], sym (append-nil (site.journal ++ entries_of steps)))

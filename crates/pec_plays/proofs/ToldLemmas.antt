@@ -27,7 +27,7 @@ use Rattle.pec_plays.specs.Decisions.{decide, undecided}
 use Rattle.pec_plays.specs.Reception.{accounts_with_room, ack_fits, ack_rows, anomaly, arrive, by_ack, by_frame, by_outcome, by_receipt, by_seen, charge_fits, charge_rows, envelope_fits, envelope_rows, otherwise, outcome_fits, outcome_rows}
 use Rattle.pec_plays.specs.Steps.{Step, journal_after}
 use Rattle.pec_plays.specs.Told.{decides, learns}
-use Rattle.pec_plays.specs.Turns.{Cut, Turned, Whole, Fails, Full, Stops, cut_turn, decisions, entries_of, events_of, frames_in, last_of, plan, turned}
+use Rattle.pec_plays.specs.Turns.{Cut, Turned, Whole, Fails, Full, Stops, Other, cut_turn, decisions, entries_of, events_of, frames_in, last_of, plan, turned}
 use Rattle.pec_plays.proofs.ListLemmas.{pair_again}
 
 -- ---- counts
@@ -243,9 +243,10 @@ module _ (trade : Trade) (p now : ℕ) (rooms : ℕ → ℕ) (site : Site) where
 
   cut_tells : (steps : List Step) → AllTell steps → (cut : Cut) → TurnTells site (cut_turn trade p rooms site steps cut)
   cut_tells steps all Whole = record { more = entries_of steps; journal = refl; tells = all_tell steps all }
-  cut_tells steps all (Fails n) = record { more = entries_of (take n steps); journal = refl; tells = front_tells n steps all }
+  cut_tells steps all (Fails n fault) = record { more = entries_of (take n steps); journal = refl; tells = front_tells n steps all }
   cut_tells steps all (Full n) = record { more = entries_of (take n steps); journal = refl; tells = front_tells n steps all }
   cut_tells steps all (Stops n) = record { more = entries_of (take n steps); journal = refl; tells = front_tells n steps all }
+  cut_tells steps all (Other out) = record { more = entries_of steps; journal = refl; tells = all_tell steps all }
 
   by_test : (b : Bool) (x y : Turned) → TurnTells site x → TurnTells site y → TurnTells site (if b then x else y)
   by_test true x y a b = a

@@ -1,14 +1,15 @@
 -- Turns step by step: plans, frames that are taken, frames that are put, and cuts.
-use Rattle.std.proofs.Common.{◌≡◌, ◌↔◌, ℕ, zero, suc, ◌+◌, ◌-◌, ◌<◌, List, [], ◌∷◌, ◌++◌, inl, inr, length, take, drop, refl, ap, sym, subst, ◌∙◌, arith, Option, Some, None}
+use Rattle.std.proofs.Common.{◌≡◌, ◌↔◌, ◌⊎◌, ℕ, zero, suc, ◌+◌, ◌-◌, ◌<◌, ◌≤◌, List, [], ◌∷◌, ◌++◌, inl, inr, length, take, drop, refl, ap, sym, subst, ◌∙◌, arith, Option, Some, None}
 use Rattle.std.specs.Prelude.{Contains, IsSome, slice_get, slice_index_or}
 use Rattle.std.specs.List.{cons_option, filter_map}
 use Rattle.std.specs.Option.{option_and_then}
 use Rattle.std.proofs.lemmas.Bool.{false≢true}
-use Rattle.std.proofs.lemmas.List.{drop-drop, length-drop, length-map, length-take}
+use Rattle.std.proofs.lemmas.List.{drop-drop, length-drop, length-map, length-take, take_all}
 use Rattle.std.proofs.lemmas.Option.{none-some, slice_get_within}
 use Rattle.pec_types.specs.Bytes.{Bytes}
 use Rattle.pec_types.specs.declared.letters.Letter.{Letter}
 use Rattle.pec_types.specs.declared.turns.ProviderFault.{ProviderFault}
+use Rattle.pec_types.specs.declared.turns.ProviderFault.TheVariants as faults
 use Rattle.pec_records.specs.declared.entries.Entry.{Entry}
 use Rattle.pec_ledger.specs.Due.{due_letters}
 use Rattle.pec_ledger.specs.Network.{Site}
@@ -17,9 +18,9 @@ use Rattle.pec_ledger.specs.Steps.{half}
 use Rattle.pec_ledger.specs.Trade.{Trade}
 use Rattle.pec_plays.specs.Decisions.{decide, undecided}
 use Rattle.pec_plays.specs.Frames.{IsDueFrame, due_frames, frame_of}
-use Rattle.pec_plays.specs.Possible.{MayCut, cut_by}
+use Rattle.pec_plays.specs.Possible.{IsOfKept, IsOfRead, MayCut, MayFail, TellsCut, cut_by}
 use Rattle.pec_plays.specs.Steps.{Step, journal_after}
-use Rattle.pec_plays.specs.Turns.{Cut, Whole, Fails, Full, Stops, cut_turn, decisions, entries_of, events_of, frames_in, owed_of, plan, puts_from, without_first}
+use Rattle.pec_plays.specs.Turns.{Cut, Whole, Fails, Full, Stops, Other, cut_turn, decisions, entries_of, entry_at, events_of, frames_in, owed_of, plan, puts_from, that_fit, without_first}
 use Rattle.pec_plays.proofs.ListLemmas.{contains_cases, contains_here, contains_none, contains_there}
 use Rattle.pec_plays.proofs.NextLemmas.{next_undecided}
 
@@ -128,13 +129,45 @@ whole_puts trade p rooms site steps to l =
 pub early_puts : (trade : Trade) (p : ℕ) (rooms : ℕ → ℕ) (site : Site) (steps : List Step) (cut : Cut) (fault : ProviderFault)
     → (cut_turn trade p rooms site steps cut).ended ≡ Some fault → (cut_turn trade p rooms site steps cut).out ≡ []
 early_puts trade p rooms site steps Whole fault e = absurd (none-some fault e)
-early_puts trade p rooms site steps (Fails n) fault e = refl
+early_puts trade p rooms site steps (Fails n f) fault e = refl
 early_puts trade p rooms site steps (Full n) fault e = refl
 early_puts trade p rooms site steps (Stops n) fault e = refl
+early_puts trade p rooms site steps (Other out) fault e = absurd (none-some fault e)
+
+-- ---- other frames that are put
+
+none_of_none : (n : ℕ) → take {A = Bytes} n [] ≡ []
+none_of_none zero = refl
+none_of_none (suc n) = refl
+
+fit_at : (rooms : ℕ → ℕ) (from : ℕ) (out : List (List Bytes)) (k : ℕ)
+    → slice_index_or (that_fit rooms from out) k [] ≡ take (rooms (from + k)) (slice_index_or out k [])
+fit_at rooms from [] k = sym (none_of_none (rooms (from + k)))
+fit_at rooms from (frames ∷ out) zero = ap (λ (n : ℕ). take (rooms n) frames) (let z : from ≡ from + 0 = omega arith in z)
+fit_at rooms from (frames ∷ out) (suc k) =
+    fit_at rooms (from + 1) out k
+    ∙ ap (λ (n : ℕ). take (rooms n) (slice_index_or out k [])) (let z : (from + 1) + k ≡ from + suc k = omega arith in z)
+
+pub other_puts : (trade : Trade) (p : ℕ) (rooms : ℕ → ℕ) (site : Site) (steps : List Step) (out : List (List Bytes)) (to : ℕ)
+    → slice_index_or (cut_turn trade p rooms site steps (Other out)).out to [] ≡ take (rooms to) (slice_index_or out to [])
+other_puts trade p rooms site steps out to =
+    fit_at rooms 0 out to ∙ ap (λ (n : ℕ). take (rooms n) (slice_index_or out to [])) (let z : 0 + to ≡ to = omega arith in z)
+
+all_fit : (rooms : ℕ → ℕ) (from : ℕ) (out : List (List Bytes)) → ((k : ℕ) → length (slice_index_or out k []) ≤ rooms (from + k)) → that_fit rooms from out ≡ out
+all_fit rooms from [] fit = refl
+all_fit rooms from (frames ∷ out) fit =
+    links_so (take (rooms from) frames) frames (that_fit rooms (from + 1) out) out
+    (take_all (rooms from) frames (let l = fit 0 in let z = ap rooms (let y : from + 0 ≡ from = omega arith in y) in omega (arith, l, z)))
+    (all_fit rooms (from + 1) out
+    (λ k. subst (λ (n : ℕ). length (slice_index_or out k []) ≤ rooms n) (let z : from + suc k ≡ (from + 1) + k = omega arith in z) (fit (suc k))))
+
+pub fit_as_they_are : (rooms : ℕ → ℕ) (out : List (List Bytes)) → ((to : ℕ) → length (slice_index_or out to []) ≤ rooms to) → that_fit rooms 0 out ≡ out
+fit_as_they_are rooms out fit =
+    all_fit rooms 0 out (λ k. subst (λ (n : ℕ). length (slice_index_or out k []) ≤ rooms n) (let z : k ≡ 0 + k = omega arith in z) (fit k))
 
 -- ---- cuts
 
-told_so : (n : ℕ) (steps : List Step) → n < length steps → length (events_of (take n steps)) ≡ n
+told_so : (n : ℕ) (steps : List Step) → n ≤ length steps → length (events_of (take n steps)) ≡ n
 told_so n steps l =
     let many : length (events_of (take n steps)) ≡ length (take n steps) = length-map (take n steps) (λ (step : Step). step.event)
     in let few = length-take n steps
@@ -144,9 +177,38 @@ step_there : (n : ℕ) (steps : List Step) (found : Option Step) → slice_get s
 step_there n steps None e some = absurd (false≢true some)
 step_there n steps (Some step) e some = slice_get_within steps n step e
 
+read_told : (n told : ℕ) (fault : ProviderFault) → IsOfRead fault → told ≡ n → Fails n fault ≡ cut_by (Some fault) told
+read_told n told faults.DiskFault read e = ap (λ (k : ℕ). Fails k faults.DiskFault) (sym e)
+read_told n told (faults.Changed entry) read e = ap (λ (k : ℕ). Fails k (faults.Changed entry)) (sym e)
+read_told n told _ read e = absurd read
+
+fails_told : (n : ℕ) (steps : List Step) (fault : ProviderFault) → MayFail steps n fault
+    → Fails n fault ≡ cut_by (Some fault) (length (events_of (take n steps)))
+fails_told n steps fault (inl append) =
+    subst (λ (f : ProviderFault). Fails n f ≡ cut_by (Some f) (length (events_of (take n steps)))) (sym append.0)
+    (ap (λ (k : ℕ). Fails k faults.DiskFault)
+    (sym (told_so n steps (let l = step_there n steps (slice_get steps n) refl append.1 in omega (arith, l)))))
+fails_told n steps fault (inr read) =
+    read_told n (length (events_of (take n steps))) fault read.1 (told_so n steps (let e = read.0 in omega (arith, e)))
+
 pub cut_told : (trade : Trade) (p : ℕ) (rooms : ℕ → ℕ) (site : Site) (steps : List Step) (cut : Cut) → MayCut steps cut
-    → cut_by (cut_turn trade p rooms site steps cut).ended (length (cut_turn trade p rooms site steps cut).events) ≡ cut
+    → TellsCut (cut_turn trade p rooms site steps cut).ended (length (cut_turn trade p rooms site steps cut).events) cut
 cut_told trade p rooms site steps Whole may = refl
-cut_told trade p rooms site steps (Fails n) may = ap Fails (told_so n steps (step_there n steps (slice_get steps n) refl may.1))
-cut_told trade p rooms site steps (Full n) may = ap Full (told_so n steps (slice_get_within steps n may.step may.there))
-cut_told trade p rooms site steps (Stops n) may = ap Stops (told_so n steps may.1)
+cut_told trade p rooms site steps (Fails n fault) may = fails_told n steps fault may.1
+cut_told trade p rooms site steps (Full n) may =
+    ap Full (sym (told_so n steps (let l = slice_get_within steps n may.step may.there in omega (arith, l))))
+cut_told trade p rooms site steps (Stops n) may = ap Stops (sym (told_so n steps (let l = may.1 in omega (arith, l))))
+cut_told trade p rooms site steps (Other out) may = refl
+
+pub told_is_kept : (ended : Option ProviderFault) (told : ℕ) → IsOfKept (cut_by ended told)
+told_is_kept None told = tt
+told_is_kept (Some faults.DiskFault) told = tt
+told_is_kept (Some (faults.Changed entry)) told = tt
+told_is_kept (Some _) told = tt
+
+pub told_or_other : (ended : Option ProviderFault) (told : ℕ) (cut : Cut) → TellsCut ended told cut → (cut ≡ cut_by ended told) ⊎ (ended ≡ None)
+told_or_other ended told Whole tells = inl tells
+told_or_other ended told (Fails n fault) tells = inl tells
+told_or_other ended told (Full n) tells = inl tells
+told_or_other ended told (Stops n) tells = inl tells
+told_or_other ended told (Other out) tells = inr tells

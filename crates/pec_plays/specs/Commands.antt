@@ -2,6 +2,7 @@
 -- it did; for a given answer there is at most one state. Each answer is a value; lines are made of it elsewhere. This
 -- project's profile.
 use Rattle.std.specs.Prelude.{ℕ, ◌+◌, nat_lt, Bool, true, false, List, [], ◌∷◌, ◌++◌, length, map, take, drop, slice_get, slice_set, if◌then◌else◌, Option, Some, None}
+use Rattle.std.specs.Option.{unwrap_or}
 use Rattle.pec_types.specs.Bytes.{Bytes, Path}
 use Rattle.pec_types.specs.Message.{Id}
 use Rattle.pec_types.specs.declared.mailboxes.ItemLine.{ItemLine}
@@ -64,12 +65,15 @@ pub data Answer : Type 0 where
   LinkFull : Answer
   IsUp : Answer
 
--- What devices do in a command: how each provider's turn is cut, whether the append or the restart fails, and whether a
--- restart finds the interrupted entry.
+-- What devices do in a command: how each provider's turn is cut, whether the append or the restart fails, whether a
+-- restart finds the interrupted entry, how the read of an item that is to be shown failed, if it did, and which bytes
+-- are shown in place of the item's, if others are: only a disk that gives back other bytes than it took can be the cause.
 pub record Luck : Type 0 where
   pub cuts : ℕ → Cut
   pub fails : Bool
   pub found : Bool
+  pub read : Option ProviderFault
+  pub shown : Option Bytes
 
 -- What a command answers, and the state behind it.
 pub record Played : Type 0 where
@@ -241,15 +245,22 @@ asked sites show trade (Some provider) =
     if (site_at sites provider).up then show provider (half trade provider (journal_at sites provider))
     else answers sites (Refuses faults.Down)
 
+-- what is shown of an item's bytes: where the read of its entry fails, nothing is, and the provider is down from then on
+abbrev pub read_back : Option ProviderFault → Bytes → List Site → ℕ → Played
+read_back None bytes sites provider = answers sites (Shown bytes)
+read_back (Some fault) bytes sites provider =
+    record { answer = Refuses fault; after = with_site sites provider (stopped_site (site_at sites provider)) }
+
 -- the bytes of an item, if there are some
-abbrev pub shown_bytes : List Site → Option Bytes → Played
-shown_bytes sites None = answers sites (Refuses faults.NoItem)
-shown_bytes sites (Some bytes) = answers sites (Shown bytes)
+abbrev pub shown_bytes : Luck → List Site → ℕ → Option Bytes → Played
+shown_bytes luck sites provider None = answers sites (Refuses faults.NoItem)
+shown_bytes luck sites provider (Some bytes) = read_back luck.read (unwrap_or luck.shown bytes) sites provider
 
 -- the item that was asked for, if the mailbox has it
-abbrev pub shown : Trade → List Site → ℕ → Option Posted → Played
-shown trade sites provider None = answers sites (Refuses faults.NoItem)
-shown trade sites provider (Some posted) = shown_bytes sites (item_text trade provider (journal_at sites provider) posted)
+abbrev pub shown : Trade → Luck → List Site → ℕ → Option Posted → Played
+shown trade luck sites provider None = answers sites (Refuses faults.NoItem)
+shown trade luck sites provider (Some posted) =
+    shown_bytes luck sites provider (item_text trade provider (journal_at sites provider) posted)
 
 -- ---- all commands
 
@@ -272,5 +283,5 @@ played trade luck sites (Book address) =
 played trade luck sites (Mailbox address) =
     asked sites (λ provider half. answers sites (Items (mailbox_lines half address))) trade (account_home trade address (trade.home address))
 played trade luck sites (Show address place) =
-    asked sites (λ provider half. shown trade sites provider (slice_get (mailbox half address) place)) trade
+    asked sites (λ provider half. shown trade luck sites provider (slice_get (mailbox half address) place)) trade
     (account_home trade address (trade.home address))

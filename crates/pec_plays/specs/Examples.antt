@@ -1,35 +1,36 @@
 -- Worked scripts in the small world of the ledger, with their lucks: what they answer. The provider 0 is alfa, with
 -- alice (0) and anna (1); the provider 1 is beta, with bob (1).
-use Rattle.std.specs.Prelude.{ℕ, zero, suc, false, true, List, [], ◌∷◌, ◌++◌, length, Option, None}
+use Rattle.std.specs.Prelude.{ℕ, zero, suc, false, true, List, [], ◌∷◌, ◌++◌, length, Option, None, Some}
 use Rattle.pec_types.specs.Bytes.{Bytes}
 use Rattle.pec_types.specs.declared.turns.Event.{Event}
 use Rattle.pec_types.specs.declared.turns.ProviderFault.{ProviderFault}
+use Rattle.pec_types.specs.declared.turns.ProviderFault.TheVariants as faults
 use Rattle.pec_types.specs.declared.turns.Turn.{Turn}
 use Rattle.pec_ledger.specs.Examples.{alice, anna, bob, morning, to_one}
 use Rattle.pec_ledger.specs.Half.{Half}
 use Rattle.pec_ledger.specs.Network.{Site, at_start, journal_at}
 use Rattle.pec_ledger.specs.SmallWorld.{small}
 use Rattle.pec_ledger.specs.Steps.{half}
-use Rattle.pec_plays.specs.Commands.{Answer, Book, Command, Inject, Luck, Mailbox, Restart, Round, Submit, Swap, Turns}
+use Rattle.pec_plays.specs.Commands.{Answer, Book, Command, Inject, Luck, Mailbox, Restart, Round, Show, Submit, Swap, Turns}
 use Rattle.pec_plays.specs.Scripts.{script}
 use Rattle.pec_plays.specs.Turns.{Cut, Fails, Whole}
 
 -- no device fails
 abbrev pub calm : Luck
-calm = record { cuts = λ provider. Whole; fails = false; found = false }
+calm = record { cuts = λ provider. Whole; fails = false; found = false; read = None; shown = None }
 
 -- in a round the append of a step of alfa fails
 abbrev pub cut_at : ℕ → ℕ → Cut
-cut_at number zero = Fails number
+cut_at number zero = Fails number faults.DiskFault
 cut_at number (suc provider) = Whole
 
 -- the luck of such a round, by the number of the step, from 0
 abbrev pub failing : ℕ → Luck
-failing number = record { cuts = cut_at number; fails = false; found = false }
+failing number = record { cuts = cut_at number; fails = false; found = false; read = None; shown = None }
 
 -- a restart finds the interrupted entry
 abbrev pub finding : Luck
-finding = record { cuts = λ provider. Whole; fails = false; found = true }
+finding = record { cuts = λ provider. Whole; fails = false; found = true; read = None; shown = None }
 
 -- what alice writes, to this address
 abbrev pub writes_to : Bytes → Command
@@ -82,6 +83,16 @@ from_outside = Inject 0 1 unsealed ∷ Inject 0 1 [] ∷ Round 1704186001 ∷ Ma
 -- alice writes to anna; after two rounds a book is asked for, and alfa is restarted twice
 abbrev pub with_a_fault : List Command
 with_a_fault = writes_to anna ∷ Round 1704186001 ∷ Round 1704186002 ∷ Book alice ∷ Restart 0 ∷ Restart 0 ∷ []
+
+-- ---- the read of an item fails
+
+-- alice writes to anna; behind two rounds anna is shown the envelope in her mailbox, and a book is asked for
+abbrev pub with_a_look : List Command
+with_a_look = writes_to anna ∷ Round 1704186001 ∷ Round 1704186002 ∷ Show anna 0 ∷ Book alice ∷ Restart 0 ∷ []
+
+-- the read of an item that is to be shown fails
+abbrev pub unread : Luck
+unread = record { cuts = λ provider. Whole; fails = false; found = false; read = Some faults.DiskFault; shown = None }
 
 -- a luck for each command of a script, with which no device fails
 abbrev pub calmly : List Command → List Luck

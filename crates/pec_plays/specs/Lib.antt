@@ -1,6 +1,5 @@
 pub mod Commands
 pub mod Decisions
-pub mod Envelopes
 pub mod Examples
 pub mod Frames
 pub mod Possible

@@ -1,13 +1,14 @@
--- Which lucks can be: how a turn may be cut (`MayCut`), what a command may meet (`MayMeet`), and when no device failed
--- in it (`IsQuiet`). This project's profile.
-use Rattle.std.specs.Prelude.{◌≡◌, ℕ, zero, suc, ◌+◌, ◌<◌, nat_lt, false, true, List, [], ◌∷◌, length, take, slice_get, All, IsSome, Option, Some, None, if◌then◌else◌}
+-- Which lucks can be: how a turn may be cut (`MayCut`), what a command may meet (`MayMeet`), when no device failed in it
+-- (`IsQuiet`), and when each read gave what was kept (`GaveWhatWasKept`). This project's profile.
+use Rattle.std.specs.Prelude.{◌≡◌, ◌⊎◌, ℕ, zero, suc, ◌+◌, ◌<◌, nat_lt, false, true, List, [], ◌∷◌, length, take, slice_get, All, IfSome, IsSome, Option, Some, None, if◌then◌else◌}
+use Rattle.pec_types.specs.Bytes.{Bytes}
 use Rattle.pec_types.specs.declared.turns.ProviderFault.{ProviderFault}
 use Rattle.pec_types.specs.declared.turns.ProviderFault.TheVariants as faults
 use Rattle.pec_ledger.specs.Network.{Site, interrupted_at, site_at}
 use Rattle.pec_ledger.specs.Trade.{Trade}
-use Rattle.pec_plays.specs.Commands.{Command, Luck, Round, played}
+use Rattle.pec_plays.specs.Commands.{Command, Luck, Round, Show, played}
 use Rattle.pec_plays.specs.Steps.{Step}
-use Rattle.pec_plays.specs.Turns.{Cut, Whole, Fails, Full, Stops, entry_at, frames_in, last_of, plan}
+use Rattle.pec_plays.specs.Turns.{Cut, Whole, Fails, Full, Stops, Other, entry_at, frames_in, last_of, plan}
 
 -- The journal has room for the entries of all these steps.
 abbrev pub HaveRoom : List Step → Type 0
@@ -20,34 +21,61 @@ pub record IsFull (steps : List Step) (number : ℕ) : Type 0 where
   pub there : slice_get steps number ≡ Some step
   pub full : step.full ≡ true
 
--- A turn that was planned so may be cut so: it is done whole only where there is room for all entries; an append fails
--- only at a step with an entry, for which there is room; the journal is full at the first step for which it has no
--- room; and memory runs out before some step that there would have been room to reach.
+-- A fault by which a read of an entry fails: the disk's, or that what it gave back isn't what is needed.
+abbrev pub IsOfRead : ProviderFault → Type 0
+IsOfRead faults.DiskFault = Unit {0}
+IsOfRead (faults.Changed entry) = Unit {0}
+IsOfRead _ = ⊥
+
+-- A call of the disk may fail so: the append of a step with an entry, or a read behind all steps.
+abbrev pub MayFail : List Step → ℕ → ProviderFault → Type 0
+MayFail steps number fault =
+    ((fault ≡ faults.DiskFault) × IsSome (entry_at steps number)) ⊎ ((number ≡ length steps) × IsOfRead fault)
+
+-- A turn that was planned so may be cut so: it is done whole, and a read fails, only where there is room for all
+-- entries; an append fails only at a step with an entry, for which there is room; the journal is full at the first step
+-- for which it has no room; and memory runs out before some step that there would have been room to reach.
 abbrev pub MayCut : List Step → Cut → Type 0
 MayCut steps Whole = HaveRoom steps
-MayCut steps (Fails number) = HaveRoom (take (number + 1) steps) × IsSome (entry_at steps number)
+MayCut steps (Fails number fault) = HaveRoom (take (number + 1) steps) × MayFail steps number fault
 MayCut steps (Full number) = IsFull steps number
 MayCut steps (Stops number) = HaveRoom (take number steps) × (number < length steps)
+MayCut steps (Other out) = HaveRoom steps
 
--- A command may meet such a luck: the turns of a round that begin may be cut so.
+-- A command may meet such a luck: the turns of a round that begin may be cut so, and the read of an item fails as reads
+-- do.
 abbrev pub MayMeet : Trade → Luck → List Site → Command → Type 0
 MayMeet trade luck sites (Round now) =
     (provider : ℕ) → provider < length sites → (site_at sites provider).up ≡ true
     → nat_lt now (last_of trade provider (site_at sites provider).journal) ≡ false
     → MayCut (plan trade provider now (site_at sites provider).journal (frames_in (site_at sites provider).waiting)) (luck.cuts provider)
+MayMeet trade luck sites (Show address place) = IfSome luck.read IsOfRead
 MayMeet trade luck sites _ = Unit {0}
 
--- no append failed and no memory was missing
+-- no call of a disk failed, none gave back other bytes, and no memory was missing
 abbrev pub IsCalm : Cut → Type 0
 IsCalm Whole = Unit {0}
-IsCalm (Fails number) = ⊥
+IsCalm (Fails number fault) = ⊥
 IsCalm (Full number) = Unit {0}
 IsCalm (Stops number) = ⊥
+IsCalm (Other out) = ⊥
 
--- No device failed in a command.
+-- No device failed in a command, and none gave back other bytes than it took.
 pub record IsQuiet (luck : Luck) : Type 0 where
   pub cuts : (provider : ℕ) → IsCalm (luck.cuts provider)
   pub works : luck.fails ≡ false
+  pub reads : luck.read ≡ None
+  pub shows : luck.shown ≡ None
+
+-- what was read is what was kept, or the read failed, as reads do
+abbrev pub IsOfKept : Cut → Type 0
+IsOfKept (Fails number fault) = IsOfRead fault
+IsOfKept (Other out) = ⊥
+IsOfKept _ = Unit {0}
+
+-- So it is in each turn of a command: no frame was put in place of one that is due.
+abbrev pub GaveWhatWasKept : Luck → Type 0
+GaveWhatWasKept luck = (provider : ℕ) → IsOfKept (luck.cuts provider)
 
 -- No provider has an interrupted entry.
 abbrev pub NoneInterrupted : List Site → Type 0
@@ -64,19 +92,26 @@ AllQuiet trade (luck ∷ lucks) sites (command ∷ commands) =
 
 -- by how the turn ended, and of how many steps it told; a turn that didn't begin tells no cut
 abbrev pub cut_by : Option ProviderFault → ℕ → Cut
-cut_by (Some faults.DiskFault) told = Fails told
+cut_by (Some faults.DiskFault) told = Fails told faults.DiskFault
+cut_by (Some (faults.Changed entry)) told = Fails told (faults.Changed entry)
 cut_by (Some faults.JournalFull) told = Full told
 cut_by (Some faults.NoMemory) told = Stops told
 cut_by _ told = Whole
+
+-- A turn that ended so and told of so many steps was cut so: as it tells, or it ended well and put other frames.
+abbrev pub TellsCut : Option ProviderFault → ℕ → Cut → Type 0
+TellsCut ended told (Other out) = ended ≡ None
+TellsCut ended told cut = cut ≡ cut_by ended told
 
 -- ---- the cut of a quiet turn
 
 -- as the cut of the steps behind the first
 abbrev pub later_cut : Cut → Cut
 later_cut Whole = Whole
-later_cut (Fails number) = Fails (suc number)
+later_cut (Fails number fault) = Fails (suc number) fault
 later_cut (Full number) = Full (suc number)
 later_cut (Stops number) = Stops (suc number)
+later_cut (Other out) = Other out
 
 -- A turn without faults is done whole, or ends at the first step for which the journal has no room.
 abbrev pub quiet_cut : List Step → Cut
@@ -90,8 +125,10 @@ quiet_luck trade sites (Round now) = record {
       quiet_cut (plan trade provider now (site_at sites provider).journal (frames_in (site_at sites provider).waiting));
   fails = false;
   found = false;
+  read = None;
+  shown = None;
 }
-quiet_luck trade sites _ = record { cuts = λ provider. Whole; fails = false; found = false }
+quiet_luck trade sites _ = record { cuts = λ provider. Whole; fails = false; found = false; read = None; shown = None }
 
 -- Lucks without faults, one for each command of a script.
 abbrev pub quiet_lucks : Trade → List Site → List Command → List Luck

@@ -1,13 +1,15 @@
 -- Scripts: commands one after another, each with its luck (`script`), and which of them may come (`IsUnforged`). This
 -- project's profile.
-use Rattle.std.specs.Prelude.{ℕ, ◌<◌, ◌≤◌, List, [], ◌∷◌, length}
+use Rattle.std.specs.Prelude.{◌≡◌, ℕ, ◌<◌, ◌≤◌, List, [], ◌∷◌, length}
+use Rattle.pec_types.specs.Bytes.{Bytes}
 use Rattle.pec_types.specs.declared.moments.TheConstants.{END_OF_TIME}
 use Rattle.pec_records.specs.Entry.{most_addresses}
 use Rattle.pec_ledger.specs.Guarantees.{NoReceiptMissing, NoticeByTheDay, OneDelivery, OneOutcome}
-use Rattle.pec_ledger.specs.Network.{frames_between, IsGenuine, Site, Sound, journals_of}
+use Rattle.pec_ledger.specs.Network.{AreGenuine, frames_between, IsGenuine, Site, Sound, journals_of}
 use Rattle.pec_ledger.specs.Trade.{Trade}
 use Rattle.pec_plays.specs.Commands.{Answer, Command, Inject, Luck, Round, Submit, Tick, played}
-use Rattle.pec_plays.specs.Rounds.{link_size}
+use Rattle.pec_plays.specs.Rounds.{link_size, rounded}
+use Rattle.pec_plays.specs.Turns.{Other, frames_in}
 
 -- What a script answers, and the state behind it.
 pub record Told : Type 0 where
@@ -25,23 +27,29 @@ script trade (luck ∷ lucks) sites [] = record { answers = []; after = sites }
 script trade (luck ∷ lucks) sites (command ∷ commands) =
     onto (played trade luck sites command).answer (script trade lucks (played trade luck sites command).after commands)
 
+-- No frame that the turns of a round put in place of a due one is forged, in the journals behind the round.
+abbrev pub PutsNoneForged : Trade → Luck → List Site → ℕ → Type 0
+PutsNoneForged trade luck sites moment =
+    (provider : ℕ) (out : List (List Bytes)) → provider < length sites → luck.cuts provider ≡ Other out
+    → AreGenuine trade (journals_of (rounded trade moment luck.cuts sites).sites) (frames_in out)
+
 -- A command may come: a moment is one that a clock tells, below END_OF_TIME, a path has 1 to 1,000 addresses, and no
--- forged frame is injected. Where a message stands in an injected frame and opens, that is the text of a licensed
--- letter or of an item, as the command begins; all other frames are free.
-abbrev pub IsUnforged : Trade → List Site → Command → Type 0
-IsUnforged trade sites (Submit provider moment sender path message found) =
+-- forged frame is injected, or put in place of a due one. Where a message stands in an injected frame and opens, that is
+-- the text of a licensed letter or of an item, as the command begins; all other frames are free.
+abbrev pub IsUnforged : Trade → Luck → List Site → Command → Type 0
+IsUnforged trade luck sites (Submit provider moment sender path message found) =
     (0 < length path) × (length path ≤ most_addresses) × (moment < END_OF_TIME)
-IsUnforged trade sites (Tick provider moment) = moment < END_OF_TIME
-IsUnforged trade sites (Round moment) = moment < END_OF_TIME
-IsUnforged trade sites (Inject from to frame) = IsGenuine trade (journals_of sites) frame
-IsUnforged trade sites _ = Unit {0}
+IsUnforged trade luck sites (Tick provider moment) = moment < END_OF_TIME
+IsUnforged trade luck sites (Round moment) = (moment < END_OF_TIME) × PutsNoneForged trade luck sites moment
+IsUnforged trade luck sites (Inject from to frame) = IsGenuine trade (journals_of sites) frame
+IsUnforged trade luck sites _ = Unit {0}
 
 -- Each command along a script may come.
 abbrev pub AllUnforged : Trade → List Luck → List Site → List Command → Type 0
 AllUnforged trade [] sites commands = Unit {0}
 AllUnforged trade (luck ∷ lucks) sites [] = Unit {0}
 AllUnforged trade (luck ∷ lucks) sites (command ∷ commands) =
-    IsUnforged trade sites command × AllUnforged trade lucks (played trade luck sites command).after commands
+    IsUnforged trade luck sites command × AllUnforged trade lucks (played trade luck sites command).after commands
 
 -- The state is Sound before each command, and at the end.
 abbrev pub SoundAlong : Trade → List Luck → List Site → List Command → Type 0

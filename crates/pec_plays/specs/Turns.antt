@@ -51,13 +51,16 @@ entry_at steps number = option_and_then (λ (step : Step). step.entry) (slice_ge
 
 -- ---- cuts
 
--- How a turn went: all of it was done, or the append of the step of a number failed, or the journal had no room for
--- that step's entry, or memory ran out before that step.
+-- How a turn went. All of it was done; or a call of the disk failed, which is the append of the step of a number or,
+-- behind all steps, a read for a letter that is due; or the journal had no room for that step's entry; or memory ran
+-- out before that step. Or all was done, but these frames were put in place of those that are due, a list for each
+-- provider: only a disk that gives back other bytes than it took can be the cause.
 pub data Cut : Type 0 where
   Whole : Cut
-  Fails : (number : ℕ) → Cut
+  Fails : (number : ℕ) (fault : ProviderFault) → Cut
   Full : (number : ℕ) → Cut
   Stops : (number : ℕ) → Cut
+  Other : (out : List (List Bytes)) → Cut
 
 -- A turn: the provider as it then stands, what is told of it, the frames that it put for each provider, and why it
 -- ended early, if it did.
@@ -82,6 +85,11 @@ puts_from trade provider journal rooms owed to zero = []
 puts_from trade provider journal rooms owed to (suc count) =
     due_frames trade provider journal to (rooms to) owed ∷ puts_from trade provider journal rooms owed (to + 1) count
 
+-- of these frames, a list for each provider from a number on, as many as the links have room for
+abbrev pub that_fit : (ℕ → ℕ) → ℕ → List (List Bytes) → List (List Bytes)
+that_fit rooms to [] = []
+that_fit rooms to (frames ∷ out) = take (rooms to) frames ∷ that_fit rooms (to + 1) out
+
 -- the provider behind the first steps
 abbrev pub behind : Site → List Step → ℕ → Site
 behind site steps taken = record {
@@ -100,11 +108,14 @@ stopped site steps number fault = record {
   ended = Some fault;
 }
 
--- a provider whose append failed: it is down, and whether the entry is on its disk isn't known
+-- a provider of whose disk a call failed: it is down, and where an entry was appended by it, whether that is on the disk
+-- isn't known
 abbrev pub broken : Site → Option Entry → Site
 broken site entry = record { journal = site.journal; up = false; interrupted = entry; waiting = site.waiting }
 
--- a turn that was planned so, as it went with this cut: what is due is put where all was done, and else nothing
+-- A turn that was planned so, as it went with this cut. What is due is put where all was done, or other frames are, as
+-- many as the links have room for; else nothing is. Where a read failed, all frames were handled and all pairs decided,
+-- and no entry is interrupted.
 abbrev pub cut_turn : Trade → ℕ → (ℕ → ℕ) → Site → List Step → Cut → Turned
 cut_turn trade provider rooms site steps Whole = record {
   site = behind site steps (length steps);
@@ -112,12 +123,18 @@ cut_turn trade provider rooms site steps Whole = record {
   out = puts_from trade provider (site.journal ++ entries_of steps) rooms (owed_of steps) 0 trade.providers;
   ended = None;
 }
-cut_turn trade provider rooms site steps (Fails number) =
-    record (stopped site steps number faults.DiskFault) {
+cut_turn trade provider rooms site steps (Fails number fault) =
+    record (stopped site steps number fault) {
       site = broken (behind site (take number steps) (number + 1)) (entry_at steps number);
     }
 cut_turn trade provider rooms site steps (Full number) = stopped site steps number faults.JournalFull
 cut_turn trade provider rooms site steps (Stops number) = stopped site steps number faults.NoMemory
+cut_turn trade provider rooms site steps (Other out) = record {
+  site = behind site steps (length steps);
+  events = events_of steps;
+  out = that_fit rooms 0 out;
+  ended = None;
+}
 
 -- ---- turns
 

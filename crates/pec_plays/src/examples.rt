@@ -12,15 +12,15 @@ ghost use Rattle.pec_ledger.specs.Due.{owed_letters};
 ghost use Rattle.pec_ledger.specs.Network.{at_start, frames_between, Sound};
 ghost use Rattle.pec_ledger.specs.SmallWorld.{small};
 ghost use Rattle.pec_plays.specs.Commands.{Injected, IsUp, Items, Lines, NoFrame, Refuses, Restarted, Submits, Swapped, Turns};
-ghost use Rattle.pec_plays.specs.Examples.{alfa_behind, alfa_turn, answers_of, calm, calmly, failing, finding, from_outside, halfway, idle, left_by, no_such_place, out_of_order, to_the_end, turn_of, with_a_fault};
+ghost use Rattle.pec_plays.specs.Examples.{alfa_behind, alfa_turn, answers_of, calm, calmly, failing, finding, from_outside, halfway, idle, left_by, no_such_place, out_of_order, to_the_end, turn_of, unread, with_a_fault, with_a_look};
 ghost use Rattle.pec_plays.specs.Scripts.{AllUnforged};
 
 use crate::soundness::a_network_stays_sound;
 use pec_ledger::{a_world_is_there, soundness};
 
 /// The worked scripts, computed. A message goes from submission to delivery, and its letters are repeated until each is
-/// answered; letters that change places do no harm; an append that fails is the end of a turn, and a restart goes on from
-/// what the disk has.
+/// answered; letters that change places do no harm; an append that fails is the end of a turn, and a restart goes on
+/// from what the disk has.
 pub fn answers_of_the_examples()
     ensures to_the_end { answers_of (calmly to_the_end) to_the_end
         ≡ Submits (submissions.Accepted first)
@@ -92,6 +92,24 @@ pub fn answers_of_the_examples()
         ∷ Refuses faults.Down
         ∷ Restarted 4
         ∷ IsUp
+        ∷ [] }
+    // A read for the due letters fails: all is received and decided, nothing is put, and no entry is interrupted.
+    ensures read_failed { answers_of (calm ∷ calm ∷ failing 2 ∷ calm ∷ finding ∷ calm ∷ []) with_a_fault
+        ≡ Submits (submissions.Accepted first)
+        ∷ alfa_turn [] ((0, 1) ∷ [])
+        ∷ Turns (turn_of 0 (events.Took first ∷ events.Decided first anna decisions.Placed ∷ []) [] (Some faults.DiskFault) ∷ idle 1 ∷ [])
+        ∷ Refuses faults.Down
+        ∷ Restarted 4
+        ∷ IsUp
+        ∷ [] }
+    // The read of an item fails: the provider is down, and no entry is interrupted.
+    ensures look_failed { answers_of (calm ∷ calm ∷ calm ∷ unread ∷ calm ∷ finding ∷ []) with_a_look
+        ≡ Submits (submissions.Accepted first)
+        ∷ alfa_turn [] ((0, 1) ∷ [])
+        ∷ alfa_turn (events.Took first ∷ events.Decided first anna decisions.Placed ∷ []) ((0, 3) ∷ [])
+        ∷ Refuses faults.DiskFault
+        ∷ Refuses faults.Down
+        ∷ Restarted 4
         ∷ [] }
 {}
 

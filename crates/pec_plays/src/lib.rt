@@ -1,9 +1,8 @@
-//! How a network plays: what a provider does on a frame, a pair, a submission or a clock call, by the tables of the trade;
-//! turns and rounds; the commands of a script, crashes and restarts too. There is no code here: each function is a law,
-//! whose contract is the statement.
+//! How a network plays: what a provider does on a frame, a pair, a submission or a clock call, by the tables of the
+//! trade; turns and rounds; the commands of a script, crashes and restarts too. There is no code here: each function is
+//! a law, whose contract is the statement.
 #![tactic(auto)]
 
-mod envelopes;
 mod examples;
 mod reception;
 mod refusals;
@@ -13,7 +12,6 @@ mod runs;
 mod soundness;
 mod turns;
 
-pub use envelopes::{taken_messages_have_envelopes, what_a_provider_takes_is_an_envelope};
 pub use examples::{a_run_is_there, answers_of_the_examples};
 pub use reception::{
     a_frame_is_received_by_its_row, decisions_are_the_table, reception_is_the_table,

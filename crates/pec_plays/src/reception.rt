@@ -16,8 +16,8 @@ ghost use Rattle.pec_plays.specs.TableSight.{arrived_at, done_by, mailbox_at};
 
 use pec_points::{a_frame_has_one_reception, a_recipient_has_one_decision};
 
-/// What a provider does with a frame, row by row: which row of the table it is, the entry, what is told and what is owed
-/// (RFC 6109, sections 3.1 to 3.3, within this project's profile). Bytes that are no frame are dropped.
+/// What a provider does with a frame, row by row: which row of the table it is, the entry, what is told and what is
+/// owed (RFC 6109, sections 3.1 to 3.3, within this project's profile). Bytes that are no frame are dropped.
 pub fn a_frame_is_received_by_its_row()
     ensures no_frame { (trade : Trade) (provider now : ℕ) (journal : List Entry) (frame : Bytes) → trade.unframed frame ≡ None
         → arrive trade provider now journal frame ≡ passes events.Dropped [] }

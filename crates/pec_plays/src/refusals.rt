@@ -12,9 +12,9 @@ ghost use Rattle.pec_plays.specs.Refusals.{HasRoomFor, IsAtWork, TakesMessages};
 ghost use Rattle.pec_plays.specs.Steps.{has_no_room};
 ghost use Rattle.pec_plays.specs.Turns.{last_of};
 
-/// A submission is refused for the first of these causes: the sender is no account of the provider, the provider is down,
-/// the moment is before the greatest of its journal, it has as many messages as it may, or its journal has no room for
-/// the entry. Else the entry is appended, whose append may fail.
+/// A submission is refused for the first of these causes: the sender is no account of the provider, the provider is
+/// down, the moment is before the greatest of its journal, it has as many messages as it may, or its journal has no
+/// room for the entry. Else the entry is appended, whose append may fail.
 pub fn submissions_are_refused_in_order()
     ensures no_account { (trade : Trade) (luck : Luck) (sites : List Site) (provider now : ℕ) (sender : Bytes) (path : Path) (message : Bytes) (found : Bool)
         → trade.is_account provider sender ≡ false
@@ -41,8 +41,8 @@ pub fn submissions_are_refused_in_order()
         (Submits (told_by (screened_cause found (trade.cause provider sender path message)) (id_of provider (messages_at trade sites provider)))) }
 {}
 
-/// A clock call is refused for the first of these causes: the provider is down, the moment is before the greatest of its
-/// journal, or its journal has no room for the entry. Else the entry is appended, whose append may fail.
+/// A clock call is refused for the first of these causes: the provider is down, the moment is before the greatest of
+/// its journal, or its journal has no room for the entry. Else the entry is appended, whose append may fail.
 pub fn clock_calls_are_refused_in_order()
     ensures down { (trade : Trade) (luck : Luck) (sites : List Site) (provider now : ℕ) → is_up sites provider ≡ false
         → played trade luck sites (Tick provider now) ≡ answers sites (Refuses faults.Down) }

@@ -5,8 +5,8 @@ ghost use Rattle.pec_plays.specs.Rounds.{rooms_of, rounded, turns_of};
 ghost use Rattle.pec_plays.specs.Turns.{Cut, turned};
 
 /// A round is the turns of all providers, each from the state as the round began, so that no turn sees a frame that was
-/// put in the same round. Behind it a provider stands as its turn left it, and on each link wait the frames that its turn
-/// left there and then those that the other provider's turn put.
+/// put in the same round. Behind it a provider stands as its turn left it, and on each link wait the frames that its
+/// turn left there and then those that the other provider's turn put.
 pub fn a_round_is_its_turns()
     ensures turns { (trade : Trade) (now : ℕ) (cuts : ℕ → Cut) (sites : List Site) (provider : ℕ) → provider < length sites
         → slice_get (turns_of trade now cuts sites) provider

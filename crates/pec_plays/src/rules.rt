@@ -19,8 +19,9 @@ ghost use Rattle.pec_plays.specs.Steps.{journal_after};
 
 use pec_ledger::arrivals_are_true;
 
-/// What a provider appends on a frame, on the decision of an undecided pair, on a submission and on a clock call meets its
-/// own condition, at the moment of the call (in seconds): whatever stands in the frame, and whatever other journals hold.
+/// What a provider appends on a frame, on the decision of an undecided pair, on a submission and on a clock call meets
+/// its own condition, at the moment of the call (in seconds): whatever stands in the frame, and whatever other journals
+/// hold.
 pub fn what_a_provider_does_is_its_own()
     ensures arrivals { (trade : Trade) → IsTrade trade → (provider now : ℕ) (journal : List Entry) (frame : Bytes) (entry : Entry)
         → (arrive trade provider now journal frame).entry ≡ Some entry

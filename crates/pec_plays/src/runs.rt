@@ -1,23 +1,26 @@
 ghost use Rattle.std.specs.Prelude.{◌≡◌, ℕ, List, length};
+ghost use Rattle.std.specs.List.{AllByRecursion};
 ghost use Rattle.pec_ledger.specs.Along.{AllDiffer, GoesOnAs};
 ghost use Rattle.pec_ledger.specs.Network.{journal_at, Site, Sound};
 ghost use Rattle.pec_ledger.specs.Trade.{Trade};
 ghost use Rattle.pec_ledger.specs.TradeLaws.{IsTrade};
 ghost use Rattle.pec_plays.specs.Commands.{Command, Luck, played};
-ghost use Rattle.pec_plays.specs.Possible.{AllQuiet, IsQuiet, MayMeet, NoneInterrupted, quiet_luck, quiet_lucks};
+ghost use Rattle.pec_plays.specs.Possible.{AllQuiet, GaveWhatWasKept, IsQuiet, MayMeet, NoneInterrupted, quiet_luck, quiet_lucks};
 ghost use Rattle.pec_plays.specs.Scripts.{AllUnforged, script};
 ghost use Rattle.pec_plays.specs.Told.{decided_told, learned_told};
 
 use crate::soundness::a_network_stays_sound;
 use pec_ledger::{rows_have_their_texts, the_guarantees};
 
-/// What is answered settles the state behind it: whatever devices did, with the same answer to a command, or the same
-/// answers to a script, the state is the same.
+/// What is answered settles the state behind it: whatever devices did, but that no turn put other frames than those
+/// that were due, with the same answer to a command, or the same answers to a script, the state is the same.
 pub fn answers_settle_the_state()
     ensures commands { (trade : Trade) (sites : List Site) (command : Command) (luck other : Luck)
+        → GaveWhatWasKept luck → GaveWhatWasKept other
         → (played trade luck sites command).answer ≡ (played trade other sites command).answer
         → (played trade luck sites command).after ≡ (played trade other sites command).after }
     ensures scripts { (trade : Trade) (sites : List Site) (commands : List Command) (lucks others : List Luck)
+        → AllByRecursion GaveWhatWasKept lucks → AllByRecursion GaveWhatWasKept others
         → (script trade lucks sites commands).answers ≡ (script trade others sites commands).answers
         → (script trade lucks sites commands).after ≡ (script trade others sites commands).after }
 {}
@@ -28,7 +31,8 @@ pub fn a_command_appends()
         → GoesOnAs (journal_at sites provider) (journal_at (played trade luck sites command).after provider) }
 {}
 
-/// No two answers of a run decide one pair, and no two learn one, whatever devices do, where no forged frame is injected.
+/// No two answers of a run decide one pair, and no two learn one, whatever devices do, where no forged frame is
+/// injected.
 pub fn no_two_answers()
     ensures decided { (trade : Trade) → IsTrade trade → (lucks : List Luck) (sites : List Site) (commands : List Command)
         → Sound trade sites → AllUnforged trade lucks sites commands
@@ -51,6 +55,8 @@ pub fn quiet_runs_are_one()
     ensures scripts { (trade : Trade) (sites : List Site) (commands : List Command) (lucks others : List Luck) → NoneInterrupted sites
         → length lucks ≡ length others → AllQuiet trade lucks sites commands → AllQuiet trade others sites commands
         → script trade lucks sites commands ≡ script trade others sites commands }
+    // without faults no turn puts other frames than those that are due
+    ensures kept { (luck : Luck) → IsQuiet luck → GaveWhatWasKept luck }
     // a luck without faults, for each command and each script
     ensures command_there { (trade : Trade) (sites : List Site) (command : Command)
         → MayMeet trade (quiet_luck trade sites command) sites command × IsQuiet (quiet_luck trade sites command) }

@@ -28,14 +28,15 @@ use pec_ledger::{
 };
 
 /// Whatever devices do, each command keeps a state Sound where its moment is one that a clock tells (in seconds, below
-/// END_OF_TIME) and no forged frame is injected, and so does each script: its state is Sound before each command and at
-/// the end. So all that follows from journals that are Fit holds there.
+/// END_OF_TIME) and no forged frame is injected, or put for what a disk gave back in place of what it took; and so does
+/// each script: its state is Sound before each command and at the end. So all that follows from journals that are Fit
+/// holds there.
 pub fn a_network_stays_sound()
     ensures commands { (trade : Trade) → IsTrade trade → (luck : Luck) (sites : List Site) (command : Command)
-        → Sound trade sites → IsUnforged trade sites command → Sound trade (played trade luck sites command).after }
+        → Sound trade sites → IsUnforged trade luck sites command → Sound trade (played trade luck sites command).after }
     // what it appends may follow in the ledger as the command begins, and what waits behind it is genuine
     ensures goes_on { (trade : Trade) → IsTrade trade → (luck : Luck) (sites : List Site) (command : Command)
-        → Sound trade sites → IsUnforged trade sites command → IsNext trade sites (played trade luck sites command).after }
+        → Sound trade sites → IsUnforged trade luck sites command → IsNext trade sites (played trade luck sites command).after }
     ensures scripts { (trade : Trade) → IsTrade trade → (lucks : List Luck) (sites : List Site) (commands : List Command)
         → Sound trade sites → AllUnforged trade lucks sites commands → SoundAlong trade lucks sites commands }
     ensures ends { (trade : Trade) → IsTrade trade → (lucks : List Luck) (sites : List Site) (commands : List Command)
@@ -74,9 +75,9 @@ pub fn undecided_pairs()
         × (decided_of (half trade provider journal) pair ≡ None)) }
 {}
 
-/// In journals that are Fit a provider composes every envelope and every outcome that it owes, the charge of each message
-/// that it took, the acknowledgement of each outcome that it knows, and so every answer that it owes in a turn: none is
-/// left out for want of its text.
+/// In journals that are Fit a provider composes every envelope and every outcome that it owes, the charge of each
+/// message that it took, the acknowledgement of each outcome that it knows, and so every answer that it owes in a turn:
+/// none is left out for want of its text.
 pub fn due_letters_are_composed()
     ensures envelopes { (trade : Trade) → IsTrade trade → (journals : Journals) → Fit trade journals
         → (provider to : ℕ) (letter : SomeLetter) → IsOwedEnvelope trade provider (ledger trade journals provider) to letter

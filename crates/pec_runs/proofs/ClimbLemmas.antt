@@ -5,11 +5,11 @@ use Rattle.std.proofs.lemmas.List.Elements.{All-cons, All-nil}
 use Rattle.pec_ledger.specs.Network.{Site}
 use Rattle.pec_ledger.specs.Trade.{Trade}
 use Rattle.pec_plays.specs.Commands.{Command, Luck, played}
-use Rattle.pec_plays.specs.Possible.{MayMeet}
+use Rattle.pec_plays.specs.Possible.{GaveWhatWasKept, MayMeet}
 use Rattle.pec_plays.specs.Scripts.{script}
 use Rattle.pec_runs.specs.Endings.{End}
-use Rattle.pec_runs.specs.Plays.{HasMemory, MayPlay, MayStray, Rest, RoseAlong, RoseBy, Stopped, Strayed, ToTheEnd, faults_by}
-use Rattle.pec_runs.specs.Plays.{faults_told}
+use Rattle.pec_runs.specs.Plays.{HasMemory, MayPlay, MayStray, Rest, RoseAlong, RoseBy, ShowsItsOwn, Stopped, Strayed, ToTheEnd}
+use Rattle.pec_runs.specs.Plays.{UnchangedIn, faults_by, faults_told}
 use Rattle.pec_runs.specs.ScriptLines.{Script, nothing_but, onto_script}
 
 rose_none : (a b : ℕ) → a ≤ b → RoseBy 0 a b
@@ -27,19 +27,19 @@ module _ (trade : Trade) where
   -- what counts rose along a script they rose by in all
   pub rose_in_all : (lucks : List Luck) (sites : List Site) (commands : List Command) (from upto : ℕ → ℕ)
       → RoseAlong trade lucks sites commands from upto → (p : ℕ)
-      → RoseBy (faults_told p commands (script trade lucks sites commands).answers) (from p) (upto p)
+      → RoseBy (faults_told trade p commands (script trade lucks sites commands).answers) (from p) (upto p)
   rose_in_all [] sites [] from upto rose p = rose_none (from p) (upto p) (rose p)
   rose_in_all [] sites (c ∷ commands) from upto rose p = rose_none (from p) (upto p) (rose p)
   rose_in_all (luck ∷ lucks) sites [] from upto rose p = rose_none (from p) (upto p) (rose p)
   rose_in_all (luck ∷ lucks) sites (c ∷ commands) from upto rose p =
-      rose_both (faults_by p c (played trade luck sites c).answer)
-      (faults_told p commands (script trade lucks (played trade luck sites c).after commands).answers)
+      rose_both (faults_by trade p c (played trade luck sites c).answer)
+      (faults_told trade p commands (script trade lucks (played trade luck sites c).after commands).answers)
       (from p) (rose.0 p) (upto p) (rose.1 p)
       (rose_in_all lucks (played trade luck sites c).after commands rose.0 upto rose.2 p)
 
   -- where no fault is told the counts may stay
   pub rose_nowhere : (lucks : List Luck) (sites : List Site) (commands : List Command) (counts : ℕ → ℕ)
-      → ((p : ℕ) → faults_told p commands (script trade lucks sites commands).answers ≡ 0)
+      → ((p : ℕ) → faults_told trade p commands (script trade lucks sites commands).answers ≡ 0)
       → RoseAlong trade lucks sites commands counts counts
   rose_nowhere [] sites commands counts none = λ p. omega arith
   rose_nowhere (luck ∷ lucks) sites [] counts none = λ p. omega arith
@@ -58,6 +58,9 @@ module _ (trade : Trade) (tells : Type 0) where
     meet = tt;
     memory = All-nil HasMemory;
     counts = later;
+    kept = λ told. tt;
+    shown = λ told. tt;
+    unchanged = λ told. tt;
     strays = tt;
   }
 
@@ -68,6 +71,9 @@ module _ (trade : Trade) (tells : Type 0) where
     meet = tt;
     memory = All-nil HasMemory;
     counts = later;
+    kept = λ told. tt;
+    shown = λ told. tt;
+    unchanged = λ told. tt;
     strays = tt;
   }
 
@@ -80,20 +86,28 @@ module _ (trade : Trade) (tells : Type 0) where
     meet = tt;
     memory = All-nil HasMemory;
     counts = later;
+    kept = λ told. tt;
+    shown = λ told. tt;
+    unchanged = λ told. tt;
     strays = may;
   }
 
   pub plays_on : (sites : List Site) (from mid upto : ℕ → ℕ) (command : Command) (luck : Luck) (written : Script)
       (lucks : List Luck) (rest : Rest)
       → MayMeet trade luck sites command → HasMemory (played trade luck sites command).answer
-      → ((p : ℕ) → RoseBy (faults_by p command (played trade luck sites command).answer) (from p) (mid p))
+      → ((p : ℕ) → RoseBy (faults_by trade p command (played trade luck sites command).answer) (from p) (mid p))
+      → (tells → GaveWhatWasKept luck) → (tells → ShowsItsOwn luck)
+      → (tells → UnchangedIn trade sites (played trade luck sites command).answer)
       → MayPlay trade tells (played trade luck sites command).after mid upto written lucks rest
       → MayPlay trade tells sites from upto (onto_script command written) (luck ∷ lucks) rest
-  plays_on sites from mid upto command luck written lucks rest may has rose more = record {
+  plays_on sites from mid upto command luck written lucks rest may has rose kept shown same more = record {
     enough = let l = more.enough in omega (arith, l);
     meet = (may, more.meet);
     memory = All-cons HasMemory (played trade luck sites command).answer
         (script trade lucks (played trade luck sites command).after written.commands).answers has more.memory;
     counts = (mid, rose, more.counts);
+    kept = λ told. (kept told, more.kept told);
+    shown = λ told. (shown told, more.shown told);
+    unchanged = λ told. (same told, more.unchanged told);
     strays = more.strays;
   }

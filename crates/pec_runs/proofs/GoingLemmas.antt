@@ -29,10 +29,12 @@ module _ {D : Type 0} where
   acts_append [] more = refl
   acts_append (step ∷ steps) more = ap (λ (l : List Act). step.act ∷ l) (acts_append steps more)
 
-  steps_append : (trade : Trade) (here : State D) (steps more : List (Step D)) → AreSteps trade here steps
-      → AreSteps trade (state_behind here steps) more → AreSteps trade here (steps ++ more)
-  steps_append trade here [] more are then = then
-  steps_append trade here (step ∷ steps) more are then = (are.0, steps_append trade step.behind steps more are.1 then)
+  steps_append : (trade : Trade) (tells : Type 0) (here : State D) (steps more : List (Step D))
+      → AreSteps trade tells here steps → AreSteps trade tells (state_behind here steps) more
+      → AreSteps trade tells here (steps ++ more)
+  steps_append trade tells here [] more are then = then
+  steps_append trade tells here (step ∷ steps) more are then =
+      (are.0, steps_append trade tells step.behind steps more are.1 then)
 
   text_append : (trade : Trade) (providers : List Provider) (here : State D) (steps more : List (Step D))
       → text_of trade providers here (steps ++ more)
@@ -62,7 +64,7 @@ module _ (trade : Trade) {D : Type 0} (sight : D → Sight) where
 
 -- a luck of an act that plays no command
 abbrev quiet : Luck
-quiet = record { cuts = λ provider. Whole; fails = false; found = false }
+quiet = record { cuts = λ provider. Whole; fails = false; found = false; read = None; shown = None }
 
 -- ---- acts that are left
 
@@ -209,8 +211,8 @@ module _ (trade : Trade) (providers : List Provider) (tells : Type 0) {D : Type 
               ∙ (append_assoc (acts_of went.steps) (acts_of goes.steps) goes.left
               ∙ (ap (λ (l : List Act). l ++ (acts_of goes.steps ++ goes.left)) all ∙ ap (λ (l : List Act). done ++ l)
               goes.acts_are));
-          each = steps_append trade first.state went.steps goes.steps went.each
-              (subst (λ (s : State D). AreSteps trade s goes.steps) state goes.each);
+          each = steps_append trade tells first.state went.steps goes.steps went.each
+              (subst (λ (s : State D). AreSteps trade tells s goes.steps) state goes.each);
           moments = λ told. moments_joined trade sight first.state here.state there.state went.steps goes.steps state
               (went.moments told) (goes.moments told);
           ends = subst (λ (s : State D). Ends s (text_of trade providers first.state (went.steps ++ goes.steps))
@@ -309,7 +311,7 @@ module _ (trade : Trade) (providers : List Provider) (tells : Type 0) {D : Type 
 
   -- an act that was done, and its lines written
   one_step : (act : Act) (luck : Luck) (here there : Point D) (behind : State D) (text : Bytes) (stop : Option Stop)
-      → IsStep trade here.state act luck behind → (tells → IsMoment trade sight here.state behind)
+      → IsStep trade tells here.state act luck behind → (tells → IsMoment trade sight here.state behind)
       → there.state ≡ behind → text_by trade providers here.state.sites act luck ≡ text → NoneFell here there
       → IsWritten text here there stop
       → Goes trade providers tells sight (act ∷ []) here there stop
@@ -345,7 +347,7 @@ module _ (trade : Trade) (providers : List Provider) (tells : Type 0) {D : Type 
       by_blame (Some NoMemory) wrote e = absurd wrote
 
   pub one_played : (command : Command) (luck : Luck) (here there : Point D) (stop : Option Stop)
-      → IsCall trade here.state.sites here.state.counts there.state.counts command luck there.state.sites
+      → IsCall trade tells here.state.sites here.state.counts there.state.counts command luck there.state.sites
       → (tells → IsMoment trade sight here.state there.state) → NoneFell here there
       → IsWritten (answer_text providers (played trade luck here.state.sites command).answer) here there stop
       → Goes trade providers tells sight (Plays command ∷ []) here there stop

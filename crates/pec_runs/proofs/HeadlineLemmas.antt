@@ -41,10 +41,10 @@ use Rattle.pec_runs.proofs.StepLemmas.{JointStays, reached_itself, reached_on}
 pub record PlayLaws (trade : Trade) : Type 0 where
   pub stays : JointStays trade
   pub goes_on : (luck : Luck) (sites : List Site) (command : Command) → Sound trade sites
-      → IsUnforged trade sites command
+      → IsUnforged trade luck sites command
       → IsNext trade sites (played trade luck sites command).after
   pub commands : (luck : Luck) (sites : List Site) (command : Command) → Sound trade sites
-      → IsUnforged trade sites command
+      → IsUnforged trade luck sites command
       → Sound trade (played trade luck sites command).after
   pub one_outcome : (journals : Journals) → Fit trade journals → OneOutcome trade journals
   pub one_delivery : (journals : Journals) → Fit trade journals → OneDelivery trade journals

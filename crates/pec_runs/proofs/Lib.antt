@@ -5,6 +5,7 @@ pub mod DeliveredLemmas
 pub mod GoingLemmas
 pub mod HeadlineLemmas
 pub mod InputLemmas
+pub mod KeptLemmas
 pub mod LeavingLemmas
 pub mod LineLemmas
 pub mod MomentLemmas

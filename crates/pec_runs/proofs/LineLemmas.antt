@@ -19,9 +19,10 @@ use Rattle.pec_script.specs.declared.verbs.Verb.TheVariants as verbs
 use Rattle.pec_ledger.specs.Network.{Site}
 use Rattle.pec_ledger.specs.Trade.{Trade}
 use Rattle.pec_plays.specs.Commands.{Command, Luck, Submit, Tick, Round, Lose, Repeat, Swap, Inject, Crash, Restart, Book, Mailbox, Show, played}
+use Rattle.pec_plays.specs.Possible.{GaveWhatWasKept, IsOfKept}
 use Rattle.pec_plays.specs.Scripts.{AllUnforged, IsUnforged}
 use Rattle.pec_runs.specs.Endings.{End}
-use Rattle.pec_runs.specs.Headline.{AllHonest, CanBeSaid, IsHonest}
+use Rattle.pec_runs.specs.Headline.{AllHonest, CanBeSaid, IsHonest, NoneInjected, PutsHonestly}
 use Rattle.pec_input.specs.Lines.{content_of}
 use Rattle.pec_runs.specs.ScriptLines.{Line, PassedOver, Says, SaysNone, TooLong, TooMany, behind_line, command_in, is_passed_over, line_by, longest_line, most_lines, said_by, script_of}
 use Rattle.pec_screen.specs.Screened.{Finds}
@@ -128,27 +129,56 @@ module _ (reads : ReadsSo) (finds : Finds) (providers : List Provider) where
 
 -- ---- no forged frame
 
-pub one_unforged : (trade : Trade) (sites : List Site) (command : Command) → CanBeSaid command
-    → IsHonest trade sites command
-    → IsUnforged trade sites command
-one_unforged trade sites (Submit p now sender along message found) can honest = can
-one_unforged trade sites (Tick p now) can honest = can
-one_unforged trade sites (Round now) can honest = can
-one_unforged trade sites (Lose from to at) can honest = tt
-one_unforged trade sites (Repeat from to at) can honest = tt
-one_unforged trade sites (Swap from to at) can honest = tt
-one_unforged trade sites (Inject from to frame) can honest = honest
-one_unforged trade sites (Crash p) can honest = tt
-one_unforged trade sites (Restart p) can honest = tt
-one_unforged trade sites (Book account) can honest = tt
-one_unforged trade sites (Mailbox account) can honest = tt
-one_unforged trade sites (Show account at) can honest = tt
+pub one_unforged : (trade : Trade) (luck : Luck) (sites : List Site) (command : Command) → CanBeSaid command
+    → IsHonest trade sites command → PutsHonestly trade luck sites command
+    → IsUnforged trade luck sites command
+one_unforged trade luck sites (Submit p now sender along message found) can honest puts = can
+one_unforged trade luck sites (Tick p now) can honest puts = can
+one_unforged trade luck sites (Round now) can honest puts = (can, puts)
+one_unforged trade luck sites (Lose from to at) can honest puts = tt
+one_unforged trade luck sites (Repeat from to at) can honest puts = tt
+one_unforged trade luck sites (Swap from to at) can honest puts = tt
+one_unforged trade luck sites (Inject from to frame) can honest puts = honest
+one_unforged trade luck sites (Crash p) can honest puts = tt
+one_unforged trade luck sites (Restart p) can honest puts = tt
+one_unforged trade luck sites (Book account) can honest puts = tt
+one_unforged trade luck sites (Mailbox account) can honest puts = tt
+one_unforged trade luck sites (Show account at) can honest puts = tt
 
 pub all_unforged : (trade : Trade) (lucks : List Luck) (sites : List Site) (commands : List Command)
     → AllByRecursion CanBeSaid commands → AllHonest trade lucks sites commands → AllUnforged trade lucks sites commands
 all_unforged trade [] sites commands can honest = tt
 all_unforged trade (luck ∷ lucks) sites [] can honest = tt
 all_unforged trade (luck ∷ lucks) sites (c ∷ commands) can honest = (
-  one_unforged trade sites c can.0 honest.0,
-  all_unforged trade lucks (played trade luck sites c).after commands can.1 honest.1,
+  one_unforged trade luck sites c can.0 honest.0 honest.1,
+  all_unforged trade lucks (played trade luck sites c).after commands can.1 honest.2,
+)
+
+-- ---- frames that are put as they were kept
+
+-- where each turn put what was due, none of its frames is forged
+pub puts_kept : (trade : Trade) (luck : Luck) (sites : List Site) (command : Command) → GaveWhatWasKept luck
+    → PutsHonestly trade luck sites command
+puts_kept trade luck sites (Submit p now sender along message found) kept = tt
+puts_kept trade luck sites (Tick p now) kept = tt
+puts_kept trade luck sites (Round now) kept = λ p out within other. absurd (subst IsOfKept other (kept p))
+puts_kept trade luck sites (Lose from to at) kept = tt
+puts_kept trade luck sites (Repeat from to at) kept = tt
+puts_kept trade luck sites (Swap from to at) kept = tt
+puts_kept trade luck sites (Inject from to frame) kept = tt
+puts_kept trade luck sites (Crash p) kept = tt
+puts_kept trade luck sites (Restart p) kept = tt
+puts_kept trade luck sites (Book account) kept = tt
+puts_kept trade luck sites (Mailbox account) kept = tt
+puts_kept trade luck sites (Show account at) kept = tt
+
+pub all_honest : (trade : Trade) (lucks : List Luck) (sites : List Site) (commands : List Command)
+    → AllByRecursion GaveWhatWasKept lucks → NoneInjected trade lucks sites commands
+    → AllHonest trade lucks sites commands
+all_honest trade [] sites commands kept none = tt
+all_honest trade (luck ∷ lucks) sites [] kept none = tt
+all_honest trade (luck ∷ lucks) sites (c ∷ commands) kept none = (
+  none.0,
+  puts_kept trade luck sites c kept.0,
+  all_honest trade lucks (played trade luck sites c).after commands kept.1 none.1,
 )

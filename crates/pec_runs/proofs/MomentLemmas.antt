@@ -22,7 +22,7 @@ use Rattle.pec_runs.specs.Steps.{State, Step, Writes}
 -- what pec_plays says of commands, in one world
 abbrev pub StaysSound : Trade → Type 0
 StaysSound trade =
-    (luck : Luck) (sites : List Site) (command : Command) → Sound trade sites → IsUnforged trade sites command
+    (luck : Luck) (sites : List Site) (command : Command) → Sound trade sites → IsUnforged trade luck sites command
     → Sound trade (played trade luck sites command).after
 
 module _ (trade : Trade) {D : Type 0} (sight : D → Sight) where
@@ -58,9 +58,9 @@ module _ (trade : Trade) {D : Type 0} (sight : D → Sight) where
       let came = moments.came sound provider one is
       in came.stands (stand provider came.was came.is)
 
-  module _ (stays : StaysSound trade) where
-    pub sound_on : (here behind : State D) (act : Act) (luck : Luck) → IsStep trade here act luck behind → Sound trade here.sites
-        → IsHonestAct trade here.sites act → Sound trade behind.sites
+  module _ (tells : Type 0) (stays : StaysSound trade) where
+    pub sound_on : (here behind : State D) (act : Act) (luck : Luck) → IsStep trade tells here act luck behind → Sound trade here.sites
+        → IsHonestAct trade luck here.sites act → Sound trade behind.sites
     sound_on here behind (Plays command) luck is sound honest =
         subst (λ (s : List Site). Sound trade s) (sym is.state) (stays luck here.sites command sound honest)
     sound_on here behind (Hands command) luck is sound honest =
@@ -68,7 +68,7 @@ module _ (trade : Trade) {D : Type 0} (sight : D → Sight) where
     sound_on here behind (Writes text) luck is sound honest =
         subst (λ (s : State D). Sound trade s.sites) (sym is) sound
 
-    pub sound_at : (number : ℕ) (here there : State D) (steps : List (Step D)) → AreSteps trade here steps
+    pub sound_at : (number : ℕ) (here there : State D) (steps : List (Step D)) → AreSteps trade tells here steps
         → AllMoments trade sight here there steps → AreHonest trade here steps → Sound trade here.sites
         → AllStandIn sight here → number ≤ length steps
         → Sound trade (state_at number here there steps).sites × AllStandIn sight (state_at number here there steps)

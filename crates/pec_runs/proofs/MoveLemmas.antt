@@ -14,7 +14,7 @@ sound_append trade here (step ∷ steps) more keep then = (keep.0, sound_append 
 module _ (trade : Trade) (tells : Type 0) {D : Type 0} (sight : D → Sight) where
   pub moves_none : (here : State D) → MovesOn trade tells sight here here
   moves_none here = record {
-    moves = record { steps = []; sound = tt; moments = λ told. record { each = tt; last = inl refl } };
+    moves = record { steps = []; sound = λ told. tt; moments = λ told. record { each = tt; last = inl refl } };
     whole = refl;
   }
 
@@ -22,8 +22,8 @@ module _ (trade : Trade) (tells : Type 0) {D : Type 0} (sight : D → Sight) whe
       → Moves trade tells sight here there → Moves trade tells sight first there
   moves_part first here there went goes = record {
     steps = went.moves.steps ++ goes.steps;
-    sound = sound_append trade first went.moves.steps goes.steps went.moves.sound
-        (subst (λ (s : State D). KeepSound trade s goes.steps) went.whole goes.sound);
+    sound = λ told. sound_append trade first went.moves.steps goes.steps (went.moves.sound told)
+        (subst (λ (s : State D). KeepSound trade s goes.steps) went.whole (goes.sound told));
     moments = λ told. moments_joined trade sight first here there went.moves.steps goes.steps went.whole
         (went.moves.moments told) (goes.moments told);
   }
@@ -44,7 +44,7 @@ pub moves_told : {D : Type 0} (trade : Trade) (tells more : Type 0) (sight : D �
 moves_told trade tells more sight here there tells_so moves = record {
   moves = record {
     steps = moves.moves.steps;
-    sound = moves.moves.sound;
+    sound = λ told. moves.moves.sound (tells_so told);
     moments = λ told. moves.moves.moments (tells_so told);
   };
   whole = moves.whole;

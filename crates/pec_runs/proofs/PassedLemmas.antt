@@ -62,7 +62,7 @@ module _ {D : Type 0} (tells : Type 0) (sight : D → Sight) (asked : Asked) (st
     honest_steps reads played honest =
         let lucky = subst (λ (l : List Luck). AllHonest (world happened) l (beginning happened) script.commands)
         (sym played.lucks) honest in
-        steps_honest (world happened) (providers_in happened.setting) played.goes.first played.goes.steps played.unplayed
+        steps_honest (world happened) tells (providers_in happened.setting) played.goes.first played.goes.steps played.unplayed
         script.commands script.end played.acts played.goes.each
         (commands_can asked status unread before after tells _ _ old new ran.ran form script begun reads)
         (subst (λ (s : List Site). AllHonest (world happened) (lucks_in played.goes.steps) s script.commands)

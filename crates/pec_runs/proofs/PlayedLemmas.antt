@@ -90,7 +90,7 @@ module _ (trade : Trade) (providers : List Provider) (tells : Type 0) {D : Type 
 
   -- a command was played before
   played_first : (here behind : State D) (command : Command) (luck : Luck) (steps : List (Step D)) (left : List Act)
-      (written : Script) → IsStep trade here (Plays command) luck behind → Front behind steps left written
+      (written : Script) → IsStep trade tells here (Plays command) luck behind → Front behind steps left written
       → Front here (record { act = Plays command; luck = luck; behind = behind } ∷ steps) left
       (onto_script command written)
   played_first here behind command luck steps left written is front = record {
@@ -99,7 +99,7 @@ module _ (trade : Trade) (providers : List Provider) (tells : Type 0) {D : Type 
     may = λ upto rest may.
         plays_on trade tells here.sites here.counts behind.counts upto command luck written (lucks_in steps) rest
         is.meet
-        is.memory is.counts
+        is.memory is.counts is.kept is.shown is.unchanged
         (subst (λ (s : List Site). MayPlay trade tells s behind.counts upto written (lucks_in steps) rest) is.state
         (front.may upto rest may));
     after = ap (λ (s : List Site). (script trade (lucks_in steps) s written.commands).after) (sym is.state) ∙
@@ -129,7 +129,7 @@ module _ (trade : Trade) (providers : List Provider) (tells : Type 0) {D : Type 
 
   front_of : (here : State D) (steps : List (Step D)) (left : List Act) (commands : List Command) (end : End)
       → acts_of steps ++ left ≡ acts_of_script providers (written_as commands end)
-      → AreSteps trade here steps → Front here steps left (written_as commands end)
+      → AreSteps trade tells here steps → Front here steps left (written_as commands end)
   front_of here [] left commands end is are = nothing_done here left (written_as commands end) is
   front_of here (step ∷ other ∷ steps) left [] end is are = cc
   front_of here (step ∷ []) (act ∷ left) [] end is are = cc
@@ -138,14 +138,14 @@ module _ (trade : Trade) (providers : List Provider) (tells : Type 0) {D : Type 
       in subst (λ (a : Act). Front here (record { act = a; luck = step.luck; behind = step.behind } ∷ []) []
       (nothing_but end)) (sym act)
       (last_done here step.behind step.luck end
-      (subst (λ (a : Act). IsStep trade here a step.luck step.behind) act are.0))
+      (subst (λ (a : Act). IsStep trade tells here a step.luck step.behind) act are.0))
   front_of here (step ∷ steps) left (command ∷ commands) end is are =
       let act : step.act ≡ Plays command = cc
       in let rest : acts_of steps ++ left ≡ acts_of_script providers (written_as commands end) = cc
       in subst (λ (a : Act). Front here (record { act = a; luck = step.luck; behind = step.behind } ∷ steps) left
       (written_as (command ∷ commands) end)) (sym act)
       (played_first here step.behind command step.luck steps left (written_as commands end)
-      (subst (λ (a : Act). IsStep trade here a step.luck step.behind) act are.0)
+      (subst (λ (a : Act). IsStep trade tells here a step.luck step.behind) act are.0)
       (front_of step.behind steps left commands end rest are.1))
 
   -- ---- how a script goes

@@ -1,6 +1,8 @@
 -- A run of which no fault is told is one without faults.
 use Rattle.std.proofs.Common.{◌≡◌, ◌≢◌, ℕ, zero, suc, ◌+◌, ◌<◌, ◌==◌, ◌&&◌, ◌⊎◌, inl, inr, List, [], ◌∷◌, Bool, true, false, length, refl, ap, sym, subst, ◌∙◌, arith, nat_lt, Option, Some, None}
-use Rattle.std.specs.Prelude.{All, filter, slice_get, slice_index_or, if◌then◌else◌}
+use Rattle.std.specs.Prelude.{All, IfSome, filter, slice_get, slice_index_or, if◌then◌else◌}
+use Rattle.std.specs.List.{AllByRecursion}
+use Rattle.std.specs.Option.{unwrap_or}
 use Rattle.std.proofs.lemmas.Bool.{eq-eqb, false≢true}
 use Rattle.std.proofs.lemmas.List.Elements.{All-cons, All-head, All-nil, All-tail}
 use Rattle.pec_types.specs.Bytes.{Bytes, Path}
@@ -18,56 +20,76 @@ use Rattle.pec_ledger.specs.Lookups.{mailbox}
 use Rattle.pec_ledger.specs.Network.{Site, empty_site, frames_between, journal_at, site_at}
 use Rattle.pec_ledger.specs.Steps.{half}
 use Rattle.pec_ledger.specs.Trade.{Trade}
-use Rattle.pec_plays.specs.Commands.{Answer, Command, Luck, Played, IsUp, Items, LinkFull, Lines, NoFrame, Refuses, Restarted, Turns, Submit, Tick, Round, Lose, Repeat, Swap, Inject, Crash, Restart, Book, Mailbox, Show, account_home, answers, append, appended, asked, at_work, messages_at, played, put_again, restarted, restarted_site, shown, shown_bytes, submitted, swapped, swapped_at, ticked, with_site}
-use Rattle.pec_plays.specs.Possible.{AllQuiet, IsCalm, IsQuiet, MayCut, MayMeet}
+use Rattle.pec_plays.specs.Commands.{Answer, Command, Luck, Played, IsUp, Items, LinkFull, Lines, NoFrame, Refuses, Restarted, Turns, Submit, Tick, Round, Lose, Repeat, Swap, Inject, Crash, Restart, Book, Mailbox, Show, account_home, answers, append, appended, asked, at_work, messages_at, played, put_again, read_back, restarted, restarted_site, shown, shown_bytes, submitted, swapped, swapped_at, ticked, with_site}
+use Rattle.pec_plays.specs.Possible.{AllQuiet, GaveWhatWasKept, IsCalm, IsOfKept, IsOfRead, IsQuiet, MayCut, MayMeet}
 use Rattle.pec_plays.specs.Rounds.{Rounded, delivered, link_size, outs_of, rooms_of, rounded, sent_from, told_from, turns_from, turns_of}
 use Rattle.pec_plays.specs.Scripts.{onto, script}
 use Rattle.pec_plays.specs.Steps.{Step, has_no_room}
-use Rattle.pec_plays.specs.Turns.{Cut, Turned, Whole, Fails, Full, Stops, cut_turn, frames_in, last_of, not_begun, plan, turned}
-use Rattle.pec_runs.specs.Plays.{AllMeet, HasMemory, faults_at, faults_by, faults_in, faults_told, is_disk_fault}
+use Rattle.pec_plays.specs.Turns.{Cut, Turned, Whole, Fails, Full, Stops, Other, cut_turn, frames_in, last_of, not_begun, plan, turned}
+use Rattle.pec_runs.specs.Plays.{AllMeet, HasMemory, IsUnchanged, ShowsItsOwn, faults_at, faults_at_home, faults_by, faults_in, faults_told, is_change}
+use Rattle.pec_runs.specs.Plays.{is_disk_fault}
 
 -- ---- cuts
 
 -- the cut of a turn that didn't fail
 abbrev pub calmed : Cut → Cut
 calmed Whole = Whole
-calmed (Fails n) = Whole
+calmed (Fails n fault) = Whole
 calmed (Full n) = Full n
 calmed (Stops n) = Whole
+calmed (Other out) = Whole
 
 calmed_calm : (cut : Cut) → IsCalm (calmed cut)
 calmed_calm Whole = tt
-calmed_calm (Fails n) = tt
+calmed_calm (Fails n fault) = tt
 calmed_calm (Full n) = tt
 calmed_calm (Stops n) = tt
+calmed_calm (Other out) = tt
 
 calmed_same : (cut : Cut) → IsCalm cut → calmed cut ≡ cut
 calmed_same Whole calm = refl
-calmed_same (Fails n) calm = absurd calm
+calmed_same (Fails n fault) calm = absurd calm
 calmed_same (Full n) calm = refl
 calmed_same (Stops n) calm = absurd calm
+calmed_same (Other out) calm = absurd calm
 
--- a turn went well: neither its disk failed nor was memory missing
+-- a turn went well: neither its disk failed, nor was memory missing, nor is an entry told as changed
 pub record WentWell (ended : Option ProviderFault) : Type 0 where
   pub disk : is_disk_fault ended ≡ false
   pub memory : ended ≢ Some faults.NoMemory
+  pub same : is_change ended ≡ false
 
-cut_calm : (trade : Trade) (p : ℕ) (rooms : ℕ → ℕ) (site : Site) (steps : List Step) (cut : Cut)
+-- no read failed in it
+not_read : (fault : ProviderFault) → IsOfRead fault → is_disk_fault (Some fault) ≡ false
+    → is_change (Some fault) ≡ false → ⊥
+not_read faults.DiskFault of disk same = false≢true (sym disk)
+not_read faults.NoMemory of disk same = of
+not_read faults.Down of disk same = of
+not_read (faults.ClockBack last) of disk same = of
+not_read faults.NoAccount of disk same = of
+not_read faults.Full of disk same = of
+not_read faults.NoItem of disk same = of
+not_read faults.JournalFull of disk same = of
+not_read (faults.Changed entry) of disk same = false≢true (sym same)
+
+cut_calm : (trade : Trade) (p : ℕ) (rooms : ℕ → ℕ) (site : Site) (steps : List Step) (cut : Cut) → IsOfKept cut
     → WentWell (cut_turn trade p rooms site steps cut).ended → IsCalm cut
-cut_calm trade p rooms site steps Whole well = tt
-cut_calm trade p rooms site steps (Fails n) well = absurd (false≢true (sym well.disk))
-cut_calm trade p rooms site steps (Full n) well = tt
-cut_calm trade p rooms site steps (Stops n) well = absurd (well.memory refl)
+cut_calm trade p rooms site steps Whole kept well = tt
+cut_calm trade p rooms site steps (Fails n fault) kept well = absurd (not_read fault kept well.disk well.same)
+cut_calm trade p rooms site steps (Full n) kept well = tt
+cut_calm trade p rooms site steps (Stops n) kept well = absurd (well.memory refl)
+cut_calm trade p rooms site steps (Other out) kept well = absurd kept
 
 -- ---- a command
 
 module _ (trade : Trade) (sites : List Site) (luck : Luck) where
   pub calm_luck : Luck
-  calm_luck = record { cuts = λ p. calmed (luck.cuts p); fails = false; found = luck.found }
+  calm_luck =
+      record { cuts = λ p. calmed (luck.cuts p); fails = false; found = luck.found; read = None; shown = None }
 
   calm_quiet : IsQuiet calm_luck
   unfolding calm_luck
-  calm_quiet = record { cuts = λ p. calmed_calm (luck.cuts p); works = refl }
+  calm_quiet = record { cuts = λ p. calmed_calm (luck.cuts p); works = refl; reads = refl; shows = refl }
 
   -- a fault of the disk is told, or both are the same
   abbrev Alike : Played → Played → Type 0
@@ -158,35 +180,37 @@ module _ (trade : Trade) (sites : List Site) (luck : Luck) where
         else cut_turn trade p rooms site (plan trade p now site.journal (frames_in site.waiting)) cut)
         else not_begun site faults.Down
 
-    turn_same : (p : ℕ) (rooms : ℕ → ℕ) (site : Site) (cut : Cut) (up late : Bool)
+    turn_same : (p : ℕ) (rooms : ℕ → ℕ) (site : Site) (cut : Cut) (up late : Bool) → IsOfKept cut
         → WentWell (turn_by p rooms site cut up late).ended
         → turn_by p rooms site cut up late ≡ turn_by p rooms site (calmed cut) up late
-    turn_same p rooms site cut true false well =
+    turn_same p rooms site cut true false kept well =
         let steps = plan trade p now site.journal (frames_in site.waiting)
-        in ap (cut_turn trade p rooms site steps) (sym (calmed_same cut (cut_calm trade p rooms site steps cut well)))
-    turn_same p rooms site cut true true well = refl
-    turn_same p rooms site cut false late well = refl
+        in ap (cut_turn trade p rooms site steps)
+        (sym (calmed_same cut (cut_calm trade p rooms site steps cut kept well)))
+    turn_same p rooms site cut true true kept well = refl
+    turn_same p rooms site cut false late kept well = refl
 
-    turned_same : (p : ℕ) (rooms : ℕ → ℕ) (site : Site) (cut : Cut) → WentWell (turned trade p now rooms cut site).ended
+    turned_same : (p : ℕ) (rooms : ℕ → ℕ) (site : Site) (cut : Cut) → IsOfKept cut
+        → WentWell (turned trade p now rooms cut site).ended
         → turned trade p now rooms cut site ≡ turned trade p now rooms (calmed cut) site
     unfolding turned
-    turned_same p rooms site cut well = turn_same p rooms site cut site.up
-        (nat_lt now (last_of trade p site.journal)) well
+    turned_same p rooms site cut kept well = turn_same p rooms site cut site.up
+        (nat_lt now (last_of trade p site.journal)) kept well
 
     -- a turn that began and went well was calm
     turn_calm : (p : ℕ) (rooms : ℕ → ℕ) (site : Site) (cut : Cut) (up late : Bool) → up ≡ true → late ≡ false
-        → WentWell (turn_by p rooms site cut up late).ended → IsCalm cut
-    turn_calm p rooms site cut true false u l well =
-        cut_calm trade p rooms site (plan trade p now site.journal (frames_in site.waiting)) cut well
-    turn_calm p rooms site cut true true u l well = absurd (false≢true (sym l))
-    turn_calm p rooms site cut false late u l well = absurd (false≢true u)
+        → IsOfKept cut → WentWell (turn_by p rooms site cut up late).ended → IsCalm cut
+    turn_calm p rooms site cut true false u l kept well =
+        cut_calm trade p rooms site (plan trade p now site.journal (frames_in site.waiting)) cut kept well
+    turn_calm p rooms site cut true true u l kept well = absurd (false≢true (sym l))
+    turn_calm p rooms site cut false late u l kept well = absurd (false≢true u)
 
     turned_calm : (p : ℕ) (rooms : ℕ → ℕ) (site : Site) (cut : Cut) → site.up ≡ true
         → nat_lt now (last_of trade p site.journal) ≡ false
-        → WentWell (turned trade p now rooms cut site).ended → IsCalm cut
+        → IsOfKept cut → WentWell (turned trade p now rooms cut site).ended → IsCalm cut
     unfolding turned
-    turned_calm p rooms site cut u l well = turn_calm p rooms site cut site.up
-        (nat_lt now (last_of trade p site.journal)) u l well
+    turned_calm p rooms site cut u l kept well = turn_calm p rooms site cut site.up
+        (nat_lt now (last_of trade p site.journal)) u l kept well
 
     -- ---- all turns
 
@@ -206,10 +230,11 @@ module _ (trade : Trade) (sites : List Site) (luck : Luck) where
     own_fault : (number : ℕ) (b : Bool) → ((number == number) && b) ≡ false → b ≡ false
     own_fault number b e = sym (ap (λ (c : Bool). c && b) (eq-eqb number number refl)) ∙ e
 
-    -- these turns tell no fault of a disk and no want of memory
+    -- these turns tell no fault of a disk, no want of memory and no entry that changed
     pub record AllWell (number : ℕ) (turns : List Turned) : Type 0 where
       pub disks : (k : ℕ) → faults_in k (told_from number turns) ≡ 0
       pub memory : All (λ (turn : Turn). turn.ended ≢ Some faults.NoMemory) (told_from number turns)
+      pub same : All (λ (turn : Turn). is_change turn.ended ≡ false) (told_from number turns)
 
     abbrev told_of : ℕ → Turned → Turn
     told_of number turn =
@@ -222,6 +247,8 @@ module _ (trade : Trade) (sites : List Site) (luck : Luck) where
           (none_first number (told_of number turn) (told_from (number + 1) turns) (all.disks number)).0;
       memory = All-head (λ (t : Turn). t.ended ≢ Some faults.NoMemory) (told_of number turn)
           (told_from (number + 1) turns) all.memory;
+      same = All-head (λ (t : Turn). is_change t.ended ≡ false) (told_of number turn)
+          (told_from (number + 1) turns) all.same;
     }
 
     well_rest : (number : ℕ) (turn : Turned) (turns : List Turned) → AllWell number (turn ∷ turns)
@@ -230,70 +257,132 @@ module _ (trade : Trade) (sites : List Site) (luck : Luck) where
       disks = λ k. (none_first k (told_of number turn) (told_from (number + 1) turns) (all.disks k)).1;
       memory = All-tail (λ (t : Turn). t.ended ≢ Some faults.NoMemory) (told_of number turn)
           (told_from (number + 1) turns) all.memory;
+      same = All-tail (λ (t : Turn). is_change t.ended ≡ false) (told_of number turn)
+          (told_from (number + 1) turns) all.same;
     }
 
     both_turns : (x y : Turned) (xs ys : List Turned) → x ≡ y → xs ≡ ys → x ∷ xs ≡ y ∷ ys
     both_turns x y xs ys e f = rw (e, f) refl
 
-    turns_same : (number : ℕ) (ss : List Site) → AllWell number (turns_from trade now sites luck.cuts number ss)
+    turns_same : (number : ℕ) (ss : List Site) → GaveWhatWasKept luck
+        → AllWell number (turns_from trade now sites luck.cuts number ss)
         → turns_from trade now sites luck.cuts number ss ≡ turns_from trade now sites calm_luck.cuts number ss
     unfolding calm_luck
-    turns_same number [] all = refl
-    turns_same number (s ∷ ss) all =
+    turns_same number [] kept all = refl
+    turns_same number (s ∷ ss) kept all =
         let turn = turned trade number now (rooms_of sites number) (luck.cuts number) s
         in let turns = turns_from trade now sites luck.cuts (number + 1) ss
         in both_turns turn (turned trade number now (rooms_of sites number) (calmed (luck.cuts number)) s) turns
         (turns_from trade now sites (λ p. calmed (luck.cuts p)) (number + 1) ss)
-        (turned_same number (rooms_of sites number) s (luck.cuts number) (well_first number turn turns all))
-        (turns_same (number + 1) ss (well_rest number turn turns all))
+        (turned_same number (rooms_of sites number) s (luck.cuts number) (kept number)
+        (well_first number turn turns all))
+        (turns_same (number + 1) ss kept (well_rest number turn turns all))
 
     abbrev CalmAt : ℕ → Site → Type 0
     CalmAt p site = site.up ≡ true → nat_lt now (last_of trade p site.journal) ≡ false → IsCalm (luck.cuts p)
 
-    all_calm : (number : ℕ) (ss : List Site) → AllWell number (turns_from trade now sites luck.cuts number ss)
+    all_calm : (number : ℕ) (ss : List Site) → GaveWhatWasKept luck
+        → AllWell number (turns_from trade now sites luck.cuts number ss)
         → (k : ℕ) → k < length ss → CalmAt (number + k) (slice_index_or ss k empty_site)
-    all_calm number [] all k l = absurd (omega arith)
-    all_calm number (s ∷ ss) all zero l =
+    all_calm number [] kept all k l = absurd (omega arith)
+    all_calm number (s ∷ ss) kept all zero l =
         let turn = turned trade number now (rooms_of sites number) (luck.cuts number) s
         in subst (λ (q : ℕ). CalmAt q s) (let z : number ≡ number + 0 = omega arith in z)
-        (λ u late. turned_calm number (rooms_of sites number) s (luck.cuts number) u late
+        (λ u late. turned_calm number (rooms_of sites number) s (luck.cuts number) u late (kept number)
         (well_first number turn (turns_from trade now sites luck.cuts (number + 1) ss) all))
-    all_calm number (s ∷ ss) all (suc k) l =
+    all_calm number (s ∷ ss) kept all (suc k) l =
         let turn = turned trade number now (rooms_of sites number) (luck.cuts number) s
         in subst (λ (q : ℕ). CalmAt q (slice_index_or ss k empty_site))
         (let z : (number + 1) + k ≡ number + suc k = omega arith in z)
-        (all_calm (number + 1) ss (well_rest number turn
+        (all_calm (number + 1) ss kept (well_rest number turn
         (turns_from trade now sites luck.cuts (number + 1) ss) all) k (omega arith))
 
     -- the turns of a round that is told so
     turns_well : All (λ (turn : Turn). turn.ended ≢ Some faults.NoMemory) (rounded trade now luck.cuts sites).turns
         → ((k : ℕ) → faults_in k (rounded trade now luck.cuts sites).turns ≡ 0)
+        → All (λ (turn : Turn). is_change turn.ended ≡ false) (rounded trade now luck.cuts sites).turns
         → AllWell 0 (turns_from trade now sites luck.cuts 0 sites)
     unfolding rounded turns_of
-    turns_well memory disks = record { disks = disks; memory = memory }
+    turns_well memory disks same = record { disks = disks; memory = memory; same = same }
 
-    rounded_same : AllWell 0 (turns_from trade now sites luck.cuts 0 sites)
+    rounded_same : GaveWhatWasKept luck → AllWell 0 (turns_from trade now sites luck.cuts 0 sites)
         → rounded trade now luck.cuts sites ≡ rounded trade now calm_luck.cuts sites
     unfolding rounded turns_of
-    rounded_same all =
+    rounded_same kept all =
         ap (λ (turns : List Turned). let r : Rounded = record {
           sites = delivered
               (outs_of turns) 0 turns;
           turns = told_from 0 turns;
         } in r)
-        (turns_same 0 sites all)
+        (turns_same 0 sites kept all)
 
-    round_may : AllWell 0 (turns_from trade now sites luck.cuts 0 sites) → MayMeet trade luck sites (Round now)
+    round_may : GaveWhatWasKept luck → AllWell 0 (turns_from trade now sites luck.cuts 0 sites)
+        → MayMeet trade luck sites (Round now)
         → MayMeet trade calm_luck sites (Round now)
     unfolding calm_luck
-    round_may all may p l u late =
+    round_may kept all may p l u late =
         let calm : IsCalm (luck.cuts p) =
         subst (λ (q : ℕ). CalmAt q (slice_index_or sites p empty_site) → IsCalm (luck.cuts p))
         (let z : p ≡ 0 + p = omega arith in z) (λ at. at u late)
-        (all_calm 0 sites all p l)
+        (all_calm 0 sites kept all p l)
         in subst (λ (cut : Cut). MayCut
         (plan trade p now (site_at sites p).journal (frames_in (site_at sites p).waiting)) cut)
         (sym (calmed_same (luck.cuts p) calm)) (may p l u late)
+
+  -- ---- looks at items
+
+  module _ (shows : ShowsItsOwn luck) (may : IfSome luck.read IsOfRead) where
+    read_same : (p : ℕ) (bytes : Bytes) (read : Option ProviderFault) → IfSome read IsOfRead
+        → faults_at p p (read_back read bytes sites p).answer ≡ 0 → IsUnchanged (read_back read bytes sites p).answer
+        → read_back read bytes sites p ≡ read_back None bytes sites p
+    read_same p bytes None of none same = refl
+    read_same p bytes (Some faults.DiskFault) of none same = absurd (one_is_some (p == p) (eq-eqb p p refl) none)
+    read_same p bytes (Some faults.NoMemory) of none same = absurd of
+    read_same p bytes (Some faults.Down) of none same = absurd of
+    read_same p bytes (Some (faults.ClockBack last)) of none same = absurd of
+    read_same p bytes (Some faults.NoAccount) of none same = absurd of
+    read_same p bytes (Some faults.Full) of none same = absurd of
+    read_same p bytes (Some faults.NoItem) of none same = absurd of
+    read_same p bytes (Some faults.JournalFull) of none same = absurd of
+    read_same p bytes (Some (faults.Changed entry)) of none same = absurd (false≢true (sym same))
+
+    bytes_same : (p : ℕ) (text : Option Bytes) → faults_at p p (shown_bytes luck sites p text).answer ≡ 0
+        → IsUnchanged (shown_bytes luck sites p text).answer
+        → shown_bytes luck sites p text ≡ shown_bytes calm_luck sites p text
+    unfolding calm_luck
+    bytes_same p None none same = refl
+    bytes_same p (Some bytes) none same =
+        let own = ap (λ (s : Option Bytes). read_back luck.read (unwrap_or s bytes) sites p) shows
+        in own ∙ read_same p bytes luck.read may (subst (λ (x : Played). faults_at p p x.answer ≡ 0) own none)
+        (subst (λ (x : Played). IsUnchanged x.answer) own same)
+
+    posted_same : (p : ℕ) (posted : Option Posted) → faults_at p p (shown trade luck sites p posted).answer ≡ 0
+        → IsUnchanged (shown trade luck sites p posted).answer
+        → shown trade luck sites p posted ≡ shown trade calm_luck sites p posted
+    unfolding calm_luck
+    posted_same p None none same = refl
+    posted_same p (Some posted) none same =
+        bytes_same p (item_text trade p (journal_at sites p) posted) none same
+
+    module _ (address : Bytes) (place : ℕ) where
+      abbrev look_with : Luck → ℕ → Half → Played
+      look_with l p h = shown trade l sites p (slice_get (mailbox h address) place)
+
+      looked_by : (p : ℕ) (up : Bool) (h : Half)
+          → faults_at p p (if up then look_with luck p h else answers sites (Refuses faults.Down)).answer ≡ 0
+          → IsUnchanged (if up then look_with luck p h else answers sites (Refuses faults.Down)).answer
+          → (if up then look_with luck p h else answers sites (Refuses faults.Down))
+          ≡ (if up then look_with calm_luck p h else answers sites (Refuses faults.Down))
+      looked_by p true h none same = posted_same p (slice_get (mailbox h address) place) none same
+      looked_by p false h none same = refl
+
+      looked_same : (home : Option ℕ)
+          → ((k : ℕ) → faults_at_home k home (asked sites (look_with luck) trade home).answer ≡ 0)
+          → IsUnchanged (asked sites (look_with luck) trade home).answer
+          → asked sites (look_with luck) trade home ≡ asked sites (look_with calm_luck) trade home
+      looked_same None none same = refl
+      looked_same (Some p) none same =
+          looked_by p (site_at sites p).up (half trade p (journal_at sites p)) (none p) same
 
   -- ---- all commands
 
@@ -303,49 +392,54 @@ module _ (trade : Trade) (sites : List Site) (luck : Luck) where
 
   abbrev ToldWell : Command → Type 0
   ToldWell command = HasMemory (played trade luck sites command).answer
-      × ((k : ℕ) → faults_by k command (played trade luck sites command).answer ≡ 0)
+      × ((k : ℕ) → faults_by trade k command (played trade luck sites command).answer ≡ 0)
+      × IsUnchanged (played trade luck sites command).answer
 
-  pub twin : (command : Command) → MayMeet trade luck sites command → ToldWell command → Twin command
-  unfolding played
-  twin (Submit p now sender along message found) may well = (
+  pub twin : (command : Command) → MayMeet trade luck sites command → GaveWhatWasKept luck → ShowsItsOwn luck
+      → ToldWell command → Twin command
+  unfolding played calm_luck
+  twin (Submit p now sender along message found) may kept own well = (
     tt,
     no_fault p (submitted trade luck sites p now sender along message found)
         (submitted trade calm_luck sites p now sender along message found)
         (submitted_alike p now sender along message found) (well.1 p),
   )
-  twin (Tick p now) may well = (
+  twin (Tick p now) may kept own well = (
     tt,
     no_fault p (ticked trade luck sites p now) (ticked trade calm_luck sites p now) (ticked_alike p now)
         (well.1 p),
   )
-  twin (Round now) may well =
-      let all = turns_well now well.0 well.1
+  twin (Round now) may kept own well =
+      let all = turns_well now well.0 well.1 well.2
       in (
-        round_may now all may,
+        round_may now kept all may,
         ap (λ
             (r : Rounded). let x : Played = record { answer = Turns r.turns; after = r.sites } in x)
-            (rounded_same now all),
+            (rounded_same now kept all),
       )
-  twin (Lose from to place) may well = (tt, refl)
-  twin (Repeat from to place) may well = (tt, refl)
-  twin (Swap from to place) may well = (tt, refl)
-  twin (Inject from to frame) may well = (tt, refl)
-  twin (Crash p) may well = (tt, refl)
-  twin (Restart p) may well = (
+  twin (Lose from to place) may kept own well = (tt, refl)
+  twin (Repeat from to place) may kept own well = (tt, refl)
+  twin (Swap from to place) may kept own well = (tt, refl)
+  twin (Inject from to frame) may kept own well = (tt, refl)
+  twin (Crash p) may kept own well = (tt, refl)
+  twin (Restart p) may kept own well = (
     tt,
     no_fault p (restarted luck sites p (site_at sites p)) (restarted calm_luck sites p (site_at sites p))
         (restarted_alike p (site_at sites p)) (well.1 p),
   )
-  twin (Book address) may well = (tt, refl)
-  twin (Mailbox address) may well = (tt, refl)
-  twin (Show address place) may well = (tt, refl)
+  twin (Book address) may kept own well = (tt, refl)
+  twin (Mailbox address) may kept own well = (tt, refl)
+  twin (Show address place) may kept own well = (
+    tt,
+    looked_same own may address place (account_home trade address (trade.home address)) well.1 well.2,
+  )
 
 -- ---- what is told of a command without faults
 
 module _ (trade : Trade) (sites : List Site) (luck : Luck) (quiet : IsQuiet luck) where
-  -- no fault of any disk is told by a call at this provider, and no want of memory
+  -- no fault of any disk is told by a call at this provider, no want of memory, and no entry that changed
   abbrev Well : ℕ → Played → Type 0
-  Well asked x = HasMemory x.answer × ((k : ℕ) → faults_at k asked x.answer ≡ 0)
+  Well asked x = HasMemory x.answer × ((k : ℕ) → faults_at k asked x.answer ≡ 0) × IsUnchanged x.answer
 
   well_if : (asked : ℕ) (b : Bool) (x y : Played) → Well asked x → Well asked y → Well asked (if b then x else y)
   well_if asked true x y a c = a
@@ -361,15 +455,15 @@ module _ (trade : Trade) (sites : List Site) (luck : Luck) (quiet : IsQuiet luck
       → Well asked (append trade luck sites p entry answer)
   append_well asked p entry answer a =
       well_if asked (has_no_room trade p (journal_at sites p) entry) (answers sites (Refuses faults.JournalFull))
-      (appended luck.fails sites p entry answer) (tt, λ k. refl)
+      (appended luck.fails sites p entry answer) (tt, λ k. refl, refl)
       (appended_well asked luck.fails quiet.works p entry answer a)
 
   work_well : (asked p now : ℕ) (done : Played) → Well asked done → Well asked (at_work trade sites p now done)
   work_well asked p now done a =
       well_if asked (site_at sites p).up _ (answers sites (Refuses faults.Down))
       (well_if asked (nat_lt now (last_of trade p (journal_at sites p)))
-      (answers sites (Refuses (faults.ClockBack (last_of trade p (journal_at sites p))))) done (tt, λ k. refl) a)
-      (tt, λ k. refl)
+      (answers sites (Refuses (faults.ClockBack (last_of trade p (journal_at sites p))))) done (tt, λ k. refl, refl) a)
+      (tt, λ k. refl, refl)
 
   submitted_well : (p now : ℕ) (sender : Bytes) (along : Path) (message : Bytes) (found : Bool)
       → Well p (submitted trade luck sites p now sender along message found)
@@ -377,29 +471,30 @@ module _ (trade : Trade) (sites : List Site) (luck : Luck) (quiet : IsQuiet luck
       well_if p (trade.is_account p sender) _ (answers sites (Refuses faults.NoAccount))
       (work_well p p now _
       (well_if p (nat_lt (messages_at trade sites p) MESSAGES) _ (answers sites (Refuses faults.Full))
-      (append_well p p _ _ (tt, λ k. refl)) (tt, λ k. refl)))
-      (tt, λ k. refl)
+      (append_well p p _ _ (tt, λ k. refl, tt)) (tt, λ k. refl, refl)))
+      (tt, λ k. refl, refl)
 
   ticked_well : (p now : ℕ) → Well p (ticked trade luck sites p now)
-  ticked_well p now = work_well p p now _ (append_well p p (entries.Ticked now) _ (tt, λ k. refl))
+  ticked_well p now = work_well p p now _ (append_well p p (entries.Ticked now) _ (tt, λ k. refl, tt))
 
   restarted_well : (p : ℕ) (site : Site) → Well p (restarted luck sites p site)
   restarted_well p site =
-      well_if p site.up (answers sites IsUp) _ (tt, λ k. refl) (by_luck luck.fails quiet.works)
+      well_if p site.up (answers sites IsUp) _ (tt, λ k. refl, tt) (by_luck luck.fails quiet.works)
     where
       by_luck : (fails : Bool) → fails ≡ false
           → Well p (if fails then answers sites (Refuses faults.DiskFault) else up_again trade sites luck p site)
       by_luck true e = absurd (false≢true (sym e))
-      by_luck false e = (tt, λ k. refl)
+      by_luck false e = (tt, λ k. refl, tt)
 
   -- ---- rounds
 
   cut_well : (p : ℕ) (rooms : ℕ → ℕ) (site : Site) (steps : List Step) (cut : Cut) → IsCalm cut
       → WentWell (cut_turn trade p rooms site steps cut).ended
-  cut_well p rooms site steps Whole calm = record { disk = refl; memory = λ e. cc }
-  cut_well p rooms site steps (Fails n) calm = absurd calm
-  cut_well p rooms site steps (Full n) calm = record { disk = refl; memory = λ e. cc }
+  cut_well p rooms site steps Whole calm = record { disk = refl; memory = λ e. cc; same = refl }
+  cut_well p rooms site steps (Fails n fault) calm = absurd calm
+  cut_well p rooms site steps (Full n) calm = record { disk = refl; memory = λ e. cc; same = refl }
   cut_well p rooms site steps (Stops n) calm = absurd calm
+  cut_well p rooms site steps (Other out) calm = absurd calm
 
   ended_if : (b : Bool) (x y : Turned) → WentWell x.ended → WentWell y.ended → WentWell (if b then x else y).ended
   ended_if true x y a c = a
@@ -412,9 +507,9 @@ module _ (trade : Trade) (sites : List Site) (luck : Luck) (quiet : IsQuiet luck
       ended_if site.up _ (not_begun site faults.Down)
       (ended_if (nat_lt now (last_of trade p site.journal))
       (not_begun site (faults.ClockBack (last_of trade p site.journal))) _
-      (record { disk = refl; memory = λ e. cc })
+      (record { disk = refl; memory = λ e. cc; same = refl })
       (cut_well p rooms site (plan trade p now site.journal (frames_in site.waiting)) cut calm))
-      (record { disk = refl; memory = λ e. cc })
+      (record { disk = refl; memory = λ e. cc; same = refl })
 
   none_more : (k : ℕ) (turn : Turn) (turns : List Turn) (b : Bool) → b ≡ false
       → length (filter (Tests trade sites luck 0 k) turns) ≡ 0
@@ -450,44 +545,60 @@ module _ (trade : Trade) (sites : List Site) (luck : Luck) (quiet : IsQuiet luck
       (turned_well number now (rooms_of sites number) s (luck.cuts number) (quiet.cuts number)).memory
       (turns_memory now (number + 1) ss)
 
+  turns_unchanged : (now number : ℕ) (ss : List Site)
+      → All (λ (turn : Turn). is_change turn.ended ≡ false)
+      (told_from number (turns_from trade now sites luck.cuts number ss))
+  turns_unchanged now number [] = All-nil (λ (turn : Turn). is_change turn.ended ≡ false)
+  turns_unchanged now number (s ∷ ss) =
+      let turn = turned trade number now (rooms_of sites number) (luck.cuts number) s
+      in All-cons (λ (t : Turn). is_change t.ended ≡ false) (told_of trade sites luck now number turn)
+      (told_from (number + 1) (turns_from trade now sites luck.cuts (number + 1) ss))
+      (turned_well number now (rooms_of sites number) s (luck.cuts number) (quiet.cuts number)).same
+      (turns_unchanged now (number + 1) ss)
+
   rounded_well : (now : ℕ) → All (λ (turn : Turn). turn.ended ≢ Some faults.NoMemory)
       (rounded trade now luck.cuts sites).turns
       × ((k : ℕ) → faults_in k (rounded trade now luck.cuts sites).turns ≡ 0)
+      × All (λ (turn : Turn). is_change turn.ended ≡ false) (rounded trade now luck.cuts sites).turns
   unfolding rounded turns_of
-  rounded_well now = (turns_memory now 0 sites, λ k. turns_none k now 0 sites)
+  rounded_well now = (turns_memory now 0 sites, λ k. turns_none k now 0 sites, turns_unchanged now 0 sites)
 
   -- ---- what accounts are shown, and links
 
   abbrev Remembers : Played → Type 0
-  Remembers x = HasMemory x.answer
+  Remembers x = HasMemory x.answer × IsUnchanged x.answer
 
   remembers_if : (b : Bool) (x y : Played) → Remembers x → Remembers y → Remembers (if b then x else y)
   remembers_if true x y a c = a
   remembers_if false x y a c = c
 
-  asked_well : (show : ℕ → Half → Played) (found : Option ℕ) → ((p : ℕ) (h : Half) → Remembers (show p h))
-      → Remembers (asked sites show trade found)
-  asked_well show None each = tt
+  asked_well : (show : ℕ → Half → Played) (home : Option ℕ) → ((p : ℕ) (h : Half) → Well p (show p h))
+      → HasMemory (asked sites show trade home).answer
+      × ((k : ℕ) → faults_at_home k home (asked sites show trade home).answer ≡ 0)
+      × IsUnchanged (asked sites show trade home).answer
+  asked_well show None each = (tt, λ k. refl, refl)
   asked_well show (Some p) each =
-      remembers_if (site_at sites p).up (show p (half trade p (journal_at sites p)))
-      (answers sites (Refuses faults.Down)) (each p _) tt
+      well_if p (site_at sites p).up (show p (half trade p (journal_at sites p)))
+      (answers sites (Refuses faults.Down)) (each p _) (tt, λ k. refl, refl)
 
-  bytes_well : (text : Option Bytes) → Remembers (shown_bytes sites text)
-  bytes_well None = tt
-  bytes_well (Some bytes) = tt
+  bytes_well : (p : ℕ) (text : Option Bytes) → Well p (shown_bytes luck sites p text)
+  bytes_well p None = (tt, λ k. refl, refl)
+  bytes_well p (Some bytes) =
+      subst (λ (read : Option ProviderFault). Well p (read_back read (unwrap_or luck.shown bytes) sites p))
+      (sym quiet.reads) (tt, λ k. refl, tt)
 
-  shown_well : (p : ℕ) (found : Option Posted) → Remembers (shown trade sites p found)
-  shown_well p None = tt
-  shown_well p (Some posted) = bytes_well (item_text trade p (journal_at sites p) posted)
+  shown_well : (p : ℕ) (found : Option Posted) → Well p (shown trade luck sites p found)
+  shown_well p None = (tt, λ k. refl, refl)
+  shown_well p (Some posted) = bytes_well p (item_text trade p (journal_at sites p) posted)
 
   again_well : (from to : ℕ) (found : Option Bytes) → Remembers (put_again sites from to found)
-  again_well from to None = tt
+  again_well from to None = (tt, tt)
   again_well from to (Some frame) = remembers_if (nat_lt (length (frames_between sites from to)) link_size) _
-      (answers sites LinkFull) tt tt
+      (answers sites LinkFull) (tt, tt) (tt, tt)
 
   swapped_well : (from to : ℕ) (found : Option (List Bytes)) → Remembers (swapped sites from to found)
-  swapped_well from to None = tt
-  swapped_well from to (Some frames) = tt
+  swapped_well from to None = (tt, tt)
+  swapped_well from to (Some frames) = (tt, tt)
 
   pub quiet_well : (command : Command) → ToldWell trade sites luck command
   unfolding played
@@ -495,32 +606,31 @@ module _ (trade : Trade) (sites : List Site) (luck : Luck) (quiet : IsQuiet luck
   quiet_well (Tick p now) = ticked_well p now
   quiet_well (Round now) = rounded_well now
   quiet_well (Lose from to place) =
-      (remembers_if (nat_lt place (length (frames_between sites from to))) _ (answers sites NoFrame) tt tt, λ k. refl)
-  quiet_well (Repeat from to place) = (again_well from to (slice_get (frames_between sites from to) place), λ k. refl)
-  quiet_well (Swap from to place) = (swapped_well from to (swapped_at place (frames_between sites from to)), λ k. refl)
-  quiet_well (Inject from to frame) = (
-    remembers_if (nat_lt (length (frames_between sites from to)) link_size) _
-        (answers sites LinkFull) tt tt,
-    λ k. refl,
-  )
-  quiet_well (Crash p) = (tt, λ k. refl)
+      let so = remembers_if (nat_lt place (length (frames_between sites from to))) _ (answers sites NoFrame) (tt, tt)
+      (tt, tt)
+      in (so.0, λ k. refl, so.1)
+  quiet_well (Repeat from to place) =
+      let so = again_well from to (slice_get (frames_between sites from to) place) in (so.0, λ k. refl, so.1)
+  quiet_well (Swap from to place) =
+      let so = swapped_well from to (swapped_at place (frames_between sites from to)) in (so.0, λ k. refl, so.1)
+  quiet_well (Inject from to frame) =
+      let so = remembers_if (nat_lt (length (frames_between sites from to)) link_size) _ (answers sites LinkFull) (tt, tt)
+      (tt, tt)
+      in (so.0, λ k. refl, so.1)
+  quiet_well (Crash p) = (tt, λ k. refl, tt)
   quiet_well (Restart p) = restarted_well p (site_at sites p)
-  quiet_well (Book address) = (
-    asked_well (λ (p : ℕ) (h : Half). answers sites (Lines (book trade p h address)))
-        (account_home trade address (trade.home address)) (λ p h. tt),
-    λ k. refl,
-  )
-  quiet_well (Mailbox address) = (
-    asked_well (λ (p : ℕ) (h : Half). answers sites (Items (mailbox_lines h address)))
-        (account_home trade address (trade.home address)) (λ p h. tt),
-    λ k. refl,
-  )
-  quiet_well (Show address place) = (
-    asked_well (λ (p : ℕ) (h : Half). shown trade sites p (slice_get (mailbox h address) place))
-        (account_home trade address (trade.home address))
-        (λ p h. shown_well p (slice_get (mailbox h address) place)),
-    λ k. refl,
-  )
+  quiet_well (Book address) =
+      let so = asked_well (λ (p : ℕ) (h : Half). answers sites (Lines (book trade p h address)))
+      (account_home trade address (trade.home address)) (λ p h. (tt, λ k. refl, tt))
+      in (so.0, λ k. refl, so.2)
+  quiet_well (Mailbox address) =
+      let so = asked_well (λ (p : ℕ) (h : Half). answers sites (Items (mailbox_lines h address)))
+      (account_home trade address (trade.home address)) (λ p h. (tt, λ k. refl, tt))
+      in (so.0, λ k. refl, so.2)
+  quiet_well (Show address place) =
+      asked_well (λ (p : ℕ) (h : Half). shown trade luck sites p (slice_get (mailbox h address) place))
+      (account_home trade address (trade.home address))
+      (λ p h. shown_well p (slice_get (mailbox h address) place))
 
 -- ---- scripts
 
@@ -536,22 +646,27 @@ none_in_sum a b e = (omega (arith, e), omega (arith, e))
 
 module _ (trade : Trade) where
   pub twins : (lucks : List Luck) (sites : List Site) (commands : List Command) → AllMeet trade lucks sites commands
+      → AllByRecursion GaveWhatWasKept lucks → AllByRecursion ShowsItsOwn lucks
       → All HasMemory (script trade lucks sites commands).answers
-      → ((k : ℕ) → faults_told k commands (script trade lucks sites commands).answers ≡ 0)
+      → All IsUnchanged (script trade lucks sites commands).answers
+      → ((k : ℕ) → faults_told trade k commands (script trade lucks sites commands).answers ≡ 0)
       → Twins trade lucks sites commands
-  twins [] sites commands meet memory none = record { calms = []; quiet = tt; count = refl; same = refl }
-  twins (luck ∷ lucks) sites [] meet memory none =
+  twins [] sites commands meet kept own memory unchanged none =
+      record { calms = []; quiet = tt; count = refl; same = refl }
+  twins (luck ∷ lucks) sites [] meet kept own memory unchanged none =
       record { calms = luck ∷ lucks; quiet = tt; count = refl; same = refl }
-  twins (luck ∷ lucks) sites (c ∷ commands) meet memory none =
+  twins (luck ∷ lucks) sites (c ∷ commands) meet kept own memory unchanged none =
       let here = played trade luck sites c
       in let told = (script trade lucks here.after commands).answers
-      in let first = twin trade sites luck c meet.0 (
+      in let first = twin trade sites luck c meet.0 kept.0 own.0 (
         All-head HasMemory here.answer told memory,
         λ k.
-            (none_in_sum (faults_by k c here.answer) (faults_told k commands told) (none k)).0,
+            (none_in_sum (faults_by trade k c here.answer) (faults_told trade k commands told) (none k)).0,
+        All-head IsUnchanged here.answer told unchanged,
       )
-      in let later = twins lucks here.after commands meet.1 (All-tail HasMemory here.answer told memory)
-      (λ k. (none_in_sum (faults_by k c here.answer) (faults_told k commands told) (none k)).1)
+      in let later = twins lucks here.after commands meet.1 kept.1 own.1 (All-tail HasMemory here.answer told memory)
+      (All-tail IsUnchanged here.answer told unchanged)
+      (λ k. (none_in_sum (faults_by trade k c here.answer) (faults_told trade k commands told) (none k)).1)
       in record {
         calms = calm_luck trade sites luck ∷ later.calms;
         quiet = (
@@ -586,7 +701,7 @@ module _ (trade : Trade) where
 
   pub quiet_none : (k : ℕ) (lucks : List Luck) (sites : List Site) (commands : List Command)
       → AllQuiet trade lucks sites commands
-      → faults_told k commands (script trade lucks sites commands).answers ≡ 0
+      → faults_told trade k commands (script trade lucks sites commands).answers ≡ 0
   quiet_none k [] sites [] quiet = refl
   quiet_none k [] sites (c ∷ commands) quiet = refl
   quiet_none k (luck ∷ lucks) sites [] quiet = refl
@@ -594,3 +709,30 @@ module _ (trade : Trade) where
       let first = (quiet_well trade sites luck quiet.1 c).1 k
       in let later = quiet_none k lucks (played trade luck sites c).after commands quiet.2
       in omega (arith, first, later)
+
+  pub quiet_unchanged : (lucks : List Luck) (sites : List Site) (commands : List Command)
+      → AllQuiet trade lucks sites commands
+      → All IsUnchanged (script trade lucks sites commands).answers
+  quiet_unchanged [] sites commands quiet = All-nil IsUnchanged
+  quiet_unchanged (luck ∷ lucks) sites [] quiet = All-nil IsUnchanged
+  quiet_unchanged (luck ∷ lucks) sites (c ∷ commands) quiet =
+      let here = played trade luck sites c
+      in All-cons IsUnchanged here.answer (script trade lucks here.after commands).answers
+      (quiet_well trade sites luck quiet.1 c).2
+      (quiet_unchanged lucks here.after commands quiet.2)
+
+  calm_kept : (cut : Cut) → IsCalm cut → IsOfKept cut
+  calm_kept Whole calm = tt
+  calm_kept (Fails n fault) calm = absurd calm
+  calm_kept (Full n) calm = tt
+  calm_kept (Stops n) calm = tt
+  calm_kept (Other out) calm = absurd calm
+
+  pub quiet_kept : (lucks : List Luck) (sites : List Site) (commands : List Command) → length lucks ≡ length commands
+      → AllQuiet trade lucks sites commands → AllByRecursion GaveWhatWasKept lucks × AllByRecursion ShowsItsOwn lucks
+  quiet_kept [] sites commands e quiet = (tt, tt)
+  quiet_kept (luck ∷ lucks) sites [] e quiet = absurd (omega (arith, e))
+  quiet_kept (luck ∷ lucks) sites (c ∷ commands) e quiet =
+      let more = quiet_kept lucks (played trade luck sites c).after commands
+      (let f : length lucks ≡ length commands = omega (arith, e) in f) quiet.2
+      in ((λ p. calm_kept (luck.cuts p) (quiet.1.cuts p), more.0), (quiet.1.shows, more.1))

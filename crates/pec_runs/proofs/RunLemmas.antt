@@ -25,7 +25,7 @@ use Rattle.pec_runs.specs.Statuses.{Status}
 use Rattle.pec_runs.specs.Statuses as statuses
 use Rattle.pec_runs.proofs.BeginningLemmas.{made_at_start, sound_opened}
 use Rattle.pec_runs.proofs.LineLemmas.{ReadsSo, all_unforged, one_unforged, script_can}
-use Rattle.pec_runs.proofs.ResumeLemmas.{FitsAnyWay, left_fits, opened_fit}
+use Rattle.pec_runs.proofs.ResumeLemmas.{FitsAnyWay, RoundsSo, left_fits, opened_fit}
 use Rattle.pec_runs.proofs.StageLemmas.{HasAll, has_all}
 use Rattle.pec_runs.proofs.StepLemmas.{JointStays}
 
@@ -91,7 +91,7 @@ outcome_is asked happened form script begun at_hand =
 -- what the laws of plays say
 pub record StaysSound (trade : Trade) : Type 0 where
   pub commands : (luck : Luck) (sites : List Site) (command : Command) → Sound trade sites
-      → IsUnforged trade sites command
+      → IsUnforged trade luck sites command
       → Sound trade (played trade luck sites command).after
   pub ends : (lucks : List Luck) (sites : List Site) (commands : List Command) → Sound trade sites
       → AllUnforged trade lucks sites commands
@@ -131,7 +131,7 @@ module _ (asked : Asked) (status : Status) (unread before after : Option Bytes) 
       (script_can reads asked.finds all.providers 1 all.lines)
 
   -- what it leaves fits
-  pub fits_left : JointStays (world ran.happened) → StaysSound (world ran.happened)
+  pub fits_left : JointStays (world ran.happened) → RoundsSo (world ran.happened) → StaysSound (world ran.happened)
       → Sound (world ran.happened) (at_start (world ran.happened))
       → ReadsSo → ran.happened.opening.next ≡ NoMore
       → (form ≡ Resume → Fit (world ran.happened) (journals_in ran.happened.opening.journals))
@@ -140,7 +140,7 @@ module _ (asked : Asked) (status : Status) (unread before after : Option Bytes) 
       ≡ Some command
       → IsHonest (world ran.happened) (outcome_of asked ran.happened).after command)
       → FitsAnyWay (world ran.happened) has_begun.left
-  fits_left stays plays start reads at_hand fit honest hand =
+  fits_left stays rounds plays start reads at_hand fit honest hand =
       let trade = world ran.happened
       in let after = (outcome_of asked ran.happened).after
       in let can = commands_can reads
@@ -149,15 +149,15 @@ module _ (asked : Asked) (status : Status) (unread before after : Option Bytes) 
       (plays.ends ran.happened.lucks (beginning ran.happened) script.commands
       (sound_beginning trade old_disks form ran.happened.opening stays start has_begun.opening at_hand fit)
       (all_unforged trade ran.happened.lucks (beginning ran.happened) script.commands can honest))
-      in left_fits trade stays after has_begun.left
+      in left_fits trade stays rounds after has_begun.left
       (command_in_hand status ran.happened.opening.next ran.happened.rest ran.happened.lucks script) end
-      (λ luck command is.
+      (λ luck command is puts.
       plays.commands luck after command end
-      (one_unforged trade after command
+      (one_unforged trade luck after command
       (hand_can status ran.happened.rest ran.happened.lucks script command can
       (subst (λ (n : Next). command_in_hand status n ran.happened.rest ran.happened.lucks script
       ≡ Some command) at_hand is))
-      (hand command is)))
+      (hand command is) puts))
       has_begun.leaves_off
 
 -- ---- two runs, one on the disks of the other

@@ -160,7 +160,7 @@ module _ {D : Type 0} (tells : Type 0) (sight : D → Sight) (trade : Trade) (to
       → AreFoundWithin tells sight trade number goes.first goes.last steps found)
       → Passes trade (held tells sight home) (held tells sight found)
   within_step found number within so = Followed (At number).sites (λ fitting.
-      let there = keeps_at trade sight is_trade number goes.first goes.last steps goes.moves.sound moments
+      let there = keeps_at trade sight is_trade number goes.first goes.last steps (goes.moves.sound told) moments
       (sound_first fitting) (goes.stand told) within in
       let killed = so there.0 there.1 in (
         there.0,
@@ -218,12 +218,12 @@ module _ {D : Type 0} (tells : Type 0) (sight : D → Sight) (trade : Trade) (to
       (subst (λ (d : D). (sight d).may_leave bytes) disk found_so.1.2) moments.last)
 
 -- steps of a run are moves, where no forged frame is injected
-pub steps_move : {D : Type 0} (trade : Trade) (sight : D → Sight) → (IsTrade trade → StaysSound trade) → (here : State D)
-    (done : List (Step D)) → AreSteps trade here done → AreHonest trade here done → KeepSound trade here done
-steps_move trade sight stays here [] are honest = tt
-steps_move trade sight stays here (step ∷ done) are honest = (
-  λ is_trade sound. sound_on trade sight (stays is_trade) here step.behind step.act step.luck are.0 sound honest.0,
-  steps_move trade sight stays step.behind done are.1 honest.1,
+pub steps_move : {D : Type 0} (trade : Trade) (tells : Type 0) (sight : D → Sight) → (IsTrade trade → StaysSound trade) → (here : State D)
+    (done : List (Step D)) → AreSteps trade tells here done → AreHonest trade here done → KeepSound trade here done
+steps_move trade tells sight stays here [] are honest = tt
+steps_move trade tells sight stays here (step ∷ done) are honest = (
+  λ is_trade sound. sound_on trade sight tells (stays is_trade) here step.behind step.act step.luck are.0 sound honest.0,
+  steps_move trade tells sight stays step.behind done are.1 honest.1,
 )
 
 abbrev pub as_moves : {D : Type 0} (tells : Type 0) (sight : D → Sight) (home left : ℕ → Option D) (from upto : ℕ → ℕ)
@@ -237,7 +237,7 @@ as_moves tells sight home left from upto trade form journals goes keep = record 
   seen = goes.seen;
   stand = goes.stand;
   had = goes.had;
-  moves = record { steps = goes.steps; sound = keep; moments = goes.moments };
+  moves = record { steps = goes.steps; sound = λ told. keep; moments = goes.moments };
   kept = goes.kept;
 }
 
@@ -246,7 +246,7 @@ as_moves tells sight home left from upto trade form journals goes keep = record 
 abbrev script_with : List Command → End → Script
 script_with commands end = record { commands = commands; end = end }
 
-module _ {D : Type 0} (trade : Trade) (providers : List Provider) where
+module _ {D : Type 0} (trade : Trade) (tells : Type 0) (providers : List Provider) where
   nothing_honest : (here : State D) (steps : List (Step D)) (unplayed : List Act) → acts_of steps ++ unplayed ≡ []
       → AreHonest trade here steps
   nothing_honest here [] unplayed none = tt
@@ -254,22 +254,22 @@ module _ {D : Type 0} (trade : Trade) (providers : List Provider) where
 
   -- the steps of a script that injects no forged frame
   pub steps_honest : (here : State D) (steps : List (Step D)) (unplayed : List Act) (commands : List Command) (end : End)
-      → acts_of steps ++ unplayed ≡ acts_of_script providers (script_with commands end) → AreSteps trade here steps
+      → acts_of steps ++ unplayed ≡ acts_of_script providers (script_with commands end) → AreSteps trade tells here steps
       → AllByRecursion CanBeSaid commands → AllHonest trade (lucks_in steps) here.sites commands
       → AreHonest trade here steps
   steps_honest here [] unplayed commands end is are can honest = tt
   steps_honest here (step ∷ steps) unplayed [] end is are can honest =
       let act : step.act ≡ Writes (end_text providers end) = cc in
       let rest : acts_of steps ++ unplayed ≡ [] = cc in
-      (subst (λ (a : Act). IsHonestAct trade here.sites a) (sym act) tt, nothing_honest step.behind steps unplayed rest)
+      (subst (λ (a : Act). IsHonestAct trade step.luck here.sites a) (sym act) tt, nothing_honest step.behind steps unplayed rest)
   steps_honest here (step ∷ steps) unplayed (command ∷ commands) end is are can honest =
       let act : step.act ≡ Plays command = cc in
       let rest : acts_of steps ++ unplayed ≡ acts_of_script providers (script_with commands end) = cc in
-      let done = subst (λ (a : Act). IsStep trade here a step.luck step.behind) act are.0 in
+      let done = subst (λ (a : Act). IsStep trade tells here a step.luck step.behind) act are.0 in
       let all = subst (λ (a : Act). AllHonest trade (luck_before a step.luck (lucks_in steps)) here.sites
       (command ∷ commands)) act honest in (
-        subst (λ (a : Act). IsHonestAct trade here.sites a) (sym act)
-            (one_unforged trade here.sites command can.0 all.0),
+        subst (λ (a : Act). IsHonestAct trade step.luck here.sites a) (sym act)
+            (one_unforged trade step.luck here.sites command can.0 all.0 all.1),
         steps_honest step.behind steps unplayed commands end rest are.1 can.1
-            (subst (λ (s : List Site). AllHonest trade (lucks_in steps) s commands) (sym done.state) all.1),
+            (subst (λ (s : List Site). AllHonest trade (lucks_in steps) s commands) (sym done.state) all.2),
       )

@@ -1,20 +1,23 @@
 -- A run without faults tells its transcript.
 use Rattle.std.proofs.Common.{◌≡◌, ℕ, ◌+◌, ◌<◌, ◌≤◌, ◌⊎◌, inl, inr, List, [], ◌∷◌, ◌++◌, Bool, true, false, length, refl, ap, sym, subst, ◌∙◌, arith, Option, Some, None}
 use Rattle.std.specs.Prelude.{All}
+use Rattle.std.specs.List.{AllByRecursion}
+use Rattle.std.proofs.lemmas.List.Elements.{All-head, All-tail}
 use Rattle.pec_types.specs.Bytes.{Bytes}
 use Rattle.pec_outside.specs.Flow.{HasRisen, followed_by}
 use Rattle.pec_directory.specs.Directory.{Provider}
 use Rattle.pec_ledger.specs.Network.{Site}
 use Rattle.pec_ledger.specs.Trade.{Trade}
-use Rattle.pec_plays.specs.Commands.{Command, Luck}
-use Rattle.pec_plays.specs.Possible.{AllQuiet, NoneInterrupted, quiet_lucks}
+use Rattle.pec_plays.specs.Commands.{Command, Luck, played}
+use Rattle.pec_plays.specs.Possible.{AllQuiet, GaveWhatWasKept, NoneInterrupted, quiet_lucks}
 use Rattle.pec_plays.specs.Scripts.{Told, script}
 use Rattle.pec_runs.specs.AnswerLines.{answers_text}
 use Rattle.pec_runs.specs.Endings.{End}
 use Rattle.pec_runs.specs.Happened.{Asked, Begun, Halted, Happened, Over, Stage, by_form, by_next, outcome_at, outcome_of, providers_in, stage_of}
 use Rattle.pec_input.specs.Parts.{Parts}
 use Rattle.pec_runs.specs.Openings.{Disks, Form, Next, NoMore, Holds, Unfits, Fails, Stops, form_in}
-use Rattle.pec_runs.specs.Plays.{AllMeet, Finish, HasMemory, MayPlay, Outcome, Rest, RoseBy, Stopped, Strayed, ToTheEnd, at_end, faults_told, finish_of, finish_text, outcome_from, outcome_text}
+use Rattle.pec_runs.specs.Plays.{AllMeet, Finish, HasMemory, IsUnchanged, MayPlay, Outcome, Rest, RoseBy, ShowsItsOwn, Stopped, Strayed, ToTheEnd, at_end, faults_told, finish_of, finish_text, outcome_from, outcome_text}
+use Rattle.pec_runs.specs.Plays.{UnchangedAlong}
 use Rattle.pec_runs.specs.Plays as plays
 use Rattle.pec_runs.specs.Ran.{Blames, Counts, IsAt, PlaysOn, Ran, beginning, status_at, world}
 use Rattle.pec_runs.specs.ScriptLines.{Script}
@@ -24,15 +27,17 @@ use Rattle.pec_runs.specs.Transcripts.{NoFaults, StoodStill, TellsTranscript, tr
 use Rattle.pec_runs.specs.Writing.{HasEnded, IsOfEnd}
 use Rattle.pec_runs.proofs.BeginningLemmas.{none_interrupted}
 use Rattle.pec_runs.proofs.ClimbLemmas.{rose_in_all, rose_nowhere}
-use Rattle.pec_runs.proofs.QuietLemmas.{quiet_meet, quiet_memory, quiet_none}
+use Rattle.pec_runs.proofs.QuietLemmas.{quiet_kept, quiet_meet, quiet_memory, quiet_none, quiet_unchanged}
 use Rattle.pec_runs.proofs.StatusLemmas.{at_end_full, has_ended}
 
 -- what the law of scripts without faults says
 abbrev pub OneWay : Type 0
 OneWay = (trade : Trade) (lucks : List Luck) (sites : List Site) (commands : List Command) → NoneInterrupted sites
     → length lucks ≡ length commands → AllMeet trade lucks sites commands
+    → AllByRecursion GaveWhatWasKept lucks → AllByRecursion ShowsItsOwn lucks
     → All HasMemory (script trade lucks sites commands).answers
-    → ((provider : ℕ) → faults_told provider commands (script trade lucks sites commands).answers ≡ 0)
+    → All IsUnchanged (script trade lucks sites commands).answers
+    → ((provider : ℕ) → faults_told trade provider commands (script trade lucks sites commands).answers ≡ 0)
     → script trade lucks sites commands ≡ script trade (quiet_lucks trade sites commands) sites commands
 
 -- what the law of lucks without faults says
@@ -63,7 +68,7 @@ told_as told finish = record { answers = told.answers; after = told.after; finis
 
 module _ (one : OneWay) (there : QuietThere) (tells : Type 0) (old_disks new_disks : Disks) (old new : Counts)
     (status : Status)
-    (asked : Asked) (happened : Happened) (none : NoFaults old new) (end : End) where
+    (asked : Asked) (happened : Happened) (told : tells) (none : NoFaults old new) (end : End) where
   quiet : Script → List Luck
   quiet written = quiet_lucks (world happened) (beginning happened) written.commands
 
@@ -71,42 +76,46 @@ module _ (one : OneWay) (there : QuietThere) (tells : Type 0) (old_disks new_dis
   rest_same : (written : Script) (rest : Rest)
       → MayPlay (world happened) tells (beginning happened) old.disks new.disks written happened.lucks rest
       → finish_of rest happened.lucks written ≡ plays.Ends end
+      → All IsUnchanged (script (world happened) happened.lucks (beginning happened) written.commands).answers
       → outcome_from (world happened) happened.lucks rest (beginning happened) written
       ≡ outcome_from (world happened) (quiet_lucks (world happened) (beginning happened) written.commands) ToTheEnd
       (beginning happened) written
-  rest_same written ToTheEnd may e =
+  rest_same written ToTheEnd may e same_entries =
       let full = at_end_full happened.lucks written.commands written.end end e
       in let calm = there (world happened) (beginning happened) written.commands
       in let same = one (world happened) happened.lucks (beginning happened) written.commands
-      (none_interrupted (world happened) happened.opening.journals) full.0 may.meet may.memory
+      (none_interrupted (world happened) happened.opening.journals) full.0 may.meet (may.kept told) (may.shown told)
+      may.memory same_entries
       (λ p. none_rose _ (old.disks p) (new.disks p)
       (rose_in_all (world happened) happened.lucks (beginning happened) written.commands old.disks new.disks may.counts p)
       (none.disks p))
-      in ap (λ (told : Told). told_as told (at_end happened.lucks written.commands written.end)) same
+      in ap (λ (t : Told). told_as t (at_end happened.lucks written.commands written.end)) same
       ∙ ap (told_as (script (world happened) (quiet_lucks (world happened) (beginning happened) written.commands)
       (beginning happened) written.commands))
       (at_end_all happened.lucks written.commands written.end full.0
       ∙ sym (at_end_all (quiet_lucks (world happened)
       (beginning happened) written.commands) written.commands written.end calm.1))
-  rest_same written Stopped may e = cc
-  rest_same written Strayed may e = cc
+  rest_same written Stopped may e same_entries = cc
+  rest_same written Strayed may e same_entries = cc
 
   next_same : (written : Script) (next : Next) → PlaysOn tells old_disks new_disks old new happened written next
       → (by_next (world happened) happened.opening happened.lucks happened.rest written next).finish ≡ plays.Ends end
+      → All IsUnchanged (by_next (world happened) happened.opening happened.lucks happened.rest written next).answers
       → by_next (world happened) happened.opening happened.lucks happened.rest written next
       ≡ by_next (world happened) happened.opening
       (quiet_lucks (world happened) (beginning happened) written.commands) ToTheEnd written next
-  next_same written NoMore may e = rest_same written happened.rest may e
-  next_same written Holds may e = refl
-  next_same written (Unfits unfit) may e = refl
-  next_same written Fails may e = refl
-  next_same written Stops may e = refl
+  next_same written NoMore may e same_entries = rest_same written happened.rest may e same_entries
+  next_same written Holds may e same_entries = refl
+  next_same written (Unfits unfit) may e same_entries = refl
+  next_same written Fails may e same_entries = refl
+  next_same written Stops may e same_entries = refl
 
   same_at : (stage : Stage) → IsAt tells old_disks new_disks old new happened status asked stage
-      → (outcome_at happened stage).finish ≡ plays.Ends end → outcome_at happened stage ≡ transcript_at happened stage
-  same_at (Over other) at e = refl
-  same_at Halted at e = refl
-  same_at (Begun form written) at e = next_same written happened.opening.next at.plays e
+      → (outcome_at happened stage).finish ≡ plays.Ends end → All IsUnchanged (outcome_at happened stage).answers
+      → outcome_at happened stage ≡ transcript_at happened stage
+  same_at (Over other) at e same_entries = refl
+  same_at Halted at e same_entries = refl
+  same_at (Begun form written) at e same_entries = next_same written happened.opening.next at.plays e same_entries
 
   late_by : (early : Bool) (parts : Parts) (found : Option Form)
       → (outcome_at happened (by_form asked.finds early parts found)).finish ≡ plays.Ends end
@@ -117,10 +126,11 @@ module _ (one : OneWay) (there : QuietThere) (tells : Type 0) (old_disks new_dis
 
   pub ended_same : IsAt tells old_disks new_disks old new happened status asked
       (stage_of asked happened.early happened.parts)
-      → (outcome_of asked happened).finish ≡ plays.Ends end → outcome_of asked happened ≡ transcript asked happened
+      → (outcome_of asked happened).finish ≡ plays.Ends end → All IsUnchanged (outcome_of asked happened).answers
+      → outcome_of asked happened ≡ transcript asked happened
   unfolding outcome_of transcript stage_of
-  ended_same at e =
-      same_at (by_form asked.finds happened.early happened.parts (form_in asked.words)) at e
+  ended_same at e same_entries =
+      same_at (by_form asked.finds happened.early happened.parts (form_in asked.words)) at e same_entries
       ∙ ap (transcript_at happened) (late_by happened.early happened.parts (form_in asked.words) e)
 
 -- ---- a run
@@ -129,15 +139,15 @@ module _ (one : OneWay) (there : QuietThere) (asked : Asked) (status : Status)
     (unread before after : Option Bytes) (tells : Type 0)
     (old_disks new_disks : Disks) (old new : Counts)
     (ran : Ran asked status unread before after tells old_disks new_disks old new)
-    (told : tells) (none : NoFaults old new) where
+    (told : tells) (none : NoFaults old new) (same_entries : All IsUnchanged (outcome_of asked ran.happened).answers) where
   abbrev providers : List Provider
   providers = providers_in ran.happened.setting
 
   tells_transcript : HasEnded asked ran.happened status before after
       → TellsTranscript asked ran.happened status before after
   tells_transcript ended =
-      let same = ended_same one there tells old_disks new_disks old new status asked ran.happened none
-      ended.end ran.is_at ended.finish
+      let same = ended_same one there tells old_disks new_disks old new status asked ran.happened told none
+      ended.end ran.is_at ended.finish same_entries
       in let finish : (transcript asked ran.happened).finish
       ≡ plays.Ends ended.end = ap (λ (o : Outcome). o.finish) (sym same) ∙ ended.finish
       in record {
@@ -181,17 +191,35 @@ module _ (one : OneWay) (there : QuietThere) (asked : Asked) (status : Status)
 
 -- ---- there is such a run
 
+-- where none is told as changed, none is along it
+unchanged_along : (trade : Trade) (lucks : List Luck) (sites : List Site) (commands : List Command)
+    → All IsUnchanged (script trade lucks sites commands).answers → UnchangedAlong trade lucks sites commands
+unchanged_along trade [] sites commands all = tt
+unchanged_along trade (luck ∷ lucks) sites [] all = tt
+unchanged_along trade (luck ∷ lucks) sites (c ∷ commands) all =
+    let here = played trade luck sites c
+    in let told = (script trade lucks here.after commands).answers
+    in (
+      λ world sound. All-head IsUnchanged here.answer told all,
+      unchanged_along trade lucks here.after commands (All-tail IsUnchanged here.answer told all),
+    )
+
 pub quiet_plays : (there : QuietThere) (trade : Trade) (tells : Type 0) (sites : List Site) (counts : ℕ → ℕ)
     (written : Script)
     → MayPlay trade tells sites counts counts written (quiet_lucks trade sites written.commands) ToTheEnd
 quiet_plays there trade tells sites counts written =
     let calm = there trade sites written.commands
     in let lucks = quiet_lucks trade sites written.commands
+    in let kept = quiet_kept trade lucks sites written.commands calm.1 calm.0
     in record {
       enough = let e = calm.1 in omega (arith, e);
       meet = quiet_meet trade lucks sites written.commands calm.0;
       memory = quiet_memory trade lucks sites written.commands calm.0;
       counts = rose_nowhere trade lucks sites written.commands counts
           (λ p. quiet_none trade p lucks sites written.commands calm.0);
+      kept = λ told. kept.0;
+      shown = λ told. kept.1;
+      unchanged = λ told. unchanged_along trade lucks sites written.commands
+          (quiet_unchanged trade lucks sites written.commands calm.0);
       strays = tt;
     }

@@ -6,7 +6,7 @@ use Rattle.pec_directory.specs.Directory.{Provider}
 use Rattle.pec_ledger.specs.Network.{Site}
 use Rattle.pec_ledger.specs.SmallWorld.{small}
 use Rattle.pec_plays.specs.Commands.{Answer, LinkFull, Lost, Luck, NoFrame, Refuses, Turns}
-use Rattle.pec_plays.specs.Examples.{calm, failing, finding, turn_of, with_a_fault}
+use Rattle.pec_plays.specs.Examples.{calm, failing, finding, turn_of, unread, with_a_fault, with_a_look}
 use Rattle.pec_types.specs.declared.turns.Event.TheVariants as events
 use Rattle.pec_types.specs.declared.turns.ProviderFault.TheVariants as faults
 use Rattle.pec_runs.specs.Endings.{Done}
@@ -71,6 +71,14 @@ faulty_lucks = calm ∷ calm ∷ failing 1 ∷ calm ∷ finding ∷ calm ∷ []
 -- the script that meets these lucks, played to its end
 abbrev pub faulty_script : Script
 faulty_script = record { commands = with_a_fault; end = Done }
+
+-- the read of an item that is to be shown fails
+abbrev pub unread_lucks : List Luck
+unread_lucks = calm ∷ calm ∷ calm ∷ unread ∷ calm ∷ finding ∷ []
+
+-- the script that meets these lucks
+abbrev pub looking_script : Script
+looking_script = record { commands = with_a_look; end = Done }
 
 -- a full link, from alfa to alfa
 abbrev pub full_link : List Site

@@ -22,7 +22,7 @@ use Rattle.pec_ledger.specs.Network.{IsGenuine, Site, Sound, frames_between, jou
 use Rattle.pec_ledger.specs.Pairs.{Pair, pair_of}
 use Rattle.pec_ledger.specs.Trade.{Framed, Receipt, SeenReceipt, Trade}
 use Rattle.pec_plays.specs.Commands.{Book, Command, Inject, Lines, Luck, Marks, Round, Submit, Tick, played}
-use Rattle.pec_plays.specs.Scripts.{Kept, script}
+use Rattle.pec_plays.specs.Scripts.{Kept, PutsNoneForged, script}
 use Rattle.pec_plays.specs.Told.{decided_told, learned_told}
 use Rattle.pec_runs.specs.Reaching.{IsReached}
 
@@ -42,12 +42,25 @@ abbrev pub IsHonest : Trade → List Site → Command → Type 0
 IsHonest trade sites (Inject from to frame) = IsGenuine trade (journals_of sites) frame
 IsHonest trade sites _ = Unit {0}
 
--- None is, along a script.
+-- None is put in place of a due one, for what a disk gave back in place of what it took.
+abbrev pub PutsHonestly : Trade → Luck → List Site → Command → Type 0
+PutsHonestly trade luck sites (Round moment) = PutsNoneForged trade luck sites moment
+PutsHonestly trade luck sites _ = Unit {0}
+
+-- So it is along a script: no forged frame is injected, or put in place of a due one.
 abbrev pub AllHonest : Trade → List Luck → List Site → List Command → Type 0
 AllHonest trade [] sites commands = Unit {0}
 AllHonest trade (luck ∷ lucks) sites [] = Unit {0}
 AllHonest trade (luck ∷ lucks) sites (command ∷ commands) =
-    IsHonest trade sites command × AllHonest trade lucks (played trade luck sites command).after commands
+    IsHonest trade sites command × PutsHonestly trade luck sites command
+    × AllHonest trade lucks (played trade luck sites command).after commands
+
+-- No forged frame is injected along a script.
+abbrev pub NoneInjected : Trade → List Luck → List Site → List Command → Type 0
+NoneInjected trade [] sites commands = Unit {0}
+NoneInjected trade (luck ∷ lucks) sites [] = Unit {0}
+NoneInjected trade (luck ∷ lucks) sites (command ∷ commands) =
+    IsHonest trade sites command × NoneInjected trade lucks (played trade luck sites command).after commands
 
 -- ---- at a command
 

@@ -5,23 +5,24 @@ use Rattle.pec_outside.specs.DiskModel.{Sight}
 use Rattle.pec_ledger.specs.Network.{Site}
 use Rattle.pec_ledger.specs.Trade.{Trade}
 use Rattle.pec_chronicle.specs.Chronicle.{ChronicleState, Stands}
+use Rattle.pec_plays.specs.Commands.{Luck}
 use Rattle.pec_plays.specs.Scripts.{IsUnforged}
 use Rattle.pec_runs.specs.Steps.{Act, Hands, Plays, State, Step, Writes}
 
 -- ---- premises
 
--- The act's command may come in this state, and injects no forged frame.
-abbrev pub IsHonestAct : Trade → List Site → Act → Type 0
-IsHonestAct trade sites (Plays command) = IsUnforged trade sites command
-IsHonestAct trade sites (Hands command) = IsUnforged trade sites command
-IsHonestAct trade sites (Writes text) = Unit {0}
+-- The act's command may come in this state, and no forged frame is injected, or put in place of a due one.
+abbrev pub IsHonestAct : Trade → Luck → List Site → Act → Type 0
+IsHonestAct trade luck sites (Plays command) = IsUnforged trade luck sites command
+IsHonestAct trade luck sites (Hands command) = IsUnforged trade luck sites command
+IsHonestAct trade luck sites (Writes text) = Unit {0}
 
 module _ {D : Type 0} where
   -- So it is along steps.
   abbrev pub AreHonest : Trade → State D → List (Step D) → Type 0
   AreHonest trade here [] = Unit {0}
   AreHonest trade here (step ∷ steps) =
-      IsHonestAct trade here.sites step.act × AreHonest trade step.behind steps
+      IsHonestAct trade step.luck here.sites step.act × AreHonest trade step.behind steps
 
   -- What is kept of each provider stands on its disk.
   abbrev pub AllStandIn : (D → Sight) → State D → Type 0

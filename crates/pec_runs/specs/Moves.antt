@@ -1,5 +1,5 @@
 -- How a network comes from one state to another, whatever is played and written on the way: `Moves`, by steps that keep it
--- Sound, with what a crash may leave at any moment of them. This project's profile.
+-- Sound where disks tell what they hold, with what a crash may leave at any moment of them. This project's profile.
 use Rattle.std.specs.Prelude.{◌≡◌, List, [], ◌∷◌}
 use Rattle.pec_outside.specs.DiskModel.{Sight}
 use Rattle.pec_ledger.specs.Network.{Sound}
@@ -17,7 +17,7 @@ module _ (trade : Trade) (tells : Type 0) {D : Type 0} (sight : D → Sight) whe
   -- It moved by these steps, and may have been stopped within a further one.
   pub record Moves (here there : State D) : Type 0 where
     pub steps : List (Step D)
-    pub sound : KeepSound trade here steps
+    pub sound : tells → KeepSound trade here steps
     pub moments : tells → AllMoments trade sight here there steps
 
   -- It moved by whole steps.

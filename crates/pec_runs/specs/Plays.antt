@@ -1,17 +1,19 @@
 -- How a script is played from a state: with a luck for each command, until the script ends, something stops the run,
 -- or it strays. The headlines are `Outcome`, `outcome_from`, and `MayPlay`, which says what devices have to do with
 -- it. This project's profile.
-use Rattle.std.specs.Prelude.{◌≡◌, ◌≢◌, ℕ, ◌+◌, ◌-◌, ◌^◌, ◌<◌, ◌≤◌, ◌==◌, Bool, false, true, ◌&&◌, List, [], ◌∷◌, ◌++◌, length, slice_get, All, Option, Some, if◌then◌else◌}
+use Rattle.std.specs.Prelude.{◌≡◌, ◌≢◌, ℕ, ◌+◌, ◌-◌, ◌^◌, ◌<◌, ◌≤◌, ◌==◌, Bool, false, true, ◌&&◌, List, [], ◌∷◌, ◌++◌, length, slice_get, All, Option, Some, None, if◌then◌else◌}
+use Rattle.std.specs.List.{AllByRecursion}
 use Rattle.pec_types.specs.Bytes.{Bytes}
 use Rattle.pec_types.specs.declared.turns.ProviderFault.{ProviderFault}
 use Rattle.pec_types.specs.declared.turns.ProviderFault.TheVariants as faults
 use Rattle.pec_types.specs.declared.turns.Turn.{Turn}
 use Rattle.pec_directory.specs.Directory.{Provider}
 use Rattle.pec_ledger.specs.Along.{times}
-use Rattle.pec_ledger.specs.Network.{Site, is_up}
+use Rattle.pec_ledger.specs.Network.{Site, Sound, is_up}
 use Rattle.pec_ledger.specs.Trade.{Trade}
-use Rattle.pec_plays.specs.Commands.{Answer, Command, Luck, Refuses, Restart, Round, Submit, Tick, Turns, played}
-use Rattle.pec_plays.specs.Possible.{MayMeet}
+use Rattle.pec_ledger.specs.TradeLaws.{IsTrade}
+use Rattle.pec_plays.specs.Commands.{Answer, Command, Luck, Refuses, Restart, Round, Show, Submit, Tick, Turns, account_home, played}
+use Rattle.pec_plays.specs.Possible.{GaveWhatWasKept, MayMeet}
 use Rattle.pec_plays.specs.Scripts.{script}
 use Rattle.pec_runs.specs.AnswerLines.{answers_text}
 use Rattle.pec_runs.specs.Endings.{End, end_text}
@@ -89,24 +91,61 @@ abbrev pub faults_at : ℕ → ℕ → Answer → ℕ
 faults_at provider asked (Refuses faults.DiskFault) = if asked == provider then 1 else 0
 faults_at provider asked _ = 0
 
--- How many faults of a provider's disk an answer tells.
-abbrev pub faults_by : ℕ → Command → Answer → ℕ
-faults_by provider (Submit asked moment sender path message found) answer = faults_at provider asked answer
-faults_by provider (Tick asked moment) answer = faults_at provider asked answer
-faults_by provider (Restart asked) answer = faults_at provider asked answer
-faults_by provider (Round moment) (Turns turns) = faults_in provider turns
-faults_by provider _ _ = 0
+-- of a call at the provider of an account, if the address is one
+abbrev pub faults_at_home : ℕ → Option ℕ → Answer → ℕ
+faults_at_home provider None answer = 0
+faults_at_home provider (Some asked) answer = faults_at provider asked answer
 
--- How many faults of a provider's disk are told in all.
-abbrev pub faults_told : ℕ → List Command → List Answer → ℕ
-faults_told provider [] answers = 0
-faults_told provider (command ∷ commands) [] = 0
-faults_told provider (command ∷ commands) (answer ∷ answers) =
-    faults_by provider command answer + faults_told provider commands answers
+module _ (trade : Trade) where
+  -- How many faults of a provider's disk an answer tells.
+  abbrev pub faults_by : ℕ → Command → Answer → ℕ
+  faults_by provider (Submit asked moment sender path message found) answer = faults_at provider asked answer
+  faults_by provider (Tick asked moment) answer = faults_at provider asked answer
+  faults_by provider (Restart asked) answer = faults_at provider asked answer
+  faults_by provider (Show address place) answer =
+      faults_at_home provider (account_home trade address (trade.home address)) answer
+  faults_by provider (Round moment) (Turns turns) = faults_in provider turns
+  faults_by provider _ _ = 0
+
+  -- How many faults of a provider's disk are told in all.
+  abbrev pub faults_told : ℕ → List Command → List Answer → ℕ
+  faults_told provider [] answers = 0
+  faults_told provider (command ∷ commands) [] = 0
+  faults_told provider (command ∷ commands) (answer ∷ answers) =
+      faults_by provider command answer + faults_told provider commands answers
 
 -- A count of faults, which never falls, rose by so many at least. At its greatest value it stays.
 abbrev pub RoseBy : ℕ → ℕ → ℕ → Type 0
 RoseBy number before now = (before ≤ now) × (now < 2 ^ 64 - 1 → before + number ≤ now)
+
+-- ---- what disks gave back
+
+-- an item was shown with its own bytes, or none was
+abbrev pub ShowsItsOwn : Luck → Type 0
+ShowsItsOwn luck = luck.shown ≡ None
+
+-- a turn ended early, or a call was refused, since what was read is another entry than was kept
+abbrev pub is_change : Option ProviderFault → Bool
+is_change (Some (faults.Changed entry)) = true
+is_change _ = false
+
+-- No entry is told as changed.
+abbrev pub IsUnchanged : Answer → Type 0
+IsUnchanged (Turns turns) = All (λ (turn : Turn). is_change turn.ended ≡ false) turns
+IsUnchanged (Refuses fault) = is_change (Some fault) ≡ false
+IsUnchanged _ = Unit {0}
+
+-- So it is, where the state before the command is Sound.
+abbrev pub UnchangedIn : Trade → List Site → Answer → Type 0
+UnchangedIn trade sites answer = IsTrade trade → Sound trade sites → IsUnchanged answer
+
+-- So it is of each command of a script.
+abbrev pub UnchangedAlong : Trade → List Luck → List Site → List Command → Type 0
+UnchangedAlong trade [] sites commands = Unit {0}
+UnchangedAlong trade (luck ∷ lucks) sites [] = Unit {0}
+UnchangedAlong trade (luck ∷ lucks) sites (command ∷ commands) =
+    UnchangedIn trade sites (played trade luck sites command).answer
+    × UnchangedAlong trade lucks (played trade luck sites command).after commands
 
 -- ---- what may be
 
@@ -142,17 +181,22 @@ RoseAlong trade (luck ∷ lucks) sites [] from upto = (provider : ℕ) → from 
 RoseAlong trade (luck ∷ lucks) sites (command ∷ commands) from upto =
     (behind : ℕ → ℕ)
     × ((provider : ℕ)
-    → RoseBy (faults_by provider command (played trade luck sites command).answer) (from provider) (behind provider))
+    → RoseBy (faults_by trade provider command (played trade luck sites command).answer) (from provider)
+    (behind provider))
     × RoseAlong trade lucks (played trade luck sites command).after commands behind upto
 
 -- A script may be played so from a state, while the counts of faults of disks rise from some to others: each command
 -- may meet its luck, no memory was missing in what is told, and each fault that is told of a disk raised that disk's
--- count in the command that tells it.
+-- count in the command that tells it. Where disks tell what they hold, what was read is what was kept: no frame was put
+-- and no item shown in place of another, and from a Sound state no entry is told as changed.
 pub record MayPlay (trade : Trade) (tells : Type 0) (sites : List Site) (from upto : ℕ → ℕ) (written : Script)
     (lucks : List Luck) (rest : Rest) : Type 0 where
   pub enough : length lucks ≤ length written.commands
   pub meet : AllMeet trade lucks sites written.commands
   pub memory : All HasMemory (script trade lucks sites written.commands).answers
   pub counts : RoseAlong trade lucks sites written.commands from upto
+  pub kept : tells → AllByRecursion GaveWhatWasKept lucks
+  pub shown : tells → AllByRecursion ShowsItsOwn lucks
+  pub unchanged : tells → UnchangedAlong trade lucks sites written.commands
   pub strays : StraysSo tells (script trade lucks sites written.commands).after
       (slice_get written.commands (length lucks)) rest

@@ -12,11 +12,11 @@ use Rattle.pec_directory.specs.Directory.{Provider}
 use Rattle.pec_ledger.specs.Network.{Site, Sound, interrupted_at, journal_at}
 use Rattle.pec_ledger.specs.Trade.{Trade}
 use Rattle.pec_plays.specs.Commands.{Command, Luck, played}
-use Rattle.pec_plays.specs.Possible.{MayMeet}
+use Rattle.pec_plays.specs.Possible.{GaveWhatWasKept, MayMeet}
 use Rattle.pec_runs.specs.AnswerLines.{answer_text}
 use Rattle.pec_runs.specs.Endings.{End, end_text}
 use Rattle.pec_runs.specs.Openings.{NoMore}
-use Rattle.pec_runs.specs.Plays.{HasMemory, MayPlay, MayStray, Rest, RoseBy, Strayed, faults_by, outcome_from}
+use Rattle.pec_runs.specs.Plays.{HasMemory, MayPlay, MayStray, Rest, RoseBy, ShowsItsOwn, Strayed, UnchangedIn, faults_by, outcome_from}
 use Rattle.pec_runs.specs.Ran.{LeavesOff, Tells, command_in_hand}
 use Rattle.pec_runs.specs.ScriptLines.{Script}
 use Rattle.pec_runs.specs.Statuses.{Status, status_of}
@@ -77,22 +77,22 @@ module _ {D : Type 0} where
   lucks_in [] = []
   lucks_in (step ∷ steps) = luck_before step.act step.luck (lucks_in steps)
 
-module _ (trade : Trade) where
+module _ (trade : Trade) (tells : Type 0) where
   -- A command was played from a state to another, with a luck that it may meet. No turn that is told ended for want of
-  -- memory, and each fault that is told of a disk raised that disk's count.
+  -- memory, and each fault that is told of a disk raised that disk's count. Where disks tell what they hold, what was
+  -- read is what was kept: no frame was put and no item shown in place of another, and from a Sound state no entry is
+  -- told as changed.
   pub record IsCall (sites : List Site) (from upto : ℕ → ℕ) (command : Command) (luck : Luck) (after : List Site)
       : Type 0 where
     pub meet : MayMeet trade luck sites command
     pub memory : HasMemory (played trade luck sites command).answer
     pub counts : (provider : ℕ)
-        → RoseBy (faults_by provider command (played trade luck sites command).answer) (from provider) (upto provider)
+        → RoseBy (faults_by trade provider command (played trade luck sites command).answer) (from provider)
+        (upto provider)
     pub state : after ≡ (played trade luck sites command).after
-
-  -- the lines that are written of an act
-  abbrev pub text_by : List Provider → List Site → Act → Luck → Bytes
-  text_by providers sites (Plays command) luck = answer_text providers (played trade luck sites command).answer
-  text_by providers sites (Hands command) luck = []
-  text_by providers sites (Writes text) luck = text
+    pub kept : tells → GaveWhatWasKept luck
+    pub shown : tells → ShowsItsOwn luck
+    pub unchanged : tells → UnchangedIn trade sites (played trade luck sites command).answer
 
   module _ {D : Type 0} where
     -- The act was done from here.
@@ -108,6 +108,14 @@ module _ (trade : Trade) where
     AreSteps here [] = Unit {0}
     AreSteps here (step ∷ steps) = IsStep here step.act step.luck step.behind × AreSteps step.behind steps
 
+module _ (trade : Trade) where
+  -- the lines that are written of an act
+  abbrev pub text_by : List Provider → List Site → Act → Luck → Bytes
+  text_by providers sites (Plays command) luck = answer_text providers (played trade luck sites command).answer
+  text_by providers sites (Hands command) luck = []
+  text_by providers sites (Writes text) luck = text
+
+  module _ {D : Type 0} where
     -- all that is written of steps
     abbrev pub text_of : List Provider → State D → List (Step D) → Bytes
     text_of providers here [] = []
@@ -208,7 +216,7 @@ module _ (trade : Trade) (providers : List Provider) (tells : Type 0) {D : Type 
     pub steps : List (Step D)
     pub left : List Act
     pub acts_are : acts_of steps ++ left ≡ acts
-    pub each : AreSteps trade here.state steps
+    pub each : AreSteps trade tells here.state steps
     pub moments : tells → AllMoments trade sight here.state there.state steps
     pub ends :
         EndsSo (state_behind here.state steps) (text_of trade providers here.state steps) left here.held there stop
@@ -231,7 +239,7 @@ module _ (trade : Trade) (providers : List Provider) (tells : Type 0) {D : Type 
     pub steps : List (Step D)
     pub unplayed : List Act
     pub acts_are : acts_of steps ++ unplayed ≡ acts_of_script providers script
-    pub each : AreSteps trade here.state steps
+    pub each : AreSteps trade tells here.state steps
     pub moments : tells → AllMoments trade sight here.state there.state steps
     pub since : (provider : ℕ) → (state_behind here.state steps).counts provider ≤ there.state.counts provider
     pub rest : Rest

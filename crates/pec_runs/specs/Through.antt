@@ -63,7 +63,7 @@ module _ {D : Type 0} (tells : Type 0) (sight : D → Sight) (home left : ℕ �
     pub stand : tells → AllStandIn sight first
     pub had : AreHadFrom sight tells form trade home (disks_in first)
     pub sooner : (provider : ℕ) → from provider ≤ first.counts provider
-    pub each : AreSteps trade first steps
+    pub each : AreSteps trade tells first steps
     pub moments : tells → AllMoments trade sight first last steps
     pub later : (provider : ℕ) → (state_behind first steps).counts provider ≤ upto provider
     pub kept : tells → (provider : ℕ) → provider < trade.providers

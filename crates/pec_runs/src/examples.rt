@@ -9,7 +9,8 @@ ghost use Rattle.pec_plays.specs.Commands.{Crash, IsUp, NoFrame, Repeat, Restart
 ghost use Rattle.pec_plays.specs.Examples.{calm, calmly, left_by, to_the_end};
 ghost use Rattle.pec_runs.specs.AnswerLines.{answers_text};
 ghost use Rattle.pec_runs.specs.Endings as ends;
-ghost use Rattle.pec_runs.specs.Examples.{faulty_lucks, faulty_script, full_link, none_finds, six_lines, some_answers, twice_marked, two, unmarked};
+ghost use Rattle.pec_runs.specs.Examples.{faulty_lucks, faulty_script, full_link, looking_script, none_finds, six_lines, some_answers, twice_marked, two};
+ghost use Rattle.pec_runs.specs.Examples.{unmarked, unread_lucks};
 ghost use Rattle.pec_runs.specs.Headline.{Headline};
 ghost use Rattle.pec_input.specs.Directory.{of_directory};
 ghost use Rattle.pec_input.specs.Lines.{raw_lines};
@@ -56,10 +57,16 @@ pub fn runs_of_the_examples<P: Depot>()
     // An append fails, and the restart finds the entry: one fault of alfa's disk is told, and none of beta's.
     ensures faulty { outcome_from small faulty_lucks ToTheEnd (at_start small) faulty_script
         ≡ record (outcome_from small faulty_lucks ToTheEnd (at_start small) faulty_script) { finish = Ends ends.Done } }
-    ensures faults { faults_told 0 faulty_script.commands
+    ensures faults { faults_told small 0 faulty_script.commands
         (outcome_from small faulty_lucks ToTheEnd (at_start small) faulty_script).answers
-        ∷ faults_told 1 faulty_script.commands
+        ∷ faults_told small 1 faulty_script.commands
         (outcome_from small faulty_lucks ToTheEnd (at_start small) faulty_script).answers ∷ []
+        ≡ 1 ∷ 0 ∷ [] }
+    // The read of an item fails, as an account of alfa looks at it: so it is told, once.
+    ensures looked { faults_told small 0 looking_script.commands
+        (outcome_from small unread_lucks ToTheEnd (at_start small) looking_script).answers
+        ∷ faults_told small 1 looking_script.commands
+        (outcome_from small unread_lucks ToTheEnd (at_start small) looking_script).answers ∷ []
         ≡ 1 ∷ 0 ∷ [] }
     // With a luck too few the script isn't at its end.
     ensures unfinished { (outcome_from small (calm ∷ []) ToTheEnd (at_start small) faulty_script).finish ≡ Stops }

@@ -5,6 +5,7 @@
 mod examples;
 mod headline;
 mod inputs;
+mod keeping;
 mod leaving;
 mod moments;
 mod moving;
@@ -20,6 +21,7 @@ mod writing;
 pub use examples::{runs_of_the_examples, texts_of_the_examples};
 pub use headline::the_books_belong_to_the_ledger;
 pub use inputs::a_line_is_one_thing;
+pub use keeping::{no_entry_is_told_as_changed, what_is_due_is_no_forged_frame};
 pub use leaving::{a_journal_that_is_there_survives, a_run_leaves_its_journals};
 pub use moments::a_run_may_be_killed_at_any_moment;
 pub use moving::moves_are_joined;

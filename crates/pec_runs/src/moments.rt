@@ -15,23 +15,26 @@ use pec_ledger::any_images;
 use pec_outside::{Depot, a_disk_is_so};
 use pec_plays::a_network_stays_sound;
 
-/// A run that goes by steps from a Sound state, in which what is kept of providers stands on their disks, and that injects
-/// no forged frame: before each step the state is Sound and all stand. So at whatever moment it is killed, each disk holds
-/// the journal of a list that follows the state before the step within which it was; and whatever these disks hold fits
-/// together.
+/// A run that goes by steps from a Sound state, in which what is kept of providers stands on their disks, and that
+/// injects no forged frame: before each step the state is Sound and all stand. So at whatever moment it is killed, each
+/// disk holds the journal of a list that follows the state before the step within which it was; and whatever these
+/// disks hold fits together.
 pub fn a_run_may_be_killed_at_any_moment<P: Depot>()
     ensures sound { (trade : Trade) → IsTrade trade → (here there : State P.D) (steps : List (Step P.D))
-        → AreSteps trade here steps → AllMoments trade P.D.sight here there steps → AreHonest trade here steps
+        → AreSteps trade (P.tells × P.D.tells) here steps → AllMoments trade P.D.sight here there steps
+        → AreHonest trade here steps
         → Sound trade here.sites → AllStandIn P.D.sight here → (number : ℕ) → number ≤ length steps
         → Sound trade (state_at number here there steps).sites
         × AllStandIn P.D.sight (state_at number here there steps) }
     ensures follows { P.D.tells → (trade : Trade) → IsTrade trade → (here there : State P.D) (steps : List (Step P.D))
-        → AreSteps trade here steps → AllMoments trade P.D.sight here there steps → AreHonest trade here steps
+        → AreSteps trade (P.tells × P.D.tells) here steps → AllMoments trade P.D.sight here there steps
+        → AreHonest trade here steps
         → Sound trade here.sites → AllStandIn P.D.sight here → AreSeen here → (number : ℕ) → number ≤ length steps
         → (provider : ℕ) (bytes : Bytes) → IsKilledIn P.D.sight number here there steps provider bytes
         → FollowsSo trade (state_at number here there steps).sites provider bytes }
     ensures fit { P.D.tells → (trade : Trade) → IsTrade trade → (here there : State P.D) (steps : List (Step P.D))
-        → AreSteps trade here steps → AllMoments trade P.D.sight here there steps → AreHonest trade here steps
+        → AreSteps trade (P.tells × P.D.tells) here steps → AllMoments trade P.D.sight here there steps
+        → AreHonest trade here steps
         → Sound trade here.sites → AllStandIn P.D.sight here → AreSeen here → (number : ℕ) → number ≤ length steps
         → (journals : List (List Entry)) → length journals ≡ trade.providers
         → ((provider : ℕ) → provider < trade.providers → (bytes : Bytes)

@@ -23,8 +23,8 @@ use pec_outside::{Depot, Disk, a_disk_is_so};
 use pec_plays::a_network_stays_sound;
 use pec_script::a_line_has_one_reading;
 
-/// What is found on disks fits together: on empty ones; behind one run where it did before it; and so, from empty ones on,
-/// behind any runs, each on the disks of the one before. Journals that are opened there are Fit.
+/// What is found on disks fits together: on empty ones; behind one run where it did before it; and so, from empty ones
+/// on, behind any runs, each on the disks of the one before. Journals that are opened there are Fit.
 pub fn what_is_passed_on_fits<P: Depot>()
     ensures empty { (trade : Trade) (home : ℕ → Option P.D) → AreEmpty trade (held (P.tells × P.D.tells) P.D.sight home)
         → AreFitting trade (held (P.tells × P.D.tells) P.D.sight home) }
@@ -48,9 +48,9 @@ pub fn what_is_passed_on_fits<P: Depot>()
     a_disk_is_so::<P::D>();
 }
 
-/// Disks are passed on by whoever has journals on them: also where it ended, or was killed, while they were made or opened;
-/// where it ended with all of them had, within a step or behind it; and where it was killed within a step. Of a Sound
-/// beginning nothing is presumed: it follows where what was found fits.
+/// Disks are passed on by whoever has journals on them: also where it ended, or was killed, while they were made or
+/// opened; where it ended with all of them had, within a step or behind it; and where it was killed within a step. Of a
+/// Sound beginning nothing is presumed: it follows where what was found fits.
 pub fn disks_are_passed_on<P: Depot>()
     ensures stopped { P.tells × P.D.tells → (trade : Trade) (form : Form) (home left found : ℕ → Option P.D)
         → AreAtHome trade home → AreHadFrom P.D.sight (P.tells × P.D.tells) form trade home left
@@ -87,9 +87,9 @@ pub fn disks_are_passed_on<P: Depot>()
     a_disk_is_so::<P::D>();
 }
 
-/// A run that plays a script passes on what it found, at every status, and killed at every moment: before a disk is asked
-/// for, while journals are made or opened, within a step of its script, and as it ends. The disks of its providers are at
-/// home as it begins, and it injects no forged frame.
+/// A run that plays a script passes on what it found, at every status, and killed at every moment: before a disk is
+/// asked for, while journals are made or opened, within a step of its script, and as it ends. The disks of its
+/// providers are at home as it begins, and it injects no forged frame.
 pub fn a_run_passes_its_disks_on<P: Depot>()
     ensures ended { P.tells × P.D.tells → (trade : Trade) (asked : Asked) (status : Status)
         (unread before after : Option Bytes) (home left found : ℕ → Option P.D) (old new : Counts)
@@ -149,9 +149,9 @@ pub fn a_run_passes_its_disks_on<P: Depot>()
     a_line_has_one_reading();
 }
 
-/// Runs of one directory, one after another, the first on empty disks, each on the disks that the one before left or that a
-/// crash left of them, at whatever status that one ended: journals that the last of them opens are Fit, where none injects
-/// a forged frame. So what the headline presumes of a run that resumes holds of it.
+/// Runs of one directory, one after another, the first on empty disks, each on the disks that the one before left or
+/// that a crash left of them, at whatever status that one ended: journals that the last of them opens are Fit, where
+/// none injects a forged frame. So what the headline presumes of a run that resumes holds of it.
 pub fn runs_go_on_from_one_another<P: Depot>()
     ensures fitting { P.tells × P.D.tells → (trade : Trade) (first : OneRun P.D) (more : List (OneRun P.D))
         → AreEmpty trade (held (P.tells × P.D.tells) P.D.sight first.home)

@@ -1,4 +1,5 @@
 ghost use Rattle.std.specs.Prelude.{◌≡◌, ◌⊎◌, ℕ, false, All, List, Option, Some, Ok, length};
+ghost use Rattle.std.specs.List.{AllByRecursion};
 ghost use Rattle.pec_types.specs.Bytes.{Bytes};
 ghost use Rattle.pec_outside.specs.Flow.{followed_by};
 ghost use Rattle.pec_directory.specs.Directory.{Provider};
@@ -6,15 +7,15 @@ ghost use Rattle.pec_records.specs.declared.entries.Entry.{Entry};
 ghost use Rattle.pec_ledger.specs.Network.{Site};
 ghost use Rattle.pec_ledger.specs.Trade.{Trade};
 ghost use Rattle.pec_plays.specs.Commands.{Command, Luck};
-ghost use Rattle.pec_plays.specs.Possible.{NoneInterrupted, quiet_lucks};
+ghost use Rattle.pec_plays.specs.Possible.{GaveWhatWasKept, NoneInterrupted, quiet_lucks};
 ghost use Rattle.pec_plays.specs.Scripts.{script};
 ghost use Rattle.pec_input.specs.Directory.{directory_in};
-ghost use Rattle.pec_runs.specs.Happened.{Asked, Begun, IsSetting, Setting, providers_in, stage_of, trade_in};
+ghost use Rattle.pec_runs.specs.Happened.{Asked, Begun, IsSetting, Setting, outcome_of, providers_in, stage_of, trade_in};
 ghost use Rattle.pec_input.specs.Lines.{raw_lines};
 ghost use Rattle.pec_input.specs.Parts.{parts_of};
 ghost use Rattle.pec_runs.specs.Openings.{AreLeft, disks_at, Form, IsOpening, NoMore};
-ghost use Rattle.pec_runs.specs.Plays.{AllMeet, Ends, HasMemory, MayPlay, ToTheEnd, faults_told, outcome_from};
-ghost use Rattle.pec_runs.specs.Plays.{outcome_text};
+ghost use Rattle.pec_runs.specs.Plays.{AllMeet, Ends, HasMemory, IsUnchanged, MayPlay, ShowsItsOwn, ToTheEnd, faults_told};
+ghost use Rattle.pec_runs.specs.Plays.{outcome_from, outcome_text};
 ghost use Rattle.pec_runs.specs.Ran.{Counts, RanOver};
 ghost use Rattle.pec_runs.specs.ScriptLines.{Script};
 ghost use Rattle.pec_runs.specs.Statuses.{Status, status_of};
@@ -24,27 +25,30 @@ ghost use Rattle.pec_runs.specs.Transcripts.{NoFaults, TellsTranscript, quiet_ou
 use pec_outside::Depot;
 use pec_plays::quiet_runs_are_one;
 
-/// A script of which no fault is told, from a state in which nothing is interrupted, answers in one way, and leads to
-/// one state.
+/// A script of which no fault is told, and no entry that changed, from a state in which nothing is interrupted, answers
+/// in one way, and leads to one state, where what was read is what was kept.
 pub fn a_script_without_faults_is_one()
     ensures { (trade : Trade) (lucks : List Luck) (sites : List Site) (commands : List Command) → NoneInterrupted sites
         → length lucks ≡ length commands → AllMeet trade lucks sites commands
+        → AllByRecursion GaveWhatWasKept lucks → AllByRecursion ShowsItsOwn lucks
         → All HasMemory (script trade lucks sites commands).answers
-        → ((provider : ℕ) → faults_told provider commands (script trade lucks sites commands).answers ≡ 0)
+        → All IsUnchanged (script trade lucks sites commands).answers
+        → ((provider : ℕ) → faults_told trade provider commands (script trade lucks sites commands).answers ≡ 0)
         → script trade lucks sites commands ≡ script trade (quiet_lucks trade sites commands) sites commands }
 {
     quiet_runs_are_one();
 }
 
-/// A run without faults has one transcript, and wrote all of it, with the status of its end, unless memory ran out. And
-/// from every state a script may be played to its end without a fault, whatever happened before.
+/// A run without faults, which tells no entry as changed, has one transcript, and wrote all of it, with the status of
+/// its end, unless memory ran out. And from every state a script may be played to its end without a fault, whatever
+/// happened before.
 pub fn a_run_without_faults_has_one_transcript<P: Depot>()
     ensures one { (asked : Asked) (status : Status) (unread before after : Option Bytes) (depot left : P)
         (old new : Counts)
         → P.tells × P.D.tells
         → (ran : RanOver (P.tells × P.D.tells) P.D.sight asked status unread before after (P.home depot)
         (P.home left) old new)
-        → NoFaults old new
+        → NoFaults old new → All IsUnchanged (outcome_of asked ran.happened).answers
         → (status ≡ statuses.NoMemory) ⊎ TellsTranscript asked ran.happened status before after }
     ensures goes_on { (trade : Trade) (sites : List Site) (counts : ℕ → ℕ) (written : Script)
         → MayPlay trade (P.tells × P.D.tells) sites counts counts written

@@ -18,7 +18,7 @@ use crate::settings::providers_have_one_world;
 use pec_chronicle::a_disk_holds_one_list;
 use pec_ledger::{licences_stand, soundness};
 use pec_outside::Depot;
-use pec_plays::a_network_stays_sound;
+use pec_plays::{a_network_stays_sound, a_round_is_its_turns};
 use pec_script::a_line_has_one_reading;
 
 /// A script may be cut in two: what it answers is what its first part answers, and then what the second does in the
@@ -73,6 +73,7 @@ pub fn a_resumed_run_begins_where_the_last_left<P: Depot>()
     providers_have_one_world();
     a_disk_holds_one_list();
     a_network_stays_sound();
+    a_round_is_its_turns();
     licences_stand();
     soundness();
     a_line_has_one_reading();

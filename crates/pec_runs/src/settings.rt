@@ -1,8 +1,9 @@
-ghost use Rattle.std.specs.Prelude.{◌≡◌, ◌⊎◌, List, Option, Some};
+ghost use Rattle.std.specs.Prelude.{◌≡◌, ◌⊎◌, All, List, Option, Some};
 ghost use Rattle.pec_types.specs.Bytes.{Bytes};
 ghost use Rattle.pec_directory.specs.Directory.{Provider};
-ghost use Rattle.pec_runs.specs.Happened.{Asked, Begun, IsSetting, Setting, providers_in, stage_of, trade_in};
+ghost use Rattle.pec_runs.specs.Happened.{Asked, Begun, IsSetting, Setting, outcome_of, providers_in, stage_of, trade_in};
 ghost use Rattle.pec_runs.specs.Openings.{Form, NoMore, Run};
+ghost use Rattle.pec_runs.specs.Plays.{IsUnchanged};
 ghost use Rattle.pec_runs.specs.Ran.{Counts, RanOver};
 ghost use Rattle.pec_runs.specs.ScriptLines.{Script};
 ghost use Rattle.pec_runs.specs.Statuses.{Status};
@@ -22,9 +23,9 @@ pub fn providers_have_one_world()
     a_directory_has_one_world();
 }
 
-/// One input has one transcript: two runs without faults that play one script in directories of the same providers, with
-/// the same journals, wrote alike to the last byte, items too, unless memory ran out. So do two runs of one input that
-/// made all of their journals.
+/// One input has one transcript: two runs without faults that play one script in directories of the same providers,
+/// with the same journals, wrote alike to the last byte, items too, unless memory ran out. So do two runs of one input
+/// that made all of their journals. Neither tells an entry as changed.
 pub fn one_input_has_one_transcript<P: Depot>()
     ensures alike { (asked others : Asked) (status other : Status)
         (unread before after other_unread other_before other_after : Option Bytes)
@@ -38,7 +39,8 @@ pub fn one_input_has_one_transcript<P: Depot>()
         → stage_of others again.happened.early again.happened.parts ≡ Begun form script
         → providers_in again.happened.setting ≡ providers_in ran.happened.setting
         → again.happened.opening ≡ ran.happened.opening
-        → NoFaults old between → NoFaults behind new
+        → NoFaults old between → NoFaults behind new → All IsUnchanged (outcome_of asked ran.happened).answers
+        → All IsUnchanged (outcome_of others again.happened).answers
         → (status ≡ statuses.NoMemory) ⊎ (other ≡ statuses.NoMemory)
         ⊎ WroteAlike status other before after other_before other_after }
     ensures made { (asked : Asked) (status other : Status) (text : Bytes)
@@ -52,7 +54,8 @@ pub fn one_input_has_one_transcript<P: Depot>()
         → stage_of asked ran.happened.early ran.happened.parts ≡ Begun Run script
         → stage_of asked again.happened.early again.happened.parts ≡ Begun Run script
         → ran.happened.opening.next ≡ NoMore → again.happened.opening.next ≡ NoMore
-        → NoFaults old between → NoFaults behind new
+        → NoFaults old between → NoFaults behind new → All IsUnchanged (outcome_of asked ran.happened).answers
+        → All IsUnchanged (outcome_of asked again.happened).answers
         → (status ≡ statuses.NoMemory) ⊎ (other ≡ statuses.NoMemory)
         ⊎ WroteAlike status other before after other_before other_after }
 {

@@ -14,8 +14,8 @@ ghost use Rattle.pec_runs.specs.Steps.{Point, Stop, WriteFault, Writes, acts_of_
 use pec_outside::Depot;
 
 /// How a run goes on, and how a loop over acts climbs: it starts with all acts left; behind some that were done the
-/// others are left; where it is stopped within some, the whole run was stopped so; and where none is left it went by all.
-/// `tells` is that disks tell what they hold.
+/// others are left; where it is stopped within some, the whole run was stopped so; and where none is left it went by
+/// all. `tells` is that disks tell what they hold.
 pub fn acts_are_joined<P: Depot>()
     ensures starts { (trade : Trade) (providers : List Provider) (acts : List Act) (first : Point P.D)
         → Climbs trade providers (P.tells × P.D.tells) P.D.sight acts acts first first }
@@ -43,13 +43,14 @@ pub fn acts_are_joined<P: Depot>()
         → Goes trade providers (P.tells × P.D.tells) P.D.sight (some ++ left) here there (Some stop) }
 {}
 
-/// How a run goes by one act: a command was played and its lines were written, or a front of them; memory ran out in it;
-/// it strayed; or a text was written. And where acts are left, input and memory may stop it with nothing done. Of a
+/// How a run goes by one act: a command was played and its lines were written, or a front of them; memory ran out in
+/// it; it strayed; or a text was written. And where acts are left, input and memory may stop it with nothing done. Of a
 /// command it has to be said what a crash may leave of disks at any moment of it.
 pub fn an_act_is_done<P: Depot>()
     ensures played { (trade : Trade) (providers : List Provider) (command : Command) (luck : Luck)
         (here there : Point P.D) (stop : Option Stop)
-        → IsCall trade here.state.sites here.state.counts there.state.counts command luck there.state.sites
+        → IsCall trade (P.tells × P.D.tells) here.state.sites here.state.counts there.state.counts command luck
+        there.state.sites
         → (P.tells × P.D.tells → IsMoment trade P.D.sight here.state there.state) → NoneFell here there
         → IsWritten (answer_text providers (played trade luck here.state.sites command).answer) here there stop
         → Goes trade providers (P.tells × P.D.tells) P.D.sight (Plays command ∷ []) here there stop }

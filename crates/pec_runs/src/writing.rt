@@ -28,12 +28,12 @@ pub fn answers_are_whole_lines()
         → length (script trade lucks sites commands).answers ≡ length lucks }
 {}
 
-/// Along a script each fault that is told of a disk raised that disk's count in the command that tells it; so in all the
-/// count rose by as many faults at least as were told.
+/// Along a script each fault that is told of a disk raised that disk's count in the command that tells it; so in all
+/// the count rose by as many faults at least as were told.
 pub fn faults_are_counted()
     ensures { (trade : Trade) (lucks : List Luck) (sites : List Site) (commands : List Command) (from upto : ℕ → ℕ)
         → RoseAlong trade lucks sites commands from upto → (provider : ℕ)
-        → RoseBy (faults_told provider commands (script trade lucks sites commands).answers)
+        → RoseBy (faults_told trade provider commands (script trade lucks sites commands).answers)
         (from provider) (upto provider) }
 {}
 

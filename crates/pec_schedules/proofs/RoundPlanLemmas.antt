@@ -15,7 +15,7 @@ use Rattle.pec_plays.specs.Frames.{due_frames, frame_of}
 use Rattle.pec_plays.specs.Rounds.{rooms_of, rounded}
 use Rattle.pec_plays.specs.Scripts.{LinksAreShort}
 use Rattle.pec_plays.specs.Steps.{Step as TurnStep}
-use Rattle.pec_plays.specs.Turns.{Cut, Turned, Whole, Fails, Full, Stops, cut_turn, entries_of, frames_in, last_of, owed_of, plan, puts_from, turned, without_first}
+use Rattle.pec_plays.specs.Turns.{Cut, Turned, Whole, Fails, Full, Stops, Other, cut_turn, entries_of, frames_in, last_of, owed_of, plan, puts_from, that_fit, turned, without_first}
 use Rattle.pec_schedules.proofs.ScheduleLemmas.{ends_so}
 use Rattle.pec_schedules.specs.RoundPlans.{LeavesTheRound, plan_of, turn_at}
 use Rattle.pec_schedules.specs.Schedules.{IsPlan, IsSchedule, Line, Step}
@@ -75,6 +75,15 @@ module _ (trade : Trade) (provider : ℕ) (rooms : ℕ → ℕ) where
       subst (λ (n : ℕ). length (slice_index_or (puts_from trade provider journal rooms owed (first + 1) count) to []) ≤ rooms n)
       (let z : (first + 1) + to ≡ first + suc to = omega arith in z) (puts_fit journal owed (first + 1) count to)
 
+  fits : (out : List (List Bytes)) (first to : ℕ) → length (slice_index_or (that_fit rooms first out) to []) ≤ rooms (first + to)
+  fits [] first to = omega arith
+  fits (frames ∷ out) first zero =
+      subst (λ (n : ℕ). length (take (rooms first) frames) ≤ rooms n) (let z : first ≡ first + 0 = omega arith in z)
+      (let few = length-take (rooms first) frames in omega (arith, few))
+  fits (frames ∷ out) first (suc to) =
+      subst (λ (n : ℕ). length (slice_index_or (that_fit rooms (first + 1) out) to []) ≤ rooms n)
+      (let z : (first + 1) + to ≡ first + suc to = omega arith in z) (fits out (first + 1) to)
+
   module _ (site : Site) where
     abbrev IsInOrder : Turned → Type 0
     IsInOrder turn = LeavesLater site turn × PutsFit rooms turn
@@ -86,9 +95,14 @@ module _ (trade : Trade) (provider : ℕ) (rooms : ℕ → ℕ) where
           subst (λ (n : ℕ). length (slice_index_or (puts_from trade provider (site.journal ++ entries_of steps) rooms (owed_of steps) 0 trade.providers) to []) ≤ rooms n)
           (let z : 0 + to ≡ to = omega arith in z) (puts_fit (site.journal ++ entries_of steps) (owed_of steps) 0 trade.providers to),
     )
-    cut_in_order steps (Fails number) = (later_left (number + 1) site.waiting, λ to. omega arith)
+    cut_in_order steps (Fails number fault) = (later_left (number + 1) site.waiting, λ to. omega arith)
     cut_in_order steps (Full number) = (later_left (number + 1) site.waiting, λ to. omega arith)
     cut_in_order steps (Stops number) = (later_left (number + 1) site.waiting, λ to. omega arith)
+    cut_in_order steps (Other out) = (
+      later_left (length steps) site.waiting,
+      λ to.
+          subst (λ (n : ℕ). length (slice_index_or (that_fit rooms 0 out) to []) ≤ rooms n) (let z : 0 + to ≡ to = omega arith in z) (fits out 0 to),
+    )
 
     by_test : (b : Bool) (x y : Turned) → IsInOrder x → IsInOrder y → IsInOrder (if b then x else y)
     by_test true x y a b = a

@@ -8,10 +8,11 @@ ghost use Rattle.pec_schedules.specs.Schedules.{AnyOrderEndsSo, IsPlan, IsSchedu
 
 use pec_plays::a_round_is_its_turns;
 
-/// In whatever order the puts and takes of a plan are done, no put finds a full link and no take an empty one, each link's takes
-/// give its first waiting frames in order, and each link ends as its other waiting frames followed by its planned ones. What the
-/// turns of a round take and put is a plan, where no link holds more than 64 frames as it begins; so every schedule of it leaves
-/// on each link what the round leaves there, with the turns one after another and then the delivery.
+/// In whatever order the puts and takes of a plan are done, no put finds a full link and no take an empty one, each
+/// link's takes give its first waiting frames in order, and each link ends as its other waiting frames followed by its
+/// planned ones. What the turns of a round take and put is a plan, where no link holds more than 64 frames as it
+/// begins; so every schedule of it leaves on each link what the round leaves there, with the turns one after another
+/// and then the delivery.
 pub fn interleavings()
     ensures schedules { AnyOrderEndsSo }
     ensures plan { (trade : Trade) (now : ℕ) (cuts : ℕ → Cut) (sites : List Site) → LinksAreShort sites

@@ -1,15 +1,16 @@
 -- Calls one after another: they are joined, and they are a script.
 use Rattle.std.proofs.Common.{◌≡◌, ℕ, ◌+◌, ◌≤◌, List, [], ◌∷◌, ◌++◌, refl, ap, sym, subst, ◌∙◌, arith}
+use Rattle.std.specs.List.{AllByRecursion}
 use Rattle.std.proofs.lemmas.List.{append-nil, append_assoc}
 use Rattle.pec_types.specs.Bytes.{Bytes}
 use Rattle.pec_directory.specs.Directory.{Provider}
 use Rattle.pec_ledger.specs.Network.{Site}
 use Rattle.pec_ledger.specs.Trade.{Trade}
 use Rattle.pec_plays.specs.Commands.{Command, played}
-use Rattle.pec_plays.specs.Possible.{MayMeet}
+use Rattle.pec_plays.specs.Possible.{GaveWhatWasKept, MayMeet}
 use Rattle.pec_plays.specs.Scripts.{script}
 use Rattle.pec_runs.specs.AnswerLines.{answer_text}
-use Rattle.pec_runs.specs.Plays.{HasMemory, RoseBy, faults_by}
+use Rattle.pec_runs.specs.Plays.{HasMemory, RoseBy, ShowsItsOwn, UnchangedIn, faults_by}
 use Rattle.pec_service.specs.Calls.{AreCalls, Call, IsCall, State, answer_of, calls_text, commands_of, lucks_of, state_behind}
 
 pub behind_append : (here : State) (calls more : List Call)
@@ -46,34 +47,60 @@ text_since trade providers here there (call ∷ calls) same =
     ap (λ (s : List Site). answer_text providers (answer_of trade s call) ++ calls_text trade providers call.behind calls) same
 
 module _ (here there : State) (same : here.sites ≡ there.sites) (later : (p : ℕ) → here.counts p ≤ there.counts p) where
-  pub calls_since : (trade : Trade) (calls : List Call) → AreCalls trade there calls → AreCalls trade here calls
-  calls_since trade [] are = tt
-  calls_since trade (call ∷ calls) are = (
+  pub calls_since : (trade : Trade) (tells : Type 0) (calls : List Call) → AreCalls trade tells there calls
+      → AreCalls trade tells here calls
+  calls_since trade tells [] are = tt
+  calls_since trade tells (call ∷ calls) are = (
     record {
       meet = subst (λ (s : List Site). MayMeet trade call.luck s call.command) (sym same) are.0.meet;
       memory = subst (λ (s : List Site). HasMemory (answer_of trade s call)) (sym same) are.0.memory;
       counts = λ p.
-          subst (λ (s : List Site). RoseBy (faults_by p call.command (answer_of trade s call)) (here.counts p)
+          subst (λ (s : List Site). RoseBy (faults_by trade p call.command (answer_of trade s call)) (here.counts p)
           (call.behind.counts p)) (sym same)
-          (rose_since (faults_by p call.command (answer_of trade there.sites call)) (here.counts p) (there.counts p)
+          (rose_since (faults_by trade p call.command (answer_of trade there.sites call)) (here.counts p) (there.counts p)
           (call.behind.counts p) (later p) (are.0.counts p));
       state = are.0.state ∙ ap (λ (s : List Site). (played trade call.luck s call.command).after) (sym same);
+      kept = are.0.kept;
+      shown = are.0.shown;
+      unchanged = λ told. subst (λ (s : List Site). UnchangedIn trade s (answer_of trade s call)) (sym same)
+          (are.0.unchanged told);
     },
     are.1,
   )
 
 -- ---- joining
 
-module _ (trade : Trade) where
-  pub calls_append : (here : State) (calls more : List Call) → AreCalls trade here calls
-      → AreCalls trade (state_behind here calls) more → AreCalls trade here (calls ++ more)
+module _ (trade : Trade) (tells : Type 0) where
+  pub calls_append : (here : State) (calls more : List Call) → AreCalls trade tells here calls
+      → AreCalls trade tells (state_behind here calls) more → AreCalls trade tells here (calls ++ more)
   calls_append here [] more are then = then
   calls_append here (call ∷ calls) more are then = (are.0, calls_append call.behind calls more are.1 then)
 
-  pub call_append : (here : State) (calls : List Call) (call : Call) → AreCalls trade here calls
-      → IsCall trade (state_behind here calls) call → AreCalls trade here (calls ++ call ∷ [])
+  pub call_append : (here : State) (calls : List Call) (call : Call) → AreCalls trade tells here calls
+      → IsCall trade tells (state_behind here calls) call → AreCalls trade tells here (calls ++ call ∷ [])
   call_append here calls call are is = calls_append here calls (call ∷ []) are (is, tt)
 
+  -- the state behind calls is that of their script
+  pub script_is : (here : State) (calls : List Call) → AreCalls trade tells here calls
+      → (script trade (lucks_of calls) here.sites (commands_of calls)).after ≡ (state_behind here calls).sites
+  script_is here [] are = refl
+  script_is here (call ∷ calls) are =
+      ap (λ (s : List Site). (script trade (lucks_of calls) s (commands_of calls)).after) (sym are.0.state)
+      ∙ script_is call.behind calls are.1
+
+  -- where disks tell what they hold, each turn put what was due
+  pub calls_kept : tells → (here : State) (calls : List Call) → AreCalls trade tells here calls
+      → AllByRecursion GaveWhatWasKept (lucks_of calls)
+  calls_kept told here [] are = tt
+  calls_kept told here (call ∷ calls) are = (are.0.kept told, calls_kept told call.behind calls are.1)
+
+  -- and items were shown with their own bytes
+  pub calls_shown : tells → (here : State) (calls more : List Call) → AreCalls trade tells here (calls ++ more)
+      → AllByRecursion ShowsItsOwn (lucks_of calls)
+  calls_shown told here [] more are = tt
+  calls_shown told here (call ∷ calls) more are = (are.0.shown told, calls_shown told call.behind calls more are.1)
+
+module _ (trade : Trade) where
   pub text_append : (providers : List Provider) (here : State) (calls : List Call) (call : Call)
       → calls_text trade providers here (calls ++ call ∷ [])
       ≡ calls_text trade providers here calls ++ answer_text providers (answer_of trade (state_behind here calls).sites call)
@@ -84,11 +111,3 @@ module _ (trade : Trade) where
       ∙ sym (append_assoc (answer_text providers (answer_of trade here.sites one))
       (calls_text trade providers one.behind calls)
       (answer_text providers (answer_of trade (state_behind one.behind calls).sites call)))
-
-  -- the state behind calls is that of their script
-  pub script_is : (here : State) (calls : List Call) → AreCalls trade here calls
-      → (script trade (lucks_of calls) here.sites (commands_of calls)).after ≡ (state_behind here calls).sites
-  script_is here [] are = refl
-  script_is here (call ∷ calls) are =
-      ap (λ (s : List Site). (script trade (lucks_of calls) s (commands_of calls)).after) (sym are.0.state)
-      ∙ script_is call.behind calls are.1

@@ -10,6 +10,7 @@ use Rattle.pec_ledger.specs.Network.{Site, Sound}
 use Rattle.pec_ledger.specs.Trade.{Trade}
 use Rattle.pec_ledger.specs.TradeLaws.{IsTrade}
 use Rattle.pec_plays.specs.Commands.{Command, Luck, Restart, played}
+use Rattle.pec_plays.specs.Possible.{GaveWhatWasKept, IsOfKept}
 use Rattle.pec_plays.specs.Scripts.{IsUnforged}
 use Rattle.pec_runs.specs.AnswerLines.{answer_text}
 use Rattle.pec_runs.specs.Moves.{KeepSound, Moves, MovesOn}
@@ -22,13 +23,13 @@ use Rattle.pec_service.specs.Calls.{clock_from, commands_of, seen, state_behind}
 
 -- ---- steps are calls
 
-module _ (trade : Trade) (providers : List Provider) {D : Type 0} where
+module _ (trade : Trade) (providers : List Provider) (tells : Type 0) {D : Type 0} where
   -- What is said of a front of the commands that are due: which calls it was, and which commands are left.
   record Front (here : steps.State D) (some : List (Step D)) (left : List Act) (due : List Command) : Type 0 where
     unplayed : List Command
     left_is : left ≡ map Plays unplayed
     plays : commands_of (calls_by some) ++ unplayed ≡ due
-    are : AreCalls trade (seen here) (calls_by some)
+    are : AreCalls trade tells (seen here) (calls_by some)
     behind : state_behind (seen here) (calls_by some) ≡ seen (steps.state_behind here some)
     text : calls_text trade providers (seen here) (calls_by some) ≡ text_of trade providers here some
 
@@ -38,7 +39,7 @@ module _ (trade : Trade) (providers : List Provider) {D : Type 0} where
       record { unplayed = due; left_is = is; plays = refl; are = tt; behind = refl; text = refl }
 
   one_more : (here behind : steps.State D) (command : Command) (luck : Luck) (some : List (Step D)) (left : List Act)
-      (due : List Command) → IsStep trade here (Plays command) luck behind → Front behind some left due
+      (due : List Command) → IsStep trade tells here (Plays command) luck behind → Front behind some left due
       → Front here (record { act = Plays command; luck = luck; behind = behind } ∷ some) left (command ∷ due)
   one_more here behind command luck some left due is front = record {
     unplayed = front.unplayed;
@@ -50,7 +51,7 @@ module _ (trade : Trade) (providers : List Provider) {D : Type 0} where
   }
 
   front_of : (here : steps.State D) (some : List (Step D)) (left : List Act) (due : List Command)
-      → acts_of some ++ left ≡ map Plays due → AreSteps trade here some → Front here some left due
+      → acts_of some ++ left ≡ map Plays due → AreSteps trade tells here some → Front here some left due
   front_of here [] left due is are = nothing_done here left due is
   front_of here (step ∷ some) left [] is are = cc
   front_of here (step ∷ some) left (command ∷ due) is are =
@@ -59,7 +60,7 @@ module _ (trade : Trade) (providers : List Provider) {D : Type 0} where
       in subst (λ (a : Act). Front here (record { act = a; luck = step.luck; behind = step.behind } ∷ some) left
       (command ∷ due)) (sym act)
       (one_more here step.behind command step.luck some left due
-      (subst (λ (a : Act). IsStep trade here a step.luck step.behind) act are.0)
+      (subst (λ (a : Act). IsStep trade tells here a step.luck step.behind) act are.0)
       (front_of step.behind some left due rest are.1))
 
 -- ---- what comes next
@@ -93,7 +94,7 @@ not_next (command ∷ unplayed) provider none is = none.0 provider cc
 
 module _ (trade : Trade) (providers : List Provider) (tells : Type 0) {D : Type 0} (sight : D → Sight)
     (due : List Command) (none : NoRestart due) (here there : Point D) where
-  module _ (some : List (Step D)) (left : List Act) (front : Front trade providers here.state some left due)
+  module _ (some : List (Step D)) (left : List Act) (front : Front trade providers tells here.state some left due)
       (since : (p : ℕ) → (steps.state_behind here.state some).counts p ≤ there.state.counts p) where
     held_is : there.held ≡ followed_by here.held (text_of trade providers here.state some)
         → there.held ≡ followed_by here.held (calls_text trade providers (seen here.state) (calls_by some))
@@ -135,33 +136,34 @@ module _ (trade : Trade) (providers : List Provider) (tells : Type 0) {D : Type 
   -- ---- moments
 
   module _ (stays : IsTrade trade → (luck : Luck) (sites : List Site) (command : Command) → Sound trade sites
-      → IsUnforged trade sites command → Sound trade (played trade luck sites command).after) where
+      → IsUnforged trade luck sites command → Sound trade (played trade luck sites command).after) where
     step_sound : (at behind : steps.State D) (act : Act) (luck : Luck) (command : Command) → act ≡ Plays command
-        → IsStep trade at act luck behind → ((sites : List Site) → IsUnforged trade sites command) → IsTrade trade
-        → Sound trade at.sites → Sound trade behind.sites
-    step_sound at behind act luck command same is may is_trade sound =
-        let call = subst (λ (a : Act). IsStep trade at a luck behind) same is
+        → IsStep trade tells at act luck behind
+        → ((luck : Luck) (sites : List Site) → GaveWhatWasKept luck → IsUnforged trade luck sites command) → tells
+        → IsTrade trade → Sound trade at.sites → Sound trade behind.sites
+    step_sound at behind act luck command same is may told is_trade sound =
+        let call = subst (λ (a : Act). IsStep trade tells at a luck behind) same is
         in subst (λ (s : List Site). Sound trade s) (sym call.state)
-        (stays is_trade luck at.sites command sound (may at.sites))
+        (stays is_trade luck at.sites command sound (may luck at.sites (call.kept told)))
 
     keep_sound : (at : steps.State D) (some : List (Step D)) (left : List Act) (commands : List Command)
-        → acts_of some ++ left ≡ map Plays commands → AreSteps trade at some → AllMayCome trade commands
-        → KeepSound trade at some
-    keep_sound at [] left commands is are may = tt
-    keep_sound at (step ∷ some) left [] is are may = cc
-    keep_sound at (step ∷ some) left (command ∷ commands) is are may =
+        → acts_of some ++ left ≡ map Plays commands → AreSteps trade tells at some → AllMayCome trade commands
+        → tells → KeepSound trade at some
+    keep_sound at [] left commands is are may told = tt
+    keep_sound at (step ∷ some) left [] is are may told = cc
+    keep_sound at (step ∷ some) left (command ∷ commands) is are may told =
         let act : step.act ≡ Plays command = cc
         in let rest : acts_of some ++ left ≡ map Plays commands = cc
         in (
-          step_sound at step.behind step.act step.luck command act are.0 may.0,
-          keep_sound step.behind some left commands rest are.1 may.1,
+          step_sound at step.behind step.act step.luck command act are.0 may.0 told,
+          keep_sound step.behind some left commands rest are.1 may.1 told,
         )
 
     moves_of : (stop : Option Stop) (goes : Goes trade providers tells sight (map Plays due) here there stop)
         → AllMayCome trade due → Moves trade tells sight here.state there.state
     moves_of stop goes may = record {
       steps = goes.steps;
-      sound = keep_sound here.state goes.steps goes.left due goes.acts_are goes.each may;
+      sound = λ told. keep_sound here.state goes.steps goes.left due goes.acts_are goes.each may told;
       moments = goes.moments;
     }
 
@@ -169,7 +171,7 @@ module _ (trade : Trade) (providers : List Provider) (tells : Type 0) {D : Type 
         → MovesOn trade tells sight here.state there.state
     unfolding moves_of
     moves_on_of goes may =
-        let front = front_of trade providers here.state goes.steps goes.left due goes.acts_are goes.each
+        let front = front_of trade providers tells here.state goes.steps goes.left due goes.acts_are goes.each
         in record {
           moves = moves_of None goes may;
           whole = elim goes.ends [
@@ -179,11 +181,11 @@ module _ (trade : Trade) (providers : List Provider) (tells : Type 0) {D : Type 
         }
 
   pub went : (stays : IsTrade trade → (luck : Luck) (sites : List Site) (command : Command) → Sound trade sites
-      → IsUnforged trade sites command → Sound trade (played trade luck sites command).after)
+      → IsUnforged trade luck sites command → Sound trade (played trade luck sites command).after)
       → (stop : Option Stop) → Goes trade providers tells sight (map Plays due) here there stop
       → ClockWent trade providers tells sight due here there stop
   went stays stop goes =
-      let front = front_of trade providers here.state goes.steps goes.left due goes.acts_are goes.each
+      let front = front_of trade providers tells here.state goes.steps goes.left due goes.acts_are goes.each
       in record {
         moves = λ may. moves_of stays stop goes may;
         moves_on = λ may none. moves_on_of stays
@@ -201,7 +203,7 @@ module _ (trade : Trade) (providers : List Provider) (tells : Type 0) {D : Type 
 pub clock_went : (trade : Trade) (providers : List Provider) (tells : Type 0) {D : Type 0} (sight : D → Sight)
     (more from moment : ℕ) (here there : Point D) (stop : Option Stop)
     → (IsTrade trade → (luck : Luck) (sites : List Site) (command : Command) → Sound trade sites
-    → IsUnforged trade sites command → Sound trade (played trade luck sites command).after)
+    → IsUnforged trade luck sites command → Sound trade (played trade luck sites command).after)
     → Goes trade providers tells sight (map Plays (clock_from more from moment)) here there stop
     → ClockWent trade providers tells sight (clock_from more from moment) here there stop
 clock_went trade providers tells sight more from moment here there stop stays goes =
@@ -210,6 +212,7 @@ clock_went trade providers tells sight more from moment here there stop stays go
 -- clock calls and a round at a moment that a clock tells may come in any state
 pub clock_may_come : (trade : Trade) (more from moment : ℕ) → moment < END_OF_TIME
     → AllMayCome trade (clock_from more from moment)
-clock_may_come trade zero from moment in_time = (λ sites. in_time, tt)
+clock_may_come trade zero from moment in_time =
+    (λ luck sites kept. (in_time, λ p out within other. absurd (subst IsOfKept other (kept p))), tt)
 clock_may_come trade (suc more) from moment in_time =
-    (λ sites. in_time, clock_may_come trade more (from + 1) moment in_time)
+    (λ luck sites kept. in_time, clock_may_come trade more (from + 1) moment in_time)

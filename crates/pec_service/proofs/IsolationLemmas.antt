@@ -1,6 +1,7 @@
 -- What the caller of a connection is answered is its own, unless a device fails.
-use Rattle.std.proofs.Common.{◌≡◌, inl, inr, ℕ, ◌+◌, ◌-◌, ◌^◌, ◌≤◌, ◌<◌, ◌==◌, Bool, true, List, [], ◌∷◌, ◌++◌, refl, ap, sym, ◌∙◌, subst, Option, Some, None, Result, Ok, Err, arith}
+use Rattle.std.proofs.Common.{◌≡◌, ◌≢◌, inl, inr, ℕ, ◌+◌, ◌-◌, ◌^◌, ◌≤◌, ◌<◌, ◌==◌, Bool, true, List, [], ◌∷◌, ◌++◌, refl, ap, sym, ◌∙◌, subst, Option, Some, None, Result, Ok, Err, arith}
 use Rattle.std.specs.Prelude.{◌⊎◌, if◌then◌else◌}
+use Rattle.std.specs.List.{AllByRecursion}
 use Rattle.std.specs.Option.{option_and_then, option_map}
 use Rattle.std.proofs.lemmas.Bool.{cases_lt, eq-eqb}
 use Rattle.std.proofs.lemmas.Option.{none-some}
@@ -15,23 +16,26 @@ use Rattle.pec_screen.specs.Verdicts.{Patterns}
 use Rattle.pec_seal.specs.Seals.{Seals}
 use Rattle.pec_ledger.specs.Network.{Site}
 use Rattle.pec_ledger.specs.Trade.{Trade}
-use Rattle.pec_plays.specs.Commands.{Answer, Command, Luck, Refuses, Submit, played}
+use Rattle.pec_plays.specs.Commands.{Answer, Command, Luck, Refuses, Show, Submit, played}
+use Rattle.pec_plays.specs.Possible.{MayMeet}
 use Rattle.pec_runs.specs.OfTrades.{trade_of}
-use Rattle.pec_runs.specs.Plays.{RoseBy, faults_by}
+use Rattle.pec_runs.specs.Plays.{RoseBy, ShowsItsOwn, faults_at_home, faults_by}
 use Rattle.pec_http.specs.Asking.{Asks, Question, See, Submit as Submission}
 use Rattle.pec_http.specs.Replies.{Reply, memory_reply, shown_reply, stop_reply, submitted_reply}
 use Rattle.pec_http.specs.Serving.{kind_of}
 use Rattle.pec_http.specs.declared.demands.Look.{Look}
+use Rattle.pec_http.specs.declared.demands.Look.TheVariants as looks
 use Rattle.pec_http.specs.declared.passes.Pass.{Pass}
 use Rattle.pec_http.specs.declared.stops.Stop.{Stop}
-use Rattle.pec_service.specs.Calls.{AreCalls, Call, State, answer_of, commands_of, state_behind}
-use Rattle.pec_service.specs.Connections.{Answering, AsksSo, Connection, Hearing, IsConnection, IsHeardSo, Place, answered_by, handed_by, handed_in, heard_from, said_in}
+use Rattle.pec_service.specs.Calls.{AreCalls, Call, State, answer_of, commands_of, lucks_of, state_behind}
+use Rattle.pec_service.specs.Connections.{Answering, AsksSo, Connection, Hearing, IsConnection, IsHeardSo, Place, answered_by, handed_by, handed_in, heard_from, item_from, said_in, seen_in}
 use Rattle.pec_service.specs.Connections as connections
-use Rattle.pec_service.specs.Isolation.{DiskFailed, IsDeviceReply, IsOwn, answered, answering_of, asking_share, own_answer}
+use Rattle.pec_service.specs.Isolation.{GaveItsOwn, IsDeviceReply, IsOwn, answered, answering_of, asking_share, own_answer}
 use Rattle.pec_service.specs.Own.{Share, patterns_at, reply_to, said_by, share_at, shown_in, shown_with, submission_reply}
 use Rattle.pec_service.specs.Passes.{pass_of}
 use Rattle.pec_service.specs.Services.{AreConnections, place_behind}
-use Rattle.pec_service.specs.ShareLaws.{Says, submission_is}
+use Rattle.pec_service.proofs.CallLemmas.{calls_shown}
+use Rattle.pec_service.specs.ShareLaws.{Says, ShowsSo, home_is, look_home, look_is, submission_is}
 
 -- a request asks one thing
 abbrev pub AsksOne : Type 0
@@ -75,12 +79,13 @@ rose_one rose_by a b c is rose later = λ small. elim (cases_lt b (2 ^ 64 - 1)) 
   | inr most ↦ omega (arith, most, later, small)
 ]
 
-never_falls : (trade : Trade) (here : State) (calls : List Call) → AreCalls trade here calls → (provider : ℕ)
+never_falls : (trade : Trade) (tells : Type 0) (here : State) (calls : List Call) → AreCalls trade tells here calls
+    → (provider : ℕ)
     → here.counts provider ≤ (state_behind here calls).counts provider
-never_falls trade here [] are provider = omega arith
-never_falls trade here (call ∷ calls) are provider =
+never_falls trade tells here [] are provider = omega arith
+never_falls trade tells here (call ∷ calls) are provider =
     let rose = (are.0.counts provider).0
-    in let more = never_falls trade call.behind calls are.1 provider in omega arith
+    in let more = never_falls trade tells call.behind calls are.1 provider in omega arith
 
 -- ---- what it looks at
 
@@ -94,7 +99,8 @@ shown_same trade providers screens state address looked (Some number) = refl
 
 -- ---- all of it
 
-module _ (kept : List Kept) (seals : Seals) (screens : List (List Patterns)) (here : Place) (connection : Connection) where
+module _ (tells : Type 0) (kept : List Kept) (seals : Seals) (screens : List (List Patterns)) (here : Place)
+    (connection : Connection) where
   abbrev trade : Trade
   trade = trade_of kept seals
 
@@ -128,43 +134,115 @@ module _ (kept : List Kept) (seals : Seals) (screens : List (List Patterns)) (he
         (option_map (share_at trade screens sites address) found) address path message) home
 
     told_once : (told : Command) (answer : Answer) → told ≡ command → answer ≡ Refuses faults.DiskFault
-        → faults_by number told answer ≡ 1
+        → faults_by trade number told answer ≡ 1
     told_once told answer same fault =
-        ap (λ (c : Command). faults_by number c answer) same
-        ∙ ap (λ (a : Answer). faults_by number command a) fault
+        ap (λ (c : Command). faults_by trade number c answer) same
+        ∙ ap (λ (a : Answer). faults_by trade number command a) fault
         ∙ ap (λ (b : Bool). if b then 1 else 0) (eq-eqb number number refl)
 
     by_call : (call : Call) → call.command ≡ command
-        → RoseBy (faults_by number call.command (answer_of trade sites call)) (here.network.counts number) (call.behind.counts number)
+        → RoseBy (faults_by trade number call.command (answer_of trade sites call)) (here.network.counts number) (call.behind.counts number)
         → call.behind.counts number ≤ connection.behind.network.counts number
         → Says said (answer_of trade sites call) → IsIts question (reply_by (said_in (answer_of trade sites call)))
     by_call call is rose later says = elim says [
       | inl same ↦ inl (ap reply_by same ∙ sym own_is)
-      | inr fault ↦ inr (inr (
+      | inr fault ↦ inr (inr (inl (
         number,
         home,
         ap (λ (a : Answer). reply_by (said_in a)) fault,
-        rose_one (faults_by number call.command (answer_of trade sites call)) (here.network.counts number)
+        rose_one (faults_by trade number call.command (answer_of trade sites call)) (here.network.counts number)
             (call.behind.counts number) (connection.behind.network.counts number)
             (told_once call.command (answer_of trade sites call) is fault) rose later,
-      ))
+      )))
     ]
 
-    by_handed : (calls clock : List Call) → commands_of calls ≡ command ∷ [] → AreCalls trade here.network (calls ++ clock)
+    by_handed : (calls clock : List Call) → commands_of calls ≡ command ∷ []
+        → AreCalls trade tells here.network (calls ++ clock)
         → (state_behind here.network (calls ++ clock)).counts number ≤ connection.behind.network.counts number
         → IsIts question (reply_by (heard_from trade kept sites calls))
     by_handed [] clock is are later = cc
     by_handed (call ∷ calls) clock is are later =
         by_call call (ap (first_or command) is) (are.0.counts number)
-        (let k = never_falls trade call.behind (calls ++ clock) are.1 number in omega arith)
+        (let k = never_falls trade tells call.behind (calls ++ clock) are.1 number in omega arith)
         (subst (λ (c : Command). Says said (played trade call.luck sites c).answer) (sym (ap (first_or command) is))
         (submission_is kept seals screens sites address number home connection.moment path message call.luck))
 
-  module _ (is : IsConnection trade kept (finds_in screens) here connection) (one : AsksOne) (asked : Result Question Stop)
-      (asks : Asks (pass_of kept) connection.input asked) where
+  -- a look at an item
+  module _ (address : Bytes) (place : ℕ) where
+    abbrev look : Command
+    look = Show address place
+
+    abbrev item_question : Result Question Stop
+    item_question = Ok (See address (looks.Item place))
+
+    abbrev look_reply : Result Bytes ProviderFault → Reply
+    look_reply seen = shown_reply (kind_of (looks.Item place)) seen
+
+    abbrev look_says : Result Bytes ProviderFault
+    look_says = shown_with providers (option_map (share_at trade screens sites address) (account_home providers address))
+        (looks.Item place)
+
+    look_once : (number : ℕ) → account_home providers address ≡ Some number → (told : Command) (answer : Answer)
+        → told ≡ look → answer ≡ Refuses faults.DiskFault → faults_by trade number told answer ≡ 1
+    look_once number home told answer same fault =
+        ap (λ (c : Command). faults_by trade number c answer) same
+        ∙ ap (λ (a : Answer). faults_by trade number look a) fault
+        ∙ ap (λ (h : Option ℕ). faults_at_home number h (Refuses faults.DiskFault)) (home_is kept seals address number home)
+        ∙ ap (λ (b : Bool). if b then 1 else 0) (eq-eqb number number refl)
+
+    look_call : (call : Call) → call.command ≡ look
+        → ((p : ℕ) → RoseBy (faults_by trade p call.command (answer_of trade sites call)) (here.network.counts p)
+        (call.behind.counts p))
+        → ((p : ℕ) → call.behind.counts p ≤ connection.behind.network.counts p)
+        → ((fault : ProviderFault) → answer_of trade sites call ≡ Refuses fault → fault ≢ faults.NoAccount
+        → (number : ℕ) × (account_home providers address ≡ Some number))
+        → ShowsSo look_says (answer_of trade sites call)
+        → IsIts item_question (look_reply (seen_in (answer_of trade sites call)))
+    look_call call is rose later somewhere (inl same) = inl (ap look_reply same)
+    look_call call is rose later somewhere (inr (inl fault)) =
+        let home = somewhere faults.DiskFault fault (λ e. cc)
+        in inr (inr (inl (
+          home.0,
+          home.1,
+          ap (λ (a : Answer). look_reply (seen_in a)) fault,
+          rose_one (faults_by trade home.0 call.command (answer_of trade sites call)) (here.network.counts home.0)
+              (call.behind.counts home.0) (connection.behind.network.counts home.0)
+              (look_once home.0 home.1 call.command (answer_of trade sites call) is fault) (rose home.0) (later home.0),
+        )))
+    look_call call is rose later somewhere (inr (inr changed)) =
+        inr (inr (inr (changed.0, changed.1, ap (λ (a : Answer). look_reply (seen_in a)) changed.2)))
+
+    by_looked : (calls clock : List Call) → commands_of calls ≡ look ∷ [] → AllByRecursion ShowsItsOwn (lucks_of calls)
+        → AreCalls trade tells here.network (calls ++ clock)
+        → ((p : ℕ) → (state_behind here.network (calls ++ clock)).counts p ≤ connection.behind.network.counts p)
+        → IsIts item_question (look_reply (item_from trade kept sites calls))
+    by_looked [] clock is gave are later = cc
+    by_looked (call ∷ calls) clock is gave are later =
+        let same = ap (first_or look) is
+        in let may = subst (λ (c : Command). MayMeet trade call.luck sites c) same are.0.meet
+        in look_call call same are.0.counts
+        (λ p. let k = never_falls trade tells call.behind (calls ++ clock) are.1 p in let l = later p in omega (arith, k, l))
+        (λ fault told other. look_home kept seals screens sites address place call.luck gave.0 may fault
+        (sym (ap (λ (c : Command). (played trade call.luck sites c).answer) same) ∙ told) other)
+        (subst (λ (c : Command). ShowsSo look_says (played trade call.luck sites c).answer) (sym same)
+        (look_is kept seals screens sites address place call.luck gave.0 may))
+
+  module _ (is : IsConnection trade tells kept (finds_in screens) here connection) (one : AsksOne)
+      (asked : Result Question Stop) (asks : Asks (pass_of kept) connection.input asked)
+      (gave : GaveItsOwn asked connection) where
     -- it asks what it was heard to ask
     is_asked : (other : Result Question Stop) → Asks (pass_of kept) connection.input other → other ≡ asked
     is_asked other so = one (pass_of kept) connection.input other asked so asks
+
+    -- a look at a book, or at a list of items
+    by_shown : (address : Bytes) (looked : Look) → Asks (pass_of kept) connection.input (Ok (See address looked))
+        → IsIts asked (shown_reply (kind_of looked) (shown_in trade providers sites address looked))
+    by_shown address looked so =
+        subst (λ (a : Result Question Stop).
+        IsIts a (shown_reply (kind_of looked) (shown_in trade providers sites address looked)))
+        (is_asked (Ok (See address looked)) so)
+        (inl (ap (λ (shown : Result Bytes ProviderFault). shown_reply (kind_of looked) shown)
+        (shown_same trade providers screens sites address looked (account_home providers address))))
 
     by_answering : (answering : Answering) → AsksSo kept connection.input answering
         → commands_of connection.handed ≡ handed_by (finds_in screens) connection.moment answering
@@ -172,12 +250,14 @@ module _ (kept : List Kept) (seals : Seals) (screens : List (List Patterns)) (he
     by_answering connections.Lacks so hands = inr (inl refl)
     by_answering (connections.Stops stop) so hands =
         subst (λ (a : Result Question Stop). IsIts a (stop_reply stop)) (is_asked (Err stop) so) (inl refl)
-    by_answering (connections.Sees address looked) so hands =
-        subst (λ (a : Result Question Stop).
-        IsIts a (shown_reply (kind_of looked) (shown_in trade providers sites address looked)))
-        (is_asked (Ok (See address looked)) so)
-        (inl (ap (λ (shown : Result Bytes ProviderFault). shown_reply (kind_of looked) shown)
-        (shown_same trade providers screens sites address looked (account_home providers address))))
+    by_answering (connections.Sees address looks.Book) so hands = by_shown address looks.Book so
+    by_answering (connections.Sees address looks.Items) so hands = by_shown address looks.Items so
+    by_answering (connections.Sees address (looks.Item place)) so hands =
+        let same = is_asked (Ok (See address (looks.Item place))) so
+        in subst (λ (a : Result Question Stop).
+        IsIts a (shown_reply (kind_of (looks.Item place)) (item_from trade kept sites connection.handed))) same
+        (by_looked address place connection.handed connection.clock hands
+        (subst (λ (a : Result Question Stop). GaveItsOwn a connection) (sym same) gave) is.calls is.later)
     by_answering (connections.HandsIn number address path message) so hands =
         subst (λ (a : Result Question Stop).
         IsIts a (submitted_reply (first_domain providers number) (heard_from trade kept sites connection.handed)))
@@ -192,21 +272,22 @@ module _ (kept : List Kept) (seals : Seals) (screens : List (List Patterns)) (he
 
 -- ---- two of them
 
-module _ (kept : List Kept) (seals keys : Seals) (screens boxes : List (List Patterns)) (here there : Place)
-    (one other : Connection) (asks_one : AsksOne) where
-  pub apart : IsConnection (trade_of kept seals) kept (finds_in screens) here one
-      → IsConnection (trade_of kept keys) kept (finds_in boxes) there other
+module _ (tells : Type 0) (kept : List Kept) (seals keys : Seals) (screens boxes : List (List Patterns))
+    (here there : Place) (one other : Connection) (asks_one : AsksOne) where
+  pub apart : IsConnection (trade_of kept seals) tells kept (finds_in screens) here one
+      → IsConnection (trade_of kept keys) tells kept (finds_in boxes) there other
       → one.moment ≡ other.moment → one.input ≡ other.input
       → (asked : Result Question Stop) → Asks (pass_of kept) one.input asked
+      → GaveItsOwn asked one → GaveItsOwn asked other
       → asking_share kept seals screens here.network.sites asked ≡ asking_share kept keys boxes there.network.sites asked
       → (answering again : Answering) → answering_of one.hearing ≡ Some answering → answering_of other.hearing ≡ Some again
       → (answered kept seals here one answering ≡ answered kept keys there other again)
       ⊎ IsDeviceReply kept here one asked (answered kept seals here one answering)
       ⊎ IsDeviceReply kept there other asked (answered kept keys there other again)
-  apart is be at input asked asks same answering again heard hears =
-      elim (own kept seals screens here one is asks_one asked asks answering heard) [
-        | inl first ↦ elim (own kept keys boxes there other be asks_one asked
-            (subst (λ (i : Bytes). Asks (pass_of kept) i asked) input asks) again hears) [
+  apart is be at input asked asks gave gives same answering again heard hears =
+      elim (own tells kept seals screens here one is asks_one asked asks gave answering heard) [
+        | inl first ↦ elim (own tells kept keys boxes there other be asks_one asked
+            (subst (λ (i : Bytes). Asks (pass_of kept) i asked) input asks) gives again hears) [
               | inl second ↦ inl (first
                   ∙ ap (λ (m : ℕ). reply_to (providers_of kept) m (asking_share kept seals screens here.network.sites asked) asked) at
                   ∙ ap (λ (share : Option Share). reply_to (providers_of kept) other.moment share asked) same
@@ -219,9 +300,21 @@ module _ (kept : List Kept) (seals keys : Seals) (screens boxes : List (List Pat
 -- ---- those of a service
 
 -- a connection among others is one, from the place behind those before it
-pub connection_at : (trade : Trade) (kept : List Kept) (found : Finds) (here : Place) (front rest : List Connection)
-    (connection : Connection) → AreConnections trade kept found here (front ++ connection ∷ rest)
-    → IsConnection trade kept found (place_behind here front) connection
-connection_at trade kept found here [] rest connection are = are.0
-connection_at trade kept found here (one ∷ front) rest connection are =
-    connection_at trade kept found one.behind front rest connection are.1
+pub connection_at : (trade : Trade) (tells : Type 0) (kept : List Kept) (found : Finds) (here : Place)
+    (front rest : List Connection) (connection : Connection)
+    → AreConnections trade tells kept found here (front ++ connection ∷ rest)
+    → IsConnection trade tells kept found (place_behind here front) connection
+connection_at trade tells kept found here [] rest connection are = are.0
+connection_at trade tells kept found here (one ∷ front) rest connection are =
+    connection_at trade tells kept found one.behind front rest connection are.1
+
+-- where disks tell what they hold, a look at an item was shown the item's own bytes
+pub gave_own : (trade : Trade) (tells : Type 0) (kept : List Kept) (found : Finds) (here : Place) (connection : Connection)
+    → tells → IsConnection trade tells kept found here connection → (asked : Result Question Stop)
+    → GaveItsOwn asked connection
+gave_own trade tells kept found here connection told is (Ok (Submission address path message)) = tt
+gave_own trade tells kept found here connection told is (Ok (See address looks.Book)) = tt
+gave_own trade tells kept found here connection told is (Ok (See address looks.Items)) = tt
+gave_own trade tells kept found here connection told is (Ok (See address (looks.Item place))) =
+    calls_shown trade tells told here.network connection.handed connection.clock is.calls
+gave_own trade tells kept found here connection told is (Err stop) = tt

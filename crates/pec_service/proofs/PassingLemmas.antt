@@ -55,10 +55,10 @@ module _ {D : Type 0} (tells : Type 0) (sight : D → Sight) (asked : Asked) (st
 
   module _ (begins : stage ≡ Begins) (form : Form) (is : happened.form ≡ Some form) where
     pub world_is : IsTrade (world happened)
-    world_is = is_world asked status unread before after _ _ here there _ _ ran.ran.served form begins is
+    world_is = is_world asked status unread before after _ _ _ here there _ _ ran.ran.served form begins is
 
     pub opening_is : IsOpening (world happened) (disks_at tells sight home) form happened.course.opening
-    opening_is = (has_journals asked status unread before after _ _ here there _ _ ran.ran.served form begins is).opening
+    opening_is = (has_journals asked status unread before after _ _ _ here there _ _ ran.ran.served form begins is).opening
 
   module _
       (stopped : (trade : Trade) (form : Form) (home left found : ℕ → Option D) → AreAtHome trade home

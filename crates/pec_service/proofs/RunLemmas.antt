@@ -37,9 +37,9 @@ has_directory false directory e = so (nat_lt LONGEST_DIRECTORY (length directory
     so false (Err fault) is x = cc
     so false (Ok providers) is x = (providers, is)
 
-module _ (asked : Asked) (status : Status) (unread before after : Option Bytes) (old_disks new_disks : Disks)
+module _ (asked : Asked) (status : Status) (unread before after : Option Bytes) (tells : Type 0) (old_disks new_disks : Disks)
     (here there : Outside) (from upto : ℕ → ℕ)
-    (ran : HasServed asked status unread before after old_disks new_disks here there from upto) (form : Form)
+    (ran : HasServed asked status unread before after tells old_disks new_disks here there from upto) (form : Form)
     (begins : stage_of ran.happened.early ran.happened.directory ≡ Begins) (is_form : ran.happened.form ≡ Some form)
   where
     pub is_world : IsTrade (world ran.happened)
@@ -47,17 +47,17 @@ module _ (asked : Asked) (status : Status) (unread before after : Option Bytes) 
         let had = has_directory ran.happened.early ran.happened.directory begins
         in (ran.setting begins had.0 had.1).world
 
-    pub has_journals : HasJournals asked status before after old_disks new_disks here there from upto ran.happened.setting
+    pub has_journals : HasJournals asked status before after tells old_disks new_disks here there from upto ran.happened.setting
         ran.happened.course form
     has_journals =
-        let at = subst (IsAt asked status before after old_disks new_disks here there from upto ran.happened) begins ran.is_at
-        in (subst (HasBegun asked status before after old_disks new_disks here there from upto ran.happened.setting
+        let at = subst (IsAt asked status before after tells old_disks new_disks here there from upto ran.happened) begins ran.is_at
+        in (subst (HasBegun asked status before after tells old_disks new_disks here there from upto ran.happened.setting
         ran.happened.course) is_form at).1
 
     pub serves_on : ran.happened.course.opening.next ≡ NoMore
-        → Serves asked status before after old_disks new_disks here there from upto ran.happened.setting ran.happened.course form
+        → Serves asked status before after tells old_disks new_disks here there from upto ran.happened.setting ran.happened.course form
     serves_on at_hand =
-        subst (GoesOn asked status before after old_disks new_disks here there from upto ran.happened.setting ran.happened.course
+        subst (GoesOn asked status before after tells old_disks new_disks here there from upto ran.happened.setting ran.happened.course
         form) at_hand has_journals.goes_on
 
 -- ---- runs without faults
@@ -131,19 +131,19 @@ all_by : (wanted served : ℕ) (ending : Ending) (part : Option Connection) → 
     → EndsSo wanted served ending part → served ≡ wanted
 all_by wanted served ending part e ends = (subst (λ (x : Ending). EndsSo wanted served x part) e ends).0
 
-module _ (asked : Asked) (status : Status) (unread before after : Option Bytes) (old_disks new_disks : Disks)
+module _ (asked : Asked) (status : Status) (unread before after : Option Bytes) (tells : Type 0) (old_disks new_disks : Disks)
     (here there : Outside) (old new : AllCounts)
-    (ran : HasServed asked status unread before after old_disks new_disks here there old.devices.disks new.devices.disks)
+    (ran : HasServed asked status unread before after tells old_disks new_disks here there old.devices.disks new.devices.disks)
     (form : Form) (begins : stage_of ran.happened.early ran.happened.directory ≡ Begins)
     (is_form : ran.happened.form ≡ Some form) (at_hand : ran.happened.course.opening.next ≡ NoMore)
     (none : NoFaults old new) (blames : Blames status old new) where
   pub serves_all : (status ≡ statuses.NoMemory) ⊎ ServesAll asked status before after here ran.happened
   serves_all =
-      let serves = serves_on asked status unread before after old_disks new_disks here there old.devices.disks
+      let serves = serves_on asked status unread before after tells old_disks new_disks here there old.devices.disks
       new.devices.disks ran form begins is_form at_hand
       in by_end serves (blames_none status old new none blames before after _ _ serves.told)
     where
-      by_end : (serves : Serves asked status before after old_disks new_disks here there old.devices.disks new.devices.disks
+      by_end : (serves : Serves asked status before after tells old_disks new_disks here there old.devices.disks new.devices.disks
           ran.happened.setting ran.happened.course form)
           → (status ≡ statuses.NoMemory) ⊎ ((status ≡ statuses.Done)
           × (ran.happened.course.service.ending ≡ AllServed)

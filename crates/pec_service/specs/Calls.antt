@@ -9,6 +9,7 @@ use Rattle.pec_directory.specs.Directory.{Provider}
 use Rattle.pec_ledger.specs.Network.{Site}
 use Rattle.pec_ledger.specs.Trade.{Trade}
 use Rattle.pec_plays.specs.Commands.{Answer, Command, Luck, Round, Tick, played}
+use Rattle.pec_plays.specs.Possible.{GaveWhatWasKept}
 use Rattle.pec_plays.specs.Scripts.{IsUnforged}
 use Rattle.pec_runs.specs.AnswerLines.{answer_text}
 use Rattle.pec_runs.specs.Moves.{Moves, MovesOn}
@@ -42,30 +43,35 @@ module _ (trade : Trade) where
   abbrev pub answer_of : List Site → Call → Answer
   answer_of sites call = (played trade call.luck sites call.command).answer
 
+module _ (trade : Trade) (tells : Type 0) where
   -- The command was played from here, with a luck that it may meet (`IsCall` of pec_runs).
   abbrev pub IsCall : State → Call → Type 0
   IsCall here call =
-      steps.IsCall trade here.sites here.counts call.behind.counts call.command call.luck call.behind.sites
+      steps.IsCall trade tells here.sites here.counts call.behind.counts call.command call.luck call.behind.sites
 
   -- Each was played from the network behind those before it.
   abbrev pub AreCalls : State → List Call → Type 0
   AreCalls here [] = Unit {0}
   AreCalls here (call ∷ calls) = IsCall here call × AreCalls call.behind calls
 
+module _ (trade : Trade) where
   -- the lines of their answers
   abbrev pub calls_text : List Provider → State → List Call → Bytes
   calls_text providers here [] = []
   calls_text providers here (call ∷ calls) =
-      answer_text providers (answer_of here.sites call) ++ calls_text providers call.behind calls
+      answer_text providers (answer_of trade here.sites call) ++ calls_text providers call.behind calls
 
 -- The clock calls of so many providers, from this one on, and one round.
 abbrev pub clock_from : ℕ → ℕ → ℕ → List Command
 clock_from zero provider moment = Round moment ∷ []
 clock_from (suc more) provider moment = Tick provider moment ∷ clock_from more (provider + 1) moment
 
--- each may come, in whichever state
+-- each may come, in whichever state, where each turn puts what is due
 abbrev pub AllMayCome : Trade → List Command → Type 0
-AllMayCome trade due = AllByRecursion (λ (command : Command). (sites : List Site) → IsUnforged trade sites command) due
+AllMayCome trade due = AllByRecursion
+    (λ (command : Command). (luck : Luck) (sites : List Site) → GaveWhatWasKept luck
+    → IsUnforged trade luck sites command)
+    due
 
 -- ---- steps of a run
 
@@ -109,7 +115,7 @@ module _ (trade : Trade) (providers : List Provider) {D : Type 0} where
     pub calls : List Call
     pub unplayed : List Command
     pub plays : commands_of calls ++ unplayed ≡ due
-    pub are : AreCalls trade (seen here.state) calls
+    pub are : AreCalls trade tells (seen here.state) calls
     pub ends : CallsEnd (seen here.state) calls unplayed here.held there stop
     pub moves : AllMayCome trade due → Moves trade tells sight here.state there.state
     pub moves_on : AllMayCome trade due → stop ≡ None → MovesOn trade tells sight here.state there.state

@@ -15,13 +15,14 @@ use Rattle.pec_records.specs.Entry.{most_addresses}
 use Rattle.pec_screen.specs.Screened.{Finds}
 use Rattle.pec_ledger.specs.Network.{Site}
 use Rattle.pec_ledger.specs.Trade.{Trade}
-use Rattle.pec_plays.specs.Commands.{Answer, Command, Refuses, Submit, Submits}
+use Rattle.pec_plays.specs.Commands.{Answer, Command, Refuses, Show, Shown, Submit, Submits}
 use Rattle.pec_http.specs.Asking.{Asks, See, Submit as Submission}
 use Rattle.pec_http.specs.Input.{IsInput}
 use Rattle.pec_http.specs.Replies.{Reply, memory_reply, reply_text, shown_reply, stop_reply, submitted_reply}
 use Rattle.pec_http.specs.Serving.{kind_of}
 use Rattle.pec_http.specs.Statuses.{number_of}
 use Rattle.pec_http.specs.declared.demands.Look.{Look}
+use Rattle.pec_http.specs.declared.demands.Look.TheVariants as looks
 use Rattle.pec_http.specs.declared.stops.Stop.{Stop}
 use Rattle.pec_script.specs.Texts.{text_of}
 use Rattle.pec_service.specs.Passes.{pass_of}
@@ -58,11 +59,19 @@ IsHeardSo kept input Unheard = Unit {0}
 IsHeardSo kept input (Heard answering) = AsksSo kept input answering
 IsHeardSo kept input (Broken answering) = AsksSo kept input answering
 
--- the command by which a message is handed in, where one is and screens find this
+-- a look at an item is a command, for it reads the disk; a look at a book or a list of items isn't
+abbrev pub looked_by : Bytes → Look → List Command
+looked_by address looks.Book = []
+looked_by address looks.Items = []
+looked_by address (looks.Item place) = Show address place ∷ []
+
+-- the command by which a message is handed in, where one is and screens find this, or an item is looked at
 abbrev pub handed_by : Finds → ℕ → Answering → List Command
+handed_by finds moment Lacks = []
+handed_by finds moment (Stops stop) = []
+handed_by finds moment (Sees address looked) = looked_by address looked
 handed_by finds moment (HandsIn number address path message) =
     Submit number moment address path message (finds number message) ∷ []
-handed_by finds moment _ = []
 
 abbrev pub handed_in : Finds → ℕ → Hearing → List Command
 handed_in finds moment Unheard = []
@@ -84,7 +93,7 @@ pub record Connection : Type 0 where
   pub input : Bytes  -- what it had to be read
   pub hearing : Hearing
   pub reply : ToldReply  -- what was written to it, and whether it had faults
-  pub handed : List Call  -- what was handed in
+  pub handed : List Call  -- what was handed in, or looked at
   pub clock : List Call  -- the clock calls and the round that were played
   pub behind : Place
 
@@ -102,10 +111,26 @@ said_in (Submits submitted) = Ok submitted
 said_in (Refuses fault) = Err fault
 said_in _ = Err faults.NoMemory
 
+-- what it said to a look at an item
+abbrev pub seen_in : Answer → Result Bytes ProviderFault
+seen_in (Shown bytes) = Ok bytes
+seen_in (Refuses fault) = Err fault
+seen_in _ = Err faults.NoMemory
+
 module _ (trade : Trade) (kept : List Kept) where
   abbrev pub heard_from : List Site → List Call → Result Submitted ProviderFault
   heard_from sites [] = Err faults.NoMemory
   heard_from sites (call ∷ calls) = said_in (answer_of trade sites call)
+
+  abbrev pub item_from : List Site → List Call → Result Bytes ProviderFault
+  item_from sites [] = Err faults.NoMemory
+  item_from sites (call ∷ calls) = seen_in (answer_of trade sites call)
+
+  -- what an account is shown, by the state as the connection was accepted and what was played of a look at an item
+  abbrev pub looked_from : List Site → List Call → Bytes → Look → Result Bytes ProviderFault
+  looked_from sites handed address looks.Book = shown_in trade (providers_of kept) sites address looks.Book
+  looked_from sites handed address looks.Items = shown_in trade (providers_of kept) sites address looks.Items
+  looked_from sites handed address (looks.Item place) = item_from sites handed
 
   -- What is answered, by the state as the connection was accepted and what was handed in. An account is shown its own
   -- (`shown_in` of pec_desk).
@@ -113,7 +138,7 @@ module _ (trade : Trade) (kept : List Kept) where
   answered_by sites handed Lacks = memory_reply
   answered_by sites handed (Stops stop) = stop_reply stop
   answered_by sites handed (Sees address looked) =
-      shown_reply (kind_of looked) (shown_in trade (providers_of kept) sites address looked)
+      shown_reply (kind_of looked) (looked_from sites handed address looked)
   answered_by sites handed (HandsIn number address path message) =
       submitted_reply (first_domain (providers_of kept) number) (heard_from sites handed)
 
@@ -140,7 +165,7 @@ module _ (trade : Trade) (kept : List Kept) where
       outcome_line here.sites connection.handed connection.hearing
       ++ calls_text trade (providers_of kept) (state_behind here connection.handed) connection.clock
 
-module _ (trade : Trade) (kept : List Kept) (finds : Finds) where
+module _ (trade : Trade) (tells : Type 0) (kept : List Kept) (finds : Finds) where
   -- It was served from this place on, where screens find this. Where all wasn't played, these commands were left.
   pub record IsConnection (here : Place) (connection : Connection) : Type 0 where
     pub moment : Gives here.moments connection.moment connection.behind.moments
@@ -154,7 +179,7 @@ module _ (trade : Trade) (kept : List Kept) (finds : Finds) where
     pub hands : commands_of connection.handed ≡ handed_in finds connection.moment connection.hearing
     pub unplayed : List Command
     pub plays : commands_of connection.clock ++ unplayed ≡ clock_from (length kept) 0 connection.moment
-    pub calls : AreCalls trade here.network (calls_of connection)
+    pub calls : AreCalls trade tells here.network (calls_of connection)
     pub state : connection.behind.network.sites ≡ (state_behind here.network (calls_of connection)).sites
     pub later : (provider : ℕ) → (state_behind here.network (calls_of connection)).counts provider
         ≤ connection.behind.network.counts provider

@@ -2,6 +2,7 @@
 -- question, the moment, the directory and the caller's share of the network (`Share`), or what a device did in its place.
 -- This project's profile.
 use Rattle.std.specs.Prelude.{◌≡◌, ◌⊎◌, ℕ, ◌≤◌, List, Option, None, Some, Result, Ok, Err}
+use Rattle.std.specs.List.{AllByRecursion}
 use Rattle.std.specs.Option.{option_and_then}
 use Rattle.pec_types.specs.Bytes.{Bytes}
 use Rattle.pec_types.specs.declared.turns.ProviderFault.TheVariants as faults
@@ -11,11 +12,15 @@ use Rattle.pec_screen.specs.Verdicts.{Patterns}
 use Rattle.pec_seal.specs.Seals.{Seals}
 use Rattle.pec_ledger.specs.Network.{Site}
 use Rattle.pec_runs.specs.OfTrades.{trade_of}
+use Rattle.pec_runs.specs.Plays.{ShowsItsOwn}
 use Rattle.pec_http.specs.Asking.{Question, Submit, See}
 use Rattle.pec_http.specs.Replies.{Reply, fault_reply, memory_reply}
+use Rattle.pec_http.specs.declared.demands.Look.{Look}
+use Rattle.pec_http.specs.declared.demands.Look.TheVariants as looks
 use Rattle.pec_http.specs.declared.stops.Stop.{Stop}
+use Rattle.pec_service.specs.Calls.{lucks_of}
 use Rattle.pec_service.specs.Connections.{Answering, Broken, Connection, Heard, Hearing, Place, Unheard, answered_by}
-use Rattle.pec_service.specs.Own.{Share, asker, reply_to, share_in}
+use Rattle.pec_service.specs.Own.{IsChangedReply, Share, asker, reply_to, share_in}
 use Rattle.pec_service.specs.Runs.{Happened, Outside, first_place, world}
 use Rattle.pec_service.specs.Services.{place_behind}
 
@@ -41,20 +46,45 @@ module _ (kept : List Kept) (seals : Seals) where
   own_answer screens here connection asked =
       reply_to (providers_of kept) connection.moment (asking_share screens here.network.sites asked) asked
 
--- The fault of a disk is answered: to a submission alone, and only where the count of faults of the disk of the caller's
--- provider rose while the connection was served.
-abbrev pub DiskFailed : List Kept → Place → Connection → Result Question Stop → Reply → Type 0
-DiskFailed kept here connection (Ok (Submit address path message)) reply =
+-- The fault of a disk is answered to an account, and the count of faults of the disk of its provider rose while the
+-- connection was served.
+abbrev pub DiskFailedAt : List Kept → Place → Connection → Bytes → Reply → Type 0
+DiskFailedAt kept here connection address reply =
     (number : ℕ) × (account_home (providers_of kept) address ≡ Some number)
     × (reply ≡ fault_reply faults.DiskFault)
     × HasRisen (here.network.counts number) (connection.behind.network.counts number)
-DiskFailed kept here connection (Ok (See address looked)) reply = ⊥
+
+-- Only a submission and a look at an item are answered so.
+abbrev pub DiskFailed : List Kept → Place → Connection → Result Question Stop → Reply → Type 0
+DiskFailed kept here connection (Ok (Submit address path message)) reply =
+    DiskFailedAt kept here connection address reply
+DiskFailed kept here connection (Ok (See address looks.Book)) reply = ⊥
+DiskFailed kept here connection (Ok (See address looks.Items)) reply = ⊥
+DiskFailed kept here connection (Ok (See address (looks.Item place))) reply =
+    DiskFailedAt kept here connection address reply
 DiskFailed kept here connection (Err stop) reply = ⊥
 
--- Memory ran out, or the disk of the caller's provider failed.
+-- An entry is told as changed, to a look at an item alone.
+abbrev pub IsChanged : Result Question Stop → Reply → Type 0
+IsChanged (Ok (Submit address path message)) reply = ⊥
+IsChanged (Ok (See address looks.Book)) reply = ⊥
+IsChanged (Ok (See address looks.Items)) reply = ⊥
+IsChanged (Ok (See address (looks.Item place))) reply = IsChangedReply reply
+IsChanged (Err stop) reply = ⊥
+
+-- Memory ran out, the disk of the caller's provider failed, or an entry is told as changed.
 abbrev pub IsDeviceReply : List Kept → Place → Connection → Result Question Stop → Reply → Type 0
 IsDeviceReply kept here connection asked reply =
-    (reply ≡ memory_reply) ⊎ DiskFailed kept here connection asked reply
+    (reply ≡ memory_reply) ⊎ DiskFailed kept here connection asked reply ⊎ IsChanged asked reply
+
+-- What disks gave back to a look at an item is what they took: the item's own bytes were shown, if any were. Of other
+-- requests nothing is asked. Where disks tell what they hold it is so.
+abbrev pub GaveItsOwn : Result Question Stop → Connection → Type 0
+GaveItsOwn (Ok (Submit address path message)) connection = Unit {0}
+GaveItsOwn (Ok (See address looks.Book)) connection = Unit {0}
+GaveItsOwn (Ok (See address looks.Items)) connection = Unit {0}
+GaveItsOwn (Ok (See address (looks.Item place))) connection = AllByRecursion ShowsItsOwn (lucks_of connection.handed)
+GaveItsOwn (Err stop) connection = Unit {0}
 
 -- What was asked is answered its own, or by what a device did.
 abbrev pub IsOwn : List Kept → Seals → List (List Patterns) → Place → Connection → Result Question Stop → Reply → Type 0

@@ -1,7 +1,7 @@
 -- What an account is answered is its own: `reply_to` is the answer of HTTP as a function of the question, the moment, the
 -- directory, and the account's share of the desk (`Share`): its own book and items, what its provider comes to, and what
 -- that provider's screens look for. This project's profile.
-use Rattle.std.specs.Prelude.{◌≡◌, ◌⊎◌, ℕ, ◌+◌, nat_lt, Bool, List, [], length, map, Option, None, Some, Result, Ok, Err, slice_get, if◌then◌else◌}
+use Rattle.std.specs.Prelude.{◌≡◌, ◌⊎◌, ℕ, ◌+◌, nat_lt, Bool, true, List, [], length, map, Option, None, Some, Result, Ok, Err, slice_get, if◌then◌else◌}
 use Rattle.std.specs.Option.{option_and_then, option_map}
 use Rattle.pec_types.specs.Bytes.{Bytes, Path}
 use Rattle.pec_types.specs.declared.mailboxes.ItemLine.{ItemLine}
@@ -26,6 +26,7 @@ use Rattle.pec_ledger.specs.Trade.{Trade}
 use Rattle.pec_plays.specs.Commands.{entry_by, screened_cause, told_by}
 use Rattle.pec_plays.specs.Steps.{longest_journal}
 use Rattle.pec_runs.specs.OfTrades.{cause_at}
+use Rattle.pec_runs.specs.Plays.{is_change}
 use Rattle.pec_http.specs.Asking.{Question, Submit, See}
 use Rattle.pec_http.specs.Replies.{Reply, fault_reply, memory_reply, shown_reply, stop_reply, submitted_reply}
 use Rattle.pec_http.specs.Serving.{kind_of}
@@ -166,8 +167,19 @@ reply_to providers moment share (Ok question) = reply_with providers moment shar
 abbrev pub IsFaultReply : Reply → Type 0
 IsFaultReply reply = (reply ≡ memory_reply) ⊎ (reply ≡ fault_reply faults.DiskFault)
 
--- Only a submission asks the disk, and only what is put to the desk takes memory there.
+-- An entry is told as changed.
+abbrev pub IsChangedReply : Reply → Type 0
+IsChangedReply reply = (fault : ProviderFault) × (is_change (Some fault) ≡ true) × (reply ≡ fault_reply fault)
+
+-- what may stand in place of what is shown: a look at an item reads the disk
+abbrev pub IsFaultOfLook : Look → Reply → Type 0
+IsFaultOfLook looks.Book reply = reply ≡ memory_reply
+IsFaultOfLook looks.Items reply = reply ≡ memory_reply
+IsFaultOfLook (looks.Item place) reply = IsFaultReply reply ⊎ IsChangedReply reply
+
+-- Only a submission and a look at an item ask the disk, only what is read may have changed, and only what is put to the
+-- desk takes memory there.
 abbrev pub IsFaultOf : Result Question Stop → Reply → Type 0
 IsFaultOf (Ok (Submit address path message)) reply = IsFaultReply reply
-IsFaultOf (Ok (See address looked)) reply = reply ≡ memory_reply
+IsFaultOf (Ok (See address looked)) reply = IsFaultOfLook looked reply
 IsFaultOf (Err stop) reply = ⊥

@@ -186,15 +186,15 @@ place_with network outside =
 abbrev pub first_place : Trade → List (List Entry) → (ℕ → ℕ) → Outside → Place
 first_place trade journals counts here = place_with (record { sites = opened_all trade journals; counts = counts }) here
 
-module _ (asked : Asked) (status : Status) (before after : Option Bytes) (old_disks new_disks : Disks) (here there : Outside)
-    (from upto : ℕ → ℕ) where
+module _ (asked : Asked) (status : Status) (before after : Option Bytes) (tells : Type 0) (old_disks new_disks : Disks)
+    (here there : Outside) (from upto : ℕ → ℕ) where
   module _ (setting : Setting) (course : Course) where
     -- With all journals at hand connections were served, from these counts of disks' faults on.
     pub record Serves (form : Form) : Type 0 where
       pub counts : ℕ → ℕ
       pub sooner : (provider : ℕ) → from provider ≤ counts provider
       pub network : State  -- as the service left it
-      pub is : IsService (trade_in setting) setting.kept asked.finds asked.wanted
+      pub is : IsService (trade_in setting) tells setting.kept asked.finds asked.wanted
           (first_place (trade_in setting) course.opening.journals counts here) (place_with network there) course.service
       pub told : TellsService status before after
           (service_text (trade_in setting) setting.kept (first_place (trade_in setting) course.opening.journals counts here)
@@ -241,21 +241,23 @@ module _ (asked : Asked) (status : Status) (before after : Option Bytes) (old_di
 
 -- The program served: from what the input held, what the output held, the disks at home, clock and door as it began, to the
 -- output, the disks, clock and door as it ended, with this status, while the counts of disks' faults rose from some to others.
-pub record HasServed (asked : Asked) (status : Status) (unread before after : Option Bytes) (old_disks new_disks : Disks)
-    (here there : Outside) (from upto : ℕ → ℕ) : Type 0 where
+-- `tells` says that disks tell what they hold.
+pub record HasServed (asked : Asked) (status : Status) (unread before after : Option Bytes) (tells : Type 0)
+    (old_disks new_disks : Disks) (here there : Outside) (from upto : ℕ → ℕ) : Type 0 where
   pub happened : Happened
   pub input : IfSome unread (λ text. happened.directory ≡ text)
   -- of a run that begins
   pub setting : stage_of happened.early happened.directory ≡ Begins
       → (providers : List Provider) → directory_in happened.directory ≡ Ok providers
       → IsSetting providers happened.setting
-  pub is_at : IsAt asked status before after old_disks new_disks here there from upto happened
+  pub is_at : IsAt asked status before after tells old_disks new_disks here there from upto happened
       (stage_of happened.early happened.directory)
 
 -- It served so; and the status blames a device only where its count of faults rose.
-pub record ServiceRan (asked : Asked) (status : Status) (unread before after : Option Bytes) (old_disks new_disks : Disks)
-    (here there : Outside) (old new : AllCounts) : Type 0 where
-  pub served : HasServed asked status unread before after old_disks new_disks here there old.devices.disks new.devices.disks
+pub record ServiceRan (asked : Asked) (status : Status) (unread before after : Option Bytes) (tells : Type 0)
+    (old_disks new_disks : Disks) (here there : Outside) (old new : AllCounts) : Type 0 where
+  pub served : HasServed asked status unread before after tells old_disks new_disks here there old.devices.disks
+      new.devices.disks
   pub blame : Blames status old new
   pub counts : NoneFell old new
 
@@ -263,7 +265,8 @@ pub record ServiceRan (asked : Asked) (status : Status) (unread before after : O
 abbrev pub ServiceRanOver : {D : Type 0} → Type 0 → (D → Sight) → Asked → Status → (unread before after : Option Bytes)
     → (home left : ℕ → Option D) → (here there : Outside) → (old new : AllCounts) → Type 0
 ServiceRanOver tells sight asked status unread before after home left here there old new =
-    ServiceRan asked status unread before after (disks_at tells sight home) (disks_at tells sight left) here there old new
+    ServiceRan asked status unread before after tells (disks_at tells sight home) (disks_at tells sight left) here there
+    old new
 
 -- ---- runs without faults
 

@@ -22,12 +22,12 @@ place_behind here (connection ∷ more) = place_behind connection.behind more
 abbrev pub calls_in : List Connection → List Call
 calls_in connections = flat_map calls_of connections
 
-module _ (trade : Trade) (kept : List Kept) (finds : Finds) where
+module _ (trade : Trade) (tells : Type 0) (kept : List Kept) (finds : Finds) where
   -- Each was served from the place behind those before it, where screens find this.
   abbrev pub AreConnections : Place → List Connection → Type 0
   AreConnections here [] = Unit {0}
   AreConnections here (connection ∷ more) =
-      IsConnection trade kept finds here connection × AreConnections connection.behind more
+      IsConnection trade tells kept finds here connection × AreConnections connection.behind more
 
 module _ (trade : Trade) (kept : List Kept) where
   -- the lines of them
@@ -78,9 +78,9 @@ Leaves trade kept _ part last left =
 
 -- A service of so many connections went so, from one place to another, where screens find this. No count of a disk's
 -- faults fell.
-pub record IsService (trade : Trade) (kept : List Kept) (finds : Finds) (wanted : ℕ) (here left : Place) (service : Service)
-    : Type 0 where
-  pub each : AreConnections trade kept finds here (connections_of service)
+pub record IsService (trade : Trade) (tells : Type 0) (kept : List Kept) (finds : Finds) (wanted : ℕ) (here left : Place)
+    (service : Service) : Type 0 where
+  pub each : AreConnections trade tells kept finds here (connections_of service)
   pub whole : All (IsWhole kept) service.whole
   pub ends : EndsSo wanted (length service.whole) service.ending service.part
   pub leaves : Leaves trade kept service.ending service.part (place_behind here (connections_of service)) left

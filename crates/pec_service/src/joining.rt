@@ -14,15 +14,19 @@ use pec_outside::{Depot, Disk};
 use pec_plays::a_network_stays_sound;
 
 /// How a loop over calls climbs: one more stands behind those so far, and so do its lines.
-pub fn calls_are_joined()
-    ensures one { (trade : Trade) (here : State) (calls : List Call) (call : Call) → AreCalls trade here calls
-        → IsCall trade (state_behind here calls) call → AreCalls trade here (calls ++ call ∷ []) }
-    ensures all { (trade : Trade) (here : State) (calls more : List Call) → AreCalls trade here calls
-        → AreCalls trade (state_behind here calls) more → AreCalls trade here (calls ++ more) }
+pub fn calls_are_joined<P: Depot>()
+    ensures one { (trade : Trade) (here : State) (calls : List Call) (call : Call)
+        → AreCalls trade (P.tells × P.D.tells) here calls
+        → IsCall trade (P.tells × P.D.tells) (state_behind here calls) call
+        → AreCalls trade (P.tells × P.D.tells) here (calls ++ call ∷ []) }
+    ensures all { (trade : Trade) (here : State) (calls more : List Call)
+        → AreCalls trade (P.tells × P.D.tells) here calls
+        → AreCalls trade (P.tells × P.D.tells) (state_behind here calls) more
+        → AreCalls trade (P.tells × P.D.tells) here (calls ++ more) }
     // The counts of faults may be taken earlier.
     ensures since { (trade : Trade) (here there : State) (calls : List Call) → here.sites ≡ there.sites
         → ((provider : ℕ) → here.counts provider ≤ there.counts provider)
-        → AreCalls trade there calls → AreCalls trade here calls }
+        → AreCalls trade (P.tells × P.D.tells) there calls → AreCalls trade (P.tells × P.D.tells) here calls }
     // What is behind calls, and what is written of them, hangs on the state alone from which they are played.
     ensures same { (here there : State) (calls : List Call) → here.sites ≡ there.sites
         → (state_behind here calls).sites ≡ (state_behind there calls).sites }
@@ -56,11 +60,11 @@ pub fn acts_are_calls<P: Depot>()
 }
 
 /// How a loop over connections climbs.
-pub fn connections_are_joined()
+pub fn connections_are_joined<P: Depot>()
     ensures one { (trade : Trade) (kept : List Kept) (finds : Finds) (here : Place) (connections : List Connection)
-        (connection : Connection) → AreConnections trade kept finds here connections
-        → IsConnection trade kept finds (place_behind here connections) connection
-        → AreConnections trade kept finds here (connections ++ connection ∷ []) }
+        (connection : Connection) → AreConnections trade (P.tells × P.D.tells) kept finds here connections
+        → IsConnection trade (P.tells × P.D.tells) kept finds (place_behind here connections) connection
+        → AreConnections trade (P.tells × P.D.tells) kept finds here (connections ++ connection ∷ []) }
     ensures behind { (here : Place) (connections : List Connection) (connection : Connection)
         → place_behind here (connections ++ connection ∷ []) ≡ connection.behind }
     ensures text { (trade : Trade) (kept : List Kept) (here : Place) (connections : List Connection)

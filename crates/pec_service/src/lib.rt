@@ -1,6 +1,6 @@
-//! What a run of the program is that serves connections: what each comes to at the desk of the network, what is played of
-//! it, and how a service ends. There is no code here: each public function is a law with an empty body, whose contract is
-//! the statement.
+//! What a run of the program is that serves connections: what each comes to at the desk of the network, what is played
+//! of it, and how a service ends. There is no code here: each public function is a law with an empty body, whose
+//! contract is the statement.
 #![tactic(auto)]
 
 mod headline;

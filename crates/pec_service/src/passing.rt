@@ -12,9 +12,10 @@ ghost use Rattle.pec_service.specs.Through.{ServiceRanThrough};
 use pec_outside::{Depot, Disk};
 use pec_runs::{a_run_passes_its_disks_on, disks_are_passed_on, what_is_passed_on_fits};
 
-/// A run that serves passes on what it found, at every status, and killed at every moment: before a disk is asked for, while
-/// disks are looked at and journals are made or opened, within a step of its service, and as it ends. The disks of its
-/// providers are at home as it begins. No premise speaks of frames: nothing that comes in over a connection injects one.
+/// A run that serves passes on what it found, at every status, and killed at every moment: before a disk is asked for,
+/// while disks are looked at and journals are made or opened, within a step of its service, and as it ends. The disks
+/// of its providers are at home as it begins. No premise speaks of frames: nothing that comes in over a connection
+/// injects one.
 pub fn a_service_passes_its_disks_on<P: Depot>()
     ensures ended { P.tells × P.D.tells → (trade : Trade) (asked : Asked) (status : Status)
         (unread before after : Option Bytes) (home left found : ℕ → Option P.D) (here there : Outside) (old new : AllCounts)
@@ -63,9 +64,9 @@ pub fn a_service_passes_its_disks_on<P: Depot>()
     disks_are_passed_on::<P>();
 }
 
-/// Runs of one directory, one after another, that play scripts or serve in any order, the first on empty disks, each on the
-/// disks that the one before left or that a crash left of them, at whatever status that one ended: what the last of them
-/// finds fits together, so journals that it opens are Fit.
+/// Runs of one directory, one after another, that play scripts or serve in any order, the first on empty disks, each on
+/// the disks that the one before left or that a crash left of them, at whatever status that one ended: what the last of
+/// them finds fits together, so journals that it opens are Fit.
 pub fn calls_go_on_from_one_another<P: Depot>()
     ensures fitting { P.tells × P.D.tells → (trade : Trade) (first : OneCall P.D) (more : List (OneCall P.D))
         → AreEmpty trade (held (P.tells × P.D.tells) P.D.sight (home_of first))

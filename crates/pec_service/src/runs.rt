@@ -3,7 +3,7 @@ ghost use Rattle.pec_types.specs.Bytes.{Bytes};
 ghost use Rattle.pec_journal.specs.JournalFile.{IsBroken, header};
 ghost use Rattle.pec_ledger.specs.Ledger.{Fit};
 ghost use Rattle.pec_ledger.specs.Network.{journals_in};
-ghost use Rattle.pec_runs.specs.Headline.{Headline};
+ghost use Rattle.pec_runs.specs.Headline.{AllHonest, Headline};
 ghost use Rattle.pec_runs.specs.Openings.{Form, NoMore, Resume};
 ghost use Rattle.pec_runs.specs.Statuses.{Status};
 ghost use Rattle.pec_runs.specs.Statuses as statuses;
@@ -16,20 +16,33 @@ use pec_outside::Depot;
 use pec_runs::a_run_begins_sound;
 
 /// The headline, of a run that serves: for every directory, whatever devices do and whatever comes in over connections,
-/// and, where journals were opened, where they fit together.
+/// where no disk gives back what makes a turn put a forged frame, and, where journals were opened, where they fit
+/// together. Over disks that tell what they hold no forged frame is put.
 pub fn a_serving_runs_books_belong_to_the_ledger<P: Depot>()
-    ensures { (asked : Asked) (status : Status) (unread before after : Option Bytes) (depot left : P) (here there : Outside)
-        (old new : AllCounts)
+    ensures headline { (asked : Asked) (status : Status) (unread before after : Option Bytes) (depot left : P)
+        (here there : Outside) (old new : AllCounts)
         (ran : ServiceRanOver (P.tells × P.D.tells) P.D.sight asked status unread before after (P.home depot) (P.home left)
         here there old new)
         (form : Form) → stage_of ran.served.happened.early ran.served.happened.directory ≡ Begins
         → ran.served.happened.form ≡ Some form → ran.served.happened.course.opening.next ≡ NoMore
         → (form ≡ Resume → Fit (world ran.served.happened) (journals_in ran.served.happened.course.opening.journals))
+        → AllHonest (world ran.served.happened)
+        (lucks_of (calls_in (connections_of ran.served.happened.course.service))) (beginning ran.served.happened)
+        (commands_of (calls_in (connections_of ran.served.happened.course.service)))
         → Headline (world ran.served.happened) (beginning ran.served.happened)
         (lucks_of (calls_in (connections_of ran.served.happened.course.service)))
         (commands_of (calls_in (connections_of ran.served.happened.course.service))) }
+    ensures honest { (asked : Asked) (status : Status) (unread before after : Option Bytes) (depot left : P)
+        (here there : Outside) (old new : AllCounts) → P.tells × P.D.tells
+        → (ran : ServiceRanOver (P.tells × P.D.tells) P.D.sight asked status unread before after (P.home depot)
+        (P.home left) here there old new)
+        (form : Form) → stage_of ran.served.happened.early ran.served.happened.directory ≡ Begins
+        → ran.served.happened.form ≡ Some form → ran.served.happened.course.opening.next ≡ NoMore
+        → AllHonest (world ran.served.happened)
+        (lucks_of (calls_in (connections_of ran.served.happened.course.service))) (beginning ran.served.happened)
+        (commands_of (calls_in (connections_of ran.served.happened.course.service))) }
 {
-    a_services_books_belong_to_the_ledger();
+    a_services_books_belong_to_the_ledger::<P>();
     a_run_begins_sound::<P>();
 }
 

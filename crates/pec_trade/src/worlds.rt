@@ -13,8 +13,8 @@ use pec_cert::a_rule_has_one_clock;
 use pec_seal::Sealer;
 
 /// The law of worlds: a directory and those who seal for its providers have one, however its zones are kept. Each zone
-/// is by its provider's rule, and the text of a rule alone says what its clock shows; so letters and items have the same
-/// texts at the same moments.
+/// is by its provider's rule, and the text of a rule alone says what its clock shows; so letters and items have the
+/// same texts at the same moments.
 pub fn a_directory_has_one_world()
     ensures { (kept others : List Kept) (seals : Seals) → AreByRule kept → AreByRule others
         → providers_of kept ≡ providers_of others → trade_of kept seals ≡ trade_of others seals }

@@ -1,5 +1,7 @@
 -- A run that meets the premises: its rows are computed, and it is Sound by the laws.
-use Rattle.std.proofs.Common.{refl, arith}
+use Rattle.std.proofs.Common.{◌≡◌, Bool, true, false, List, refl, ap, arith}
+use Rattle.std.proofs.lemmas.Bool.{false≢true}
+use Rattle.pec_types.specs.Bytes.{Bytes}
 use Rattle.pec_types.specs.LimitsReading.{due_of}
 use Rattle.pec_records.specs.Entry.{number_16, number_32, number_64}
 use Rattle.pec_ledger.specs.Due.{due_letters}
@@ -15,13 +17,29 @@ use Rattle.pec_plays.specs.Reception.{arrive}
 use Rattle.pec_plays.specs.Rounds.{rounded, turns_of}
 use Rattle.pec_plays.specs.Scripts.{AllUnforged}
 use Rattle.pec_plays.specs.Steps.{has_no_room}
-use Rattle.pec_plays.specs.Turns.{turned}
+use Rattle.pec_plays.specs.Turns.{Cut, Whole, Other, turned}
 use Rattle.pec_plays.proofs.examples.a_run_is_there.Goals as goal
+
+abbrev is_other : Cut → Bool
+is_other (Other out) = true
+is_other _ = false
+
+no_other : {X : Type 0} (out : List (List Bytes)) → Whole ≡ Other out → X
+no_other out e = absurd (false≢true (ap is_other e))
 
 may_come : AllUnforged small (calmly to_the_end) (at_start small) to_the_end
 may_come = (
   (omega arith, omega arith, omega arith),
-  (omega arith, (omega arith, (omega arith, (omega arith, (omega arith, (tt, (tt, (tt, tt)))))))),
+  (
+    (omega arith, λ p out l e. no_other out e),
+    (
+      (omega arith, λ p out l e. no_other out e),
+      (
+        (omega arith, λ p out l e. no_other out e),
+        ((omega arith, λ p out l e. no_other out e), ((omega arith, λ p out l e. no_other out e), (tt, (tt, (tt, tt))))),
+      ),
+    ),
+  ),
 )
 
 pub returns : goal.returns

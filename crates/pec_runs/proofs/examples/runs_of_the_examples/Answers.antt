@@ -4,6 +4,7 @@ use Rattle.pec_types.specs.LimitsReading.{due_of}
 use Rattle.pec_records.specs.Entry.{number_16, number_32, number_64}
 use Rattle.pec_ledger.specs.Books.{book, mailbox_lines}
 use Rattle.pec_ledger.specs.Due.{due_letters}
+use Rattle.pec_ledger.specs.Items.{item_text}
 use Rattle.pec_ledger.specs.Network.{at_start}
 use Rattle.pec_ledger.specs.Own.{decision_at}
 use Rattle.pec_ledger.specs.SmallWorld.{small}
@@ -26,10 +27,11 @@ none_at_start (suc zero) = refl
 none_at_start (suc (suc provider)) = refl
 
 pub returns : goal.returns
-unfolding due_of number_16 number_32 number_64 book mailbox_lines due_letters at_start decision_at half size_of step played decide undecided due_frames frame_of arrive rounded turns_of has_no_room turned
+unfolding due_of number_16 number_32 number_64 book mailbox_lines due_letters item_text at_start decision_at half size_of step played decide undecided due_frames frame_of arrive rounded turns_of has_no_room turned
 returns g c = record {
   faulty = refl;
   faults = refl;
+  looked = refl;
   unfinished = refl;
   no_frame_first = refl;
   at_rest = (refl, (refl, tt));

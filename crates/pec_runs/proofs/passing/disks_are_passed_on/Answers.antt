@@ -30,4 +30,5 @@ returns-clause-killed g c =
 
 pub returns-clause-moves : goal.returns-clause-moves
 returns-clause-moves g c = λ trade is_trade home left from upto form journals goes honest.
-    steps_move trade g.P.D.Disk.sight (c.a_network_stays_sound.ensures.commands trade) goes.first goes.steps goes.each honest
+    steps_move trade (g.P.Depot.tells × g.P.D.Disk.tells) g.P.D.Disk.sight (c.a_network_stays_sound.ensures.commands trade)
+    goes.first goes.steps goes.each honest

@@ -5,9 +5,9 @@ use Rattle.pec_runs.proofs.quiet.a_run_without_faults_has_one_transcript.Goals a
 
 pub returns : goal.returns
 returns g c = record {
-  one = λ words status unread before after depot left old new told ran none.
+  one = λ words status unread before after depot left old new told ran none same.
       has_one_transcript c.a_script_without_faults_is_one.ensures c.quiet_runs_are_one.ensures.script_there
-      words status unread before after _ _ _ old new ran told none;
+      words status unread before after _ _ _ old new ran told none same;
   goes_on = λ trade sites counts written. (
     quiet_plays c.quiet_runs_are_one.ensures.script_there trade _ sites counts written,
     at_end_all (quiet_lucks trade sites written.commands) written.commands written.end

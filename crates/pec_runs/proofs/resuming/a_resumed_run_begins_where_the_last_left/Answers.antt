@@ -16,6 +16,11 @@ returns g c =
     in let fits = fits_left words status unread before after _ _ _ old between ran form script begun
     (c.licences_stand.ensures.conditions trade)
     (record {
+      count = c.a_round_is_its_turns.ensures.count trade;
+      journals = c.a_round_is_its_turns.ensures.journals trade;
+      interrupted = c.a_round_is_its_turns.ensures.interrupted trade;
+    })
+    (record {
       commands = c.a_network_stays_sound.ensures.commands trade is;
       ends = c.a_network_stays_sound.ensures.ends trade is;
     })

@@ -9,18 +9,18 @@ use Rattle.pec_runs.proofs.settings.one_input_has_one_transcript.Goals as goal
 pub returns : goal.returns
 returns g c = record {
   alike = λ asked others status other unread before after other_unread other_before other_after depot left found last old
-      between behind new told ran again form script begun begun_again same opening none none_again.
+      between behind new told ran again form script begun begun_again same opening none none_again kept kept_again.
       let worlds = same_world c.providers_have_one_world.ensures ran.happened.setting again.happened.setting
       (is_setting asked status unread before after _ _ _ old between ran form script begun)
       (is_setting others other other_unread other_before other_after _ _ _ behind new again form script begun_again) same
       in wrote_alike asked others ran.happened again.happened form script begun begun_again same worlds opening status other
       before after other_before other_after
       (c.a_run_without_faults_has_one_transcript.ensures.one asked status unread before after depot left old between told
-      ran none)
+      ran none kept)
       (c.a_run_without_faults_has_one_transcript.ensures.one others other other_unread other_before other_after found last
-      behind new told again none_again);
+      behind new told again none_again kept_again);
   made = λ asked status other text before after other_before other_after depot left found last old between behind new told
-      ran again script begun begun_again all all_again none none_again.
+      ran again script begun begun_again all all_again none none_again kept kept_again.
       let is = is_setting asked status (Some text) before after _ _ _ old between ran Run script begun
       in let is_again = is_setting asked other (Some text) other_before other_after _ _ _ behind new again Run script begun_again
       in let first = has_begun asked status (Some text) before after _ _ _ old between ran Run script begun
@@ -33,7 +33,7 @@ returns g c = record {
       (same_made (world ran.happened) (world again.happened) worlds _ _ ran.happened.opening again.happened.opening
       first.opening second.opening all all_again) status other before after other_before other_after
       (c.a_run_without_faults_has_one_transcript.ensures.one asked status (Some text) before after depot left old between
-      told ran none)
+      told ran none kept)
       (c.a_run_without_faults_has_one_transcript.ensures.one asked other (Some text) other_before other_after found last
-      behind new told again none_again);
+      behind new told again none_again kept_again);
 }
