@@ -1,4 +1,5 @@
 pub mod EntryLemmas
 pub mod MakingLemmas
+pub mod NoFields
 pub mod ReadingLemmas
 pub mod StepLemmas

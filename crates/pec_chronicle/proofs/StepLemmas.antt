@@ -47,6 +47,16 @@ journal_after entries entry bytes written can file = record {
   written = All-push CanBeWritten entries entry written can;
 }
 
+-- what a disk keeps it keeps where nothing is written
+pub keeps_still : (old new : Sight) → new.seen ≡ old.seen → ((image : Bytes) → new.may_leave image → old.may_leave image)
+    → (texts : List Bytes) (place : ℕ) → Keeps old texts place
+    → Keeps new texts place
+keeps_still old new seen crash texts place keeps = record {
+  file = subst (λ (bytes : Bytes). IsFile texts bytes) (sym seen) keeps.file;
+  durable = λ image now. keeps.durable image (crash image now) ∙ sym seen;
+  ends = keeps.ends;
+}
+
 -- ---- calls
 
 module _ {D : Type 0} (sight : D → Sight) where
@@ -118,12 +128,28 @@ module _ {D : Type 0} (sight : D → Sight) where
 
   -- nothing has changed but the room
   pub carries_still : (May : Following) (old : ChronicleState D) (entries : List Entry) (interrupted : Option Entry) (down : Bool) (disk : D)
-      (place spare places : ℕ) → entries ≡ old.entries → interrupted ≡ old.interrupted → down ≡ old.down → disk ≡ old.disk → place ≡ old.end
+      (place spare : ℕ) → entries ≡ old.entries → interrupted ≡ old.interrupted → down ≡ old.down → disk ≡ old.disk → place ≡ old.end
       → ((image : Bytes) → (sight old.disk).left_since (sight old.disk).moment image → (sight old.disk).may_leave image)
       → CarriesOn sight May old
-      (record { entries = entries; interrupted = interrupted; down = down; disk = disk; end = place; spare = spare; places = places })
-  carries_still May old entries interrupted down disk place spare places e1 e2 e3 e4 e5 only =
-      rw (e1, e2, e3, e4, e5) (carries_same sight May old spare places only)
+      (record { entries = entries; interrupted = interrupted; down = down; disk = disk; end = place; spare = spare })
+  carries_still May old entries interrupted down disk place spare e1 e2 e3 e4 e5 only =
+      rw (e1, e2, e3, e4, e5) (carries_same sight May old spare only)
+
+  -- calls that write nothing, behind which it is no more up than before
+  pub carries_rested : (May : Following) (old : ChronicleState D) (entries : List Entry) (interrupted : Option Entry) (down : Bool) (disk : D)
+      (place spare : ℕ) → entries ≡ old.entries → interrupted ≡ old.interrupted → place ≡ old.end → (down ≡ false → old.down ≡ false)
+      → Stays (sight old.disk) (sight disk)
+      → CarriesOn sight May old
+      (record { entries = entries; interrupted = interrupted; down = down; disk = disk; end = place; spare = spare })
+  carries_rested May old entries interrupted down disk place spare e1 e2 e3 was stays = rw (e1, e2, e3) (record {
+    list = λ stands choice. goes_nowhere May old.entries old.interrupted choice;
+    stands = λ stands. record {
+      up = λ up. keeps_still (sight old.disk) (sight disk) stays.seen stays.crash (map entry_text old.entries) old.end (stands.up (was up));
+      images = λ image now. stands.images image (stays.crash image now);
+    };
+    images = λ stands. weaker (sight old.disk) (sight disk) (sight old.disk).may_leave (IsImage May old.entries old.interrupted) stays.moments
+        (λ image now. image_of May old.entries old.interrupted image (stands.images image now));
+  })
 
   -- calls that write nothing, behind which it is down
   pub carries_down : (May : Following) (old : ChronicleState D) (disk : D) → Stays (sight old.disk) (sight disk)
@@ -155,22 +181,16 @@ module _ {D : Type 0} (sight : D → Sight) where
       was image now = subst (λ (bytes : Bytes). (sight old.disk).may_leave bytes) (sym (durable image now)) left
 
   -- a restart, which finds the interrupted entry or doesn't
-  pub found_again : (old : ChronicleState D) (list : List Entry) → (sight old.disk).may_leave (sight old.disk).seen
-      → ((entries : List Entry) → IsJournalOf entries (sight old.disk).seen → list ≡ entries) → Stands sight old
-      → (choice : Bool) × (list ≡ old.entries ++ chosen choice old.interrupted)
-  found_again old list reads is stands =
-      let found = stands.images (sight old.disk).seen reads in (found.0, is (old.entries ++ chosen found.0 old.interrupted) found.1)
-
-  pub carries_restart : (May : Following) (old new : ChronicleState D) → new.interrupted ≡ None → Stays (sight old.disk) (sight new.disk)
-      → (sight old.disk).may_leave (sight old.disk).seen
-      → ((entries : List Entry) → IsJournalOf entries (sight old.disk).seen → new.entries ≡ entries) → Stands sight new
+  pub carries_found : (May : Following) (old new : ChronicleState D) → new.interrupted ≡ None → Stays (sight old.disk) (sight new.disk)
+      → (Stands sight old → (choice : Bool) × (new.entries ≡ old.entries ++ chosen choice old.interrupted))
+      → (Stands sight old → Stands sight new)
       → CarriesOn sight May old new
-  carries_restart May old new none stays reads is again = record {
+  carries_found May old new none stays found again = record {
     list = λ stands choice.
-        let found = found_again old new.entries reads is stands in
+        let there = found stands in
         subst (λ (l : List Entry). GoesOn May old.entries old.interrupted l)
-        (sym (none_chosen new.entries choice new.interrupted none ∙ found.1)) (goes_nowhere May old.entries old.interrupted found.0);
-    stands = λ stands. again;
+        (sym (none_chosen new.entries choice new.interrupted none ∙ there.1)) (goes_nowhere May old.entries old.interrupted there.0);
+    stands = again;
     images = λ stands. weaker (sight old.disk) (sight new.disk) (sight old.disk).may_leave (IsImage May old.entries old.interrupted) stays.moments
         (λ image now. image_of May old.entries old.interrupted image (stands.images image now));
   }

@@ -81,10 +81,10 @@ image_of May old interrupted bytes is = (old ++ chosen is.0 interrupted, goes_no
 
 module _ {D : Type 0} (sight : D → Sight) where
   -- nothing has changed but the room
-  pub carries_same : (May : Following) (old : ChronicleState D) (spare places : ℕ)
+  pub carries_same : (May : Following) (old : ChronicleState D) (spare : ℕ)
       → ((image : Bytes) → (sight old.disk).left_since (sight old.disk).moment image → (sight old.disk).may_leave image)
-      → CarriesOn sight May old (record old { spare = spare; places = places })
-  carries_same May old spare places only = record {
+      → CarriesOn sight May old (record old { spare = spare })
+  carries_same May old spare only = record {
     list = λ stands choice. goes_nowhere May old.entries old.interrupted choice;
     stands = λ stands. record { up = stands.up; images = stands.images };
     images = λ stands. started (sight old.disk) (IsImage May old.entries old.interrupted)

@@ -1,24 +1,22 @@
 -- A provider's entries over its disk as contracts see them. The headlines are `IsJournalOf`, which bytes are the
 -- journal of entries, and `Stands`: what is on the disk, now and after a crash. This project's profile.
-use Rattle.std.specs.Prelude.{◌≡◌, ℕ, ◌+◌, ◌<◌, ◌≤◌, Bool, false, true, List, ◌∷◌, ◌++◌, length, map, take, Option}
+use Rattle.std.specs.Prelude.{◌≡◌, ℕ, ◌+◌, ◌≤◌, Bool, false, true, List, ◌++◌, length, map, Option}
 use Rattle.std.specs.List.{All}
 use Rattle.pec_outside.specs.DiskModel.{Sight}
 use Rattle.pec_journal.specs.JournalFile.{IsFile, framing, header}
 use Rattle.pec_journal.specs.JournalState.{Keeps}
 use Rattle.pec_types.specs.Bytes.{Bytes}
-use Rattle.pec_types.specs.declared.places.Place.{Place}
 use Rattle.pec_records.specs.declared.entries.Entry.{Entry}
-use Rattle.pec_records.specs.Entry.{entry_text, longest_entry, CanBeWritten, IsEntry}
+use Rattle.pec_records.specs.Entry.{entry_text, longest_entry, CanBeWritten}
 use Rattle.pec_ledger.specs.Network.{chosen}
 
 pub record ChronicleState (D : Type 0) : Type 0 where
-  pub entries : List Entry  -- those whose append was answered, oldest first
+  pub entries : List Entry  -- those whose append was answered, oldest first: they are on the disk, and not in memory
   pub interrupted : Option Entry  -- the one whose append answered a fault of the disk: a crash leaves it, or doesn't
   pub down : Bool  -- nothing is appended any more
   pub disk : D
   pub end : ℕ  -- the place of the journal's closed gate, while it is up
   pub spare : ℕ  -- there is room to write an entry of so many bytes
-  pub places : ℕ  -- there is room for so many entries more
 
 -- The bytes are the journal file of these entries, each of which can be written.
 pub record IsJournalOf (entries : List Entry) (bytes : Bytes) : Type 0 where
@@ -40,16 +38,14 @@ pub record Stands {D : Type 0} (sight : D → Sight) (state : ChronicleState D) 
 pub record HasRoom {D : Type 0} (state : ChronicleState D) (entry : Entry) : Type 0 where
   pub short : length (entry_text entry) ≤ longest_entry
   pub spare : state.down ≡ false → length (entry_text entry) ≤ state.spare
-  pub place : 0 < state.places
 
 -- What is kept of entries besides their disk.
 pub record PastState : Type 0 where
   pub entries : List Entry
   pub interrupted : Option Entry
-  pub places : ℕ
 
 abbrev pub past_of : {D : Type 0} → ChronicleState D → PastState
-past_of state = record { entries = state.entries; interrupted = state.interrupted; places = state.places }
+past_of state = record { entries = state.entries; interrupted = state.interrupted }
 
 -- these entries over a disk, down
 abbrev pub down_over : {D : Type 0} → PastState → D → ChronicleState D
@@ -60,19 +56,4 @@ down_over past disk = record {
   disk = disk;
   end = 0;
   spare = 0;
-  places = past.places;
 }
-
--- Each of the entries has as many bytes as the place of its number says: there are as many places, or more.
-abbrev pub AreSized : List Entry → List Place → Type 0
-AreSized entries places =
-    map (λ (entry : Entry). length (entry_text entry)) entries ≡ map (λ (place : Place). place.length) (take (length entries) places)
-
--- So many entries of a journal file can be read, which are these, and the one behind them is none.
-pub record StopsAtBad (number : ℕ) (entries : List Entry) (texts : List Bytes) : Type 0 where
-  pub count : number ≡ length entries
-  pub bad : Bytes
-  pub more : List Bytes
-  pub is : texts ≡ map entry_text entries ++ bad ∷ more
-  pub written : All CanBeWritten entries
-  pub none : (entry : Entry) → IsEntry entry bad → ⊥

@@ -1,6 +1,8 @@
--- A chronicle as the program keeps it. This project's profile.
-use Rattle.std.specs.Prelude.{◌≡◌, ℕ, Bool, false, List, Option, None, IfSome}
+-- A chronicle, and a journal that is opened, as the program keeps them. This project's profile.
+use Rattle.std.specs.Prelude.{◌≡◌, ℕ, ◌≤◌, Bool, false, List, length, map, Option, None, IfSome}
 use Rattle.std.specs.List.{All}
+use Rattle.pec_journal.specs.JournalFile.{front}
+use Rattle.pec_records.specs.Entry.{entry_text}
 use Rattle.pec_records.specs.declared.entries.Entry.{Entry}
 use Rattle.pec_records.specs.Entry.{CanBeWritten}
 use Rattle.pec_chronicle.specs.declared.drives.Drive.{Drive}
@@ -34,3 +36,12 @@ pub record IsChronicle {D : Type 0} (drive : Drive D) (entries : List Entry) (in
   pub past : IsPast entries interrupted
   pub whole : down ≡ false → interrupted ≡ None
   pub ready : down ≡ false → IsReady drive
+
+-- What is true of every journal that is opened: as many entries were read as were counted, each can be written, they
+-- end at this place, and the journal takes more.
+pub record IsOpening (spent : Bool) (read : List Entry) (places : ℕ) (count behind : ℕ) : Type 0 where
+  pub ready : spent ≡ false
+  pub written : All CanBeWritten read
+  pub counted : count ≡ length read
+  pub within : count ≤ places
+  pub ends : behind ≡ length (front (map entry_text read))

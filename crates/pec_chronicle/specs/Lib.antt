@@ -4,3 +4,4 @@ pub mod Chronicle
 pub mod Encoding
 pub mod Faults
 pub mod Fields
+pub mod Opening

@@ -1,42 +1,42 @@
-ghost use Rattle.std.specs.Prelude.{◌≡◌, ◌≢◌, ◌+◌, ◌-◌, ◌<◌, ◌≤◌, ◌^◌, ◌↔◌, true, false, ◌∷◌, [], length, None, Some, IsErrOf, IfOk, OnOk, IfErr, vec_len, vec_capacity};
+ghost use Rattle.std.specs.Prelude.{◌≡◌, ◌≢◌, ℕ, ◌+◌, ◌<◌, ◌≤◌, ◌↔◌, true, false, List, ◌∷◌, [], length, map, slice_get, None, Some, IsErrOf, IfOk, OnOk, IfErr};
 ghost use Rattle.std.specs.Option.{option_map};
-ghost use Rattle.std.specs.Prelude.{slice_get};
 ghost use Rattle.pec_outside.specs.DiskModel.{GrowsTo, Rests};
 ghost use Rattle.pec_outside.specs.Flow.{HasRisen};
-ghost use Rattle.pec_journal.specs.JournalFile.{framing, header};
+ghost use Rattle.pec_journal.specs.JournalFile.{IsFile, StandsAt, framing, header, places_of};
 ghost use Rattle.pec_journal.specs.JournalState.{Keeps};
 ghost use Rattle.pec_journal.specs.declared.journal.TheConstants.{JOURNAL_LIMIT};
-ghost use Rattle.pec_records.specs.Entry.{IsWithinLimits, entry_text};
-ghost use Rattle.pec_ledger.specs.Ledger.{body_at};
+ghost use Rattle.pec_types.specs.Bytes.{Bytes};
+ghost use Rattle.pec_records.specs.Entry.{CanBeWritten, IsEntry, IsWithinLimits, entry_text};
+ghost use Rattle.pec_records.specs.declared.entries.Entry.{Entry as SomeEntry};
 ghost use Rattle.pec_chronicle.specs.Carrying.{CarriesOn, NothingMay, ThisMay, with_entry};
 ghost use Rattle.pec_chronicle.specs.Chronicle.{HasRoom, Stands, made_size, past_of};
-ghost use Rattle.pec_chronicle.specs.Fields.{disk_in, end_in, spare_in, IsChronicle};
+ghost use Rattle.pec_chronicle.specs.Fields.{disk_in, end_in, spare_in, IsChronicle, IsReady};
 ghost use Rattle.pec_chronicle.specs.declared.faults.AppendFault.TheVariants as append;
 ghost use Rattle.pec_chronicle.specs.declared.faults.CreateFault.TheVariants as create;
+ghost use Rattle.pec_chronicle.specs.declared.faults.ReadFault.TheVariants as reads;
 
 use crate::crashes::Past;
 use crate::drives::Drive;
 use crate::encoded::Encoded;
-use crate::faults::{AppendFault, CreateFault};
-use crate::places::place_behind;
-use pec_journal::Journal;
+use crate::faults::{AppendFault, CreateFault, ReadFault};
+use crate::history::History;
+use pec_journal::{FRAMING, Journal, entries_stand_at_their_places};
 use pec_outside::{Disk, a_disk_is_so};
-use pec_records::{Entry, an_entry_within_the_limits_is_short};
+use pec_records::{Entry, EntryFault, an_entry_within_the_limits_is_short, decode, one_entry};
 use pec_types::{NoMemory, Place, Text8};
 use std::alloc::Global;
 use std::marker::Model;
 
-/// One provider's entries over its disk. This project's profile.
+/// One provider's entries over its disk. They are on the disk, and not in memory. This project's profile.
 pub struct Chronicle<D> {
     drive: Drive<D>,
-    entries: Vec<Encoded>,
+    history: History,
     // The entry whose append answered a fault of the disk.
     interrupted: Option<Encoded>,
     down: bool,
 }
 
 impl<D> Model for Chronicle<D> {
-    ghost use Rattle.std.specs.Prelude.{◌-◌, vec_len, vec_capacity};
     ghost use Rattle.pec_chronicle.specs.Chronicle.{ChronicleState};
 
     ghost Value = { ChronicleState D };
@@ -44,16 +44,15 @@ impl<D> Model for Chronicle<D> {
     ghost use Rattle.pec_chronicle.specs.Fields.{disk_in, end_in, spare_in, IsChronicle};
 
     ghost view = { λ chronicle. record {
-      entries = chronicle.entries.items;
+      entries = chronicle.history.items;
       interrupted = chronicle.interrupted;
       down = chronicle.down;
       disk = disk_in chronicle.drive;
       end = end_in chronicle.drive;
       spare = spare_in chronicle.drive;
-      places = vec_capacity chronicle.entries - vec_len chronicle.entries;
     } };
 
-    ghost invariant = { λ kept. IsChronicle kept.drive kept.entries.items kept.interrupted kept.down };
+    ghost invariant = { λ kept. IsChronicle kept.drive kept.history.items kept.interrupted kept.down };
 }
 
 // Written out, so that to drop a chronicle is one call, and not the drops of all that it has wherever one is dropped.
@@ -61,7 +60,7 @@ impl<D: Drop> Drop for Chronicle<D> {
     fn drop(self) {
         let Chronicle {
             drive: _,
-            entries: _,
+            history: _,
             interrupted: _,
             down: _,
         } = self;
@@ -69,13 +68,6 @@ impl<D: Drop> Drop for Chronicle<D> {
 }
 
 impl<D> Chronicle<D> {
-    /// How many entries there are. It takes no memory.
-    pub fn entries(&self) -> u64
-        ensures { result ≡ length self.now.entries }
-    {
-        self.entries.len() as u64
-    }
-
     /// The place of the journal's closed gate, in bytes from 0, while it is up. It takes no memory.
     pub fn end(&self) -> u64
         ensures { result ≡ self.now.end }
@@ -91,44 +83,17 @@ impl<D> Chronicle<D> {
         self.down
     }
 
-    /// Where the bytes of an entry, for which room was reserved, stand once it is appended: exactly, where the journal
-    /// ends below 2 to the 64. It takes no memory.
+    /// Where an entry for which room was reserved would stand, if it were appended now and the journal has room for it.
+    /// It takes no memory.
     pub fn next_place(&self, entry: &Encoded) -> Place
         requires { HasRoom self.now entry.now }
-        ensures { self.now.end + framing < 2 ^ 64 → result ≡
-            record { at = self.now.end + framing; length = length (entry_text entry.now) } }
+        ensures { self.now.end + framing + length (entry_text entry.now) ≤ JOURNAL_LIMIT →
+            result ≡ record { at = self.now.end + framing; length = length (entry_text entry.now) } }
     {
-        place_behind(self.end(), entry.bytes().len() as u32)
-    }
-
-    /// The bytes of the entry of a number, from 0, if there is one. It takes no memory.
-    pub fn bytes(&self, number: u64) -> Option<&[u8]>
-        ensures { option_map (λ bytes. bytes.now) result ≡ option_map entry_text (slice_get self.now.entries number) }
-    {
-        let kept = self.kept(number)?;
-        Some(kept.bytes())
-    }
-
-    /// The message that the entry of a number holds, if it holds one. It takes no memory.
-    pub fn body(&self, number: u64) -> Option<&[u8]>
-        ensures { option_map (λ body. body.now) result ≡ body_at self.now.entries number }
-    {
-        let kept = self.kept(number)?;
-        kept.body()
-    }
-
-    /// All entries, oldest first, each as its bytes. It takes no memory.
-    pub fn all(&self) -> &[Encoded]
-        ensures { result.now ≡ self.now.entries }
-    {
-        self.entries.as_slice()
-    }
-
-    // Every look at an entry.
-    fn kept(&self, number: u64) -> Option<&Encoded>
-        ensures { option_map (λ kept. kept.now) result ≡ slice_get self.now.entries number }
-    {
-        self.entries.get(number as usize)
+        Place {
+            at: self.drive.end().saturating_add(FRAMING),
+            length: entry.bytes().len() as u32,
+        }
     }
 
     /// The disk, and the bytes of the entry whose append answered a fault of the disk. It takes no memory.
@@ -143,24 +108,23 @@ impl<D> Chronicle<D> {
     // The entries that are kept so.
     pub(crate) fn of(
         drive: Drive<D>,
-        entries: Vec<Encoded>,
+        history: History,
         interrupted: Option<Encoded>,
         down: bool,
     ) -> Chronicle<D>
-        requires { IsChronicle drive entries.items interrupted down }
+        requires { IsChronicle drive history.items interrupted down }
         ensures { result ≡ record {
-          entries = entries.items;
+          entries = history.items;
           interrupted = interrupted;
           down = down;
           disk = disk_in drive;
           end = end_in drive;
           spare = spare_in drive;
-          places = vec_capacity entries - vec_len entries;
         } }
     {
         Chronicle {
             drive,
-            entries,
+            history,
             interrupted,
             down,
         }
@@ -173,11 +137,11 @@ impl<D> Chronicle<D> {
     {
         let Chronicle {
             drive,
-            entries,
+            history,
             interrupted,
             down: _,
         } = self;
-        (drive.into_disk(), Past::new(entries, interrupted))
+        (drive.into_disk(), Past::new(history, interrupted))
     }
 }
 
@@ -241,7 +205,7 @@ impl<D: Disk> Chronicle<D> {
         ensures later { IfOk result (λ made. D.faults journal.disk ≤ D.faults made.disk) }
         ensures later_err { IfErr result (λ fault. D.faults journal.disk ≤ D.faults fault.1) }
     {
-        let mut chronicle = Chronicle::of(Drive::Open(journal), Vec::new(alloc), None, false);
+        let mut chronicle = Chronicle::of(Drive::Open(journal), History::new(), None, false);
         match chronicle.put_first(alloc, start) {
             Ok(()) => Ok(chronicle),
             Err(fault) => Err((fault, chronicle.into_parts().0)),
@@ -282,19 +246,18 @@ impl<D: Disk> Chronicle<D> {
         requires { IsWithinLimits entry.now }
         ensures encoded { IfOk result (λ encoded. encoded ≡ entry.now) }
         ensures room { OnOk result (HasRoom self.new entry.now) }
-        ensures same { self.new ≡ record self.old { spare = self.new.spare; places = self.new.places } }
+        ensures same { self.new ≡ record self.old { spare = self.new.spare } }
         ensures carries { D.tells → CarriesOn D.sight NothingMay self.old self.new }
     {
         an_entry_within_the_limits_is_short();
         a_disk_is_so::<D>();
         let encoded = Encoded::encode(alloc, entry)?;
         self.drive.reserve(alloc, encoded.bytes().len())?;
-        self.entries.reserve(1)?;
         Ok(encoded)
     }
 
-    /// Appends an entry for which room was reserved, by four calls of the disk. After Ok a crash leaves it. It answers
-    /// the place of the entry's bytes. It takes no memory.
+    /// Appends an entry for which room was reserved, by four calls of the disk, and tells where its bytes stand. After
+    /// Ok a crash leaves it. It takes no memory.
     pub fn append(&mut self, entry: Encoded) -> Result<Place, AppendFault>
         requires up { self.old.down ≡ false }
         requires room { HasRoom self.old entry }
@@ -310,32 +273,30 @@ impl<D: Disk> Chronicle<D> {
           disk = self.new.disk;
           end = self.old.end + framing + length (entry_text entry);
           spare = self.new.spare;
-          places = self.new.places;
         }) }
         ensures place { IfOk result (λ place.
             place ≡ record { at = self.old.end + framing; length = length (entry_text entry) }) }
 
-        // A full journal comes exactly there, and a fault of the disk only after one of it.
+        // The journal is full exactly there; a fault of the disk comes only after one of it.
         ensures full { IsErrOf result append.JournalFull ↔
             (JOURNAL_LIMIT < self.old.end + framing + length (entry_text entry)) }
         ensures disk_fault { IsErrOf result append.DiskFault →
             HasRisen (D.faults self.old.disk) (D.faults self.new.disk) }
         ensures later { D.faults self.old.disk ≤ D.faults self.new.disk }
 
-        // After a fault of the disk it is down, and keeps the entry aside. After any other it is as it was.
+        // After a fault of the disk it is down, and keeps the entry aside. Where it is full it is as it was.
         ensures broken { IsErrOf result append.DiskFault → self.new ≡ record self.old {
           interrupted = Some entry;
           down = true;
           disk = self.new.disk;
           spare = self.new.spare;
         } }
-        ensures refused { IfErr result (λ fault. fault ≢ append.DiskFault →
-            self.new ≡ record self.old { spare = self.new.spare }) }
+        ensures refused { IsErrOf result append.JournalFull → self.new ≡ record self.old { spare = self.new.spare } }
     {
         a_disk_is_so::<D>();
         match self.drive.append(entry.bytes()) {
             Ok(place) => {
-                self.entries.push_reserved(entry);
+                self.history = self.history.and(&entry);
                 Ok(place)
             }
             Err(AppendFault::DiskFault) => {
@@ -343,7 +304,82 @@ impl<D: Disk> Chronicle<D> {
                 self.interrupted = Some(entry);
                 Err(AppendFault::DiskFault)
             }
-            Err(fault) => Err(fault),
+            Err(AppendFault::JournalFull) => Err(AppendFault::JournalFull),
         }
+    }
+
+    /// The entry at a place that an append or an opening told, by one call of the disk. It takes memory for that entry
+    /// alone.
+    pub fn read(&mut self, alloc: Global, place: Place) -> Result<Entry, ReadFault>
+        requires up { self.old.down ≡ false }
+
+        // Over a disk that tells what it holds it is the entry that stands there, and isn't told as changed.
+        ensures entry { D.tells → Stands D.sight self.old → (number : ℕ) →
+            slice_get (places_of (map entry_text self.old.entries)) number ≡ Some place →
+            IfOk result (λ entry. slice_get self.old.entries number ≡ Some entry) }
+        ensures unchanged { D.tells → Stands D.sight self.old → (number : ℕ) →
+            slice_get (places_of (map entry_text self.old.entries)) number ≡ Some place →
+            IsErrOf result reads.Changed → ⊥ }
+        ensures written { IfOk result CanBeWritten }
+
+        // The entries stay what they were, now and after a crash. It is down behind a fault of the disk and where bytes
+        // changed, and else not.
+        ensures kept { self.new ≡ record self.old { down = self.new.down; disk = self.new.disk } }
+        ensures ok { OnOk result (self.new ≡ record self.old { disk = self.new.disk }) }
+        ensures refused { IsErrOf result reads.NoMemory → self.new ≡ record self.old { disk = self.new.disk } }
+        ensures broken { IfErr result (λ fault. fault ≢ reads.NoMemory →
+            self.new ≡ record self.old { down = true; disk = self.new.disk }) }
+        ensures carries { D.tells → CarriesOn D.sight NothingMay self.old self.new }
+        ensures disk_fault { IsErrOf result reads.DiskFault →
+            HasRisen (D.faults self.old.disk) (D.faults self.new.disk) }
+        ensures later { D.faults self.old.disk ≤ D.faults self.new.disk }
+    {
+        a_disk_is_so::<D>();
+        entries_stand_at_their_places();
+        one_entry();
+        match read_at(alloc, &mut self.drive, place) {
+            Ok(entry) => Ok(entry),
+            Err(ReadFault::NoMemory) => Err(ReadFault::NoMemory),
+            Err(fault) => {
+                self.down = true;
+                Err(fault)
+            }
+        }
+    }
+
+    /// Appends and reads nothing any more, as behind a fault of the disk: for who found another entry at a place than
+    /// stands there. It takes no memory.
+    pub fn give_up(&mut self)
+        ensures down { self.new ≡ record self.old { down = true } }
+        ensures carries { D.tells → CarriesOn D.sight NothingMay self.old self.new }
+    {
+        a_disk_is_so::<D>();
+        self.down = true;
+    }
+}
+
+// The entry at a place of the open journal.
+fn read_at<D: Disk>(alloc: Global, drive: &mut Drive<D>, place: Place) -> Result<Entry, ReadFault>
+    requires { IsReady drive.old }
+    ensures is { D.tells → (texts : List Bytes) (text : Bytes) → IsFile texts (D.sight (disk_in drive.old)).seen →
+        StandsAt place text texts →
+        IfOk result (λ entry. IsEntry entry text) }
+    ensures changed { D.tells → (texts : List Bytes) (text : Bytes) → IsFile texts (D.sight (disk_in drive.old)).seen →
+        StandsAt place text texts →
+        IsErrOf result reads.Changed → (entry : SomeEntry) → IsEntry entry text → ⊥ }
+    ensures written { IfOk result CanBeWritten }
+    ensures rests { D.tells → Rests (D.sight (disk_in drive.old)) (D.sight (disk_in drive.new)) }
+    ensures end { end_in drive.new ≡ end_in drive.old }
+    ensures spare { spare_in drive.new ≡ spare_in drive.old }
+    ensures ready { IsReady drive.new }
+    ensures disk_fault { IsErrOf result reads.DiskFault →
+        HasRisen (D.faults (disk_in drive.old)) (D.faults (disk_in drive.new)) }
+    ensures later { D.faults (disk_in drive.old) ≤ D.faults (disk_in drive.new) }
+{
+    let bytes = drive.read(alloc, place)?;
+    match decode(alloc, &bytes) {
+        Ok(entry) => Ok(entry),
+        Err(EntryFault::Syntax(_)) => Err(ReadFault::Changed),
+        Err(EntryFault::NoMemory) => Err(ReadFault::NoMemory),
     }
 }

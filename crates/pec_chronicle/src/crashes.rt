@@ -1,61 +1,53 @@
-ghost use Rattle.std.specs.Prelude.{◌≡◌, ◌≢◌, ℕ, ◌-◌, ◌<◌, ◌≤◌, Bool, false, ◌++◌, None, IfOk, IfErr, vec_len, vec_capacity};
+ghost use Rattle.std.specs.Prelude.{◌≡◌, ◌≢◌, ℕ, ◌<◌, ◌≤◌, [], IfOk, IfErr};
 ghost use Rattle.std.specs.Option.{option_map};
 ghost use Rattle.pec_outside.specs.Depots.{Alike, depot_places};
-ghost use Rattle.pec_outside.specs.DiskModel.{Only};
+ghost use Rattle.pec_outside.specs.DiskModel.{Only, Stays};
 ghost use Rattle.pec_outside.specs.Flow.{HasRisen};
 ghost use Rattle.pec_records.specs.Entry.{entry_text};
-ghost use Rattle.pec_ledger.specs.Network.{chosen};
 ghost use Rattle.pec_chronicle.specs.Carrying.{CarriesOn, NothingMay};
-ghost use Rattle.pec_chronicle.specs.Chronicle.{AreSized, Stands, down_over, past_of};
+ghost use Rattle.pec_chronicle.specs.Chronicle.{Stands, down_over, past_of};
 ghost use Rattle.pec_chronicle.specs.Fields.{IsPast};
+ghost use Rattle.pec_chronicle.specs.Opening.{Finds};
 ghost use Rattle.pec_chronicle.specs.declared.faults.OpenFault.TheVariants as faults;
 
 use crate::chronicle::Chronicle;
 use crate::drives::Drive;
 use crate::encoded::Encoded;
 use crate::faults::OpenFault;
-use crate::reopening::Unopened;
+use crate::history::History;
+use crate::openings::Opening;
 use pec_outside::{Depot, Disk, a_disk_is_so};
-use pec_records::Entry;
-use pec_types::{Place, Text8};
+use pec_types::Text8;
 use std::alloc::Global;
 use std::marker::Model;
 
 /// What is known of entries besides their disk, before a restart and after a crash. This project's profile.
 #[derive(Drop)]
 pub struct Past {
-    entries: Vec<Encoded>,
+    history: History,
     interrupted: Option<Encoded>,
 }
 
 impl Model for Past {
-    ghost use Rattle.std.specs.Prelude.{◌-◌, vec_len, vec_capacity};
     ghost use Rattle.pec_chronicle.specs.Chronicle.{PastState};
 
     ghost Value = { PastState };
 
     ghost use Rattle.pec_chronicle.specs.Fields.{IsPast};
+    ghost use Rattle.pec_chronicle.specs.Opening.{Finds};
 
-    ghost view = { λ past. record {
-      entries = past.entries.items;
-      interrupted = past.interrupted;
-      places = vec_capacity past.entries - vec_len past.entries;
-    } };
+    ghost view = { λ past. record { entries = past.history.items; interrupted = past.interrupted } };
 
-    ghost invariant = { λ past. IsPast past.entries.items past.interrupted };
+    ghost invariant = { λ past. IsPast past.history.items past.interrupted };
 }
 
 impl Past {
-    pub(crate) fn new(entries: Vec<Encoded>, interrupted: Option<Encoded>) -> Past
-        requires { IsPast entries.items interrupted }
-        ensures { result ≡ record {
-          entries = entries.items;
-          interrupted = interrupted;
-          places = vec_capacity entries - vec_len entries;
-        } }
+    pub(crate) fn new(history: History, interrupted: Option<Encoded>) -> Past
+        requires { IsPast history.items interrupted }
+        ensures { result ≡ record { entries = history.items; interrupted = interrupted } }
     {
         Past {
-            entries,
+            history,
             interrupted,
         }
     }
@@ -69,24 +61,14 @@ impl Past {
     }
 
     // These entries over a disk, down.
-    fn over<D>(self, disk: D) -> Chronicle<D>
+    pub(crate) fn over<D>(self, disk: D) -> Chronicle<D>
         ensures { result ≡ down_over self disk }
     {
         let Past {
-            entries,
+            history,
             interrupted,
         } = self;
-        Chronicle::of(Drive::Shut(disk), entries, interrupted, true)
-    }
-}
-
-impl<D> Chronicle<D> {
-    /// Goes back to what was known before a restart, and is down over the disk that it has. It takes no memory.
-    pub fn back_to(self, past: Past) -> Chronicle<D>
-        ensures { result ≡ down_over past self.disk }
-    {
-        let (disk, _) = self.part();
-        past.over(disk)
+        Chronicle::of(Drive::Shut(disk), history, interrupted, true)
     }
 }
 
@@ -109,26 +91,14 @@ impl<D: Disk> Chronicle<D> {
         past.over(depot.crash(provider, disk))
     }
 
-    /// Opens the entries on the disk again, after a crash or a fault: they are the entries before, with the interrupted
-    /// one or without it. They and the places of their bytes are answered once, too, for the caller to go through, and
-    /// beside them what was known before, by which it can go `back_to` there. With a fault the entries are what they
-    /// were, down.
-    pub fn restart(
-        self,
-        alloc: Global,
-    ) -> Result<(Chronicle<D>, Vec<Entry>, Vec<Place>, Past), (OpenFault, Chronicle<D>)>
-        ensures found { D.tells → Stands D.sight self → IfOk result (λ read.
-            (choice : Bool) × (read.0.entries ≡ self.entries ++ chosen choice self.interrupted)) }
-        ensures entries { IfOk result (λ read. (read.0.entries ≡ read.1.items) × (read.0.interrupted ≡ None)
-            × (read.0.down ≡ false)) }
-        ensures sized { IfOk result (λ read. AreSized read.1.items read.2.items) }
-        ensures past { IfOk result (λ read. read.3 ≡ past_of self) }
-        ensures carries { D.tells → IfOk result (λ read. CarriesOn D.sight NothingMay self read.0) }
-
-        // Going back carries on, too.
-        ensures back { D.tells →
-            IfOk result (λ read. CarriesOn D.sight NothingMay self (down_over (past_of self) read.0.disk)) }
-
+    /// Opens the journal on the disk again, after a crash or a fault: its entries are those before, with the
+    /// interrupted one or without it. They are still to be read, one by one (`next`). Beside them is what was known
+    /// before, by which it can go `back_to` there. With a fault the entries are what they were, down.
+    pub fn restart(self, alloc: Global) -> Result<(Opening<D>, Past), (OpenFault, Chronicle<D>)>
+        ensures fresh { IfOk result (λ read. read.0.read ≡ []) }
+        ensures found { D.tells → Stands D.sight self → IfOk result (λ read. Finds D.sight self read.0) }
+        ensures past { IfOk result (λ read. read.1 ≡ past_of self) }
+        ensures stays { D.tells → IfOk result (λ read. Stays (D.sight self.disk) (D.sight read.0.disk)) }
         ensures down { IfErr result (λ fault. fault.1 ≡ down_over (past_of self) fault.1.disk) }
         ensures carries_err { D.tells → IfErr result (λ fault. CarriesOn D.sight NothingMay self fault.1) }
 
@@ -142,16 +112,9 @@ impl<D: Disk> Chronicle<D> {
     {
         a_disk_is_so::<D>();
         let (disk, past) = self.part();
-        match Chronicle::reopen(alloc, disk) {
-            Ok((chronicle, entries, places)) => Ok((chronicle, entries, places, past)),
-            Err(
-                Unopened {
-                    fault,
-                    entries: _,
-                    places: _,
-                    disk,
-                },
-            ) => Err((fault, past.over(disk))),
+        match Chronicle::open(alloc, disk) {
+            Ok(opening) => Ok((opening, past)),
+            Err((fault, disk)) => Err((fault, past.over(disk))),
         }
     }
 }

@@ -1,14 +1,15 @@
 ghost use Rattle.std.specs.Prelude.{◌≡◌, ℕ, ◌+◌, ◌<◌, ◌≤◌, ◌↔◌, List, ◌∷◌, [], ◌++◌, length, IsErrOf, IfOk, OnOk};
-ghost use Rattle.pec_outside.specs.DiskModel.{GrowsTo, LeavesOnly};
+ghost use Rattle.pec_outside.specs.DiskModel.{GrowsTo, LeavesOnly, Rests};
 ghost use Rattle.pec_outside.specs.Flow.{HasRisen};
-ghost use Rattle.pec_journal.specs.JournalFile.{IsBeforeOrAfter, framing};
+ghost use Rattle.pec_journal.specs.JournalFile.{IsBeforeOrAfter, IsFile, StandsAt, framing};
 ghost use Rattle.pec_journal.specs.JournalState.{Keeps};
 ghost use Rattle.pec_journal.specs.declared.journal.TheConstants.{JOURNAL_LIMIT};
 ghost use Rattle.pec_records.specs.Entry.{longest_entry};
 ghost use Rattle.pec_chronicle.specs.Fields.{disk_in, end_in, spare_in, IsReady};
 ghost use Rattle.pec_chronicle.specs.declared.faults.AppendFault.TheVariants as append;
+ghost use Rattle.pec_chronicle.specs.declared.faults.ReadFault.TheVariants as reads;
 
-use crate::faults::AppendFault;
+use crate::faults::{AppendFault, ReadFault};
 use pec_journal::Journal;
 use pec_outside::Disk;
 use pec_types::{NoMemory, Place};
@@ -55,7 +56,7 @@ impl<D> Drive<D> {
 }
 
 impl<D: Disk> Drive<D> {
-    /// Appends the bytes of an entry to the open journal, and answers their place. It takes no memory.
+    /// Appends the bytes of an entry to the open journal, and tells their place. It takes no memory.
     pub(crate) fn append(&mut self, bytes: &[u8]) -> Result<Place, AppendFault>
         requires ready { IsReady self.old }
         requires short { length bytes.now ≤ longest_entry }
@@ -70,8 +71,7 @@ impl<D: Disk> Drive<D> {
         ensures ok { D.tells → (entries : List (List ℕ)) →
             Keeps (D.sight (disk_in self.old)) entries (end_in self.old) →
             OnOk result (Keeps (D.sight (disk_in self.new)) (entries ++ bytes.now ∷ []) (end_in self.new)) }
-        ensures place { IfOk result (λ place.
-            place ≡ record { at = end_in self.old + framing; length = length bytes.now }) }
+        ensures place { IfOk result (λ place. place ≡ record { at = end_in self.old + framing; length = length bytes.now }) }
         ensures after { OnOk result (end_in self.new ≡ end_in self.old + framing + length bytes.now) }
         ensures ready { OnOk result (IsReady self.new) }
 
@@ -94,5 +94,26 @@ impl<D: Disk> Drive<D> {
             Err(pec_journal::AppendFault::Spent) => unreachable!(),
             Err(pec_journal::AppendFault::TooLong) => unreachable!(),
         }
+    }
+    /// The bytes at a place of the open journal. It takes memory for these alone.
+    pub(crate) fn read(&mut self, alloc: Global, place: Place) -> Result<Vec<u8>, ReadFault>
+        requires { IsReady self.old }
+        ensures entry { D.tells → (entries : List (List ℕ)) (entry : List ℕ) →
+            IsFile entries (D.sight (disk_in self.old)).seen → StandsAt place entry entries →
+            IfOk result (λ bytes. bytes.items ≡ entry) }
+        ensures rests { D.tells → Rests (D.sight (disk_in self.old)) (D.sight (disk_in self.new)) }
+        ensures end { end_in self.new ≡ end_in self.old }
+        ensures spare { spare_in self.new ≡ spare_in self.old }
+        ensures ready { IsReady self.new }
+        ensures unchanged { IsErrOf result reads.Changed → ⊥ }
+        ensures disk_fault { IsErrOf result reads.DiskFault →
+            HasRisen (D.faults (disk_in self.old)) (D.faults (disk_in self.new)) }
+        ensures later { D.faults (disk_in self.old) ≤ D.faults (disk_in self.new) }
+    {
+        let Drive::Open(journal) = self else {
+            unreachable!();
+        };
+        let bytes = journal.read(alloc, place)?;
+        Ok(bytes)
     }
 }

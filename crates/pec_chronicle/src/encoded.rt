@@ -1,22 +1,17 @@
-ghost use Rattle.std.specs.Prelude.{◌≡◌, ◌≢◌, ◌≤◌, length, IfOk, IfErr, IfSome};
-ghost use Rattle.std.specs.Option.{option_map};
+ghost use Rattle.std.specs.Prelude.{◌≡◌, ◌≢◌, IfOk, IfErr};
 ghost use Rattle.pec_records.specs.Entry.{CanBeWritten, HasCounts, IsEntry, entry_text};
 ghost use Rattle.pec_records.specs.declared.entries.Entry.{Entry};
 ghost use Rattle.pec_records.specs.declared.faults.EntryFault.TheVariants as faults;
-ghost use Rattle.pec_ledger.specs.Ledger.{body_of};
-ghost use Rattle.pec_chronicle.specs.Encoding.{body_place};
 
 use pec_records::{Entry, EntryFault, an_entry_is_told_exactly, decode, encode};
 use pec_types::{NoMemory, Text8};
 use std::alloc::Global;
 use std::marker::Model;
 
-/// An entry as the bytes that it is in a journal. Contracts see the entry.
+/// An entry as the bytes that it is in a journal, kept for its append. Contracts see the entry.
 #[derive(Drop)]
 pub struct Encoded {
     bytes: Vec<u8>,
-    // Where the entry's message begins, if it holds one.
-    body: Option<usize>,
 }
 
 impl Model for Encoded {
@@ -24,11 +19,12 @@ impl Model for Encoded {
 
     ghost Value = { Entry };
 
-    ghost use Rattle.pec_chronicle.specs.Encoding.{told_entry, IsEncoding};
+    ghost use Rattle.pec_records.specs.Entry.{IsEntry};
+    ghost use Rattle.pec_chronicle.specs.Encoding.{told_entry};
 
     ghost view = { λ encoded. told_entry encoded.bytes.items };
 
-    ghost invariant = { λ encoded. IsEncoding encoded.bytes.items encoded.body };
+    ghost invariant = { λ encoded. IsEntry (told_entry encoded.bytes.items) encoded.bytes.items };
 }
 
 impl Encoded {
@@ -58,8 +54,7 @@ impl Encoded {
         ensures { result ≡ entry.now }
     {
         an_entry_is_told_exactly();
-        let body = place_of_body(entry, bytes.len());
-        Encoded { bytes, body }
+        Encoded { bytes }
     }
 
     /// The bytes. It takes no memory.
@@ -75,47 +70,5 @@ impl Encoded {
         ensures { result ≡ entry_text self }
     {
         Text8::of(self.bytes)
-    }
-
-    /// The entry itself, read from the bytes.
-    pub fn entry(&self, alloc: Global) -> Result<Entry, NoMemory>
-        ensures { IfOk result (λ entry. entry ≡ self.now) }
-    {
-        match decode(alloc, &self.bytes) {
-            Ok(entry) => Ok(entry),
-            Err(EntryFault::NoMemory) => Err(NoMemory),
-            Err(EntryFault::Syntax(_)) => unreachable!(),
-        }
-    }
-
-    /// The message that the entry holds, if it holds one: that which was submitted, or the envelope or receipt that
-    /// came. It takes no memory.
-    pub fn body(&self) -> Option<&[u8]>
-        ensures { option_map (λ body. body.now) result ≡ body_of self.now }
-    {
-        let place = self.body?;
-        Some(&self.bytes[place..])
-    }
-}
-
-// Where the message of an entry of so many bytes begins.
-fn place_of_body(entry: &Entry, size: usize) -> Option<usize>
-    requires { IfSome (body_of entry.now) (λ body. length body ≤ size) }
-    ensures { result ≡ body_place entry.now size }
-{
-    let body = body(entry)?;
-    Some(size - body.len())
-}
-
-fn body(entry: &Entry) -> Option<&[u8]>
-    ensures { option_map (λ body. body.now) result ≡ body_of entry.now }
-{
-    match entry {
-        Entry::Accepted { message, .. } => Some(message.bytes()),
-        Entry::NotAccepted { message, .. } => Some(message.bytes()),
-        Entry::Took { message, .. } => Some(message.bytes()),
-        Entry::Learned { message, .. } => Some(message.bytes()),
-        Entry::Anomaly { message, .. } => Some(message.bytes()),
-        _ => None,
     }
 }

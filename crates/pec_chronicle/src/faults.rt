@@ -1,8 +1,7 @@
 ghost use Rattle.std.specs.Prelude.{◌≡◌};
-ghost use Rattle.pec_chronicle.specs.Faults.{opened_as, read_as};
+ghost use Rattle.pec_chronicle.specs.Faults.{kept_as, opened_as, read_as};
 ghost use Rattle.pec_chronicle.specs.declared.faults.OpenFault.TheVariants as opening;
 
-use pec_journal::ReadFault;
 use std::alloc::{AllocError, AllocFailed};
 
 /// Why no entries were made.
@@ -26,13 +25,24 @@ pub enum OpenFault {
     NoMemory,
 }
 
-/// Why an entry was not appended.
+/// Why an entry was not appended. The first that applies is answered.
 #[derive(Clone, Copy, Debug, PartialEq, Eq)]
 pub enum AppendFault {
     /// The journal would end behind 1,099,511,627,776 bytes.
     JournalFull,
     /// It is down from now on, and the entry may be there after a crash, or not.
     DiskFault,
+}
+
+/// Why an entry was not read.
+#[derive(Clone, Copy, Debug, PartialEq, Eq)]
+pub enum ReadFault {
+    /// Nothing is appended or read any more.
+    DiskFault,
+    /// The bytes at the place are no entry, which over a disk that tells what it holds never comes. Nothing is appended
+    /// or read any more.
+    Changed,
+    NoMemory,
 }
 
 impl From<pec_journal::OpenFault> for OpenFault {
@@ -47,13 +57,24 @@ impl From<pec_journal::OpenFault> for OpenFault {
     }
 }
 
-impl From<ReadFault> for OpenFault {
+impl From<pec_journal::ReadFault> for OpenFault {
     ghost from_gives = { λ was fault. fault ≡ read_as was };
 
-    fn from(fault: ReadFault) -> Self {
+    fn from(fault: pec_journal::ReadFault) -> Self {
         match fault {
-            ReadFault::DiskFault => OpenFault::DiskFault,
-            ReadFault::NoMemory => OpenFault::NoMemory,
+            pec_journal::ReadFault::DiskFault => OpenFault::DiskFault,
+            pec_journal::ReadFault::NoMemory => OpenFault::NoMemory,
+        }
+    }
+}
+
+impl From<pec_journal::ReadFault> for ReadFault {
+    ghost from_gives = { λ was fault. fault ≡ kept_as was };
+
+    fn from(fault: pec_journal::ReadFault) -> Self {
+        match fault {
+            pec_journal::ReadFault::DiskFault => ReadFault::DiskFault,
+            pec_journal::ReadFault::NoMemory => ReadFault::NoMemory,
         }
     }
 }

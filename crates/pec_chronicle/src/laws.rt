@@ -1,7 +1,9 @@
-ghost use Rattle.std.specs.Prelude.{◌≡◌, ℕ, ◌+◌, List, [], length, map};
+ghost use Rattle.std.specs.Prelude.{◌≡◌, ℕ, ◌+◌, List, [], ◌++◌, length, map};
+ghost use Rattle.std.specs.List.{All};
+ghost use Rattle.pec_types.specs.Bytes.{Bytes};
 ghost use Rattle.pec_journal.specs.JournalFile.{front};
 ghost use Rattle.pec_records.specs.declared.entries.Entry.{Entry};
-ghost use Rattle.pec_records.specs.Entry.{entry_text};
+ghost use Rattle.pec_records.specs.Entry.{CanBeWritten, entry_text};
 ghost use Rattle.pec_ledger.specs.Half.{start_of_entries};
 ghost use Rattle.pec_ledger.specs.Steps.{size_of};
 ghost use Rattle.pec_chronicle.specs.Carrying.{with_entry};
@@ -24,4 +26,13 @@ pub fn a_disk_holds_one_list()
 {
     one_entry();
     a_file_has_one_list();
+}
+
+/// Where the texts of entries begin with those of others, the entries begin with the others.
+pub fn texts_are_of_one_list()
+    ensures { (list read : List Entry) (more : List Bytes) → map entry_text list ≡ map entry_text read ++ more →
+        All CanBeWritten list → All CanBeWritten read →
+        (rest : List Entry) × (list ≡ read ++ rest) × (more ≡ map entry_text rest) }
+{
+    one_entry();
 }

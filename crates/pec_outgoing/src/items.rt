@@ -1,164 +1,174 @@
-ghost use Rattle.std.specs.Prelude.{◌≡◌, option_map, slice_get, IfOk};
+ghost use Rattle.std.specs.Prelude.{◌≡◌, ℕ, List, Some, option_map, slice_get, IfOk, IsErrOf, OnOk};
 ghost use Rattle.std.specs.Option.{option_and_then};
-ghost use Rattle.pec_ledger.specs.Items.{composed, item_text, original_at, receipt_of, refusal_by, taken_body, text_by};
-ghost use Rattle.pec_ledger.specs.Ledger.{body_at};
-ghost use Rattle.pec_ledger.specs.Lookups.{mailbox, taken_of};
-ghost use Rattle.pec_ledger.specs.Steps.{half};
+ghost use Rattle.pec_types.specs.Bytes.{Bytes};
+ghost use Rattle.pec_records.specs.declared.entries.Entry.{Entry as SomeEntry};
+ghost use Rattle.pec_ledger.specs.Items.{item_text, refusal_by};
+ghost use Rattle.pec_ledger.specs.Lookups.{mailbox};
+ghost use Rattle.pec_ledger.specs.OfDirectory.{facts_in};
 ghost use Rattle.pec_trade.specs.Houses.{world_at};
-ghost use Rattle.pec_shelf.specs.Rows.{item_shown};
-ghost use Rattle.pec_trade.specs.Texts.{anomaly_bytes};
 ghost use Rattle.pec_outgoing.specs.Desk.{IsHalfOf};
+ghost use Rattle.pec_outgoing.specs.Entries.{learned_in, took_in};
+ghost use Rattle.pec_outgoing.specs.ItemNeeds.{AnomalyWanted, IsShown, ReceiptWanted, ServesItem, needed_item};
+ghost use Rattle.pec_outgoing.specs.Needs.{receipt_on};
+ghost use Rattle.pec_outgoing.specs.Views.{own_shown, wanted_shown};
+ghost use Rattle.pec_outgoing.specs.declared.faults.ComposeFault.TheVariants as faults;
 
-use crate::bodies::body;
+use crate::asking::Own;
 use crate::desks::Desk;
+use crate::entries::{anomaly_in, learned_in, took_in};
+use crate::faults::ComposeFault;
 use crate::notices::refusal_text;
 use crate::originals::accepted_original;
 use crate::texts::{anomaly_text, receipt_text};
-use pec_chronicle::Encoded;
+use crate::wanting::{Wanted, wanted_at};
 use pec_receipts::Receipt;
 use pec_records::Entry;
 use pec_seal::Sealer;
-use pec_shelf::{Placed, Shelf};
+use pec_shelf::Shelf;
 use pec_trade::House;
 use pec_types::{Address, Kind, Moment, MsgId, NoMemory};
 use std::alloc::Global;
 
-/// The bytes of the item at a place of an account's mailbox, counted from 0 (RFC 6109, section 3, within this project's
-/// profile): an envelope as it was taken, a receipt of delivery or of an error as it came, and any other receipt, a
-/// notice and the envelope of an anomaly as this provider composes and seals it. An item of which the provider may
-/// compose nothing has no byte. `None` comes exactly where there is no such item, or the entries hold none of its
-/// message.
-#[tactic(auto, unfolding(pec_ledger::specs::Items::item_text))]
+/// The bytes of the item at a place of an account's mailbox, counted from 0, composed of an entry (RFC 6109, section 3,
+/// within this project's profile): an envelope as it was taken, a receipt of delivery or of an error as it came, and
+/// any other receipt, a notice and the envelope of an anomaly as this provider composes and seals it. An item of which
+/// the provider may compose nothing has no byte. `Changed` comes exactly where the entry isn't what the item is
+/// composed of, as where there is no such item (`needed_item`).
 pub fn item<S: Sealer>(
     alloc: Global,
     house: &House<'_, S>,
     shelf: &Shelf,
-    entries: &[Encoded],
     account: &Address,
     place: u32,
-) -> Result<Option<Vec<u8>>, NoMemory>
-    requires half { IsHalfOf (world_at house.now) entries.now shelf.now }
-    ensures { IfOk result (λ found. option_map (λ text. text.items) found
-        ≡ option_and_then (item_text (world_at house.now) shelf.now.me entries.now)
-        (slice_get (mailbox shelf.now.half account.now) place)) }
+    entry: &Entry,
+) -> Result<Vec<u8>, ComposeFault>
+    ensures serves { OnOk result
+        (ServesItem (world_at house.now) shelf.now.me shelf.now.half account.now place entry.now) }
+    ensures changed { IsErrOf result faults.Changed
+        → ServesItem (world_at house.now) shelf.now.me shelf.now.half account.now place entry.now → ⊥ }
+    // Of the entry that stands at the needed number of its journal, these are the item's bytes.
+    ensures text { IfOk result (λ text. (journal : List SomeEntry) (number : ℕ)
+        → IsHalfOf (world_at house.now) journal shelf.now
+        → needed_item shelf.now.half account.now place ≡ Some number → slice_get journal number ≡ Some entry.now
+        → option_and_then (item_text (world_at house.now) shelf.now.me journal)
+        (slice_get (mailbox shelf.now.half account.now) place) ≡ Some text.items) }
 {
     let desk = Desk {
         alloc,
         house,
         shelf,
-        entries,
-        seen_from: u64::MAX,
     };
-    let Some(row) = shelf.posted(account, place) else {
-        return Ok(None);
+    let Some(wanted) = wanted_at(shelf, account, place) else {
+        return Err(ComposeFault::Changed);
     };
-    let text = text_by(&desk, row.entry(), row.item())?;
+    let text = text_of(&desk, &wanted, entry)?;
     Ok(text)
 }
 
-/// The bytes of an item that came by the entry of a number.
-fn text_by<S: Sealer>(
+/// The bytes of an item, composed of an entry; `Changed` comes exactly where the entry isn't what it is composed of.
+fn text_of<S: Sealer>(
     desk: &Desk<'_, S>,
-    entry: u64,
-    item: &Placed,
-) -> Result<Option<Vec<u8>>, NoMemory>
-    ensures { IfOk result (λ found. option_map (λ text. text.items) found
-        ≡ text_by (world_at desk.now.house.now) desk.now.shelf.now.me desk.now.entries.now entry
-        (item_shown item.now)) }
+    wanted: &Wanted<'_>,
+    entry: &Entry,
+) -> Result<Vec<u8>, ComposeFault>
+    ensures shown { IfOk result (λ text. IsShown (world_at desk.now.house.now) desk.now.shelf.now.me
+        (wanted_shown wanted.now) entry.now text.items) }
+    ensures changed { IsErrOf result faults.Changed → (text : Bytes)
+        → IsShown (world_at desk.now.house.now) desk.now.shelf.now.me (wanted_shown wanted.now) entry.now text → ⊥ }
 {
-    match item {
-        Placed::Envelope(id) => taken_envelope(desk, *id),
-        Placed::Receipt {
+    match wanted {
+        Wanted::Envelope { id, .. } => envelope(desk, *id, entry),
+        Wanted::Outcome { id, recipient, .. } => outcome(desk, *id, recipient, entry),
+        Wanted::Refusal { id, .. } => refusal(desk, *id, entry),
+        Wanted::Receipt {
             kind,
             id,
             recipient,
             moment,
-        } => receipt_of(desk, entry, *kind, *id, recipient, *moment),
-        Placed::Anomaly(moment) => anomaly_of(desk, entry, *moment),
+            message,
+        } => receipt(desk, *kind, *id, recipient, *moment, message, entry),
+        Wanted::Anomaly { number, moment } => anomaly(desk, *number, *moment, entry),
     }
 }
 
 /// The envelope with which a message was taken.
-fn taken_envelope<S: Sealer>(desk: &Desk<'_, S>, id: MsgId) -> Result<Option<Vec<u8>>, NoMemory>
-    ensures { IfOk result (λ found. option_map (λ text. text.items) found
-        ≡ option_and_then (taken_body desk.now.entries.now)
-        (taken_of (half (world_at desk.now.house.now) desk.now.shelf.now.me desk.now.entries.now) id)) }
+fn envelope<S: Sealer>(
+    desk: &Desk<'_, S>,
+    id: MsgId,
+    entry: &Entry,
+) -> Result<Vec<u8>, ComposeFault>
+    ensures shown { IfOk result (λ text. took_in id entry.now ≡ Some text.items) }
+    ensures changed { IsErrOf result faults.Changed → (text : Bytes) → took_in id entry.now ≡ Some text → ⊥ }
 {
-    let Some(row) = desk.shelf.taken(id) else {
-        return Ok(None);
+    let Some(envelope) = took_in(id, entry) else {
+        return Err(ComposeFault::Changed);
     };
-    let text = held(desk, row.entry())?;
+    let text = Vec::from_slice(desk.alloc, envelope)?;
     Ok(text)
 }
 
-/// What the entry of a number holds.
-fn held<S: Sealer>(desk: &Desk<'_, S>, entry: u64) -> Result<Option<Vec<u8>>, NoMemory>
-    ensures { IfOk result (λ found. option_map (λ text. text.items) found ≡ body_at desk.now.entries.now entry) }
-{
-    let Some(bytes) = body(desk.entries, entry) else {
-        return Ok(None);
-    };
-    let copy = Vec::from_slice(desk.alloc, bytes)?;
-    Ok(Some(copy))
-}
-
-/// A receipt or a notice.
-fn receipt_of<S: Sealer>(
+/// The receipt of delivery or of an error from which an outcome was learned.
+fn outcome<S: Sealer>(
     desk: &Desk<'_, S>,
-    entry: u64,
-    kind: Kind,
     id: MsgId,
     recipient: &Option<Address>,
-    moment: Moment,
-) -> Result<Option<Vec<u8>>, NoMemory>
-    ensures { IfOk result (λ found. option_map (λ text. text.items) found
-        ≡ receipt_of (world_at desk.now.house.now) desk.now.shelf.now.me desk.now.entries.now entry kind id
-        recipient.now moment) }
+    entry: &Entry,
+) -> Result<Vec<u8>, ComposeFault>
+    ensures shown { IfOk result (λ text. learned_in id recipient.now entry.now ≡ Some text.items) }
+    ensures changed { IsErrOf result faults.Changed → (text : Bytes)
+        → learned_in id recipient.now entry.now ≡ Some text → ⊥ }
 {
-    match kind {
-        Kind::Delivery => held(desk, entry),
-        Kind::DeliveryError(_) => held(desk, entry),
-        Kind::NonAcceptance(_) => refusal_of(desk, entry, id),
-        Kind::Acceptance => composed(desk, kind, id, recipient, moment),
-        Kind::Charge => composed(desk, kind, id, recipient, moment),
-        Kind::Warning => composed(desk, kind, id, recipient, moment),
-        Kind::Notice => composed(desk, kind, id, recipient, moment),
-        Kind::LateNotice => composed(desk, kind, id, recipient, moment),
-        Kind::Ack => composed(desk, kind, id, recipient, moment),
-    }
+    let Some(receipt) = learned_in(id, recipient, entry) else {
+        return Err(ComposeFault::Changed);
+    };
+    let text = Vec::from_slice(desk.alloc, receipt)?;
+    Ok(text)
 }
 
 /// A receipt or a notice that this provider composes of a message that it accepted.
-fn composed<S: Sealer>(
+fn receipt<S: Sealer>(
     desk: &Desk<'_, S>,
     kind: Kind,
     id: MsgId,
     recipient: &Option<Address>,
     moment: Moment,
-) -> Result<Option<Vec<u8>>, NoMemory>
-    ensures { IfOk result (λ found. option_map (λ text. text.items) found ≡ option_map
-        (composed (world_at desk.now.house.now) kind id desk.now.shelf.now.me moment recipient.now)
-        (original_at (world_at desk.now.house.now) desk.now.shelf.now.me desk.now.entries.now id.number)) }
+    message: &Own<'_>,
+    entry: &Entry,
+) -> Result<Vec<u8>, ComposeFault>
+    ensures shown { IfOk result (λ text. IsShown (world_at desk.now.house.now) desk.now.shelf.now.me
+        (ReceiptWanted kind id recipient.now moment (own_shown message.now)) entry.now text.items) }
+    ensures changed { IsErrOf result faults.Changed → (text : Bytes)
+        → IsShown (world_at desk.now.house.now) desk.now.shelf.now.me (ReceiptWanted kind id recipient.now moment (own_shown message.now)) entry.now text → ⊥ }
 {
-    let Some(row) = desk.shelf.message(id.number) else {
-        return Ok(None);
-    };
-    let Some(facts) = row.facts() else {
-        return Ok(None);
-    };
-    let Some(original) = accepted_original(desk, id.number, row, facts) else {
-        return Ok(None);
-    };
+    let original = accepted_original(desk, message, entry)?;
+    let text = receipt_with(desk, kind, id, recipient, moment, message, original)?;
+    Ok(text)
+}
+
+/// The same, with the message's original.
+fn receipt_with<S: Sealer>(
+    desk: &Desk<'_, S>,
+    kind: Kind,
+    id: MsgId,
+    recipient: &Option<Address>,
+    moment: Moment,
+    message: &Own<'_>,
+    original: &[u8],
+) -> Result<Vec<u8>, NoMemory>
+    requires facts { facts_in original.now ≡ Some message.now.facts.now }
+    ensures { IfOk result (λ text. receipt_on (world_at desk.now.house.now) kind id desk.now.shelf.now.me moment
+        recipient.now original.now ≡ text.items) }
+{
     let receipt = Receipt {
         kind,
         id,
         by: desk.shelf.me(),
         moment,
-        facts: facts.copy(desk.alloc)?,
+        facts: message.facts.copy(desk.alloc)?,
         recipient: copied(desk.alloc, recipient)?,
     };
     let text = receipt_text(desk, &receipt, original)?;
-    Ok(Some(text))
+    Ok(text)
 }
 
 fn copied(alloc: Global, address: &Option<Address>) -> Result<Option<Address>, NoMemory>
@@ -171,20 +181,15 @@ fn copied(alloc: Global, address: &Option<Address>) -> Result<Option<Address>, N
     Ok(Some(copy))
 }
 
-/// The notice of the entry by which a message wasn't accepted.
-fn refusal_of<S: Sealer>(
-    desk: &Desk<'_, S>,
-    entry: u64,
-    id: MsgId,
-) -> Result<Option<Vec<u8>>, NoMemory>
-    ensures { IfOk result (λ found. option_map (λ text. text.items) found
-        ≡ option_and_then (refusal_by (world_at desk.now.house.now) id) (slice_get desk.now.entries.now entry)) }
+/// The notice that a message wasn't accepted.
+fn refusal<S: Sealer>(desk: &Desk<'_, S>, id: MsgId, entry: &Entry) -> Result<Vec<u8>, ComposeFault>
+    ensures shown { IfOk result (λ text. refusal_by (world_at desk.now.house.now) id entry.now ≡ Some text.items) }
+    ensures changed { IsErrOf result faults.Changed → (text : Bytes)
+        → refusal_by (world_at desk.now.house.now) id entry.now ≡ Some text → ⊥ }
 {
-    let Some(kept) = desk.entries.get(entry as usize) else {
-        return Ok(None);
+    let Some(text) = refusal_by(desk, id, entry)? else {
+        return Err(ComposeFault::Changed);
     };
-    let entry = kept.entry(desk.alloc)?;
-    let text = refusal_by(desk, id, &entry)?;
     Ok(text)
 }
 
@@ -228,20 +233,21 @@ fn refusal_by<S: Sealer>(
     }
 }
 
-/// The envelope of the message that an entry holds, which no provider could have sent.
-fn anomaly_of<S: Sealer>(
+/// The envelope of a message that no provider could have sent, which came by the entry of a number.
+fn anomaly<S: Sealer>(
     desk: &Desk<'_, S>,
-    entry: u64,
+    number: u64,
     moment: Moment,
-) -> Result<Option<Vec<u8>>, NoMemory>
-    ensures { IfOk result (λ found. option_map (λ text. text.items) found
-        ≡ option_map (anomaly_bytes desk.now.house.now.directory.now
-        (S.seals desk.now.house.now.sealer.now) desk.now.shelf.now.me entry moment)
-        (body_at desk.now.entries.now entry)) }
+    entry: &Entry,
+) -> Result<Vec<u8>, ComposeFault>
+    ensures shown { IfOk result (λ text. IsShown (world_at desk.now.house.now) desk.now.shelf.now.me
+        (AnomalyWanted number moment) entry.now text.items) }
+    ensures changed { IsErrOf result faults.Changed → (text : Bytes)
+        → IsShown (world_at desk.now.house.now) desk.now.shelf.now.me (AnomalyWanted number moment) entry.now text → ⊥ }
 {
-    let Some(message) = body(desk.entries, entry) else {
-        return Ok(None);
+    let Some(message) = anomaly_in(entry) else {
+        return Err(ComposeFault::Changed);
     };
-    let text = anomaly_text(desk, entry, moment, message)?;
-    Ok(Some(text))
+    let text = anomaly_text(desk, number, moment, message)?;
+    Ok(text)
 }

@@ -1,22 +1,26 @@
-ghost use Rattle.std.specs.Prelude.{◌≡◌, ◌<◌, [], ◌∷◌, Some, length, unwrap_or, IfOk};
-ghost use Rattle.pec_types.specs.declared.letters.Letter.TheVariants as letters;
+ghost use Rattle.std.specs.Prelude.{◌≡◌, ◌<◌, [], ◌∷◌, Some, length, unwrap_or, IfOk, IsErrOf};
+ghost use Rattle.pec_types.specs.Bytes.{Bytes};
 ghost use Rattle.pec_directory.specs.Directory.{providers_of};
 ghost use Rattle.pec_receipts.specs.Receipts.{receipts_at};
-ghost use Rattle.pec_ledger.specs.Lookups.{addresses_of, at_home, outcome_kind};
+ghost use Rattle.pec_ledger.specs.Lookups.{outcome_kind};
 ghost use Rattle.pec_ledger.specs.OfDirectory.{facts_in};
-ghost use Rattle.pec_plays.specs.Envelopes.{HaveEnvelopes};
-ghost use Rattle.pec_plays.specs.Frames.{composed_by, unless_empty, unless_nobody};
+ghost use Rattle.pec_plays.specs.Frames.{unless_empty};
 ghost use Rattle.pec_trade.specs.Houses.{world_at};
-ghost use Rattle.pec_trade.specs.Texts.{envelope_bytes};
+ghost use Rattle.pec_outgoing.specs.Needs.{AckAsked, ChargeAsked, ComposedOf, EnvelopeAsked, Holds, OutcomeAsked, composed_from};
+ghost use Rattle.pec_outgoing.specs.Views.{asked_shown, own_shown};
+ghost use Rattle.pec_outgoing.specs.declared.faults.ComposeFault.TheVariants as faults;
 
+use crate::asking::{Asked, Own};
 use crate::desks::Desk;
-use crate::originals::{accepted_original, taken_original};
+use crate::faults::ComposeFault;
+use crate::originals::{Original, accepted_original, taken_original};
 use crate::paths::{addresses_at, path_to, receipts_at};
 use crate::texts::{envelope_text, receipt_text};
-use pec_letters::Enclosure;
 use pec_receipts::Receipt;
+use pec_records::Entry;
 use pec_seal::Sealer;
-use pec_types::{Address, Decision, Facts, Kind, Letter, Moment, MsgId, NoMemory};
+use pec_shelf::{FateRow, KnownRow, TakenRow};
+use pec_types::{Address, Decision, Kind, MsgId, NoMemory};
 use std::marker::Model;
 
 /// The path and the text of a letter. Contracts see both.
@@ -48,59 +52,67 @@ impl Outgoing {
     }
 }
 
-/// The path and the text of a letter, where the provider has what it is composed of.
+/// The path and the text of a letter, composed of an entry; `Changed` comes exactly where the entry doesn't hold the
+/// original of which the letter is composed.
 pub(crate) fn composed<S: Sealer>(
     desk: &Desk<'_, S>,
-    letter: &Letter,
-) -> Result<Option<Outgoing>, NoMemory>
-    requires envelopes { HaveEnvelopes (world_at desk.now.house.now) desk.now.seen_from desk.now.entries.now }
-    ensures { IfOk result (λ found. found ≡ composed_by (world_at desk.now.house.now)
-        desk.now.shelf.now.me desk.now.entries.now desk.now.shelf.now.half letter.now) }
+    asked: &Asked<'_>,
+    entry: &Entry,
+) -> Result<Option<Outgoing>, ComposeFault>
+    ensures composed { IfOk result (λ found. ComposedOf (world_at desk.now.house.now) desk.now.shelf.now.me
+        (asked_shown asked.now) entry.now found) }
+    ensures changed { IsErrOf result faults.Changed → (original : Bytes)
+        → Holds (world_at desk.now.house.now) (asked_shown asked.now) entry.now original → ⊥ }
 {
-    match letter {
-        Letter::Envelope { id, to } => envelope(desk, *id, *to),
-        Letter::Charge { id, by } => charge(desk, *id, *by),
-        Letter::Outcome { id, recipient } => outcome(desk, *id, recipient),
-        Letter::Ack { id, recipient } => acknowledgement(desk, *id, recipient),
+    match asked {
+        Asked::Envelope { id, to, message } => envelope(desk, *id, *to, message, entry),
+        Asked::Charge { id, row } => charge(desk, *id, row, entry),
+        Asked::Outcome {
+            id,
+            recipient,
+            fate,
+            row,
+        } => outcome(desk, *id, recipient, fate, row, entry),
+        Asked::Ack {
+            id,
+            recipient,
+            known,
+            message,
+        } => acknowledgement(desk, *id, recipient, known, message, entry),
     }
 }
 
 /// The envelope of an own message, for its recipients at a provider.
-fn envelope<S: Sealer>(desk: &Desk<'_, S>, id: MsgId, to: u32) -> Result<Option<Outgoing>, NoMemory>
-    ensures { IfOk result (λ found. found ≡ composed_by (world_at desk.now.house.now)
-        desk.now.shelf.now.me desk.now.entries.now desk.now.shelf.now.half (letters.Envelope id to)) }
+fn envelope<S: Sealer>(
+    desk: &Desk<'_, S>,
+    id: MsgId,
+    to: u32,
+    message: &Own<'_>,
+    entry: &Entry,
+) -> Result<Option<Outgoing>, ComposeFault>
+    ensures composed { IfOk result (λ found. ComposedOf (world_at desk.now.house.now) desk.now.shelf.now.me
+        (EnvelopeAsked id to (own_shown message.now)) entry.now found) }
+    ensures changed { IsErrOf result faults.Changed → (original : Bytes)
+        → Holds (world_at desk.now.house.now) (EnvelopeAsked id to (own_shown message.now)) entry.now original → ⊥ }
 {
-    if id.provider != desk.shelf.me() {
-        return Ok(None);
-    }
-    let Some(row) = desk.shelf.message(id.number) else {
-        return Ok(None);
-    };
-    let Some(facts) = row.facts() else {
-        return Ok(None);
-    };
-    let Some(original) = accepted_original(desk, id.number, row, facts) else {
-        return Ok(None);
-    };
-    let letter = envelope_with(desk, id, to, row.moment(), facts, original)?;
+    let original = accepted_original(desk, message, entry)?;
+    let letter = envelope_with(desk, id, to, message, original)?;
     Ok(letter)
 }
 
-/// The envelope of a message with these facts, for its recipients at a provider.
+/// The same, with the message's original.
 fn envelope_with<S: Sealer>(
     desk: &Desk<'_, S>,
     id: MsgId,
     to: u32,
-    moment: Moment,
-    facts: &Facts,
+    message: &Own<'_>,
     original: &[u8],
 ) -> Result<Option<Outgoing>, NoMemory>
-    requires facts { facts_in original.now ≡ Some facts.now }
-    ensures { IfOk result (λ found. found ≡ unless_nobody
-        (at_home (world_at desk.now.house.now) to (addresses_of facts.now))
-        (envelope_bytes desk.now.house.now.directory.now
-        (S.seals desk.now.house.now.sealer.now) id moment original.now)) }
+    requires facts { facts_in original.now ≡ Some message.now.facts.now }
+    ensures { IfOk result (λ found. found ≡ composed_from (world_at desk.now.house.now) desk.now.shelf.now.me
+        (EnvelopeAsked id to (own_shown message.now)) original.now) }
 {
+    let facts = message.facts;
     let path = addresses_at(
         desk.alloc,
         desk.house.directory,
@@ -110,35 +122,48 @@ fn envelope_with<S: Sealer>(
     if path.is_empty() {
         return Ok(None);
     }
-    let text = envelope_text(desk, id, moment, facts, original)?;
+    let text = envelope_text(desk, id, message.row.moment(), facts, original)?;
     Ok(unless_empty(path, text))
 }
 
 /// The receipt of taking charge of a message that was taken here.
-fn charge<S: Sealer>(desk: &Desk<'_, S>, id: MsgId, by: u32) -> Result<Option<Outgoing>, NoMemory>
-    requires envelopes { HaveEnvelopes (world_at desk.now.house.now) desk.now.seen_from desk.now.entries.now }
-    ensures { IfOk result (λ found. found ≡ composed_by (world_at desk.now.house.now)
-        desk.now.shelf.now.me desk.now.entries.now desk.now.shelf.now.half (letters.Charge id by)) }
+fn charge<S: Sealer>(
+    desk: &Desk<'_, S>,
+    id: MsgId,
+    row: &TakenRow,
+    entry: &Entry,
+) -> Result<Option<Outgoing>, ComposeFault>
+    ensures composed { IfOk result (λ found. ComposedOf (world_at desk.now.house.now) desk.now.shelf.now.me
+        (ChargeAsked id row.now) entry.now found) }
+    ensures changed { IsErrOf result faults.Changed → (original : Bytes)
+        → Holds (world_at desk.now.house.now) (ChargeAsked id row.now) entry.now original → ⊥ }
 {
-    if by != desk.shelf.me() {
-        return Ok(None);
-    }
-    let Some(row) = desk.shelf.taken(id) else {
-        return Ok(None);
-    };
-    let Some(found) = taken_original(desk, id, row)? else {
-        return Ok(None);
-    };
-    let Enclosure { facts, original } = found;
+    let found = taken_original(desk, id, entry)?;
+    let letter = charge_with(desk, id, row, found)?;
+    Ok(letter)
+}
+
+/// The same, with the message's original.
+fn charge_with<S: Sealer>(
+    desk: &Desk<'_, S>,
+    id: MsgId,
+    row: &TakenRow,
+    original: Original<'_>,
+) -> Result<Option<Outgoing>, NoMemory>
+    requires facts { facts_in original.bytes.now ≡ Some original.facts }
+    ensures { IfOk result (λ found. found ≡ composed_from (world_at desk.now.house.now) desk.now.shelf.now.me
+        (ChargeAsked id row.now) original.entry.bytes.now) }
+{
+    let Original { facts, bytes } = original;
     let receipt = Receipt {
         kind: Kind::Charge,
         id,
-        by,
+        by: desk.shelf.me(),
         moment: row.moment(),
         facts,
         recipient: None,
     };
-    let text = receipt_text(desk, &receipt, original)?;
+    let text = receipt_text(desk, &receipt, bytes)?;
     let letter = to_provider(desk, id.provider, text)?;
     Ok(letter)
 }
@@ -148,21 +173,34 @@ fn outcome<S: Sealer>(
     desk: &Desk<'_, S>,
     id: MsgId,
     recipient: &Address,
-) -> Result<Option<Outgoing>, NoMemory>
-    requires envelopes { HaveEnvelopes (world_at desk.now.house.now) desk.now.seen_from desk.now.entries.now }
-    ensures { IfOk result (λ found. found ≡ composed_by (world_at desk.now.house.now)
-        desk.now.shelf.now.me desk.now.entries.now desk.now.shelf.now.half (letters.Outcome id recipient.now)) }
+    fate: &FateRow,
+    row: &TakenRow,
+    entry: &Entry,
+) -> Result<Option<Outgoing>, ComposeFault>
+    ensures composed { IfOk result (λ found. ComposedOf (world_at desk.now.house.now) desk.now.shelf.now.me
+        (OutcomeAsked id recipient.now fate.now row.now) entry.now found) }
+    ensures changed { IsErrOf result faults.Changed → (original : Bytes)
+        → Holds (world_at desk.now.house.now) (OutcomeAsked id recipient.now fate.now row.now) entry.now original → ⊥ }
 {
-    let Some(fate) = desk.shelf.fate(id, recipient) else {
-        return Ok(None);
-    };
-    let Some(row) = desk.shelf.taken(id) else {
-        return Ok(None);
-    };
-    let Some(found) = taken_original(desk, id, row)? else {
-        return Ok(None);
-    };
-    let Enclosure { facts, original } = found;
+    let found = taken_original(desk, id, entry)?;
+    let letter = outcome_with(desk, id, recipient, fate, row, found)?;
+    Ok(letter)
+}
+
+/// The same, with the message's original.
+fn outcome_with<S: Sealer>(
+    desk: &Desk<'_, S>,
+    id: MsgId,
+    recipient: &Address,
+    fate: &FateRow,
+    row: &TakenRow,
+    original: Original<'_>,
+) -> Result<Option<Outgoing>, NoMemory>
+    requires facts { facts_in original.bytes.now ≡ Some original.facts }
+    ensures { IfOk result (λ found. found ≡ composed_from (world_at desk.now.house.now) desk.now.shelf.now.me
+        (OutcomeAsked id recipient.now fate.now row.now) original.entry.bytes.now) }
+{
+    let Original { facts, bytes } = original;
     let path = path_to(desk.alloc, &facts.sender)?;
     let receipt = Receipt {
         kind: outcome_kind(fate.decision()),
@@ -172,7 +210,7 @@ fn outcome<S: Sealer>(
         facts,
         recipient: Some(recipient.copy(desk.alloc)?),
     };
-    let text = receipt_text(desk, &receipt, original)?;
+    let text = receipt_text(desk, &receipt, bytes)?;
     Ok(unless_empty(path, text))
 }
 
@@ -181,25 +219,33 @@ fn acknowledgement<S: Sealer>(
     desk: &Desk<'_, S>,
     id: MsgId,
     recipient: &Address,
-) -> Result<Option<Outgoing>, NoMemory>
-    ensures { IfOk result (λ found. found ≡ composed_by (world_at desk.now.house.now)
-        desk.now.shelf.now.me desk.now.entries.now desk.now.shelf.now.half (letters.Ack id recipient.now)) }
+    known: &KnownRow,
+    message: &Own<'_>,
+    entry: &Entry,
+) -> Result<Option<Outgoing>, ComposeFault>
+    ensures composed { IfOk result (λ found. ComposedOf (world_at desk.now.house.now) desk.now.shelf.now.me
+        (AckAsked id recipient.now known.now (own_shown message.now)) entry.now found) }
+    ensures changed { IsErrOf result faults.Changed → (original : Bytes)
+        → Holds (world_at desk.now.house.now) (AckAsked id recipient.now known.now (own_shown message.now)) entry.now original → ⊥ }
 {
-    if id.provider != desk.shelf.me() {
-        return Ok(None);
-    }
-    let Some(known) = desk.shelf.known(id, recipient) else {
-        return Ok(None);
-    };
-    let Some(row) = desk.shelf.message(id.number) else {
-        return Ok(None);
-    };
-    let Some(facts) = row.facts() else {
-        return Ok(None);
-    };
-    let Some(original) = accepted_original(desk, id.number, row, facts) else {
-        return Ok(None);
-    };
+    let original = accepted_original(desk, message, entry)?;
+    let letter = acknowledgement_with(desk, id, recipient, known, message, original)?;
+    Ok(letter)
+}
+
+/// The same, with the message's original.
+fn acknowledgement_with<S: Sealer>(
+    desk: &Desk<'_, S>,
+    id: MsgId,
+    recipient: &Address,
+    known: &KnownRow,
+    message: &Own<'_>,
+    original: &[u8],
+) -> Result<Option<Outgoing>, NoMemory>
+    requires facts { facts_in original.now ≡ Some message.now.facts.now }
+    ensures { IfOk result (λ found. found ≡ composed_from (world_at desk.now.house.now) desk.now.shelf.now.me
+        (AckAsked id recipient.now known.now (own_shown message.now)) original.now) }
+{
     let Some(home) = desk.house.directory.home_of(recipient) else {
         return Ok(None);
     };
@@ -208,7 +254,7 @@ fn acknowledgement<S: Sealer>(
         id,
         by: desk.shelf.me(),
         moment: known.moment(),
-        facts: facts.copy(desk.alloc)?,
+        facts: message.facts.copy(desk.alloc)?,
         recipient: Some(recipient.copy(desk.alloc)?),
     };
     let text = receipt_text(desk, &receipt, original)?;

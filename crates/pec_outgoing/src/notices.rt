@@ -5,12 +5,12 @@ ghost use Rattle.pec_types.specs.Address.{IsLowerAddress};
 ghost use Rattle.pec_types.specs.declared.messages.Class.TheVariants as classes;
 ghost use Rattle.pec_heads.specs.FactsOfHeads.{recipients_of, text_of};
 ghost use Rattle.pec_heads.specs.FactsReading.{with_recipient};
-ghost use Rattle.pec_ledger.specs.OfDirectory.{fields_of};
 ghost use Rattle.pec_trade.specs.Refused.{refused_facts, text_in};
 ghost use Rattle.pec_trade.specs.Texts.{refusal_bytes};
 ghost use Rattle.pec_outgoing.specs.Known.{AreKnown};
 
 use crate::desks::Desk;
+use crate::facts::read_head;
 use crate::texts::given_text;
 use pec_heads::Head;
 use pec_index::Index;
@@ -83,16 +83,6 @@ fn text_of(alloc: Global, address: &Address) -> Result<Text, NoMemory>
     printable_is_said_of_each_byte();
     let text = Text::of_printable(alloc, address.bytes())?;
     Ok(text)
-}
-
-/// The head at the front of a message, where there is one.
-fn read_head(alloc: Global, message: &[u8]) -> Result<Option<Head>, NoMemory>
-    ensures { IfOk result (λ found. found ≡ fields_of message.now) }
-{
-    match Head::find(alloc, message)? {
-        Some((head, _)) => Ok(Some(head)),
-        None => Ok(None),
-    }
 }
 
 fn subject(alloc: Global, head: &Option<Head>) -> Result<Option<Text>, NoMemory>

@@ -1,5 +1,5 @@
 -- What the append of an entry leaves of a provider.
-use Rattle.std.proofs.Common.{[], ◌∷◌, ◌++◌, Some, None, ◌≡◌, ℕ, ◌+◌, ◌<◌, ◌≤◌, Bool, true, false, not, List, map, refl, ap, sym, subst, ◌∙◌, arith}
+use Rattle.std.proofs.Common.{Some, None, ◌≡◌, ℕ, ◌+◌, ◌<◌, ◌≤◌, Bool, true, false, not, List, map, refl, ap, sym, subst, ◌∙◌, arith}
 use Rattle.std.proofs.Common.{Global, Option, Ok, Err, Result, Vec}
 use Rattle.std.specs.Prelude.{IfErr, IfOk, IfSome, OnOk, nat_lt}
 use Rattle.pec_types.specs.declared.letters.Letter.{Letter}
@@ -13,14 +13,12 @@ use Rattle.pec_ledger.specs.OfDirectory.{IsOf}
 use Rattle.pec_ledger.specs.Steps.{half, marks_by, size_of}
 use Rattle.pec_ledger.specs.Trade.{Trade}
 use Rattle.pec_plays.specs.Commands.{told_mark}
-use Rattle.pec_plays.specs.Envelopes.{HasEnvelope, HaveEnvelopes}
 use Rattle.pec_plays.specs.Steps.{has_no_room, longest_journal}
 use Rattle.pec_chronicle.specs.Chronicle.{ChronicleState}
 use Rattle.pec_seal.specs.Seals.{Seals}
 use Rattle.pec_shelf.specs.Seen.{Seen}
 use Rattle.pec_stock.specs.Entering.{AreMarks, Entered, Failed, Same, Torn}
 use Rattle.pec_stock.specs.Stock.{Agree}
-use Rattle.pec_trade.specs.TradeOf.{trade_of}
 use Rattle.pec_provider.specs.Appending.{Appends, entered}
 use Rattle.pec_provider.specs.Provider.{Desk, ProviderState, Runs, desk_of}
 use Rattle.pec_provider.specs.Working.{broken}
@@ -55,10 +53,10 @@ same_desk journal journal2 owed down down2 interrupted interrupted2 a b c = rw (
 
 module _ {D : Type 0} (old new : ChronicleState D) (before after : Seen) (owed : List Letter) (places : ℕ) where
   abbrev pub desk_before : Desk
-  desk_before = desk_of (record { chronicle = old; shelf = before; owed = owed; places = places; seen_from = 0 })
+  desk_before = desk_of (record { chronicle = old; shelf = before; owed = owed; places = places })
 
   abbrev pub desk_after : Desk
-  desk_after = desk_of (record { chronicle = new; shelf = after; owed = owed; places = places; seen_from = 0 })
+  desk_after = desk_of (record { chronicle = new; shelf = after; owed = owed; places = places })
 
   pub same_desks : Same old new → desk_after ≡ desk_before
   same_desks same = same_desk old.entries new.entries owed old.down new.down old.interrupted new.interrupted
@@ -86,6 +84,7 @@ module _ {D : Type 0} (old new : ChronicleState D) (before after : Seen) (owed :
     appends_err X faults.NoAccount none = absurd none
     appends_err X faults.Full none = absurd none
     appends_err X faults.NoItem none = absurd none
+    appends_err X (faults.Changed which) none = absurd none
     appends_err X faults.JournalFull full = (
       room_is_not trade me old.entries entry old.end end full.full,
       same_desks
@@ -93,56 +92,14 @@ module _ {D : Type 0} (old new : ChronicleState D) (before after : Seen) (owed :
     )
     appends_err X faults.NoMemory same = same_desks same
 
--- ---- envelopes
-
--- one more entry may follow those that hold envelopes
-abbrev More : Type 0
-More = (trade : Trade) (from : ℕ) (journal : List Entry) (entry : Entry) → HaveEnvelopes trade from journal
-    → HasEnvelope trade entry → HaveEnvelopes trade from (journal ++ entry ∷ [])
-
-module _ {D : Type 0} (more : More) (trade : Trade) (from : ℕ) (old new : ChronicleState D) (entry : Entry)
-    (have : HaveEnvelopes trade from old.entries) where
-  same_envelopes : new.entries ≡ old.entries → HaveEnvelopes trade from new.entries
-  same_envelopes same = subst (HaveEnvelopes trade from) (sym same) have
-
-  failed_envelopes : (fault : ProviderFault) → Failed old new entry fault → HaveEnvelopes trade from new.entries
-  failed_envelopes faults.DiskFault torn = same_envelopes torn.entries
-  failed_envelopes faults.Down none = absurd none
-  failed_envelopes (faults.ClockBack moment) none = absurd none
-  failed_envelopes faults.NoAccount none = absurd none
-  failed_envelopes faults.Full none = absurd none
-  failed_envelopes faults.NoItem none = absurd none
-  failed_envelopes faults.JournalFull full = same_envelopes full.same.entries
-  failed_envelopes faults.NoMemory same = same_envelopes same.entries
-
-  envelopes_after : {X : Type 0} (r : Result X ProviderFault) → OnOk r (Entered old new entry) → IfErr r (Failed old new entry)
-      → HasEnvelope trade entry → HaveEnvelopes trade from new.entries
-  envelopes_after (Ok x) came failed has =
-      subst (HaveEnvelopes trade from) (sym came.entries) (more trade from old.entries entry have has)
-  envelopes_after (Err fault) came failed has = failed_envelopes fault failed
-
 -- a provider whose entries and half went on together runs as before
-pub runs_on : {D : Type 0} {seals : Seals} (more : More) (kept : List Kept) (me : ℕ) (inside old : ProviderState D)
-    → inside ≡ old
-    → (new : ChronicleState D) (after : Seen) (places : ℕ) (entry : Entry) {X : Type 0} (r : Result X ProviderFault)
-    → OnOk r (Entered inside.chronicle new entry) → IfErr r (Failed inside.chronicle new entry)
-    → after.me ≡ inside.shelf.me → Agree kept new after → HasEnvelope (trade_of kept seals) entry → Runs kept seals me old
-    → Runs kept seals me (record {
-      chronicle = new;
-      shelf = after;
-      owed = inside.owed;
-      places = places;
-      seen_from = inside.seen_from;
-    })
-runs_on {D} {seals} more kept me inside old view new after places entry r came failed same agree has runs =
+pub runs_on : {D : Type 0} {seals : Seals} (kept : List Kept) (me : ℕ) (inside old : ProviderState D) → inside ≡ old
+    → (new : ChronicleState D) (after : Seen) (places : ℕ) → after.me ≡ inside.shelf.me → Agree kept new after
+    → Runs kept seals me old
+    → Runs kept seals me (record { chronicle = new; shelf = after; owed = inside.owed; places = places })
+runs_on {D} {seals} kept me inside old view new after places same agree runs =
     let before : Runs kept seals me inside = subst (λ (p : ProviderState D). Runs kept seals me p) (sym view) runs in
-    record {
-      number = before.number;
-      is = same ∙ before.is;
-      agree = agree;
-      envelopes = envelopes_after more (trade_of kept seals) inside.seen_from inside.chronicle new entry before.envelopes r
-          came failed has;
-    }
+    record { number = before.number; is = same ∙ before.is; agree = agree }
 
 -- an entry, if there is one, is so
 pub any_has : {P : Entry → Type 0} (found : Option Entry) → ((entry : Entry) → found ≡ Some entry → P entry)
@@ -157,7 +114,7 @@ module _ {D : Type 0} {seals : Seals} (kept : List Kept) (me : ℕ) (inside old 
     (trade : Trade)
     (of : IsOf kept trade) where
   abbrev pub left : Desk
-  left = desk_of {D = D} (record { chronicle = new; shelf = after; owed = inside.owed; places = places; seen_from = 0 })
+  left = desk_of {D = D} (record { chronicle = new; shelf = after; owed = inside.owed; places = places })
 
   ends : inside.chronicle.end ≡ (half trade me inside.chronicle.entries).end
   ends = subst (λ (p : ProviderState D). p.chronicle.end ≡ (half trade me p.chronicle.entries).end) (sym view)

@@ -1,7 +1,10 @@
 mod AppendLemmas
+mod ComposeLemmas
 mod FollowLemmas
+mod KeptLemmas
 mod LookLemmas
 mod PlayLemmas
+mod ReadLemmas
 mod RunLemmas
 mod ShowLemmas
 mod StepLemmas

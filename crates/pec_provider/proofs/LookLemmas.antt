@@ -59,6 +59,7 @@ module _ (X : Type 0) (case : Case) (before after : List ℕ) where
   still trade me now desk faults.NoAccount works e = absurd works
   still trade me now desk faults.Full works e = absurd works
   still trade me now desk faults.NoItem works e = absurd works
+  still trade me now desk (faults.Changed which) works e = absurd works
 
   -- behind them: the entry wasn't appended
   pub behind : (trade : Trade) (me : ℕ) (entry : Entry) (old new : Desk) (fault : ProviderFault)
@@ -71,6 +72,7 @@ module _ (X : Type 0) (case : Case) (before after : List ℕ) where
   behind trade me entry old new faults.NoAccount appends looked = absurd appends
   behind trade me entry old new faults.Full appends looked = absurd appends
   behind trade me entry old new faults.NoItem appends looked = absurd appends
+  behind trade me entry old new (faults.Changed which) appends looked = absurd appends
 
 -- the entry of a submission is within the limits that its path and its message are in
 pub within_limits : (cause : Option Cause) (moment : ℕ) (sender : Bytes) (path : Path) (message : Bytes) → length path ≤ most_addresses

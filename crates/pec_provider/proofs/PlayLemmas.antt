@@ -156,6 +156,7 @@ module _ {X : Type 0} (tells : X → Answer) (play : Luck → List Site → Play
   plays_failed entry answer Y faults.NoAccount comes appends = absurd appends
   plays_failed entry answer Y faults.Full comes appends = absurd appends
   plays_failed entry answer Y faults.NoItem comes appends = absurd appends
+  plays_failed entry answer Y (faults.Changed which) comes appends = absurd appends
 
   pub plays_torn : (entry : Entry) (answer : Answer) (Y : Type 0) (fault : ProviderFault)
       (result : Result X ProviderFault)
@@ -182,6 +183,7 @@ module _ {X : Type 0} (tells : X → Answer) (play : Luck → List Site → Play
   plays_refused faults.NoAccount refused same = λ sites waiting is. (refused sites waiting is, rw same (sym is))
   plays_refused faults.Full refused same = λ sites waiting is. (refused sites waiting is, rw same (sym is))
   plays_refused faults.NoItem refused same = λ sites waiting is. (refused sites waiting is, rw same (sym is))
+  plays_refused (faults.Changed which) refused same = λ sites waiting is. (refused sites waiting is, rw same (sym is))
   plays_refused faults.JournalFull refused same = λ sites waiting is. (refused sites waiting is, rw same (sym is))
 
   -- so where the refusal is handed on
@@ -210,6 +212,8 @@ refused_as play other same me desk faults.Full refused = λ sites waiting is. sa
     ∙ refused sites waiting is
 refused_as play other same me desk faults.NoItem refused = λ sites waiting is. same (luck_of false) sites
     ∙ refused sites waiting is
+refused_as play other same me desk (faults.Changed which) refused = λ sites waiting is. same (luck_of false) sites
+    ∙ refused sites waiting is
 refused_as play other same me desk faults.JournalFull refused = λ sites waiting is. same (luck_of false) sites
     ∙ refused sites waiting is
 
@@ -228,6 +232,7 @@ module _ (X : Type 0) (trade : Trade) (me now : ℕ) (desk : Desk) where
   works_refused done faults.NoAccount none = absurd none
   works_refused done faults.Full none = absurd none
   works_refused done faults.NoItem none = absurd none
+  works_refused done (faults.Changed which) none = absurd none
   works_refused done faults.JournalFull none = absurd none
 
   -- ---- clock calls

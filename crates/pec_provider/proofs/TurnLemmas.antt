@@ -97,6 +97,7 @@ does_err trade me step old mid (Some entry) (faults.ClockBack moment) same full 
 does_err trade me step old mid (Some entry) faults.NoAccount same full appends = absurd appends
 does_err trade me step old mid (Some entry) faults.Full same full appends = absurd appends
 does_err trade me step old mid (Some entry) faults.NoItem same full appends = absurd appends
+does_err trade me step old mid (Some entry) (faults.Changed which) same full appends = absurd appends
 
 pub does_handed : (step : Step) (old new : Desk) (fault : ProviderFault) (result : Result Event ProviderFault)
     → IsErrAnd result (λ f. f ≡ fault) → Does step old new (Err fault) → Does step old new result
@@ -121,6 +122,7 @@ module _ (trade : Trade) (me now : ℕ) (old new : Desk) where
   works_step step (Err faults.NoAccount) works does = absurd does
   works_step step (Err faults.Full) works does = absurd does
   works_step step (Err faults.NoItem) works does = absurd does
+  works_step step (Err (faults.Changed which)) works does = absurd does
 
   pub works_first : (pairs : List Pair) (answer : Result (Option Event) ProviderFault) → IsAtWork trade me now old
       → DecidesFirst trade me now pairs old new answer
@@ -135,6 +137,7 @@ module _ (trade : Trade) (me now : ℕ) (old new : Desk) where
   works_first [] (Err faults.NoAccount) works does = absurd does
   works_first [] (Err faults.Full) works does = absurd does
   works_first [] (Err faults.NoItem) works does = absurd does
+  works_first [] (Err (faults.Changed which)) works does = absurd does
   works_first (pair ∷ pairs) (Ok answer) works does = (works, does)
   works_first (pair ∷ pairs) (Err faults.NoMemory) works does = (works, does)
   works_first (pair ∷ pairs) (Err faults.DiskFault) works does = (works, does)
@@ -144,6 +147,7 @@ module _ (trade : Trade) (me now : ℕ) (old new : Desk) where
   works_first (pair ∷ pairs) (Err faults.NoAccount) works does = absurd does
   works_first (pair ∷ pairs) (Err faults.Full) works does = absurd does
   works_first (pair ∷ pairs) (Err faults.NoItem) works does = absurd does
+  works_first (pair ∷ pairs) (Err (faults.Changed which)) works does = absurd does
 
   -- want of memory leaves the pairs as they are
   pub first_unread : (pairs : List Pair) (result : Result (Option Event) ProviderFault)
@@ -180,6 +184,7 @@ idles X Y trade me now Done old faults.NoMemory works = absurd works
 idles X Y trade me now Done old faults.NoAccount works = absurd works
 idles X Y trade me now Done old faults.Full works = absurd works
 idles X Y trade me now Done old faults.NoItem works = absurd works
+idles X Y trade me now Done old (faults.Changed which) works = absurd works
 idles X Y trade me now Done old faults.JournalFull works = absurd works
 
 pub idles_handed : (X Y : Type 0) (trade : Trade) (me now : ℕ) (Done : Result X ProviderFault → Type 0) (old : Desk)
@@ -257,6 +262,7 @@ appends_as X Y trade me entry old new (faults.ClockBack moment) appends = append
 appends_as X Y trade me entry old new faults.NoAccount appends = appends
 appends_as X Y trade me entry old new faults.Full appends = appends
 appends_as X Y trade me entry old new faults.NoItem appends = appends
+appends_as X Y trade me entry old new (faults.Changed which) appends = appends
 
 pub any_handed : (X Y : Type 0) (trade : Trade) (me : ℕ) (some : Option Entry) (entry : Entry) (old new : Desk)
     (fault : ProviderFault)

@@ -4,6 +4,7 @@ pub mod Following
 pub mod Looking
 pub mod Playing
 pub mod Provider
+pub mod Reading
 pub mod Summing
 pub mod Ticking
 pub mod Working

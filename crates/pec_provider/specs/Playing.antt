@@ -1,7 +1,7 @@
 -- What a provider's calls outside of turns answer, and what they leave: a submission and a clock call are played as the
 -- commands of pec_plays, whatever other providers there are (`Plays`); what an account asks for is shown, or why not
 -- (`IsUnasked`, `IsUnshown`). This project's profile.
-use Rattle.std.specs.Prelude.{◌≡◌, ℕ, Bool, true, false, List, slice_get, Option, None, Result, Ok, Err}
+use Rattle.std.specs.Prelude.{◌≡◌, ℕ, Bool, true, false, List, slice_get, IsSome, Option, None, Result, Ok, Err}
 use Rattle.std.specs.Option.{option_and_then}
 use Rattle.pec_types.specs.Bytes.{Bytes}
 use Rattle.pec_types.specs.declared.turns.ProviderFault.{ProviderFault}
@@ -20,7 +20,8 @@ use Rattle.pec_provider.specs.Provider.{Desk, site_of}
 
 -- the append of a command's entry fails, or doesn't
 abbrev pub luck_of : Bool → Luck
-luck_of fails = record { cuts = λ provider. Whole; fails = fails; found = false }
+luck_of fails =
+    record { cuts = λ provider. Whole; fails = fails; found = false; read = None; shown = None }
 
 -- A command was played on these sites, and answered so: the provider's site is then the new one. An append that fails
 -- is told by the answer; all other refusals, and want of memory, leave the site as it was.
@@ -56,7 +57,9 @@ abbrev pub item_at : Trade → ℕ → List Entry → Bytes → ℕ → Option B
 item_at trade me journal account place =
     option_and_then (item_text trade me journal) (slice_get (mailbox (half trade me journal) account) place)
 
--- Why no item is shown: for one of these causes, or there is none.
+-- Why no item is shown: for one of these causes, or there is none, or the read failed, or gave what was never kept so.
 abbrev pub IsUnshown : Bool → Bool → Option Bytes → ProviderFault → Type 0
 IsUnshown account up item faults.NoItem = (account ≡ true) × (up ≡ true) × (item ≡ None)
+IsUnshown account up item faults.DiskFault = (account ≡ true) × (up ≡ true) × IsSome item
+IsUnshown account up item (faults.Changed number) = (account ≡ true) × (up ≡ true) × IsSome item
 IsUnshown account up item fault = IsUnasked account up fault

@@ -6,13 +6,11 @@ use Rattle.pec_types.specs.declared.letters.Letter.{Letter}
 use Rattle.pec_directory.specs.Directory.{Kept}
 use Rattle.pec_records.specs.declared.entries.Entry.{Entry}
 use Rattle.pec_ledger.specs.Network.{Site}
-use Rattle.pec_plays.specs.Envelopes.{HaveEnvelopes}
 use Rattle.pec_seal.specs.Seals.{Seals}
 use Rattle.pec_shelf.specs.Seen.{Seen}
 use Rattle.pec_chronicle.specs.Chronicle.{ChronicleState}
 use Rattle.pec_seal.specs.declared.sealers.Sealer.{Ghosts}
 use Rattle.pec_stock.specs.Stock.{Agree}
-use Rattle.pec_trade.specs.TradeOf.{trade_of}
 use Rattle.pec_trade.specs.declared.houses.House.{House}
 
 -- Its entries over its disk, its half of the ledger, and the answers that it owes in this turn, in the order in which
@@ -22,16 +20,13 @@ pub record ProviderState (D : Type 0) : Type 0 where
   pub shelf : Seen
   pub owed : List Letter
   pub places : ℕ  -- there is memory for so many answers more
-  pub seen_from : ℕ  -- the first entry that was appended since it was opened
 
 -- It is the provider of this number of the directory: its half is what its entries come to, and these are its own, with
--- an interrupted one or without it. What it took since it was opened was seen as an envelope under these seals. Every call
--- keeps this, on every answer.
+-- an interrupted one or without it. Every call keeps this, on every answer.
 pub record Runs {D : Type 0} (kept : List Kept) (seals : Seals) (me : ℕ) (provider : ProviderState D) : Type 0 where
   pub number : me < length kept
   pub is : provider.shelf.me ≡ me
   pub agree : Agree kept provider.chronicle provider.shelf
-  pub envelopes : HaveEnvelopes (trade_of kept seals) provider.seen_from provider.chronicle.entries
 
 -- It is the provider of this house.
 abbrev pub RunsIn : {D S : Type 0} {who : Ghosts S} → House S who → ProviderState D → Type 0

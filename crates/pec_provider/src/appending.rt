@@ -8,7 +8,6 @@ ghost use Rattle.pec_ledger.specs.OfDirectory.{IsOf};
 ghost use Rattle.pec_ledger.specs.Steps.{half, marks_by};
 ghost use Rattle.pec_ledger.specs.Trade.{Trade};
 ghost use Rattle.pec_plays.specs.Commands.{told_mark};
-ghost use Rattle.pec_plays.specs.Envelopes.{HasEnvelope};
 ghost use Rattle.pec_seal.specs.Seals.{Seals};
 ghost use Rattle.pec_trade.specs.Houses.{world_at};
 ghost use Rattle.pec_chronicle.specs.Carrying.{CarriesOn};
@@ -19,7 +18,6 @@ ghost use Rattle.pec_provider.specs.Provider.{Runs, RunsIn, desk_of};
 
 use crate::provider::Provider;
 use pec_outside::Disk;
-use pec_plays::taken_messages_have_envelopes;
 use pec_seal::Sealer;
 use pec_shelf::Draft;
 use pec_stock::enter;
@@ -62,7 +60,6 @@ impl<D: Disk> Provider<D> {
         requires runs { RunsIn house.now self.old }
         requires limits { IsWithinLimits entry }
         requires step { MayEnter house.now.directory.now house.now.me self.old.chronicle.entries entry }
-        requires envelope { HasEnvelope (world_at house.now) entry }
         ensures appends { (trade : Trade) → IsOf house.now.directory.now trade
             → Appends trade house.now.me entry (desk_of self.old) (desk_of self.new) result }
         ensures marks { (trade : Trade) → IsOf house.now.directory.now trade → IfOk result (λ marks. marks.items
@@ -78,7 +75,6 @@ impl<D: Disk> Provider<D> {
             (D.faults self.new.chronicle.disk) }
         ensures later { D.faults self.old.chronicle.disk ≤ D.faults self.new.chronicle.disk }
     {
-        taken_messages_have_envelopes();
         enter(
             alloc,
             house.directory,

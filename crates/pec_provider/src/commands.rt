@@ -8,7 +8,6 @@ ghost use Rattle.pec_ledger.specs.Ledger.{Journals, Meets};
 ghost use Rattle.pec_ledger.specs.OfDirectory.{facts_in};
 ghost use Rattle.pec_ledger.specs.Steps.{half};
 ghost use Rattle.pec_plays.specs.Commands.{Marks, Submit, Submits, Tick, entry_by, played, screened_cause, told_by};
-ghost use Rattle.pec_plays.specs.Envelopes.{HasEnvelope};
 ghost use Rattle.pec_points.specs.Admission.{Looked};
 ghost use Rattle.pec_points.specs.Case.{case_at};
 ghost use Rattle.pec_points.specs.declared.admission.Admission.TheVariants as admissions;
@@ -25,7 +24,7 @@ ghost use Rattle.pec_provider.specs.Ticking.{Ticks};
 
 use crate::provider::Provider;
 use pec_outside::Disk;
-use pec_plays::{what_a_provider_does_may_follow, what_a_provider_takes_is_an_envelope};
+use pec_plays::what_a_provider_does_may_follow;
 use pec_points::{Admission, a_message_has_one_answer, admit};
 use pec_records::Entry;
 use pec_screen::Judge;
@@ -144,12 +143,9 @@ impl<D> Provider<D> {
         ensures follows { (journals : Journals) → IfOk result (λ made.
             Meets (world_at house.now) journals house.now.me (half (world_at house.now) house.now.me
             self.now.chronicle.entries) made.0) }
-        ensures envelope { IfOk result (λ made.
-            HasEnvelope (world_at house.now) made.0) }
     {
         a_house_is_a_trade(house);
         what_a_provider_does_may_follow();
-        what_a_provider_takes_is_an_envelope();
         if !house.directory.is_account_of(house.me, sender) {
             return Err(ProviderFault::NoAccount);
         }

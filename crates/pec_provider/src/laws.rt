@@ -1,10 +1,16 @@
 ghost use Rattle.std.specs.Prelude.{ℕ, List, Option};
+ghost use Rattle.pec_types.specs.Bytes.{Bytes};
+ghost use Rattle.pec_types.specs.declared.letters.Letter.{Letter};
 ghost use Rattle.pec_records.specs.declared.entries.Entry.{Entry};
-ghost use Rattle.pec_ledger.specs.Ledger.{Journals};
+ghost use Rattle.pec_ledger.specs.Ledger.{Fit, Journals};
 ghost use Rattle.pec_ledger.specs.Network.{GoesOn as GoesOnInLedger};
 ghost use Rattle.pec_ledger.specs.Trade.{Trade};
+ghost use Rattle.pec_ledger.specs.TradeLaws.{IsTrade};
 ghost use Rattle.pec_chronicle.specs.Carrying.{GoesOn};
 ghost use Rattle.pec_provider.specs.Following.{MayFollow};
+ghost use Rattle.pec_provider.specs.Reading.{ItemIsChanged, LetterIsChanged};
+
+use pec_ledger::{a_taken_message_has_its_envelope, rows_have_their_texts, texts_are_seen};
 
 /// A list of entries that goes on from a provider's, each by what may follow, goes on in the sense of the ledger.
 pub fn what_follows_goes_on()
@@ -13,3 +19,18 @@ pub fn what_follows_goes_on()
         → GoesOn (MayFollow trade journals me) old interrupted list
         → GoesOnInLedger trade journals me old interrupted list }
 {}
+
+/// The entry of which a letter is to be composed is what the letter is composed of, in the ledger of journals that are
+/// Fit, and in any journal so is that of an item. So over a disk that tells what it holds, and on which what is kept
+/// stands, `Changed` never comes.
+pub fn nothing_has_changed()
+    ensures letters { (trade : Trade) → IsTrade trade → (journals : Journals) → Fit trade journals
+        → (me to room : ℕ) (owed : List Letter) (number : ℕ)
+        → LetterIsChanged trade me (journals me) to room owed number → ⊥ }
+    ensures items { (trade : Trade) (me : ℕ) (journal : List Entry) (account : Bytes) (place number : ℕ)
+        → ItemIsChanged trade me journal account place number → ⊥ }
+{
+    rows_have_their_texts();
+    texts_are_seen();
+    a_taken_message_has_its_envelope();
+}

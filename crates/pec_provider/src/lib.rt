@@ -5,6 +5,7 @@
 
 mod appending;
 mod commands;
+mod composing;
 mod laws;
 mod opening;
 mod provider;
@@ -12,7 +13,7 @@ mod showing;
 mod summing;
 mod turns;
 
-pub use laws::what_follows_goes_on;
+pub use laws::{nothing_has_changed, what_follows_goes_on};
 pub use pec_chronicle::CreateFault;
 pub use pec_shelf::Summary;
 pub use pec_stock::ReopenFault;

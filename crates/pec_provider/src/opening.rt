@@ -21,7 +21,6 @@ ghost use Rattle.pec_provider.specs.Provider.{Runs, RunsIn, desk_of, fresh, stop
 use crate::provider::Provider;
 use pec_chronicle::{Chronicle, CreateFault};
 use pec_outside::{Depot, Disk};
-use pec_plays::taken_messages_have_envelopes;
 use pec_seal::Sealer;
 use pec_shelf::Shelf;
 use pec_stock::{ReopenFault, begin, open, restart};
@@ -114,12 +113,11 @@ impl<D: Disk> Provider<D> {
         ensures last { Alike (P.last depot.old) (P.last depot.new) }
         ensures later { P.faults depot.old ≤ P.faults depot.new }
     {
-        let (chronicle, shelf, owed, seen_from) = self.parts();
+        let (chronicle, shelf, owed) = self.parts();
         Provider {
             chronicle: chronicle.crash(depot, me),
             shelf,
             owed,
-            seen_from,
         }
     }
 
@@ -152,7 +150,7 @@ impl<D: Disk> Provider<D> {
         ensures later { IfOk result (λ provider. D.faults self.chronicle.disk ≤ D.faults provider.chronicle.disk) }
         ensures later_err { IfErr result (λ refused. D.faults self.chronicle.disk ≤ D.faults refused.1.chronicle.disk) }
     {
-        let (chronicle, shelf, owed, seen_from) = self.parts();
+        let (chronicle, shelf, owed) = self.parts();
         match restart(alloc, house.directory, chronicle, shelf) {
             Ok((chronicle, shelf)) => Ok(opened(alloc, house, chronicle, shelf)),
             Err((fault, chronicle, shelf)) => Err((
@@ -161,33 +159,28 @@ impl<D: Disk> Provider<D> {
                     chronicle,
                     shelf,
                     owed,
-                    seen_from,
                 },
             )),
         }
     }
 }
 
-/// A provider over entries that agree with its half, of which none was taken in since it is opened: up, and nothing is
-/// owed.
+/// A provider over entries that agree with its half: nothing is owed.
 fn opened<D, S: Sealer>(
     alloc: Global,
-    house: &House<'_, S>,
+    _house: &House<'_, S>,
     chronicle: Chronicle<D>,
     shelf: Shelf,
 ) -> Provider<D>
-    requires number { house.now.me < length house.now.directory.now }
-    requires is { shelf.me ≡ house.now.me }
-    requires agree { Agree house.now.directory.now chronicle shelf }
-    ensures runs { RunsIn house.now result }
+    requires number { _house.now.me < length _house.now.directory.now }
+    requires is { shelf.me ≡ _house.now.me }
+    requires agree { Agree _house.now.directory.now chronicle shelf }
+    ensures runs { RunsIn _house.now result }
     ensures made { (result.chronicle ≡ chronicle) × (result.owed ≡ []) }
 {
-    taken_messages_have_envelopes();
-    let seen_from = chronicle.entries();
     Provider {
         chronicle,
         shelf,
         owed: Vec::new(alloc),
-        seen_from,
     }
 }

@@ -20,8 +20,6 @@ pub struct Provider<D> {
     pub(crate) shelf: Shelf,
     /// The answers that it owes in this turn, in the order in which they arose.
     pub(crate) owed: Vec<Letter>,
-    /// The first entry that was appended since it was opened: what was taken from there on was seen as an envelope.
-    pub(crate) seen_from: u64,
 }
 
 impl<D> Model for Provider<D> {
@@ -36,7 +34,6 @@ impl<D> Model for Provider<D> {
       shelf = provider.shelf;
       owed = provider.owed.items;
       places = vec_capacity provider.owed - vec_len provider.owed;
-      seen_from = provider.seen_from;
     } };
 
     ghost invariant = { λ provider. provider.shelf.half.last < END_OF_TIME };
@@ -49,7 +46,6 @@ impl<D: Drop> Drop for Provider<D> {
             chronicle: _,
             shelf: _,
             owed: _,
-            seen_from: _,
         } = self;
     }
 }
@@ -58,9 +54,10 @@ impl<D: Drop> Drop for Provider<D> {
 impl<D> Provider<D> {
     /// How many entries its journal has.
     pub fn entries(&self) -> u64
-        ensures { result ≡ length self.now.chronicle.entries }
+        ensures { (kept : List Kept) (seals : Seals) (me : ℕ) (trade : Trade) → Runs kept seals me self.now → IsOf kept trade
+            → result ≡ length self.now.chronicle.entries }
     {
-        self.chronicle.entries()
+        self.shelf.entries()
     }
 
     /// The greatest moment of an entry.
@@ -109,21 +106,19 @@ impl<D> Provider<D> {
         ensures disk { result.0 ≡ self.chronicle.disk }
         ensures interrupted { result.1 ≡ option_map entry_text self.chronicle.interrupted }
     {
-        let (chronicle, _, _, _) = self.parts();
+        let (chronicle, _, _) = self.parts();
         chronicle.into_parts()
     }
 
     // All that it has.
-    pub(crate) fn parts(self) -> (Chronicle<D>, Shelf, Vec<Letter>, u64)
-        ensures { (result.0 ≡ self.chronicle) × (result.1 ≡ self.shelf) × (result.2.items ≡ self.owed)
-            × (result.3 ≡ self.seen_from) }
+    pub(crate) fn parts(self) -> (Chronicle<D>, Shelf, Vec<Letter>)
+        ensures { (result.0 ≡ self.chronicle) × (result.1 ≡ self.shelf) × (result.2.items ≡ self.owed) }
     {
         let Provider {
             chronicle,
             shelf,
             owed,
-            seen_from,
         } = self;
-        (chronicle, shelf, owed, seen_from)
+        (chronicle, shelf, owed)
     }
 }

@@ -1,17 +1,30 @@
-ghost use Rattle.std.specs.Prelude.{◌≡◌, not, true, false, Some, IfOk, OnOk, IfErr, option_map};
+ghost use Rattle.std.specs.Prelude.{◌≡◌, ℕ, ◌<◌, ◌≤◌, List, length, not, true, false, Some, slice_get};
+ghost use Rattle.std.specs.Prelude.{IfErr, IfOk, IsErrOf, IsSome, OnOk};
+ghost use Rattle.pec_types.specs.declared.turns.ProviderFault.TheVariants as faults;
+ghost use Rattle.pec_outside.specs.Flow.{HasRisen};
+ghost use Rattle.pec_directory.specs.Directory.{Kept};
 ghost use Rattle.pec_ledger.specs.Books.{book, mailbox_lines};
 ghost use Rattle.pec_ledger.specs.OfDirectory.{IsOf};
 ghost use Rattle.pec_ledger.specs.Steps.{half};
 ghost use Rattle.pec_ledger.specs.Trade.{Trade};
+ghost use Rattle.pec_seal.specs.Seals.{Seals};
 ghost use Rattle.pec_trade.specs.Houses.{world_at};
+ghost use Rattle.pec_chronicle.specs.Carrying.{CarriesOn, NothingMay};
+ghost use Rattle.pec_chronicle.specs.Chronicle.{Stands};
 ghost use Rattle.pec_provider.specs.Playing.{IsUnasked, IsUnshown, item_at};
-ghost use Rattle.pec_provider.specs.Provider.{RunsIn};
+ghost use Rattle.pec_provider.specs.Provider.{Runs, RunsIn, desk_of};
+ghost use Rattle.pec_provider.specs.Reading.{IsUntold, ItemIsChanged, OnChanged, Reads};
 
+use crate::composing::{bytes_of, read_at};
 use crate::provider::Provider;
-use pec_outgoing::item;
+use pec_ledger::a_taken_message_has_its_envelope;
+use pec_outgoing::needed_item;
+use pec_outside::Disk;
+use pec_records::Entry;
 use pec_seal::Sealer;
+use pec_stock::stands_still;
 use pec_trade::{House, a_house_is_a_trade};
-use pec_types::{Address, BookLine, ItemLine, NoMemory, ProviderFault};
+use pec_types::{Address, BookLine, ItemLine, ProviderFault};
 use std::alloc::Global;
 
 /// What an account is shown. The first of these refusals that applies is answered: `NoAccount`, `Down`, `NoItem`,
@@ -57,57 +70,6 @@ impl<D> Provider<D> {
         Ok(lines)
     }
 
-    /// The bytes of the item at a place of its mailbox, counted from 0. An item of which the provider may compose
-    /// nothing has no byte.
-    pub fn item<S: Sealer>(
-        &self,
-        alloc: Global,
-        house: &House<'_, S>,
-        account: &Address,
-        place: u32,
-    ) -> Result<Vec<u8>, ProviderFault>
-        requires runs { RunsIn house.now self.now }
-        ensures shown { IfOk result (λ bytes.
-            item_at (world_at house.now) house.now.me
-            self.now.chronicle.entries account.now place ≡ Some bytes.items) }
-        ensures asked { (trade : Trade) → IsOf house.now.directory.now trade
-            → OnOk result ((trade.is_account house.now.me account.now ≡ true) × (self.now.chronicle.down ≡ false)) }
-        ensures refused { IfErr result (IsUnshown
-            ((world_at house.now).is_account house.now.me account.now) (not self.now.chronicle.down)
-            (item_at (world_at house.now) house.now.me self.now.chronicle.entries account.now place)) }
-    {
-        a_house_is_a_trade(house);
-        self.asked(house, account)?;
-        let Some(bytes) = self.posted(alloc, house, account, place)? else {
-            return Err(ProviderFault::NoItem);
-        };
-        Ok(bytes)
-    }
-
-    /// The bytes of the item at a place of an account's mailbox, where there is one.
-    fn posted<S: Sealer>(
-        &self,
-        alloc: Global,
-        house: &House<'_, S>,
-        account: &Address,
-        place: u32,
-    ) -> Result<Option<Vec<u8>>, NoMemory>
-        requires runs { RunsIn house.now self.now }
-        ensures { IfOk result (λ found. option_map (λ bytes. bytes.items) found
-            ≡ item_at (world_at house.now) house.now.me self.now.chronicle.entries account.now place) }
-    {
-        a_house_is_a_trade(house);
-        let found = item(
-            alloc,
-            house,
-            &self.shelf,
-            self.chronicle.all(),
-            account,
-            place,
-        )?;
-        Ok(found)
-    }
-
     /// Whether an account of the provider may ask, while it is up.
     fn asked<S: Sealer>(&self, house: &House<'_, S>, account: &Address) -> Result<(), ProviderFault>
         ensures asked { (trade : Trade) → IsOf house.now.directory.now trade
@@ -122,5 +84,96 @@ impl<D> Provider<D> {
             return Err(ProviderFault::Down);
         }
         Ok(())
+    }
+}
+
+impl<D: Disk> Provider<D> {
+    /// The bytes of the item at a place of an account's mailbox, counted from 0, composed of a durable entry, which is
+    /// read for it. An item of which the provider may compose nothing has no byte. Beside the refusals above: `NoItem`
+    /// where the mailbox has no item there, before `NoMemory`; and behind it `DiskFault`, or `Changed` with the number
+    /// of an entry that isn't what the item is composed of. After the last two the provider is down, and else it is as
+    /// it was.
+    pub fn item<S: Sealer>(
+        &mut self,
+        alloc: Global,
+        house: &House<'_, S>,
+        account: &Address,
+        place: u32,
+    ) -> Result<Vec<u8>, ProviderFault>
+        requires runs { RunsIn house.now self.old }
+
+        // Over a disk that tells what it holds, and on which what is kept stands, they are the item's.
+        ensures shown { D.tells → Stands D.sight self.old.chronicle → IfOk result (λ bytes.
+            item_at (world_at house.now) house.now.me self.old.chronicle.entries account.now place ≡ Some bytes.items) }
+        ensures some { OnOk result
+            (IsSome (item_at (world_at house.now) house.now.me self.old.chronicle.entries account.now place)) }
+        ensures asked { (trade : Trade) → IsOf house.now.directory.now trade
+            → OnOk result ((trade.is_account house.now.me account.now ≡ true) × (self.old.chronicle.down ≡ false)) }
+        ensures refused { IfErr result (IsUnshown
+            ((world_at house.now).is_account house.now.me account.now) (not self.old.chronicle.down)
+            (item_at (world_at house.now) house.now.me self.old.chronicle.entries account.now place)) }
+        ensures changed { D.tells → Stands D.sight self.old.chronicle → IfErr result (OnChanged
+            (ItemIsChanged (world_at house.now) house.now.me self.old.chronicle.entries account.now place)) }
+        ensures reads { Reads (desk_of self.old) (desk_of self.new) result }
+        ensures owed { self.new.owed ≡ self.old.owed }
+        ensures runs { RunsIn house.now self.new }
+        ensures carries { D.tells → CarriesOn D.sight NothingMay self.old.chronicle self.new.chronicle }
+        ensures disk_fault { IsErrOf result faults.DiskFault → HasRisen (D.faults self.old.chronicle.disk)
+            (D.faults self.new.chronicle.disk) }
+        ensures later { D.faults self.old.chronicle.disk ≤ D.faults self.new.chronicle.disk }
+    {
+        a_house_is_a_trade(house);
+        a_taken_message_has_its_envelope();
+        stands_still(&self.chronicle);
+        self.asked(house, account)?;
+        let Some(number) = needed_item(&self.shelf, account, place) else {
+            return Err(ProviderFault::NoItem);
+        };
+        bytes_of(
+            alloc,
+            house,
+            &mut self.chronicle,
+            &self.shelf,
+            account,
+            place,
+            number,
+        )
+    }
+
+    /// The entry of a number, from 0, which is read. The first of these refusals that applies is answered: `Down`;
+    /// `NoItem` exactly where its journal has no more entries than the number; `NoMemory`, `DiskFault`, or `Changed`
+    /// with the number where the bytes there are no entry. After the last two the provider is down, and else it is as
+    /// it was.
+    pub fn entry(&mut self, alloc: Global, number: u64) -> Result<Entry, ProviderFault>
+        // Over a disk that tells what it holds, and on which what is kept stands, it is that entry, and isn't told as
+        // changed.
+        ensures kept { D.tells → Stands D.sight self.old.chronicle → (kept : List Kept) (seals : Seals) (me : ℕ)
+            → Runs kept seals me self.old → IfOk result (λ entry. slice_get self.old.chronicle.entries number ≡ Some entry) }
+        ensures unchanged { D.tells → Stands D.sight self.old.chronicle → (kept : List Kept) (seals : Seals) (me : ℕ)
+            (trade : Trade) → Runs kept seals me self.old → IsOf kept trade
+            → (changed : ℕ) → IsErrOf result (faults.Changed changed) → ⊥ }
+        ensures found { (kept : List Kept) (seals : Seals) (me : ℕ) (trade : Trade) → Runs kept seals me self.old
+            → IsOf kept trade → OnOk result (number < length self.old.chronicle.entries) }
+        ensures refused { (kept : List Kept) (seals : Seals) (me : ℕ) (trade : Trade) → Runs kept seals me self.old
+            → IsOf kept trade
+            → IfErr result (IsUntold (not self.old.chronicle.down) (length self.old.chronicle.entries) number) }
+        ensures reads { (kept : List Kept) (seals : Seals) (me : ℕ) → Runs kept seals me self.old
+            → Reads (desk_of self.old) (desk_of self.new) result }
+        ensures owed { self.new.owed ≡ self.old.owed }
+        ensures runs { (kept : List Kept) (seals : Seals) (me : ℕ) → Runs kept seals me self.old
+            → Runs kept seals me self.new }
+        ensures carries { D.tells → CarriesOn D.sight NothingMay self.old.chronicle self.new.chronicle }
+        ensures disk_fault { IsErrOf result faults.DiskFault → HasRisen (D.faults self.old.chronicle.disk)
+            (D.faults self.new.chronicle.disk) }
+        ensures later { D.faults self.old.chronicle.disk ≤ D.faults self.new.chronicle.disk }
+    {
+        stands_still(&self.chronicle);
+        if self.is_down() {
+            return Err(ProviderFault::Down);
+        }
+        let Some(place) = self.shelf.place(number) else {
+            return Err(ProviderFault::NoItem);
+        };
+        read_at(alloc, &mut self.chronicle, number, place)
     }
 }

@@ -1,4 +1,4 @@
-ghost use Rattle.std.specs.Prelude.{◌≡◌, ℕ, ◌<◌, ◌≤◌, ◌++◌, List, false, Some, IsErrOf, IfOk, IfSome};
+ghost use Rattle.std.specs.Prelude.{◌≡◌, ℕ, ◌<◌, ◌≤◌, ◌++◌, List, length, false, not, Some, IsErrOf, IfErr, IfOk, IfSome};
 ghost use Rattle.std.specs.Option.{option_to_list};
 ghost use Rattle.pec_types.specs.declared.turns.ProviderFault.TheVariants as faults;
 ghost use Rattle.pec_outside.specs.Flow.{HasRisen};
@@ -7,32 +7,32 @@ ghost use Rattle.pec_ledger.specs.Ledger.{Fit, Journals};
 ghost use Rattle.pec_ledger.specs.Network.{IsGenuine};
 ghost use Rattle.pec_ledger.specs.OfDirectory.{IsOf};
 ghost use Rattle.pec_ledger.specs.Trade.{Trade};
-ghost use Rattle.pec_plays.specs.Envelopes.{HasEnvelope};
 ghost use Rattle.pec_plays.specs.Frames.{due_frames};
 ghost use Rattle.pec_plays.specs.Steps.{Step};
 ghost use Rattle.pec_trade.specs.Houses.{world_at};
-ghost use Rattle.pec_chronicle.specs.Carrying.{CarriesOn};
+ghost use Rattle.pec_chronicle.specs.Carrying.{CarriesOn, NothingMay};
 ghost use Rattle.pec_chronicle.specs.Chronicle.{Stands};
 ghost use Rattle.pec_stock.specs.Entering.{OnlyMay};
 ghost use Rattle.pec_provider.specs.Appending.{MayEnter};
 ghost use Rattle.pec_provider.specs.Doing.{AppendsAny, Undertakes};
 ghost use Rattle.pec_provider.specs.Following.{MayFollow};
 ghost use Rattle.pec_provider.specs.Provider.{RunsIn, desk_of};
+ghost use Rattle.pec_provider.specs.Reading.{IsUnread, LetterIsChanged, OnChanged, Reads};
 ghost use Rattle.pec_provider.specs.Working.{Arrives, Decides, Does};
 
+use crate::composing::frames_of;
 use crate::provider::Provider;
-use pec_outgoing::due_frames;
+use pec_outgoing::{due_letters, due_letters_have_the_due_frames};
 use pec_outside::Disk;
 use pec_plays::{
-    what_a_provider_does_is_its_own, what_a_provider_does_may_follow,
-    what_a_provider_takes_is_an_envelope,
+    a_turn_puts_what_is_due, what_a_provider_does_is_its_own, what_a_provider_does_may_follow,
 };
 use pec_reception::{Received, decide, receive};
 use pec_seal::Sealer;
 use pec_shelf::Draft;
 use pec_stock::stands_still;
 use pec_trade::{House, a_house_is_a_trade};
-use pec_types::{Event, Frame, Letter, Moment, NoMemory, ProviderFault, Steps};
+use pec_types::{Event, Frame, Letter, Moment, ProviderFault, Steps};
 use std::alloc::Global;
 
 impl<D: Disk> Provider<D> {
@@ -65,7 +65,6 @@ impl<D: Disk> Provider<D> {
     {
         a_house_is_a_trade(house);
         what_a_provider_does_is_its_own();
-        what_a_provider_takes_is_an_envelope();
         what_a_provider_does_may_follow();
         stands_still(&self.chronicle);
         self.at_work(moment)?;
@@ -94,7 +93,6 @@ impl<D: Disk> Provider<D> {
     {
         a_house_is_a_trade(house);
         what_a_provider_does_is_its_own();
-        what_a_provider_takes_is_an_envelope();
         stands_still(&self.chronicle);
         self.at_work(moment)?;
         let Some(received) = decide(alloc, house.directory, &self.shelf, moment)? else {
@@ -116,7 +114,6 @@ impl<D: Disk> Provider<D> {
         requires limits { IfSome received.entry IsWithinLimits }
         requires step { IfSome received.entry (MayEnter house.now.directory.now house.now.me
             self.old.chronicle.entries) }
-        requires envelope { IfSome received.entry (HasEnvelope (world_at house.now)) }
         ensures does { (trade : Trade) (step : Step) → IsOf house.now.directory.now trade
             → Undertakes trade house.now.me self.old.chronicle.entries received step
             → Does step (desk_of self.old) (desk_of self.new) result }
@@ -146,7 +143,6 @@ impl<D: Disk> Provider<D> {
         requires runs { RunsIn house.now self.old }
         requires limits { IfSome entry IsWithinLimits }
         requires step { IfSome entry (MayEnter house.now.directory.now house.now.me self.old.chronicle.entries) }
-        requires envelope { IfSome entry (HasEnvelope (world_at house.now)) }
         ensures appends { (trade : Trade) → IsOf house.now.directory.now trade
             → AppendsAny trade house.now.me entry (desk_of self.old) (desk_of self.new) result }
         ensures owed { (self.new.owed ≡ self.old.owed) × (self.new.places ≡ self.old.places) }
@@ -166,38 +162,49 @@ impl<D: Disk> Provider<D> {
             None => Ok(()),
         }
     }
-}
 
-impl<D> Provider<D> {
     /// The frames of the letters that are due to a provider, itself included, no more than its link has room for (RFC
     /// 6109, section 3, within this project's profile): the answers that are owed, in their order, the outcomes that
-    /// nobody acknowledged, and the envelopes of messages of which nothing was heard. Each is composed of durable
-    /// entries.
+    /// nobody acknowledged, and the envelopes of messages of which nothing was heard. Each is composed of a durable
+    /// entry, which is read for it. The first of these refusals that applies is answered: `Down`; then, at the first
+    /// letter that meets one, `NoMemory`, `DiskFault`, or `Changed` with the number of an entry that isn't what the
+    /// letter is composed of. After the last two the provider is down, and else it is as it was.
     pub fn put_due<S: Sealer>(
-        &self,
+        &mut self,
         alloc: Global,
         house: &House<'_, S>,
         to: u32,
         room: usize,
-    ) -> Result<Vec<Frame>, NoMemory>
-        requires runs { RunsIn house.now self.now }
-        ensures { IfOk result (λ frames. frames.items
-            ≡ due_frames (world_at house.now) house.now.me self.now.chronicle.entries to room self.now.owed) }
+    ) -> Result<Vec<Frame>, ProviderFault>
+        requires runs { RunsIn house.now self.old }
+
+        // Over a disk that tells what it holds, and on which what is kept stands, they are exactly those.
+        ensures due { D.tells → Stands D.sight self.old.chronicle → IfOk result (λ frames. frames.items
+            ≡ due_frames (world_at house.now) house.now.me self.old.chronicle.entries to room self.old.owed) }
+        ensures few { IfOk result (λ frames. length frames.items ≤ room) }
+        ensures refused { IfErr result (IsUnread (not self.old.chronicle.down)) }
+        ensures changed { D.tells → Stands D.sight self.old.chronicle → IfErr result (OnChanged (LetterIsChanged
+            (world_at house.now) house.now.me self.old.chronicle.entries to room self.old.owed)) }
+        ensures reads { Reads (desk_of self.old) (desk_of self.new) result }
+        ensures runs { RunsIn house.now self.new }
+        ensures carries { D.tells → CarriesOn D.sight NothingMay self.old.chronicle self.new.chronicle }
+        ensures disk_fault { IsErrOf result faults.DiskFault → HasRisen (D.faults self.old.chronicle.disk)
+            (D.faults self.new.chronicle.disk) }
+        ensures later { D.faults self.old.chronicle.disk ≤ D.faults self.new.chronicle.disk }
     {
         a_house_is_a_trade(house);
-        let frames = due_frames(
-            alloc,
-            house,
-            &self.shelf,
-            self.chronicle.all(),
-            self.seen_from,
-            to,
-            room,
-            &self.owed,
-        )?;
-        Ok(frames)
+        due_letters_have_the_due_frames();
+        a_turn_puts_what_is_due();
+        stands_still(&self.chronicle);
+        if self.is_down() {
+            return Err(ProviderFault::Down);
+        }
+        let letters = due_letters(alloc, house, &self.shelf, to, room, &self.owed)?;
+        frames_of(alloc, house, &mut self.chronicle, &self.shelf, &letters)
     }
+}
 
+impl<D> Provider<D> {
     /// Owes an answer, if there is one, for which there is memory.
     fn owe(&mut self, letter: Option<Letter>)
         requires { 0 < self.old.places }

@@ -1,7 +1,7 @@
 ghost use Rattle.std.specs.Prelude.{◌≡◌, List, Some, IfOk};
 ghost use Rattle.pec_records.specs.declared.entries.Entry.{Entry};
 ghost use Rattle.pec_ledger.specs.Lookups.{accepted_at};
-ghost use Rattle.pec_ledger.specs.OfDirectory.{IsOf};
+ghost use Rattle.pec_ledger.specs.OfDirectory.{IsOf, recipients_named};
 ghost use Rattle.pec_ledger.specs.Steps.{half};
 ghost use Rattle.pec_ledger.specs.Trade.{Trade};
 ghost use Rattle.pec_plays.specs.Reception.{has_pair, has_pairs_at};
@@ -21,22 +21,23 @@ use pec_shelf::Shelf;
 use pec_types::{Address, Letter, MsgId, NoMemory};
 use std::alloc::Global;
 
-/// What is seen of the envelope of a message. Here and below nobody asks which accounts have room: that takes long,
-/// and it makes a difference for what is no letter alone.
+/// What is seen of the envelope of a message that names these addresses. Here and below nobody asks which accounts have
+/// room: that takes long, and it makes a difference for what is no letter alone.
 pub(crate) fn envelope(
-    alloc: Global,
     directory: &Directory,
     shelf: &Shelf,
     framed: &Framed<'_>,
+    names: &[Address],
     id: MsgId,
 ) -> Result<Arrived, NoMemory>
+    requires names { names.now ≡ recipients_named (framed_shown framed.now).message }
     ensures { (seals : Seals) (journal : List Entry) →
         let trade = trade_of directory.now seals in
         shelf.now.half ≡ half trade shelf.now.me journal
         → IfOk result (λ arrived. arrived
         ≡ unasked (an_envelope trade shelf.now.me journal (framed_shown framed.now) id)) }
 {
-    let here = shelf.named_here(directory, framed.message)?;
+    let here = shelf.named_here(directory, names)?;
     Ok(Arrived {
         letter: Some(Letter::Envelope { id, to: shelf.me() }),
         sealer: id.provider,

@@ -4,7 +4,7 @@ ghost use Rattle.pec_types.specs.declared.letters.Letter.TheVariants as letters;
 ghost use Rattle.pec_records.specs.declared.entries.Entry.{Entry as SomeEntry};
 ghost use Rattle.pec_records.specs.declared.entries.Entry.TheVariants as entries;
 ghost use Rattle.pec_ledger.specs.Lookups.{charged_of, taken_of};
-ghost use Rattle.pec_ledger.specs.OfDirectory.{IsOf};
+ghost use Rattle.pec_ledger.specs.OfDirectory.{IsOf, recipients_named};
 ghost use Rattle.pec_ledger.specs.Steps.{half};
 ghost use Rattle.pec_ledger.specs.Trade.{Seen, Trade};
 ghost use Rattle.pec_plays.specs.Reception.{by_ack, by_outcome, by_receipt, by_seen, charge_fits, charge_rows};
@@ -77,11 +77,12 @@ fn envelope(
         (taken_of (half trade shelf.now.me journal) id))) }
     ensures limits { IfOk result AreLimited }
 {
-    let arrived = arrivals::envelope(alloc, directory, shelf, framed, id)?;
+    let names = recipients_named(alloc, framed.message)?;
+    let arrived = arrivals::envelope(directory, shelf, framed, names.as_slice(), id)?;
     let me = shelf.me();
     match stands(me, &arrived) {
         Standing::New => {
-            let received = took(alloc, moment, framed.message, id, me)?;
+            let received = took(alloc, moment, framed.message, names, id, me)?;
             Ok(Some(received))
         }
         Standing::Known => {
@@ -92,23 +93,24 @@ fn envelope(
     }
 }
 
-/// It is taken, and its charge is owed.
+/// It is taken, with the addresses that it names, and its charge is owed.
 fn took(
     alloc: Global,
     moment: Moment,
     message: &[u8],
+    names: Vec<Address>,
     id: MsgId,
     me: u32,
 ) -> Result<Received, NoMemory>
+    requires { names.items ≡ recipients_named message.now }
     ensures { IfOk result (λ received. received ≡ record {
       entry = Some (entries.Took moment id message.now);
       event = events.Took id;
       owed = Some (letters.Charge id me);
     }) }
 {
-    let named = recipients_named(alloc, message)?;
     let message = Text8::of(Vec::from_slice(alloc, message)?);
-    let entry = Draft::took(moment, id, message, named);
+    let entry = Draft::took(moment, id, message, names);
     let owed = Letter::Charge { id, by: me };
     Ok(Received::enters(entry, Event::Took(id), Some(owed)))
 }

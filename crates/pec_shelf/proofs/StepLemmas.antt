@@ -19,7 +19,7 @@ use Rattle.pec_types.specs.Looks.{AtLeast, AtMost}
 use Rattle.pec_types.specs.Passed.{passing}
 use Rattle.pec_shelf.specs.Drafts.{facts_read, read_in}
 use Rattle.pec_shelf.specs.Looked.{Looked, LookedSo}
-use Rattle.pec_shelf.specs.Prepared.{AreRows, AreWithin, CameFrom, Drafts, HasRoomFor, IsStep, MayFollow, Prepared, prepared}
+use Rattle.pec_shelf.specs.Prepared.{AreRows, AreWithin, CameFrom, Drafts, HasRoomFor, IsStep, IsStepOf, Prepared, prepared}
 use Rattle.pec_shelf.specs.Seen.{HoldsAs, IsFor, Seen, certified_by}
 use Rattle.pec_shelf.specs.Settled.{settled}
 use Rattle.pec_shelf.specs.declared.drafts.Read.TheVariants as reads
@@ -111,7 +111,7 @@ prepared_still trade old now entry place ready same is =
     (subst (λ (h : Half). ready ≡ prepared trade now.me h entry place) (ap (λ (s : Seen). s.half) same) is)
 
 -- an entry that may follow still may
-pub follows_still : (kept : List Kept) (old now : Seen) (entry : Entry) → now ≡ record old { looks = now.looks } → MayFollow kept old entry → MayFollow kept now entry
+pub follows_still : (kept : List Kept) (old now : Seen) (entry : Entry) → now ≡ record old { looks = now.looks } → IsStepOf kept old entry → IsStepOf kept now entry
 follows_still kept old now entry same may = record {
   trade = may.trade;
   of = may.of;
@@ -121,7 +121,7 @@ follows_still kept old now entry same may = record {
 
 -- what was prepared came from the shelf, in which only room was made
 pub came_from : (kept : List Kept) (old new : Seen) (entry : Entry) (place : Place) (ready : Prepared) → HoldsAs old new
-    → ((trade : Trade) → IsOf kept trade → IsFor trade old) → MayFollow kept old entry
+    → ((trade : Trade) → IsOf kept trade → IsFor trade old) → IsStepOf kept old entry
     → ((trade : Trade) → IsOf kept trade → ready ≡ prepared trade old.me old.half entry place) → CameFrom new ready
 came_from kept old new entry place ready same homes may all =
     let is = all may.trade may.of in

@@ -35,7 +35,7 @@ pub record IsStep (trade : Trade) (me : ℕ) (half : Half) (entry : Entry) : Typ
   pub in_time : half.last ≤ moment_of entry
 
 -- The entry is a step of the half, in some world of the directory.
-pub record MayFollow (kept : List Kept) (shelf : Seen) (entry : Entry) : Type 0 where
+pub record IsStepOf (kept : List Kept) (shelf : Seen) (entry : Entry) : Type 0 where
   pub trade : Trade
   pub of : IsOf kept trade
   pub step : IsStep trade shelf.me shelf.half entry

@@ -2,7 +2,7 @@ ghost use Rattle.std.specs.Prelude.{◌≡◌, ◌↔◌, IfOk, IsTrue};
 ghost use Rattle.pec_ledger.specs.OfDirectory.{IsOf};
 ghost use Rattle.pec_ledger.specs.Own.{Own};
 ghost use Rattle.pec_ledger.specs.Trade.{Trade};
-ghost use Rattle.pec_shelf.specs.Prepared.{Drafts, MayFollow};
+ghost use Rattle.pec_shelf.specs.Prepared.{Drafts, IsStepOf};
 ghost use Rattle.pec_shelf.specs.Seen.{IsFor};
 ghost use Rattle.pec_shelf.specs.Settled.{settled};
 
@@ -18,13 +18,13 @@ use pec_directory::Directory;
 use pec_records::Entry;
 use pec_types::NoMemory;
 
-/// Drafts an entry that comes from a journal, exactly where it is a step of the half: it meets its own condition, and its
-/// moment isn't before the greatest.
+/// Drafts an entry that comes from a journal, exactly where it is a step of the half: it meets its own condition, and
+/// its moment isn't before the greatest.
 pub fn drafted(shelf: &Shelf, directory: &Directory, entry: Entry) -> Result<Draft, DraftFault>
     requires { (trade : Trade) → IsOf directory.now trade → IsFor trade shelf.now }
     ensures exact { (trade : Trade) → IsOf directory.now trade
         → Drafts trade shelf.now.me shelf.now.half entry result }
-    ensures follows { IfOk result (MayFollow directory.now shelf.now) }
+    ensures follows { IfOk result (IsStepOf directory.now shelf.now) }
 {
     if moment_of(&entry) < shelf.last() {
         return Err(DraftFault::NotAStep);

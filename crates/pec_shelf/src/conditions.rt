@@ -101,8 +101,8 @@ pub(crate) fn may_refuse(
     !path.is_empty() && path.len() <= MOST_ADDRESSES
 }
 
-/// Took: the id is of a provider of the directory and was not taken, and some address of the envelope's `To` and `Cc` is
-/// at home here.
+/// Took: the id is of a provider of the directory and was not taken, and some address of the envelope's `To` and `Cc`
+/// is at home here.
 pub(crate) fn may_take(shelf: &Shelf, directory: &Directory, id: MsgId, named: &[Address]) -> bool
     ensures { (trade : Trade) (moment : ℕ) (message : Bytes) → named.now ≡ recipients_named message → IsTrue result
         ↔ Own (settled directory.now trade) shelf.now.me shelf.now.half (entries.Took moment id message) }
@@ -113,7 +113,8 @@ pub(crate) fn may_take(shelf: &Shelf, directory: &Directory, id: MsgId, named: &
     are_some_here(directory, shelf.me(), named)
 }
 
-/// Decided: the pair was taken here and isn't decided, and the decision is the one of the table, or a virus for an account.
+/// Decided: the pair was taken here and isn't decided, and the decision is the one of the table, or a virus for an
+/// account.
 pub(crate) fn may_decide_on(
     shelf: &Shelf,
     directory: &Directory,

@@ -202,8 +202,8 @@ impl Deadlines {
     }
 }
 
-/// From a place up to which the limit has passed, the first place at which it hasn't. Each place on the way is looked up
-/// once, and the one where it ends.
+/// From a place up to which the limit has passed, the first place at which it hasn't. Each place on the way is looked
+/// up once, and the one where it ends.
 fn advance(times: &mut Timetable, from: usize, limit: u64, now: Moment, steps: &mut Steps) -> usize
     requires rising { Rising times.old.moments }
     requires from { from ≤ passed limit now times.old.moments }

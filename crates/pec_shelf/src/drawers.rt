@@ -265,8 +265,8 @@ impl<R: Owned + Drop> Drawers<R> {
         }
     }
 
-    /// How many rows an account has and how many are counted, as its last row tells. None where that isn't found at once,
-    /// since the account has no row or another one has its number.
+    /// How many rows an account has and how many are counted, as its last row tells. None where that isn't found at
+    /// once, since the account has no row or another one has its number.
     fn last(&self, account: &Address) -> Option<Tally>
         ensures { IfSome result (IsTallyOf R.owner_of R.counts_in account.now self.now.rows) }
     {

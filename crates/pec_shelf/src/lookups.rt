@@ -17,7 +17,7 @@ use crate::deadlines::Deadlines;
 use crate::drawers::Drawers;
 use crate::outbox::Outbox;
 use crate::owing::has_pairs_at;
-use crate::reading::recipients_here;
+use crate::reading::at_home;
 use crate::rows::{ChargeRow, FateRow, KnownRow, MarkRow, MessageRow, PostedRow, TakenRow};
 use crate::shelf::Shelf;
 use pec_directory::Directory;
@@ -176,17 +176,16 @@ impl Shelf {
         room
     }
 
-    /// Those of the addresses in the `To` and the `Cc` of a sealed message that are at home at this provider: none where it
-    /// has no head, or where a field is no list.
+    /// Those of the addresses that a message names that are at home at this provider, in their order.
     pub fn named_here(
         &self,
         directory: &Directory,
-        message: &[u8],
+        names: &[Address],
     ) -> Result<Vec<Address>, NoMemory>
         ensures { (trade : Trade) → IsOf directory.now trade
-            → IfOk result (λ here. here.items ≡ at_home trade self.now.me (trade.envelope_recipients message.now)) }
+            → IfOk result (λ here. here.items ≡ at_home trade self.now.me names.now) }
     {
-        let here = recipients_here(self.alloc, directory, self.me, message)?;
+        let here = at_home(self.alloc, directory, self.me, names)?;
         Ok(here)
     }
 

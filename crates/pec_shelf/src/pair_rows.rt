@@ -51,8 +51,8 @@ pub(crate) struct ReceivedHalf {
 }
 
 impl Shelf {
-    /// What this provider has of a pair: its half of the pair's row, `None` where the pair is neither of its messages nor
-    /// taken here. It takes no memory.
+    /// What this provider has of a pair: its half of the pair's row, `None` where the pair is neither of its messages
+    /// nor taken here. It takes no memory.
     pub fn row(&self, id: MsgId, recipient: &Address) -> Option<Row>
         ensures { (trade : Trade) → IsFor trade self.now
             → result ≡ row_of trade self.now.me self.now.half (pair_of id recipient.now) }

@@ -3,7 +3,7 @@ ghost use Rattle.pec_types.specs.declared.moments.TheConstants.{END_OF_TIME};
 ghost use Rattle.pec_ledger.specs.Trade.{Trade};
 ghost use Rattle.pec_ledger.specs.Steps.{moment_of};
 ghost use Rattle.pec_shelf.specs.Looked.{acceptances_seen, clock_seen};
-ghost use Rattle.pec_shelf.specs.Prepared.{AreRows, MayFollow};
+ghost use Rattle.pec_shelf.specs.Prepared.{AreRows, IsStepOf};
 ghost use Rattle.pec_shelf.specs.Seen.{IsFor};
 ghost use Rattle.pec_shelf.specs.Settled.{settled};
 
@@ -27,7 +27,7 @@ pub(crate) fn rows_of(
     draft: &Draft,
     clock: Option<Clock>,
 ) -> Result<Ready, NoMemory>
-    requires step { MayFollow directory.now shelf.now draft.now }
+    requires step { IsStepOf directory.now shelf.now draft.now }
     requires clock { clock ≡ clock_seen (acceptances_seen shelf.now) draft.now }
     ensures { (trade : Trade) → IsFor (settled directory.now trade) shelf.now
         → IfOk result (AreRows (settled directory.now trade) shelf.now.me shelf.now.half draft.now) }

@@ -139,21 +139,6 @@ pub(crate) fn is_provider(directory: &Directory, provider: u32) -> bool
     provider < directory.count()
 }
 
-/// The addresses that the head of a sealed message names and that are at home at a provider.
-pub(crate) fn recipients_here(
-    alloc: Global,
-    directory: &Directory,
-    provider: u32,
-    message: &[u8],
-) -> Result<Vec<Address>, NoMemory>
-    ensures { IfOk result (λ here. here.items
-        ≡ filter (λ (address : Bytes). is_home provider (home_of (providers_of directory.now) address)) (recipients_named message.now)) }
-{
-    let named = recipients_named(alloc, message)?;
-    let here = at_home(alloc, directory, provider, named.as_slice())?;
-    Ok(here)
-}
-
 /// Those of the addresses that are at home at a provider.
 pub(crate) fn at_home(
     alloc: Global,

@@ -58,7 +58,8 @@ impl Model for Ready {
     } };
 }
 
-// Written out, so that to drop what was prepared is one call, and not the drops of all its lists wherever it is dropped.
+// Written out, so that to drop what was prepared is one call, and not the drops of all its lists wherever it is
+// dropped.
 impl Drop for Ready {
     fn drop(self) {
         let Ready {
@@ -223,7 +224,8 @@ impl Ready {
         (sent, received, items, answer)
     }
 
-    /// The length of its longest list, the number of its pairs, or 1 for its place, whichever is most. It takes no memory.
+    /// The length of its longest list, the number of its pairs, or 1 for its place, whichever is most. It takes no
+    /// memory.
     pub(crate) fn rows(&self) -> usize
         ensures { AreWithin self.now result }
     {

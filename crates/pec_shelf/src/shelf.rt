@@ -9,7 +9,7 @@ ghost use Rattle.pec_ledger.specs.Pairs.{pair_of};
 ghost use Rattle.pec_ledger.specs.Steps.{moment_of, size_of};
 ghost use Rattle.pec_ledger.specs.Trade.{Trade};
 ghost use Rattle.pec_shelf.specs.Looked.{Looked, LookedSo, acceptances_seen, clock_seen};
-ghost use Rattle.pec_shelf.specs.Prepared.{CameFrom, Goes, HasRoomFor, MayFollow, prepared, told};
+ghost use Rattle.pec_shelf.specs.Prepared.{CameFrom, Goes, HasRoomFor, IsStepOf, prepared, told};
 ghost use Rattle.pec_shelf.specs.Seen.{HoldsAs, IsFor, IsNew};
 ghost use Rattle.pec_shelf.specs.Undecided.{next_undecided};
 
@@ -121,9 +121,10 @@ impl Shelf {
         }
     }
 
-    /// Prepares an entry that is a step of this provider's half as what it adds. Its bytes will stand at this place. Room is
-    /// made for what it adds, and nothing that is seen changes but the number of look-ups. All entries of one shelf are prepared with one directory. A clock call looks
-    /// acceptances up one by one, each of which counts as a step.
+    /// Prepares an entry that is a step of this provider's half as what it adds. Its bytes will stand at this place.
+    /// Room is made for what it adds, and nothing that is seen changes but the number of look-ups. All entries of one
+    /// shelf are prepared with one directory. A clock call looks acceptances up one by one, each of which counts as a
+    /// step.
     pub fn prepare(
         &mut self,
         directory: &Directory,
@@ -132,13 +133,14 @@ impl Shelf {
         steps: &mut Steps,
     ) -> Result<Ready, NoMemory>
         requires homes { (trade : Trade) → IsOf directory.now trade → IsFor trade self.old }
-        requires step { MayFollow directory.now self.old draft.now }
+        requires step { IsStepOf directory.now self.old draft.now }
         ensures is { (trade : Trade) → IsOf directory.now trade
             → IfOk result (λ ready. ready ≡ prepared trade self.old.me self.old.half draft.now place) }
         ensures came { IfOk result (CameFrom self.new) }
         ensures room { IfOk result (HasRoomFor self.new) }
         ensures same { HoldsAs self.old self.new }
-        // In a clock call at most two more look-ups than limits of pairs pass in it, and as many as pass where it is prepared.
+        // In a clock call at most two more look-ups than limits of pairs pass in it, and as many as pass where it is
+        // prepared.
         ensures looked { (trade : Trade) → IsOf directory.now trade
             → Looked trade self.old draft.now self.new.looks steps.old steps.new result }
     {
@@ -271,8 +273,8 @@ impl Shelf {
         Some(self.deadlines.pass(*moment, steps))
     }
 
-    /// What an entry that is a step is prepared as, whose bytes will stand at this place. It is told where the cursors stand
-    /// behind a clock call.
+    /// What an entry that is a step is prepared as, whose bytes will stand at this place. It is told where the cursors
+    /// stand behind a clock call.
     fn prepared(
         &self,
         directory: &Directory,
@@ -281,7 +283,7 @@ impl Shelf {
         clock: Option<Clock>,
     ) -> Result<Ready, NoMemory>
         requires homes { (trade : Trade) → IsOf directory.now trade → IsFor trade self.now }
-        requires step { MayFollow directory.now self.now draft.now }
+        requires step { IsStepOf directory.now self.now draft.now }
         requires clock { clock ≡ clock_seen (acceptances_seen self.now) draft.now }
         ensures is { (trade : Trade) → IsOf directory.now trade
             → IfOk result (λ ready. ready ≡ prepared trade self.now.me self.now.half draft.now place) }

@@ -14,7 +14,8 @@ use crate::shelf::Shelf;
 use pec_types::{Address, Decision, MsgId};
 
 /// What has become of messages, in numbers: how many were accepted, and how many of their pairs, each a message and a
-/// certified recipient, are known to be placed, are known to be refused, aren't known, and had a notice, in time or late.
+/// certified recipient, are known to be placed, are known to be refused, aren't known, and had a notice, in time or
+/// late.
 #[derive(Clone, Copy, Debug, PartialEq, Eq)]
 pub struct Summary {
     pub accepted: u64,

@@ -190,6 +190,7 @@ module _ {D : Type 0} (kept : List Kept) (old new : ChronicleState D) (before af
     agree_failed faults.NoItem none holds = absurd none
     agree_failed faults.JournalFull full holds = agree_still full.same holds
     agree_failed faults.NoMemory same holds = agree_still same holds
+    agree_failed (faults.Changed number) none holds = absurd none
 
     -- the shelf took in what the entry was prepared as, with room made before
     pub agree_taken : (ready : Prepared) (between : Seen) (place : Place) (some : Trade) → IsOf kept some → HoldsAs before between → Goes between after ready
@@ -210,8 +211,8 @@ module _ {D : Type 0} (kept : List Kept) (old new : ChronicleState D) (before af
 
 -- ---- room is made
 
-pub same_but_room : {D : Type 0} (old new : ChronicleState D) (spare places : ℕ) → new ≡ record old { spare = spare; places = places } → Same old new
-same_but_room old new spare places e = record {
+pub same_but_room : {D : Type 0} (old new : ChronicleState D) (spare : ℕ) → new ≡ record old { spare = spare } → Same old new
+same_but_room old new spare e = record {
   entries = ap (λ s. s.entries) e;
   interrupted = ap (λ s. s.interrupted) e;
   down = ap (λ s. s.down) e;
@@ -256,3 +257,20 @@ module _ {D : Type 0} (old mid new : ChronicleState D) (encoded entry : Entry) (
         (subst (λ (n : ℕ). longest_journal < n + size_of encoded) same.end full.full);
   }
   failed_from faults.NoMemory then = same_and old mid new same then
+  failed_from (faults.Changed number) none = absurd none
+
+-- ---- an entry is read
+
+-- all that may change is the disk, and whether it is up
+pub agree_kept : {D : Type 0} (kept : List Kept) (old new : ChronicleState D) (shelf : Seen) → Agree kept old shelf → old.down ≡ false
+    → new ≡ record old { down = new.down; disk = new.disk } → Agree kept new shelf
+agree_kept {D} kept old new shelf agree up same =
+    let entries : new.entries ≡ old.entries = ap (λ (s : ChronicleState D). s.entries) same in
+    let interrupted : new.interrupted ≡ old.interrupted = ap (λ (s : ChronicleState D). s.interrupted) same in
+    let end : new.end ≡ old.end = ap (λ (s : ChronicleState D). s.end) same in
+    record {
+      holds = subst (λ (l : List Entry). Holds kept shelf l) (sym entries) agree.holds;
+      ends = λ so. end ∙ agree.ends up;
+      whole = λ so. interrupted ∙ agree.whole up;
+      own = λ trade of choice. rw (entries, interrupted) (agree.own trade of choice);
+    }

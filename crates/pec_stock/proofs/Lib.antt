@@ -4,4 +4,6 @@ pub mod CarryLemmas
 pub mod LookLemmas
 pub mod OpeningLemmas
 pub mod PlaceLemmas
+pub mod RoomLemmas
+pub mod TakingLemmas
 pub mod WorldLemmas

@@ -1,20 +1,19 @@
 -- Where a journal ends, and where the bytes of one entry more stand.
-use Rattle.std.proofs.Common.{◌≡◌, ℕ, zero, suc, ◌+◌, ◌^◌, ◌<◌, List, [], ◌∷◌, ◌++◌, ◌∙◌, length, map, fold, take, drop, get_or, refl, sym, ap, subst, arith, length-append}
+use Rattle.std.proofs.Common.{◌≡◌, ℕ, ◌+◌, ◌<◌, List, [], ◌∷◌, ◌++◌, ◌∙◌, length, map, fold, get_or, None, refl, sym, ap, arith, length-append}
 use Rattle.std.specs.List.{flat_map}
 use Rattle.std.specs.Int.{w32, to_be_bytes}
-use Rattle.std.proofs.lemmas.List.{map-append}
+use Rattle.std.specs.Prelude.{slice_get}
+use Rattle.std.proofs.lemmas.List.{length-map, map-append}
+use Rattle.std.proofs.lemmas.Option.{none-some, slice_get-get_or}
 use Rattle.pec_types.specs.Bytes.{Bytes}
 use Rattle.pec_types.specs.declared.places.Place.{Place}
-use Rattle.pec_journal.specs.JournalFile.{framed, front, header, open_gate, places_of}
+use Rattle.pec_journal.specs.JournalFile.{framed, framing, front, header, open_gate, places_from, places_of}
 use Rattle.pec_records.specs.Entry.{entry_text}
 use Rattle.pec_records.specs.declared.entries.Entry.{Entry}
 use Rattle.pec_ledger.specs.Half.{Half, empty}
 use Rattle.pec_ledger.specs.Steps.{half, size_of, step}
 use Rattle.pec_ledger.specs.Trade.{Trade}
 use Rattle.pec_chronicle.specs.Carrying.{with_entry}
-use Rattle.pec_chronicle.specs.Chronicle.{AreSized}
-use Rattle.pec_shelf.specs.Prepared.{HasRoomFor, Prepared, prepared}
-use Rattle.pec_shelf.specs.Seen.{HoldsAs, Seen}
 
 -- ---- where a journal ends
 
@@ -50,62 +49,31 @@ place_at end text = place_of end (length text)
 abbrev pub PlacesGoOn : Type 0
 PlacesGoOn = (texts : List Bytes) (text : Bytes) → places_of (texts ++ text ∷ []) ≡ places_of texts ++ place_at (length (front texts)) text ∷ []
 
--- it is where the journal ends, as far as this is said exactly
+-- it is where the journal ends
 pub place_push : PlacesGoOn → (list : List Entry) (entry : Entry) (end : ℕ) (place : Place) → end ≡ length (front (map entry_text list))
-    → (end + 5 < 2 ^ 64 → place ≡ place_at end (entry_text entry)) → end + size_of entry < 2 ^ 64
+    → place ≡ place_at end (entry_text entry)
     → places_of (map entry_text (with_entry list entry)) ≡ places_of (map entry_text list) ++ place ∷ []
-unfolding size_of
-place_push go_on list entry end place ends is fits =
+place_push go_on list entry end place ends is =
     let text = entry_text entry in
-    let exact : place ≡ place_at end text = is (omega (arith, fits)) in
     ap places_of (map-append entry_text list (entry ∷ []))
     ∙ go_on (map entry_text list) text
     ∙ ap (λ (n : ℕ). places_of (map entry_text list) ++ place_at n text ∷ []) (sym ends)
-    ∙ ap (λ (p : Place). places_of (map entry_text list) ++ p ∷ []) (sym exact)
+    ∙ ap (λ (p : Place). places_of (map entry_text list) ++ p ∷ []) (sym is)
 
--- what was prepared has its bytes within what a number can say
-pub room_for_bytes : (before between : Seen) (ready : Prepared) (trade : Trade) (entry : Entry) (place : Place) → HoldsAs before between
-    → HasRoomFor between ready → ready ≡ prepared trade before.me before.half entry place → before.half.end + size_of entry < 2 ^ 64
-room_for_bytes before between ready trade entry place same room is =
-    subst (λ (r : Prepared). before.half.end + r.adds.size < 2 ^ 64) is
-    (subst (λ (h : Half). h.end + ready.adds.size < 2 ^ 64) same.1 room.bytes)
+-- ---- all places
 
--- ---- places that were read
+places_length : (at : ℕ) (texts : List Bytes) → length (places_from at texts) ≡ length texts
+places_length at [] = refl
+places_length at (text ∷ texts) = omega (arith, places_length (at + framing + length text) texts)
 
--- each entry has a place, which tells its size
-pub sized_at : (list : List Entry) (places : List Place) (number : ℕ) (e : Entry) (p : Place) → AreSized list places → number < length list
-    → (number < length places) × ((get_or places number p).length ≡ length (entry_text (get_or list number e)))
-sized_at [] places number e p sized within = absurd (omega (arith, within))
-sized_at (x ∷ xs) [] number e p sized within = cc
-sized_at (x ∷ xs) (y ∷ ys) zero e p sized within =
-    let size : length (entry_text x) ≡ y.length = cc in (omega arith, sym size)
-sized_at (x ∷ xs) (y ∷ ys) (suc number) e p sized within =
-    let rest : AreSized xs ys = cc in
-    let there = sized_at xs ys number e p rest (omega (arith, within)) in
-    (omega (arith, there.0), there.1)
+pub as_many_places : (texts : List Bytes) → length (places_of texts) ≡ length texts
+as_many_places texts = places_length (length header) texts
 
--- ---- a list that is gone through
-
-one_more : (i : ℕ) → suc i ≡ i + 1
-one_more i = omega arith
-
-from_here : {X : Type 0} (list rest : List X) (number : ℕ) (e : X) → drop number list ≡ e ∷ rest
-    → (number < length list) × (e ≡ get_or list number e) × (rest ≡ drop (suc number) list)
-from_here [] rest zero e is = cc
-from_here [] rest (suc n) e is = cc
-from_here (x ∷ xs) rest zero e is = (omega arith, cc, cc)
-from_here (x ∷ xs) rest (suc n) e is = let there = from_here xs rest n e is in (omega (arith, there.0), there.1, there.2)
-
--- the first of what is left stands at this number
-pub next_is : {X : Type 0} (list left rest : List X) (number : ℕ) (e : X) → left ≡ drop number list → left ≡ e ∷ rest
-    → (number < length list) × (e ≡ get_or list number e) × (rest ≡ drop (number + 1) list)
-next_is {X} list left rest number e are next =
-    let here = from_here list rest number e (sym are ∙ next) in
-    (here.0, here.1, here.2 ∙ ap (λ n. drop {A = X} n list) (one_more number))
-
--- where nothing is left all was gone through
-pub all_taken : {X : Type 0} (list left : List X) (number : ℕ) → left ≡ drop number list → left ≡ [] → take number list ≡ list
-all_taken [] left zero are none = refl
-all_taken [] left (suc n) are none = refl
-all_taken (x ∷ xs) left zero are none = cc
-all_taken (x ∷ xs) left (suc n) are none = ap (λ l. x ∷ l) (all_taken xs left n are none)
+-- each entry has one
+pub place_there : (list : List Entry) (places : List Place) (number : ℕ) → places ≡ places_of (map entry_text list) → number < length list
+    → slice_get places number ≡ None → ⊥
+place_there list places number are within none =
+    let nowhere : Place = record { at = 0; length = 0 } in
+    let there : number < length places =
+    omega (arith, ap length are, as_many_places (map entry_text list), length-map list entry_text, within) in
+    none-some (get_or places number nowhere) (sym none ∙ slice_get-get_or places number nowhere there)

@@ -97,17 +97,3 @@ IsUnfit trade me bytes (faults.OtherDirectory kept given) = (list : List Entry) 
 IsUnfit trade me bytes (faults.BadEntry number) =
     (list : List Entry) × ((ReadsTo bytes list × IsBad trade me list number) ⊎ IsCutOff trade me number bytes list)
 IsUnfit trade me bytes _ = Unit {0}
-
--- ---- what is answered on what was read
-
--- What is answered where entries were read, so many, and behind them stand bytes that are none.
-abbrev pub CutOff : List Kept → ℕ → ℕ → List Entry → ReopenFault → Type 0
-CutOff kept me number list answer = (trade : Trade) → IsOf kept trade
-    → ((answer ≡ faults.BadEntry number) × IsOwn trade me list) ⊎ NotOwn trade me list answer
-
--- What is answered on a fault of the entries, of which these were read.
-abbrev pub WhyNot : List Kept → ℕ → OpenFault → List Entry → ReopenFault → Type 0
-WhyNot kept me opening.DiskFault list answer = answer ≡ faults.DiskFault
-WhyNot kept me (opening.NotAJournal place) list answer = answer ≡ faults.NotAJournal place
-WhyNot kept me (opening.BadEntry number) list answer = CutOff kept me number list answer
-WhyNot kept me opening.NoMemory list answer = answer ≡ faults.NoMemory

@@ -7,7 +7,7 @@ ghost use Rattle.pec_ledger.specs.Trade.{Trade};
 ghost use Rattle.pec_chronicle.specs.Carrying.{CarriesOn, NothingMay, ThisMay};
 ghost use Rattle.pec_chronicle.specs.Chronicle.{HasRoom};
 ghost use Rattle.pec_shelf.specs.Looked.{Looked};
-ghost use Rattle.pec_shelf.specs.Prepared.{MayFollow};
+ghost use Rattle.pec_shelf.specs.Prepared.{IsStepOf};
 ghost use Rattle.pec_stock.specs.Entering.{AreMarks, Entered, Failed, OnlyMay};
 ghost use Rattle.pec_stock.specs.Stock.{Agree};
 
@@ -24,10 +24,10 @@ pub fn stands_still<D: Disk>(chronicle: &Chronicle<D>)
     ensures { D.tells → CarriesOn D.sight NothingMay chronicle.now chronicle.now }
 {}
 
-/// Appends an entry that is a step of the half, and takes it in, with its place, once it is durable. All memory is taken
-/// before. The answer is the marks of a clock call, in order of number and recipients, and none for another entry. It comes
-/// to `JournalFull`, to `DiskFault` and to want of memory alone. The acceptances that a clock call looks up are counted as
-/// steps.
+/// Appends an entry that is a step of the half, and takes it in, with its place, once it is durable. All memory is
+/// taken before. The answer is the marks of a clock call, in order of number and recipients, and none for another
+/// entry. It comes to `JournalFull`, to `DiskFault` and to want of memory alone. The acceptances that a clock call
+/// looks up are counted as steps.
 pub fn enter<D: Disk>(
     alloc: Global,
     directory: &Directory,
@@ -39,7 +39,7 @@ pub fn enter<D: Disk>(
     requires up { chronicle.old.down ≡ false }
     requires agree { Agree directory.now chronicle.old shelf.old }
     requires limits { IsWithinLimits draft.now }
-    requires step { MayFollow directory.now shelf.old draft.now }
+    requires step { IsStepOf directory.now shelf.old draft.now }
     ensures marks { IfOk result (λ marks. AreMarks directory.now shelf.old draft.now marks.items) }
     ensures entered { OnOk result (Entered chronicle.old chronicle.new draft.now) }
     ensures failed { IfErr result (Failed chronicle.old chronicle.new draft.now) }

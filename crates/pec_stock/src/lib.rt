@@ -6,10 +6,12 @@
 mod entering;
 mod faults;
 mod opening;
+mod reading;
 mod restarting;
 mod stocking;
 
 pub use entering::{enter, stands_still};
 pub use faults::ReopenFault;
 pub use opening::{begin, open};
+pub use reading::entry;
 pub use restarting::restart;

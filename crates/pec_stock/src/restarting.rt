@@ -3,20 +3,21 @@ ghost use Rattle.pec_outside.specs.Flow.{HasRisen};
 ghost use Rattle.pec_ledger.specs.Network.{chosen};
 ghost use Rattle.pec_chronicle.specs.Carrying.{CarriesOn, NothingMay};
 ghost use Rattle.pec_chronicle.specs.Chronicle.{Stands, down_over, past_of};
-ghost use Rattle.pec_stock.specs.Opening.{IsOutside, as_reopened};
+ghost use Rattle.pec_stock.specs.Opening.{IsOutside};
 ghost use Rattle.pec_stock.specs.Stock.{Agree};
 ghost use Rattle.pec_stock.specs.declared.faults.ReopenFault.TheVariants as reopen;
 
 use crate::faults::ReopenFault;
 use crate::opening::whole;
-use pec_chronicle::{Chronicle, OpenFault};
+use pec_chronicle::Chronicle;
 use pec_directory::Directory;
 use pec_outside::Disk;
 use pec_shelf::{Shelf, a_directory_has_a_trade};
 use std::alloc::Global;
 
-/// Opens a stock again over the disk that it has, after a crash or a fault of it: its entries are those before, with the
-/// interrupted one or without it. It writes nothing and reads each entry once. With a fault it is what it was, down.
+/// Opens a stock again over the disk that it has, after a crash or a fault of it: its entries are those before, with
+/// the interrupted one or without it. It writes nothing and reads each entry once. With a fault it is what it was,
+/// down.
 pub fn restart<D: Disk>(
     alloc: Global,
     directory: &Directory,
@@ -43,23 +44,10 @@ pub fn restart<D: Disk>(
 {
     a_directory_has_a_trade();
     match chronicle.restart(alloc) {
-        Ok((opened, entries, places, past)) => {
-            match whole(alloc, directory, shelf.me(), opened.end(), entries, &places) {
-                Ok(taken) => Ok((opened, taken)),
-                Err(fault) => Err((fault, opened.back_to(past), shelf)),
-            }
-        }
-        Err((fault, shut)) => Err((as_reopened(fault), shut, shelf)),
-    }
-}
-
-fn as_reopened(fault: OpenFault) -> ReopenFault
-    ensures { result ≡ as_reopened fault }
-{
-    match fault {
-        OpenFault::DiskFault => ReopenFault::DiskFault,
-        OpenFault::NotAJournal(place) => ReopenFault::NotAJournal(place),
-        OpenFault::BadEntry(number) => ReopenFault::BadEntry(number),
-        OpenFault::NoMemory => ReopenFault::NoMemory,
+        Ok((mut opening, past)) => match whole(alloc, directory, shelf.me(), &mut opening) {
+            Ok(taken) => Ok((opening.done(), taken)),
+            Err(fault) => Err((fault, opening.back_to(past), shelf)),
+        },
+        Err((fault, shut)) => Err((fault.into(), shut, shelf)),
     }
 }

@@ -10,8 +10,8 @@ use Rattle.pec_reception.specs.Views.{framed_shown}
 use Rattle.pec_reception.specs.declared.standing.Standing.TheVariants.{New, Known, Foreign}
 use Rattle.pec_reception.proofs.letters.envelope.Goals as goal
 
-pub returns-in-New-clause-exact : goal.returns-in-New-clause-exact
-returns-in-New-clause-exact c = λ seals. λ journal. λ is.
+pub returns-in_ok-received-in-New-clause-exact : goal.returns-in_ok-received-in-New-clause-exact
+returns-in_ok-received-in-New-clause-exact c = λ seals. λ journal. λ is.
     let trade = trade_of c.args.directory.now seals
     in let me = c.args.shelf.now.me
     in let now = c.args.moment
@@ -38,8 +38,8 @@ returns-in-Known-clause-exact c = λ seals. λ journal. λ is.
     in shows_known (envelope_rows trade me now journal framed id) fits found c.passes.result _
     (rw c.me-me.ensures at c.passes.ensures) stands (λ row. (refl, refl, refl))
 
-pub returns-clause-exact : goal.returns-clause-exact
-returns-clause-exact c = λ seals. λ journal. λ is.
+pub returns-in-Foreign-clause-exact : goal.returns-in-Foreign-clause-exact
+returns-in-Foreign-clause-exact c = λ seals. λ journal. λ is.
     let trade = trade_of c.args.directory.now seals
     in let me = c.args.shelf.now.me
     in let now = c.args.moment

@@ -8,14 +8,15 @@ use Rattle.pec_stock.proofs.Agreeing.{agree_failed, agree_still, agree_taken, en
 use Rattle.pec_stock.proofs.CarryLemmas.{reserve_alone, reserve_and_append}
 use Rattle.pec_stock.proofs.LookLemmas.{looked_none, looked_through, never_ok}
 use Rattle.pec_stock.proofs.OpeningLemmas.{end_agrees}
-use Rattle.pec_stock.proofs.PlaceLemmas.{place_at, place_push, room_for_bytes}
+use Rattle.pec_stock.proofs.PlaceLemmas.{place_at, place_push}
+use Rattle.pec_stock.proofs.RoomLemmas.{within_limit}
 use Rattle.pec_stock.proofs.WorldLemmas.{same_step}
 use Rattle.pec_stock.proofs.entering.enter.Goals as goal
 
 pub returns-in_err-encoded-clause-agree : goal.returns-in_err-encoded-clause-agree
 returns-in_err-encoded-clause-agree g c =
     agree_still c.args.directory.now c.args.chronicle.now c.reserve.new.self c.args.shelf.now c.args.shelf.now c.requires.agree
-    (same_but_room c.args.chronicle.now c.reserve.new.self _ _ c.reserve.ensures.same) (refl, refl, refl, refl, refl)
+    (same_but_room c.args.chronicle.now c.reserve.new.self _ c.reserve.ensures.same) (refl, refl, refl, refl, refl)
 
 pub returns-in_err-encoded-clause-carries : goal.returns-in_err-encoded-clause-carries
 returns-in_err-encoded-clause-carries g c tells =
@@ -24,7 +25,7 @@ returns-in_err-encoded-clause-carries g c tells =
 pub returns-in_err-ready-clause-agree : goal.returns-in_err-ready-clause-agree
 returns-in_err-ready-clause-agree g c =
     agree_still c.args.directory.now c.args.chronicle.now c.reserve.new.self c.args.shelf.now c.prepare.new.self c.requires.agree
-    (same_but_room c.args.chronicle.now c.reserve.new.self _ _ c.reserve.ensures.same) c.prepare.ensures.same
+    (same_but_room c.args.chronicle.now c.reserve.new.self _ c.reserve.ensures.same) c.prepare.ensures.same
 
 pub returns-in_err-ready-clause-carries : goal.returns-in_err-ready-clause-carries
 returns-in_err-ready-clause-carries g c tells =
@@ -37,7 +38,7 @@ returns-in_err-append-clause-agree g c =
     c.args.draft.now c.requires.up (λ trade of. same_step c.args.directory.now c.requires.step.trade trade c.requires.step.of of c.args.shelf.now.me c.args.shelf.now.half
     c.args.draft.now c.requires.step.step) c.in_err-append.field-0.0
     (failed_from c.args.chronicle.now c.reserve.new.self c.append.new.chronicle c.in_ok-encoded.encoded c.args.draft.now
-    (same_but_room c.args.chronicle.now c.reserve.new.self _ _ c.reserve.ensures.same) (c.in_ok-encoded.ensures.encoded ∙ c.entry-entry.ensures)
+    (same_but_room c.args.chronicle.now c.reserve.new.self _ c.reserve.ensures.same) (c.in_ok-encoded.ensures.encoded ∙ c.entry-entry.ensures)
     c.in_err-append.field-0.0 c.in_err-append.ensures.failed)
     c.prepare.ensures.same
 
@@ -54,12 +55,11 @@ returns-clause-agree g c =
     let place = c.next_place-place.result in
     let step = c.requires.step in
     let is = c.in_ok-ready.ensures.is in
-    let same = same_but_room c.args.chronicle.now c.reserve.new.self _ _ c.reserve.ensures.same in
+    let same = same_but_room c.args.chronicle.now c.reserve.new.self _ c.reserve.ensures.same in
     let came = entered_from c.args.chronicle.now c.reserve.new.self c.append.new.chronicle c.in_ok-encoded.encoded entry same
     (c.in_ok-encoded.ensures.encoded ∙ c.entry-entry.ensures) c.in_ok-append.ensures.entered in
     let ends = same.end ∙ c.requires.agree.ends c.requires.up in
-    let fits = room_for_bytes c.args.shelf.now c.prepare.new.self c.in_ok-ready.ready step.trade entry place c.prepare.ensures.same
-    c.in_ok-ready.ensures.room (is step.trade step.of) in
+    let fits = within_limit c.reserve.new.self.end c.in_ok-encoded.encoded c.in_ok-append.ensures.entered.fits in
     agree_taken kept c.args.chronicle.now c.append.new.chronicle c.args.shelf.now c.commit.new.self c.requires.agree
     entry c.requires.up (λ trade of. same_step kept step.trade trade step.of of c.args.shelf.now.me c.args.shelf.now.half entry step.step)
     c.in_ok-ready.ready c.prepare.new.self place step.trade step.of c.prepare.ensures.same c.commit.ensures.after is
@@ -68,8 +68,7 @@ returns-clause-agree g c =
     (subst (λ (n : ℕ). n < END_OF_TIME) (c.moment_of.ensures.value ∙ ap moment_of c.entry-entry.ensures) c.moment_of.ensures.below)
     (place_push c.entries_stand_at_their_places.ensures.more c.args.chronicle.now.entries entry c.reserve.new.self.end place
     (ends ∙ end_agrees kept c.args.shelf.now c.args.chronicle.now.entries step.trade step.of c.requires.agree.holds)
-    (λ small. c.next_place-place.ensures small ∙ ap (λ (e : Entry). place_at c.reserve.new.self.end (entry_text e)) (c.in_ok-encoded.ensures.encoded ∙ c.entry-entry.ensures))
-    (rw ends fits))
+    (c.next_place-place.ensures fits ∙ ap (λ (e : Entry). place_at c.reserve.new.self.end (entry_text e)) (c.in_ok-encoded.ensures.encoded ∙ c.entry-entry.ensures)))
     came
 
 pub returns-clause-carries : goal.returns-clause-carries

@@ -1,40 +1,44 @@
-use Rattle.std.proofs.Common.{◌≡◌, sym, ◌∙◌, ap, length, map, List}
-use Rattle.pec_journal.specs.JournalFile.{front}
+use Rattle.std.proofs.Common.{List, ℕ, map, sym, subst}
+use Rattle.pec_outside.specs.Moments.{stays_and}
 use Rattle.pec_records.specs.Entry.{entry_text}
-use Rattle.pec_records.specs.declared.entries.Entry.{Entry}
-use Rattle.pec_stock.proofs.OpeningLemmas.{reads_all, refused_own, refused_unfit, why_disk, why_outside, why_unfit}
+use Rattle.pec_chronicle.specs.Chronicle.{IsJournalOf}
+use Rattle.pec_stock.specs.Opening.{IsOutside, IsUnfit}
+use Rattle.pec_stock.proofs.OpeningLemmas.{only_disk, outside_by, unfit_open}
 use Rattle.pec_stock.proofs.opening.open.Goals as goal
 
-pub returns-in-Ok-clause-own : goal.returns-in-Ok-clause-own
-returns-in-Ok-clause-own g c = λ tells trade list of own journal.
-    let read : c.in-Ok.chronicle.entries ≡ c.in-Ok.entries.items = c.in-Ok.ensures.entries.0 in
-    let ends : c.in-Ok.chronicle.end ≡ length (front (map entry_text c.in-Ok.entries.items)) =
-    ((c.in-Ok.ensures.opened tells).1.up c.in-Ok.ensures.entries.2).ends ∙ ap (λ (l : List Entry). length (front (map entry_text l))) read in
-    refused_own (λ e. e.0) c.opened.result trade c.args.me list c.in-Ok.entries.items (sym read ∙ c.in-Ok.ensures.list tells list journal) own
-    (c.opened.ensures.not_own ends trade of)
+pub returns-in-Ok-opened-clause-opened : goal.returns-in-Ok-opened-clause-opened
+returns-in-Ok-opened-clause-opened g c tells =
+    let o = c.in-Ok.ensures.opened tells in
+    let so = c.in-Ok-opened.ensures.opened tells o.0 o.2 in
+    (subst (λ (b : List ℕ). IsJournalOf c.in-Ok-opened.made.0.entries b) (c.in-Ok.ensures.stays tells).seen so.0, so.1)
 
-pub returns-in-Ok-clause-unfit : goal.returns-in-Ok-clause-unfit
-returns-in-Ok-clause-unfit g c = λ tells trade of.
-    let read : c.in-Ok.chronicle.entries ≡ c.in-Ok.entries.items = c.in-Ok.ensures.entries.0 in
-    let ends : c.in-Ok.chronicle.end ≡ length (front (map entry_text c.in-Ok.entries.items)) =
-    ((c.in-Ok.ensures.opened tells).1.up c.in-Ok.ensures.entries.2).ends ∙ ap (λ (l : List Entry). length (front (map entry_text l))) read in
-    refused_unfit (λ e. e.0) c.opened.result trade c.args.me (g.D.Disk.sight c.args.disk).seen c.in-Ok.entries.items
-    (reads_all (g.D.Disk.sight c.args.disk).seen c.in-Ok.entries.items (rw (← read) (c.in-Ok.ensures.opened tells).0)) (c.opened.ensures.not_own ends trade of)
+pub returns-in-Ok-opened-clause-stays : goal.returns-in-Ok-opened-clause-stays
+returns-in-Ok-opened-clause-stays g c tells = stays_and _ _ _ (c.in-Ok.ensures.stays tells) (c.in-Ok-opened.ensures.stays tells)
+
+pub returns-in-Err-opened-clause-stays_err : goal.returns-in-Err-opened-clause-stays_err
+returns-in-Err-opened-clause-stays_err g c tells = stays_and _ _ _ (c.in-Ok.ensures.stays tells) (c.in-Err-opened.ensures.stays_err tells)
+
+pub returns-in-Err-opened-clause-own : goal.returns-in-Err-opened-clause-own
+returns-in-Err-opened-clause-own g c = λ tells trade list of own journal.
+    c.in-Err-opened.ensures.own tells trade list of own
+    (record { reads = c.in-Ok.ensures.list tells (map entry_text list) journal.file; written = journal.written })
+
+pub returns-in-Err-opened-clause-unfit : goal.returns-in-Err-opened-clause-unfit
+returns-in-Err-opened-clause-unfit g c = λ tells trade of.
+    let o = c.in-Ok.ensures.opened tells in
+    subst (λ (b : List ℕ). IsUnfit trade c.args.me b c.in-Err-opened.refused.0) (c.in-Ok.ensures.stays tells).seen
+    (c.in-Err-opened.ensures.unfit tells o.0 o.2 trade of)
 
 pub returns-in-Err-clause-own : goal.returns-in-Err-clause-own
 returns-in-Err-clause-own g c = λ tells trade list of own journal.
-    why_outside c.args.directory.now c.args.me c.in-Err.unopened.fault c.in-Err.unopened.entries.items c.refused.result.0 c.refused.ensures.why
-    (c.in-Err.ensures.refused tells list journal)
+    subst IsOutside (sym c.into.ensures)
+    (outside_by c.in-Err.fault (λ n. (c.in-Err.ensures.refused tells (map entry_text list) journal.file n, c.in-Err.ensures.no_entry n)))
 
 pub returns-in-Err-clause-unfit : goal.returns-in-Err-clause-unfit
 returns-in-Err-clause-unfit g c = λ tells trade of.
-    why_unfit c.args.directory.now c.args.me c.in-Err.unopened.fault c.in-Err.unopened.entries.items c.refused.result.0 trade
-    (g.D.Disk.sight c.args.disk).seen of c.refused.ensures.why (c.in-Err.ensures.not_a_journal tells) (c.in-Err.ensures.bad_entry tells)
+    let bytes = (g.D.Disk.sight c.args.disk).seen in
+    subst (IsUnfit trade c.args.me bytes) (sym c.into.ensures)
+    (unfit_open trade c.args.me bytes c.in-Err.fault (c.in-Err.ensures.not_a_journal tells) c.in-Err.ensures.no_entry)
 
 pub returns-in-Err-clause-disk_fault : goal.returns-in-Err-clause-disk_fault
-returns-in-Err-clause-disk_fault g c = λ e quiet.
-    let some = c.a_directory_has_a_trade.ensures c.args.directory.now in
-    rw c.refused.ensures.disk
-    (c.in-Err.ensures.disk_fault
-    (why_disk c.args.directory.now c.args.me c.in-Err.unopened.fault c.in-Err.unopened.entries.items c.refused.result.0 some.0 some.1
-    c.refused.ensures.why e) quiet)
+returns-in-Err-clause-disk_fault g c = λ e quiet. c.in-Err.ensures.disk_fault (only_disk c.in-Err.fault (rw c.into.ensures at e)) quiet

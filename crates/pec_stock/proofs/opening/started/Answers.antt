@@ -1,12 +1,17 @@
-use Rattle.std.proofs.Common.{◌∷◌, [], subst, sym}
+use Rattle.std.proofs.Common.{◌∷◌, [], ◌∙◌, ap, subst, sym}
 use Rattle.pec_records.specs.declared.entries.Entry.{Entry}
+use Rattle.pec_chronicle.specs.Opening.{place_behind}
 use Rattle.pec_shelf.specs.Prepared.{IsStep}
 use Rattle.pec_stock.specs.Stock.{IsOwn}
 use Rattle.pec_stock.proofs.BeginningLemmas.{holds_new, start_own, start_step}
 use Rattle.pec_stock.proofs.opening.started.Goals as goal
 
 pub put_in-requires-clause-holds : goal.put_in-requires-clause-holds
-put_in-requires-clause-holds c = ([], holds_new c.args.directory.now c.args.me c.new-shelf.result c.new-shelf.ensures)
+put_in-requires-clause-holds c = (
+  [],
+  holds_new c.args.directory.now c.args.me c.new-shelf.result c.new-shelf.ensures,
+  c.in_ok-place.ensures ∙ ap (λ (e : Entry). place_behind [] e) c.entry.ensures,
+)
 
 pub put_in-requires-clause-step : goal.put_in-requires-clause-step
 put_in-requires-clause-step c =

@@ -8,14 +8,15 @@ returns-in-Ok-clause-carries g c tells =
     let up = rw (← c.self.view_is) at c.requires.up in
     rw (← c.self.view_is) (carries_appended g.D.Disk.sight _ _ c.args.entry c.self.invariant.past.written c.bytes.ensures.can
     (λ texts keeps. rw c.bytes.ensures.text at (c.append.ensures.any_moment tells texts keeps))
-    up c.push_reserved.ensures.items (c.self.invariant.whole up)
+    up c.and-self-inside.ensures (c.self.invariant.whole up)
     (λ texts keeps. rw c.bytes.ensures.text at (c.in-Ok.ensures.ok tells texts keeps)))
 
 pub returns-in-Err-DiskFault-clause-carries : goal.returns-in-Err-DiskFault-clause-carries
 returns-in-Err-DiskFault-clause-carries g c tells =
+    let up = rw (← c.self.view_is) at c.requires.up in
     rw (← c.self.view_is) (carries_interrupted g.D.Disk.sight _ _ c.args.entry c.self.invariant.past.written c.bytes.ensures.can
     (λ texts keeps. rw c.bytes.ensures.text at (c.append.ensures.any_moment tells texts keeps))
-    (rw (← c.self.view_is) at c.requires.up) refl refl refl (c.a_disk_is_so.ensures.counts tells (disk_in c.append.new.self)))
+    up refl refl refl (c.a_disk_is_so.ensures.counts tells (disk_in c.append.new.self)))
 
 pub returns-in-Ok-clause-grows : goal.returns-in-Ok-clause-grows
 returns-in-Ok-clause-grows g c tells within =

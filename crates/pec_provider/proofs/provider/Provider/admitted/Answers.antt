@@ -5,7 +5,6 @@ use Rattle.pec_types.specs.declared.turns.Submitted.{Submitted}
 use Rattle.pec_directory.specs.Directory.{providers_of}
 use Rattle.pec_records.specs.Entry.{IsWithinLimits}
 use Rattle.pec_points.specs.Case.{case_at}
-use Rattle.pec_plays.specs.Envelopes.{HasEnvelope}
 use Rattle.pec_trade.specs.Houses.{world_at}
 use Rattle.pec_provider.specs.Looking.{Looks}
 use Rattle.pec_provider.proofs.LookLemmas.{handed, still, within_limits}
@@ -134,10 +133,3 @@ returns-clause-limits g c =
     subst (λ (e : Entry). IsWithinLimits e) (sym c.in_ok-entry.ensures)
     (within_limits (cause_in c.in_ok-admission.admission) c.args.moment c.args.sender.now c.args.path.now c.args.message.now c.requires.path.1
     c.requires.message)
-
-pub returns-clause-envelope : goal.returns-clause-envelope
-returns-clause-envelope g c =
-    let trade = world_at c.args.house.now in
-    subst (HasEnvelope trade) (sym c.in_ok-entry.ensures)
-    (c.what_a_provider_takes_is_an_envelope.ensures.submissions trade (cause_in c.in_ok-admission.admission) c.args.moment c.args.sender.now
-    c.args.path.now c.args.message.now)

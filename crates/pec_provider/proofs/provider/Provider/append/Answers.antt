@@ -17,10 +17,8 @@ returns-clause-marks g c = λ trade of.
 
 pub returns-clause-runs : goal.returns-clause-runs
 returns-clause-runs g c =
-    runs_on c.taken_messages_have_envelopes.ensures.more c.args.house.now.directory.now c.args.house.now.me _
-    c.args.self.now c.self.view_is c.enter.new.chronicle c.enter.new.shelf _ c.args.entry c.enter.result
-    c.enter.ensures.entered c.enter.ensures.failed c.enter.ensures.me c.enter.ensures.agree c.requires.envelope
-    c.requires.runs
+    runs_on c.args.house.now.directory.now c.args.house.now.me _ c.args.self.now c.self.view_is c.enter.new.chronicle
+    c.enter.new.shelf _ c.enter.ensures.me c.enter.ensures.agree c.requires.runs
 
 pub returns-clause-looked : goal.returns-clause-looked
 returns-clause-looked g c = λ trade of.

@@ -7,7 +7,6 @@ use Rattle.pec_trade.specs.TradeOf.{trade_of}
 use Rattle.pec_reception.specs.Shows.{Shows}
 use Rattle.pec_provider.specs.Provider.{desk_of}
 use Rattle.pec_provider.specs.Working.{Does}
-use Rattle.pec_provider.proofs.AppendLemmas.{any_has}
 use Rattle.pec_provider.proofs.FollowLemmas.{carries_any, carries_still}
 use Rattle.pec_provider.proofs.RunLemmas.{half_inside, me_runs}
 use Rattle.pec_provider.proofs.StepLemmas.{arrive_so}
@@ -51,22 +50,6 @@ undertake-requires-clause-step g c =
     (λ e is. c.what_a_provider_does_is_its_own.ensures.arrivals trade
     c.a_house_is_a_trade.ensures.trade me c.args.moment journal
     c.args.frame.now e is)
-
-pub undertake-requires-clause-envelope : goal.undertake-requires-clause-envelope
-undertake-requires-clause-envelope g c =
-    let kept = c.args.house.now.directory.now in
-    let me = c.args.house.now.me in
-    let trade = trade_of kept (g.S.Sealer.seals c.args.house.now.sealer.now) in
-    let of = c.a_house_is_a_trade.ensures.of in
-    let journal = c.args.self.now.chronicle.entries in
-    let shows = subst (λ (n : ℕ). Shows c.in_ok-received.received
-    (arrive trade n c.args.moment journal c.args.frame.now))
-    (me_runs kept me _ c.args.self.now c.self.view_is c.requires.runs)
-    (c.in_ok-received.ensures.exact journal (half_inside kept me _ c.args.self.now c.self.view_is trade c.requires.runs
-    of)) in
-    any_has c.in_ok-received.received.entry (λ entry is.
-    c.what_a_provider_takes_is_an_envelope.ensures.arrivals trade me c.args.moment journal c.args.frame.now entry
-    (sym shows.0 ∙ is))
 
 pub returns-in_err-event-clause-arrives : goal.returns-in_err-event-clause-arrives
 returns-in_err-event-clause-arrives g c =

@@ -7,7 +7,6 @@ use Rattle.pec_trade.specs.TradeOf.{trade_of}
 use Rattle.pec_reception.specs.Shows.{ShowsNext}
 use Rattle.pec_provider.specs.Provider.{desk_of}
 use Rattle.pec_provider.specs.Working.{DecidesFirst}
-use Rattle.pec_provider.proofs.AppendLemmas.{any_has}
 use Rattle.pec_provider.proofs.FollowLemmas.{carries_any, carries_still}
 use Rattle.pec_provider.proofs.RunLemmas.{half_inside, me_runs, steps_inside}
 use Rattle.pec_provider.proofs.StepLemmas.{decide_so}
@@ -72,24 +71,6 @@ undertake-requires-clause-step g c =
     works.in_time
     (λ e is. c.what_a_provider_does_is_its_own.ensures.decisions trade me c.args.moment journal first.pair
     (first_there (undecided trade me journal) first.pair first.pairs first.first) e is)
-
-pub undertake-requires-clause-envelope : goal.undertake-requires-clause-envelope
-undertake-requires-clause-envelope g c =
-    let kept = c.args.house.now.directory.now in
-    let me = c.args.house.now.me in
-    let trade = trade_of kept (g.S.Sealer.seals c.args.house.now.sealer.now) in
-    let of = c.a_house_is_a_trade.ensures.of in
-    let journal = c.args.self.now.chronicle.entries in
-    let next = subst (λ (n : ℕ). ShowsNext trade n c.args.moment journal c.in_ok-received.field-0)
-    (me_runs kept me _ c.args.self.now c.self.view_is c.requires.runs)
-    (c.in_ok-received.ensures.exact trade of journal (steps_inside kept me _ c.args.self.now c.self.view_is trade
-    c.requires.runs of)
-    (half_inside kept me _ c.args.self.now c.self.view_is trade c.requires.runs of)) in
-    let first = some_next trade me c.args.moment journal c.in_ok-received.field-0 c.in-Some.received next c.in-Some.is
-    in
-    any_has c.in-Some.received.entry (λ entry is.
-    c.what_a_provider_takes_is_an_envelope.ensures.decisions trade me c.args.moment journal first.pair entry
-    (sym first.shows.0 ∙ is))
 
 pub returns-in_err-event-clause-decides : goal.returns-in_err-event-clause-decides
 returns-in_err-event-clause-decides g c =

@@ -6,8 +6,8 @@ pub returns-in-Err-clause-runs_err : goal.returns-in-Err-clause-runs_err
 returns-in-Err-clause-runs_err g c =
     let parts = c.parts-chronicle in
     runs_down c.args.house.now.directory.now c.args.house.now.me c.args.self c.args.self refl c.in-Err.chronicle
-    c.in-Err.shelf parts.result.2.items _ parts.result.3
-    (c.in-Err.ensures.shelf ∙ parts.ensures.1) parts.ensures.3 (rw (← parts.ensures.0) c.in-Err.ensures.down) c.requires
+    c.in-Err.shelf parts.result.2.items _
+    (c.in-Err.ensures.shelf ∙ parts.ensures.1) (rw (← parts.ensures.0) c.in-Err.ensures.down) c.requires
 
 pub returns-in-Ok-clause-found : goal.returns-in-Ok-clause-found
 returns-in-Ok-clause-found g c = λ tells.

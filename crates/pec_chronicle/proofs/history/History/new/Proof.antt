@@ -1,0 +1,38 @@
+-- `new` makes the empty struct, with the items that its clause names. Assumes `Logic`.
+use Rattle.std.proofs.Common.{[], ◌∷◌, refl}
+use mir.Val.{Val}
+use base.Logic.{SProp}
+use contract.Running.{tables}
+use types.Kit.{‵, raw, ◌⊛◌, ◌$◌, ◌∵◌, !, qed, move, keep, split, fjoin, suffices, done}
+use types.Part.{agg}
+use types.Run.{enter, returns, no_more}
+use types.ByLocal.{alloc_all, pass_all, free_all, look_at, sets}
+use denote.RattleType.{owns}
+use denote.Signature.{types_at}
+use denote.Steps.{nothing}
+use denote.Triple.Entry.{alive}
+use denote.Triple.Walked.{says, walk_of, ends_at}
+use Rattle.std.proofs.raw_atomic.Walks.{proved_at}
+use Rattle.pec_chronicle.proofs.NoFields.{none, none_made}
+use Rattle.pec_chronicle.specs.contracts.history.History as History
+use Rattle.pec_chronicle.specs.contracts.history.History.new.{ended, clauses}
+use Rattle.pec_chronicle.specs.contracts.history.History.new.Key.{name as #self}
+use Rattle.pec_chronicle.proofs.history.History.new.Statement.{statement}
+use Rattle.pec_chronicle.proofs.history.History.new.Code as code
+
+pub new_spec : {M : Type 1} → statement M
+new_spec 𝓤 𝓛 𝓜 𝓡 wired =
+    let held = clauses 𝓛 𝓜.mem 𝓡.returns in
+    let 𝓣 = tables 𝓤 𝓛.H 𝓜 𝓡 𝓡.env in
+    proved_at 𝓛 ended tt held 𝓜 𝓡 tt #self code.function (code.unfolded 𝓤 𝓛.H 𝓜 𝓡 wired) (λ z are.
+    let Post : Val → SProp 𝓤 = (walk_of 𝓛 ended tt held).post z in
+    let a = z.0.3 in
+    let made : (History.the_row).Denot = record { items = [] } in
+    qed 𝓛 ((raw (alive 𝓛 ended.signature z.0.0 z.0.1) ⊛ ‵ (owns (types_at ended.signature.params z.0.0) a z.0.4)) ∷ raw ((held z.0.0 a).requires z.1) ∷ []) ∵
+    keep ! (0 ∷ []) $ split ! $ keep ! (0 ∷ []) $
+    enter ! 𝓣.C 𝓣.Λ code.function [] Post $ alloc_all ! (λ l. pass_all ! refl tt $
+    sets ! (agg ! (no_more !)) refl (tt, tt) $
+    nothing ! $ none_made ! $ fjoin ! $
+    returns ! (look_at ! 0 refl) $ free_all ! refl $
+    suffices ! _ (ends_at 𝓛 ended tt held z none made tt tt) $ says ! refl $
+    nothing ! $ move ! (2 ∷ 0 ∷ 1 ∷ []) $ done !))

@@ -1,0 +1,620 @@
+-- In any journal each row of the half to which it comes has its entry: what an item is composed of stands there, and so does
+-- the original of an own message. In journals that are Fit an envelope that was taken is seen as one of its message.
+use Rattle.std.proofs.Common.{◌≡◌, ℕ, zero, suc, Bool, true, false, List, [], ◌∷◌, ◌++◌, length, refl, ap, sym, subst, ◌∙◌, append_assoc, arith}
+use Rattle.std.proofs.Common.{Option, Some, None}
+use Rattle.std.specs.Prelude.{All, IsSome, fold, if◌then◌else◌, slice_get, ◌&&◌, ◌==◌}
+use Rattle.std.specs.Option.{option_and_then, option_map}
+use Rattle.std.specs.Str.{bytes_eq}
+use Rattle.std.proofs.lemmas.Bool.{and_from, eq-eqb}
+use Rattle.std.proofs.lemmas.List.{append-nil, length-append}
+use Rattle.std.proofs.lemmas.List.Elements.{All-append, All-cons, All-filter, All-map, All-nil, All-weaker}
+use Rattle.std.proofs.lemmas.Option.{get_or_from_slice_get, none-some, same_Some, slice_get_within}
+use Rattle.std.proofs.lemmas.Slice.Eq.{bytes_eq-Decides}
+use Rattle.pec_types.specs.Bytes.{Bytes, Path}
+use Rattle.pec_types.specs.Message.{Id}
+use Rattle.pec_types.specs.declared.letters.Letter.{Letter}
+use Rattle.pec_types.specs.declared.letters.Letter.TheVariants as letters
+use Rattle.pec_types.specs.declared.limits.Due.{Due}
+use Rattle.pec_types.specs.declared.limits.Due.TheVariants as dues
+use Rattle.pec_types.specs.declared.messages.Cause.{Cause}
+use Rattle.pec_types.specs.declared.messages.Decision.{Decision}
+use Rattle.pec_types.specs.declared.messages.Decision.TheVariants.{Placed, Refused}
+use Rattle.pec_types.specs.declared.messages.Facts.{Facts}
+use Rattle.pec_types.specs.declared.receipts.Kind.{Kind}
+use Rattle.pec_types.specs.declared.receipts.Kind.TheVariants as kinds
+use Rattle.pec_records.specs.declared.entries.Entry.{Entry}
+use Rattle.pec_records.specs.declared.entries.Entry.TheVariants as entries
+use Rattle.pec_ledger.specs.Half.{AnomalyItem, EnvelopeItem, Fate, Half, Item, Known, Message, Posted, ReceiptItem, Taken, empty}
+use Rattle.pec_ledger.specs.Items.{accepted_body, composed, item_text, original_at, refusal_by, taken_body, text_by}
+use Rattle.pec_ledger.specs.Ledger.{Fit, IsEnvelopeText, Journals, body_at, body_of, ledger}
+use Rattle.pec_ledger.specs.Lookups.{Accepted, accepted_at, accepted_of, decided_of, known_of, mailbox, outcome_kind, taken_of}
+use Rattle.pec_ledger.specs.Marks.{marks_from}
+use Rattle.pec_ledger.specs.Pairs.{pair_of, same_id}
+use Rattle.pec_ledger.specs.Steps.{anomaly_by, half, items_by, kind_of_due, messages_by, notice_by, placed_by, step}
+use Rattle.pec_ledger.specs.Trade.{SeenEnvelope, Trade}
+use Rattle.pec_plays.specs.Frames.{original_in}
+use Rattle.pec_outgoing.specs.Entries.{learned_in, took_in}
+use Rattle.pec_outgoing.specs.ItemNeeds.{AnomalyWanted, EnvelopeWanted, IsShown, OutcomeWanted, ReceiptWanted, RefusalWanted, ServesItem, Wanted}
+use Rattle.pec_outgoing.specs.ItemNeeds.{item_wanted, needed_item, number_wanted, wanted_at}
+use Rattle.pec_outgoing.specs.Needs.{AckAsked, Asked, ChargeAsked, EnvelopeAsked, Holds, HoldsMessage, OutcomeAsked}
+use Rattle.pec_outgoing.specs.Needs.{asked_by, enveloped_in, needed, number_of}
+use Rattle.pec_provider.specs.Playing.{item_at}
+use Rattle.pec_provider.specs.Reading.{IsNotOf, ItemIsChanged, LetterIsChanged}
+
+-- ---- lists and options
+
+found : {X : Type 0} (P : X → Type 0) (xs : List X) (k : ℕ) (x : X) → All P xs → slice_get xs k ≡ Some x → P x
+found P xs k x all e = subst P (get_or_from_slice_get xs k x x e) (all k x (slice_get_within xs k x e))
+
+stays : (front more : List Entry) (k : ℕ) (entry : Entry) → slice_get front k ≡ Some entry
+    → slice_get (front ++ more) k ≡ Some entry
+stays [] more k entry e = absurd (none-some entry e)
+stays (x ∷ front) more zero entry e = e
+stays (x ∷ front) more (suc k) entry e = stays front more k entry e
+
+last_place : (front : List Entry) (entry : Entry) → slice_get (front ++ entry ∷ []) (length front) ≡ Some entry
+last_place [] entry = refl
+last_place (x ∷ front) entry = last_place front entry
+
+-- what was mapped
+mapped : {X Y : Type 0} (f : X → Y) (o : Option X) (y : Y) → option_map f o ≡ Some y → (x : X) × (o ≡ Some x) × (f x ≡ y)
+mapped f None y e = absurd (none-some y e)
+mapped f (Some x) y e = (x, refl, same_Some (f x) y e)
+
+-- what was found by way of another
+bound : {X Y : Type 0} (f : X → Option Y) (o : Option X) (y : Y) → option_and_then f o ≡ Some y → (x : X) × (o ≡ Some x) × (f x ≡ Some y)
+bound f None y e = absurd (none-some y e)
+bound f (Some x) y e = (x, refl, e)
+
+then_so : {X Y : Type 0} (f : X → Option Y) (o : Option X) (x : X) (y : Y) → o ≡ Some x → f x ≡ Some y → option_and_then f o ≡ Some y
+then_so f o x y e g = ap (option_and_then f) e ∙ g
+
+some_by : {X : Type 0} (o : Option X) (x : X) → o ≡ Some x → IsSome o
+some_by {X} o x e = subst (λ (p : Option X). IsSome p) (sym e) refl
+
+-- where a test is true its first branch is taken
+chosen_so : {X : Type 0} (test : Bool) (one other : X) → test ≡ true → (if test then one else other) ≡ one
+chosen_so test one other e = rw e refl
+
+id_again : (id : Id) → same_id id id ≡ true
+id_again id =
+    and_from (id.provider == id.provider) (id.number == id.number) (eq-eqb id.provider id.provider refl)
+    (eq-eqb id.number id.number refl)
+
+bytes_again : (bytes : Bytes) → bytes_eq bytes bytes ≡ true
+bytes_again bytes = (bytes_eq-Decides bytes bytes).1 refl
+
+-- ---- rows and their entries
+
+-- an own message was accepted by its entry, with the facts of its row
+pub record SentRow (trade : Trade) (journal : List Entry) (message : Message) : Type 0 where
+  pub original : Bytes
+  pub there : slice_get journal message.entry ≡ Some (entries.Accepted message.moment message.sender original)
+  pub facts : trade.facts original ≡ message.facts
+
+-- so it is where it was accepted
+abbrev MessageRow : Trade → List Entry → Message → Type 0
+MessageRow trade journal message = (facts : Facts) → message.facts ≡ Some facts → SentRow trade journal message
+
+-- the outcome for a recipient was learned by this entry
+pub record LearnedRow (journal : List Entry) (entry : ℕ) (id : Id) (recipient : Option Bytes) : Type 0 where
+  pub address : Bytes
+  pub is : recipient ≡ Some address
+  pub moment : ℕ
+  pub decision : Decision
+  pub decided : ℕ
+  pub message : Bytes
+  pub there : slice_get journal entry ≡ Some (entries.Learned moment id address decision decided message)
+
+-- a message wasn't accepted by this entry
+pub record RefusedRow (journal : List Entry) (entry : ℕ) : Type 0 where
+  pub moment : ℕ
+  pub sender : Bytes
+  pub cause : Cause
+  pub path : Path
+  pub message : Bytes
+  pub there : slice_get journal entry ≡ Some (entries.NotAccepted moment sender cause path message)
+
+-- an anomaly came by this entry
+pub record AnomalyRow (journal : List Entry) (entry : ℕ) : Type 0 where
+  pub moment : ℕ
+  pub accounts : Path
+  pub message : Bytes
+  pub there : slice_get journal entry ≡ Some (entries.Anomaly moment accounts message)
+
+-- what the entry by which an item was placed holds for it
+abbrev ItemRow : List Entry → ℕ → Item → Type 0
+ItemRow journal entry (ReceiptItem kinds.Delivery id recipient moment) = LearnedRow journal entry id recipient
+ItemRow journal entry (ReceiptItem (kinds.DeliveryError refusal) id recipient moment) = LearnedRow journal entry id recipient
+ItemRow journal entry (ReceiptItem (kinds.NonAcceptance cause) id recipient moment) = RefusedRow journal entry
+ItemRow journal entry (AnomalyItem moment) = AnomalyRow journal entry
+ItemRow journal entry _ = Unit {0}
+
+-- ---- with more entries behind them
+
+learned_stays : (front more : List Entry) (entry : ℕ) (id : Id) (recipient : Option Bytes) → LearnedRow front entry id recipient
+    → LearnedRow (front ++ more) entry id recipient
+learned_stays front more entry id recipient row = record {
+  address = row.address;
+  is = row.is;
+  moment = row.moment;
+  decision = row.decision;
+  decided = row.decided;
+  message = row.message;
+  there = stays front more entry (entries.Learned row.moment id row.address row.decision row.decided row.message) row.there;
+}
+
+item_stays : (front more : List Entry) (entry : ℕ) (item : Item) → ItemRow front entry item → ItemRow (front ++ more) entry item
+item_stays front more entry (EnvelopeItem id) row = tt
+item_stays front more entry (ReceiptItem kinds.Acceptance id recipient moment) row = tt
+item_stays front more entry (ReceiptItem (kinds.NonAcceptance cause) id recipient moment) row = record {
+  moment = row.moment;
+  sender = row.sender;
+  cause = row.cause;
+  path = row.path;
+  message = row.message;
+  there = stays front more entry (entries.NotAccepted row.moment row.sender row.cause row.path row.message) row.there;
+}
+item_stays front more entry (ReceiptItem kinds.Charge id recipient moment) row = tt
+item_stays front more entry (ReceiptItem kinds.Delivery id recipient moment) row = learned_stays front more entry id recipient row
+item_stays front more entry (ReceiptItem (kinds.DeliveryError refusal) id recipient moment) row =
+    learned_stays front more entry id recipient row
+item_stays front more entry (ReceiptItem kinds.Warning id recipient moment) row = tt
+item_stays front more entry (ReceiptItem kinds.Notice id recipient moment) row = tt
+item_stays front more entry (ReceiptItem kinds.LateNotice id recipient moment) row = tt
+item_stays front more entry (ReceiptItem kinds.Ack id recipient moment) row = tt
+item_stays front more entry (AnomalyItem moment) row = record {
+  moment = row.moment;
+  accounts = row.accounts;
+  message = row.message;
+  there = stays front more entry (entries.Anomaly row.moment row.accounts row.message) row.there;
+}
+
+message_stays : (trade : Trade) (front more : List Entry) (message : Message) → MessageRow trade front message
+    → MessageRow trade (front ++ more) message
+message_stays trade front more message row = λ facts e.
+    let sent = row facts e in record {
+      original = sent.original;
+      there = stays front more message.entry (entries.Accepted message.moment message.sender sent.original) sent.there;
+      facts = sent.facts;
+    }
+
+-- ---- what an entry adds
+
+abbrev HasItemRow : List Entry → Posted → Type 0
+HasItemRow journal posted = ItemRow journal posted.entry posted.item
+
+module _ (trade : Trade) (me : ℕ) where
+  module _ (front : List Entry) (h : Half) (count : h.entries ≡ length front) where
+    -- it stands where its rows say
+    here : (entry : Entry) → slice_get (front ++ entry ∷ []) h.entries ≡ Some entry
+    here entry = ap (slice_get (front ++ entry ∷ [])) count ∙ last_place front entry
+
+    message_rows : (entry : Entry) → All (MessageRow trade (front ++ entry ∷ [])) (messages_by trade me h entry)
+    message_rows (entries.Accepted moment sender message) =
+        All-cons (MessageRow trade (front ++ entries.Accepted moment sender message ∷ []))
+        (record {
+          moment = moment;
+          sender = sender;
+          facts = trade.facts message;
+          cause = None;
+          path = [];
+          entry = h.entries;
+        }) []
+        (λ facts e. record { original = message; there = here (entries.Accepted moment sender message); facts = refl })
+        (All-nil (MessageRow trade (front ++ entries.Accepted moment sender message ∷ [])))
+    message_rows (entries.NotAccepted moment sender cause path message) =
+        All-cons (MessageRow trade (front ++ entries.NotAccepted moment sender cause path message ∷ []))
+        (record { moment = moment; sender = sender; facts = None; cause = Some cause; path = path; entry = h.entries }) []
+        (λ facts e. absurd (none-some facts e))
+        (All-nil (MessageRow trade (front ++ entries.NotAccepted moment sender cause path message ∷ [])))
+    message_rows (entries.Start provider digest) = All-nil (MessageRow trade (front ++ entries.Start provider digest ∷ []))
+    message_rows (entries.Took moment id message) = All-nil (MessageRow trade (front ++ entries.Took moment id message ∷ []))
+    message_rows (entries.Decided moment id recipient decision) =
+        All-nil (MessageRow trade (front ++ entries.Decided moment id recipient decision ∷ []))
+    message_rows (entries.Charged moment id by) = All-nil (MessageRow trade (front ++ entries.Charged moment id by ∷ []))
+    message_rows (entries.Learned moment id recipient decision decided message) =
+        All-nil (MessageRow trade (front ++ entries.Learned moment id recipient decision decided message ∷ []))
+    message_rows (entries.Acked moment id recipient) =
+        All-nil (MessageRow trade (front ++ entries.Acked moment id recipient ∷ []))
+    message_rows (entries.Ticked moment) = All-nil (MessageRow trade (front ++ entries.Ticked moment ∷ []))
+    message_rows (entries.Anomaly moment accounts message) =
+        All-nil (MessageRow trade (front ++ entries.Anomaly moment accounts message ∷ []))
+
+    one_item : (journal : List Entry) (posted : Posted) → HasItemRow journal posted → All (HasItemRow journal) (posted ∷ [])
+    one_item journal posted row = All-cons (HasItemRow journal) posted [] row (All-nil (HasItemRow journal))
+
+    placed_rows : (journal : List Entry) (id : Id) (recipient : Bytes) (decision : Decision)
+        → All (HasItemRow journal) (placed_by h id recipient decision)
+    placed_rows journal id recipient Placed =
+        one_item journal (record { account = recipient; item = EnvelopeItem id; entry = h.entries }) tt
+    placed_rows journal id recipient (Refused refusal) = All-nil (HasItemRow journal)
+
+    outcome_row : (journal : List Entry) (id : Id) (recipient : Bytes) (moment : ℕ) (decision : Decision)
+        → LearnedRow journal h.entries id (Some recipient)
+        → ItemRow journal h.entries (ReceiptItem (outcome_kind decision) id (Some recipient) moment)
+    outcome_row journal id recipient moment Placed row = row
+    outcome_row journal id recipient moment (Refused refusal) row = row
+
+    notice_row : (journal : List Entry) (due : Due) (id : Id) (recipient : Option Bytes) (moment : ℕ)
+        → ItemRow journal h.entries (ReceiptItem (kind_of_due due) id recipient moment)
+    notice_row journal dues.Nothing id recipient moment = tt
+    notice_row journal dues.Warning id recipient moment = tt
+    notice_row journal dues.Notice id recipient moment = tt
+    notice_row journal dues.LateNotice id recipient moment = tt
+
+    item_rows : (entry : Entry) → All (HasItemRow (front ++ entry ∷ [])) (items_by trade me h entry)
+    item_rows (entries.Accepted moment sender message) =
+        one_item (front ++ entries.Accepted moment sender message ∷ []) _ tt
+    item_rows (entries.NotAccepted moment sender cause path message) =
+        one_item (front ++ entries.NotAccepted moment sender cause path message ∷ []) _
+        (record {
+          moment = moment;
+          sender = sender;
+          cause = cause;
+          path = path;
+          message = message;
+          there = here (entries.NotAccepted moment sender cause path message);
+        })
+    item_rows (entries.Decided moment id recipient decision) =
+        placed_rows (front ++ entries.Decided moment id recipient decision ∷ []) id recipient decision
+    item_rows (entries.Learned moment id recipient decision decided message) =
+        one_item (front ++ entries.Learned moment id recipient decision decided message ∷ []) _
+        (outcome_row (front ++ entries.Learned moment id recipient decision decided message ∷ []) id recipient moment
+        decision
+        (record {
+          address = recipient;
+          is = refl;
+          moment = moment;
+          decision = decision;
+          decided = decided;
+          message = message;
+          there = here (entries.Learned moment id recipient decision decided message);
+        }))
+    item_rows (entries.Ticked moment) =
+        All-map (HasItemRow (front ++ entries.Ticked moment ∷ [])) (notice_by h) (marks_from trade me h moment 0 h.messages)
+        (λ k d l. notice_row (front ++ entries.Ticked moment ∷ []) _ _ _ _)
+    item_rows (entries.Anomaly moment accounts message) =
+        All-map (HasItemRow (front ++ entries.Anomaly moment accounts message ∷ [])) (anomaly_by h moment) accounts
+        (λ k d l. record {
+          moment = moment;
+          accounts = accounts;
+          message = message;
+          there = here (entries.Anomaly moment accounts message);
+        })
+    item_rows (entries.Start provider digest) = All-nil (HasItemRow (front ++ entries.Start provider digest ∷ []))
+    item_rows (entries.Took moment id message) = All-nil (HasItemRow (front ++ entries.Took moment id message ∷ []))
+    item_rows (entries.Charged moment id by) = All-nil (HasItemRow (front ++ entries.Charged moment id by ∷ []))
+    item_rows (entries.Acked moment id recipient) = All-nil (HasItemRow (front ++ entries.Acked moment id recipient ∷ []))
+
+  -- ---- all entries
+
+  -- each row has its entry
+  pub record HaveEntries (journal : List Entry) (h : Half) : Type 0 where
+    pub count : h.entries ≡ length journal
+    pub messages : All (MessageRow trade journal) h.messages
+    pub items : All (HasItemRow journal) h.items
+
+  one_more : (front : List Entry) (h : Half) (entry : Entry) → HaveEntries front h
+      → HaveEntries (front ++ entry ∷ []) (step trade me h entry)
+  unfolding step
+  one_more front h entry have =
+      let more = entry ∷ [] in record {
+        count = let c = have.count in let l = length-append front (entry ∷ []) in omega (arith, c, l);
+        messages = All-append (MessageRow trade (front ++ more)) h.messages (messages_by trade me h entry)
+            (All-weaker (MessageRow trade front) (MessageRow trade (front ++ more))
+            (λ message row. message_stays trade front more message row) h.messages have.messages)
+            (message_rows front h have.count entry);
+        items = All-append (HasItemRow (front ++ more)) h.items (items_by trade me h entry)
+            (All-weaker (HasItemRow front) (HasItemRow (front ++ more))
+            (λ posted row. item_stays front more posted.entry posted.item row) h.items have.items)
+            (item_rows front h have.count entry);
+      }
+
+  all_along : (front : List Entry) (h : Half) (rest : List Entry) → HaveEntries front h
+      → HaveEntries (front ++ rest) (fold (step trade me) h rest)
+  all_along front h [] have = subst (λ (l : List Entry). HaveEntries l h) (sym (append-nil front)) have
+  all_along front h (entry ∷ rest) have =
+      subst (λ (l : List Entry). HaveEntries l (fold (step trade me) (step trade me h entry) rest))
+      (append_assoc front (entry ∷ []) rest)
+      (all_along (front ++ entry ∷ []) (step trade me h entry) rest (one_more front h entry have))
+
+  pub have_entries : (journal : List Entry) → HaveEntries journal (half trade me journal)
+  unfolding half
+  have_entries journal = all_along [] empty journal (record {
+    count = refl;
+    messages = All-nil (MessageRow trade []);
+    items = All-nil (HasItemRow []);
+  })
+
+  -- ---- what is composed of an entry finds it
+
+  -- each message that was taken has its envelope at its entry
+  abbrev pub HaveEnvelope : Type 0
+  HaveEnvelope = (trade : Trade) (provider : ℕ) (journal : List Entry) (id : Id) (row : Taken)
+      → taken_of (half trade provider journal) id ≡ Some row
+      → (moment : ℕ) × (envelope : Bytes) × (slice_get journal row.entry ≡ Some (entries.Took moment id envelope))
+
+  module _ (journal : List Entry) where
+    -- the entry of an own message, with its original
+    pub record AcceptedThere (row : Accepted) : Type 0 where
+      pub entry : Entry
+      pub there : slice_get journal row.entry ≡ Some entry
+      pub original : Bytes
+      pub holds : HoldsMessage trade row entry original
+      pub body : body_at journal row.entry ≡ Some original
+
+    accepted_by : (message : Message) → MessageRow trade journal message → (row : Accepted) → accepted_of message ≡ Some row
+        → AcceptedThere row
+    accepted_by message sent row e =
+        let facts = mapped _ message.facts row e in
+        let own = sent facts.0 facts.1 in
+        let entry = entries.Accepted message.moment message.sender own.original in
+        subst (λ (r : Accepted). AcceptedThere r) facts.2 (record {
+          entry = entry;
+          there = own.there;
+          original = own.original;
+          holds = (
+            chosen_so ((message.moment == message.moment) && bytes_eq message.sender message.sender) (Some own.original) None
+                (and_from (message.moment == message.moment) (bytes_eq message.sender message.sender)
+                (eq-eqb message.moment message.moment refl) (bytes_again message.sender)),
+            own.facts ∙ facts.1,
+          );
+          body = then_so body_of (slice_get journal message.entry) entry own.original own.there refl;
+        })
+
+    pub accepted_there : (number : ℕ) (row : Accepted) → accepted_at (half trade me journal) number ≡ Some row → AcceptedThere row
+    accepted_there number row e =
+        let message = bound accepted_of (slice_get (half trade me journal).messages number) row e in
+        accepted_by message.0
+        (found (MessageRow trade journal) (half trade me journal).messages number message.0
+        (have_entries journal).messages message.1) row message.2
+
+    -- the entry of which an item is composed, and that it has bytes
+    pub record ItemThere (posted : Posted) (wanted : Wanted) : Type 0 where
+      pub entry : Entry
+      pub there : slice_get journal (number_wanted wanted) ≡ Some entry
+      pub text : Bytes
+      pub shown : IsShown trade me wanted entry text
+      pub has : IsSome (item_text trade me journal posted)
+
+    module _ (taken : HaveEnvelope) (account : Bytes) (number : ℕ) where
+      abbrev posted_as : Item → Posted
+      posted_as item = record { account = account; item = item; entry = number }
+
+      learned_there : (item : Item) (id : Id) (recipient : Option Bytes) → LearnedRow journal number id recipient
+          → text_by trade me journal number item ≡ body_at journal number
+          → ItemThere (posted_as item) (OutcomeWanted number id recipient)
+      unfolding item_text
+      learned_there item id recipient row is =
+          let entry = entries.Learned row.moment id row.address row.decision row.decided row.message in record {
+            entry = entry;
+            there = row.there;
+            text = row.message;
+            shown = ap (λ (named : Option Bytes). learned_in id named entry) row.is
+                ∙ chosen_so (same_id id id && bytes_eq row.address row.address) (Some row.message) None
+                (and_from (same_id id id) (bytes_eq row.address row.address) (id_again id) (bytes_again row.address));
+            has = some_by (text_by trade me journal number item) row.message
+                (is ∙ then_so body_of (slice_get journal number) entry row.message row.there refl);
+          }
+
+      own_there : (item : Item) (kind : Kind) (id : Id) (recipient : Option Bytes) (moment : ℕ) (wanted : Wanted)
+          → option_map (ReceiptWanted kind id recipient moment) (accepted_at (half trade me journal) id.number) ≡ Some wanted
+          → text_by trade me journal number item
+          ≡ option_map (composed trade kind id me moment recipient) (original_at trade me journal id.number)
+          → ItemThere (posted_as item) wanted
+      unfolding item_text
+      own_there item kind id recipient moment wanted e is =
+          let row = mapped (ReceiptWanted kind id recipient moment) (accepted_at (half trade me journal) id.number) wanted e in
+          let own = accepted_there id.number row.0 row.1 in
+          subst (λ (w : Wanted). ItemThere (posted_as item) w) row.2 (record {
+            entry = own.entry;
+            there = own.there;
+            text = composed trade kind id me moment recipient own.original;
+            shown = (own.original, own.holds, refl);
+            has = some_by (text_by trade me journal number item) (composed trade kind id me moment recipient own.original)
+                (is ∙ ap (option_map (composed trade kind id me moment recipient))
+                (then_so (accepted_body journal) (accepted_at (half trade me journal) id.number) row.0 own.original row.1
+                own.body));
+          })
+
+      item_there : (item : Item) (wanted : Wanted) → ItemRow journal number item
+          → item_wanted (half trade me journal) number item ≡ Some wanted → ItemThere (posted_as item) wanted
+      unfolding item_text
+      item_there (EnvelopeItem id) wanted row e =
+          let was = mapped (EnvelopeWanted id) (taken_of (half trade me journal) id) wanted e in
+          let found = taken trade me journal id was.0 was.1 in
+          let entry = entries.Took found.0 id found.1 in
+          subst (λ (w : Wanted). ItemThere (posted_as (EnvelopeItem id)) w) was.2 (record {
+            entry = entry;
+            there = found.2;
+            text = found.1;
+            shown = chosen_so (same_id id id) (Some found.1) None (id_again id);
+            has = some_by (text_by trade me journal number (EnvelopeItem id)) found.1
+                (then_so (taken_body journal) (taken_of (half trade me journal) id) was.0 found.1 was.1
+                (then_so body_of (slice_get journal was.0.entry) entry found.1 found.2 refl));
+          })
+      item_there (ReceiptItem kinds.Delivery id recipient moment) wanted row e =
+          subst (λ (w : Wanted). ItemThere (posted_as (ReceiptItem kinds.Delivery id recipient moment)) w)
+          (same_Some (OutcomeWanted number id recipient) wanted e)
+          (learned_there (ReceiptItem kinds.Delivery id recipient moment) id recipient row refl)
+      item_there (ReceiptItem (kinds.DeliveryError refusal) id recipient moment) wanted row e =
+          subst (λ (w : Wanted). ItemThere (posted_as (ReceiptItem (kinds.DeliveryError refusal) id recipient moment)) w)
+          (same_Some (OutcomeWanted number id recipient) wanted e)
+          (learned_there (ReceiptItem (kinds.DeliveryError refusal) id recipient moment) id recipient row refl)
+      item_there (ReceiptItem (kinds.NonAcceptance cause) id recipient moment) wanted row e =
+          let entry = entries.NotAccepted row.moment row.sender row.cause row.path row.message in
+          let text = trade.refusal_text id row.moment row.sender row.cause row.path row.message in
+          subst (λ (w : Wanted). ItemThere (posted_as (ReceiptItem (kinds.NonAcceptance cause) id recipient moment)) w)
+          (same_Some (RefusalWanted number id) wanted e)
+          (record {
+            entry = entry;
+            there = row.there;
+            text = text;
+            shown = refl;
+            has = some_by (text_by trade me journal number (ReceiptItem (kinds.NonAcceptance cause) id recipient moment)) text
+                (then_so (refusal_by trade id) (slice_get journal number) entry text row.there refl);
+          })
+      item_there (AnomalyItem moment) wanted row e =
+          let entry = entries.Anomaly row.moment row.accounts row.message in
+          let text = trade.anomaly_text me number moment row.message in
+          subst (λ (w : Wanted). ItemThere (posted_as (AnomalyItem moment)) w)
+          (same_Some (AnomalyWanted number moment) wanted e)
+          (record {
+            entry = entry;
+            there = row.there;
+            text = text;
+            shown = refl;
+            has = some_by (text_by trade me journal number (AnomalyItem moment)) text
+                (ap (option_map (trade.anomaly_text me number moment))
+                (then_so body_of (slice_get journal number) entry row.message row.there refl));
+          })
+      item_there (ReceiptItem kinds.Acceptance id recipient moment) wanted row e =
+          own_there (ReceiptItem kinds.Acceptance id recipient moment) kinds.Acceptance id recipient moment wanted e refl
+      item_there (ReceiptItem kinds.Charge id recipient moment) wanted row e =
+          own_there (ReceiptItem kinds.Charge id recipient moment) kinds.Charge id recipient moment wanted e refl
+      item_there (ReceiptItem kinds.Warning id recipient moment) wanted row e =
+          own_there (ReceiptItem kinds.Warning id recipient moment) kinds.Warning id recipient moment wanted e refl
+      item_there (ReceiptItem kinds.Notice id recipient moment) wanted row e =
+          own_there (ReceiptItem kinds.Notice id recipient moment) kinds.Notice id recipient moment wanted e refl
+      item_there (ReceiptItem kinds.LateNotice id recipient moment) wanted row e =
+          own_there (ReceiptItem kinds.LateNotice id recipient moment) kinds.LateNotice id recipient moment wanted e refl
+      item_there (ReceiptItem kinds.Ack id recipient moment) wanted row e =
+          own_there (ReceiptItem kinds.Ack id recipient moment) kinds.Ack id recipient moment wanted e refl
+
+    -- the item at a place of a mailbox, where an entry is needed for it
+    pub record NeededThere (account : Bytes) (place number : ℕ) : Type 0 where
+      pub entry : Entry
+      pub there : slice_get journal number ≡ Some entry
+      pub serves : ServesItem trade me (half trade me journal) account place entry
+      pub has : IsSome (item_at trade me journal account place)
+
+    pub needed_there : HaveEnvelope → (account : Bytes) (place number : ℕ)
+        → needed_item (half trade me journal) account place ≡ Some number → NeededThere account place number
+    unfolding needed_item
+    needed_there taken account place number e =
+        let h = half trade me journal in
+        let needs = mapped number_wanted (wanted_at h account place) number e in
+        let posted = bound (λ (p : Posted). item_wanted h p.entry p.item) (slice_get (mailbox h account) place) needs.0 needs.1 in
+        let row = found (HasItemRow journal) (mailbox h account) place posted.0
+        (All-filter (λ (p : Posted). bytes_eq account p.account) (HasItemRow journal) h.items (have_entries journal).items)
+        posted.1 in
+        let is = item_there taken posted.0.account posted.0.entry posted.0.item needs.0 row posted.2 in
+        record {
+          entry = is.entry;
+          there = ap (slice_get journal) (sym needs.2) ∙ is.there;
+          serves = record { wanted = needs.0; has = needs.1; text = is.text; shown = is.shown };
+          has = subst (λ (o : Option Posted). IsSome (option_and_then (item_text trade me journal) o)) (sym posted.1) is.has;
+        }
+
+  -- so an item's entry is always what it is composed of
+  pub items_unchanged : HaveEnvelope → (journal : List Entry) (account : Bytes) (place number : ℕ)
+      → ItemIsChanged trade me journal account place number → ⊥
+  items_unchanged taken journal account place number changed =
+      let is = needed_there journal taken account place number changed.needs in
+      changed.serves is.entry is.there is.serves
+
+-- ---- letters
+
+-- in journals that are Fit each taken message has its envelope, which is licensed
+abbrev pub TakenAreLicensed : Type 0
+TakenAreLicensed = (trade : Trade) (journals : Journals) → Fit trade journals → (by : ℕ) (id : Id) (row : Taken)
+    → taken_of (ledger trade journals by) id ≡ Some row
+    → (bytes : Bytes) × (body_at (journals by) row.entry ≡ Some bytes) × IsEnvelopeText trade journals id by bytes
+
+module _ (trade : Trade) (journals : Journals) (fit : Fit trade journals) (me : ℕ) (taken : HaveEnvelope trade me)
+    (licensed : TakenAreLicensed)
+    (seen : (id : Id) (to : ℕ) (bytes : Bytes) (is : IsEnvelopeText trade journals id to bytes)
+    → trade.view bytes ≡ Some (SeenEnvelope id is.message.moment is.original)) where
+  abbrev journal : List Entry
+  journal = journals me
+
+  abbrev own_half : Half
+  own_half = half trade me journal
+
+  pub record AskedThere (asked : Asked) : Type 0 where
+    pub entry : Entry
+    pub there : slice_get journal (number_of asked) ≡ Some entry
+    pub original : Bytes
+    pub holds : Holds trade asked entry original
+
+  -- the entry by which a message was taken, with the original in its envelope
+  pub record TakenThere (id : Id) (row : Taken) : Type 0 where
+    pub entry : Entry
+    pub there : slice_get journal row.entry ≡ Some entry
+    pub original : Bytes
+    pub holds : enveloped_in trade id entry ≡ Some original
+
+  taken_there : (id : Id) (row : Taken) → taken_of own_half id ≡ Some row → TakenThere id row
+  unfolding ledger
+  taken_there id row e =
+      let found = taken trade me journal id row e in
+      let entry = entries.Took found.0 id found.1 in
+      let text = licensed trade journals fit me id row e in
+      let same : found.1 ≡ text.0 =
+      same_Some found.1 text.0
+      (sym (then_so body_of (slice_get journal row.entry) entry found.1 found.2 refl) ∙ text.1) in
+      let view : trade.view found.1 ≡ Some (SeenEnvelope id text.2.message.moment text.2.original) =
+      ap trade.view same ∙ seen id me text.0 text.2 in
+      record {
+        entry = entry;
+        there = found.2;
+        original = text.2.original;
+        holds = then_so (λ (envelope : Bytes). original_in id (trade.view envelope)) (took_in id entry) found.1
+            text.2.original
+            (chosen_so (same_id id id) (Some found.1) None (id_again id))
+            (ap (original_in id) view ∙ chosen_so (same_id id id) (Some text.2.original) None (id_again id));
+      }
+
+  if_some : {X : Type 0} (test : Bool) (o : Option X) (x : X) → (if test then o else None) ≡ Some x → o ≡ Some x
+  if_some true o x e = e
+  if_some false o x e = absurd (none-some x e)
+
+  accepted_asked : (number : ℕ) (f : Accepted → Asked) (asked : Asked)
+      → ((row : Accepted) → AcceptedThere trade me journal row → AskedThere (f row))
+      → option_map f (accepted_at own_half number) ≡ Some asked → AskedThere asked
+  accepted_asked number f asked so e =
+      let row = mapped f (accepted_at own_half number) asked e in
+      subst (λ (a : Asked). AskedThere a) row.2 (so row.0 (accepted_there trade me journal number row.0 row.1))
+
+  taken_asked : (id : Id) (f : Taken → Asked) (asked : Asked) → ((row : Taken) → TakenThere id row → AskedThere (f row))
+      → option_map f (taken_of own_half id) ≡ Some asked → AskedThere asked
+  taken_asked id f asked so e =
+      let row = mapped f (taken_of own_half id) asked e in
+      subst (λ (a : Asked). AskedThere a) row.2 (so row.0 (taken_there id row.0 row.1))
+
+  asked_there : (letter : Letter) (asked : Asked) → asked_by me own_half letter ≡ Some asked → AskedThere asked
+  asked_there (letters.Envelope id to) asked e =
+      accepted_asked id.number (EnvelopeAsked id to) asked
+      (λ row is. record { entry = is.entry; there = is.there; original = is.original; holds = is.holds })
+      (if_some (id.provider == me) (option_map (EnvelopeAsked id to) (accepted_at own_half id.number)) asked e)
+  asked_there (letters.Charge id by) asked e =
+      taken_asked id (ChargeAsked id) asked
+      (λ row is. record { entry = is.entry; there = is.there; original = is.original; holds = is.holds })
+      (if_some (by == me) (option_map (ChargeAsked id) (taken_of own_half id)) asked e)
+  asked_there (letters.Outcome id recipient) asked e =
+      let fate = bound (λ (fate : Fate). option_map (OutcomeAsked id recipient fate) (taken_of own_half id))
+      (decided_of own_half (pair_of id recipient)) asked e in
+      taken_asked id (OutcomeAsked id recipient fate.0) asked
+      (λ row is. record { entry = is.entry; there = is.there; original = is.original; holds = is.holds }) fate.2
+  asked_there (letters.Ack id recipient) asked e =
+      let known = bound (λ (known : Known). option_map (AckAsked id recipient known) (accepted_at own_half id.number))
+      (known_of own_half (pair_of id recipient)) asked
+      (if_some (id.provider == me) (option_and_then
+      (λ (known : Known). option_map (AckAsked id recipient known) (accepted_at own_half id.number))
+      (known_of own_half (pair_of id recipient))) asked e) in
+      accepted_asked id.number (AckAsked id recipient known.0) asked
+      (λ row is. record { entry = is.entry; there = is.there; original = is.original; holds = is.holds }) known.2
+
+  -- the entry of which a letter is to be composed is what that is composed of
+  letter_unchanged : (letter : Letter) (number : ℕ) → IsNotOf trade me journal letter number → ⊥
+  unfolding needed
+  letter_unchanged letter number changed =
+      let needs = mapped number_of (asked_by me own_half letter) number changed.needs in
+      let is = asked_there letter needs.0 needs.1 in
+      changed.serves is.entry (ap (slice_get journal) (sym needs.2) ∙ is.there)
+      (record { asked = needs.0; has = needs.1; original = is.original; holds = is.holds })
+
+  pub letters_unchanged : (to room : ℕ) (owed : List Letter) (number : ℕ)
+      → LetterIsChanged trade me journal to room owed number → ⊥
+  letters_unchanged to room owed number changed = letter_unchanged changed.letter number changed.is

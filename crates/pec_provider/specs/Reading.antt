@@ -1,0 +1,94 @@
+-- What the calls of a provider that read its disk leave (`Reads`), why they answer nothing (`IsUnread`), and when an entry
+-- isn't what a letter or an item is composed of (`LetterIsChanged`, `ItemIsChanged`). This project's profile.
+use Rattle.std.specs.Prelude.{◌≡◌, ℕ, ◌<◌, ◌≤◌, Bool, true, false, List, slice_get, Contains, Some, None, Result, Ok, Err}
+use Rattle.pec_types.specs.Bytes.{Bytes}
+use Rattle.pec_types.specs.declared.letters.Letter.{Letter}
+use Rattle.pec_types.specs.declared.turns.ProviderFault.{ProviderFault}
+use Rattle.pec_types.specs.declared.turns.ProviderFault.TheVariants as faults
+use Rattle.pec_records.specs.declared.entries.Entry.{Entry}
+use Rattle.pec_ledger.specs.Due.{due_letters}
+use Rattle.pec_ledger.specs.Steps.{half}
+use Rattle.pec_ledger.specs.Trade.{Trade}
+use Rattle.pec_chronicle.specs.Chronicle.{ChronicleState}
+use Rattle.pec_outgoing.specs.declared.faults.ComposeFault.{ComposeFault}
+use Rattle.pec_outgoing.specs.declared.faults.ComposeFault.TheVariants as compose
+use Rattle.pec_outgoing.specs.ItemNeeds.{ServesItem, needed_item}
+use Rattle.pec_outgoing.specs.Needs.{Serves, needed}
+use Rattle.pec_provider.specs.Provider.{Desk, stopped}
+
+-- ---- what is left
+
+-- It was up, with no interrupted entry, and is down, and nothing else of it has changed.
+abbrev pub HasStopped : Desk → Desk → Type 0
+HasStopped old new = (old.up ≡ true) × (old.interrupted ≡ None) × (new ≡ stopped old)
+
+-- A call that reads leaves the provider as it was; but where a read failed, or gave what was never kept so, it is down.
+abbrev pub Reads : {X : Type 0} → Desk → Desk → Result X ProviderFault → Type 0
+Reads old new (Err faults.DiskFault) = HasStopped old new
+Reads old new (Err (faults.Changed number)) = HasStopped old new
+Reads old new answer = new ≡ old
+
+-- The same of its entries over the disk: they are what they were, and it is down where a read failed.
+abbrev pub ReadsOver : {D X : Type 0} → ChronicleState D → ChronicleState D → Result X ProviderFault → Type 0
+ReadsOver old new (Ok x) = new ≡ record old { disk = new.disk }
+ReadsOver old new (Err faults.NoMemory) = new ≡ record old { disk = new.disk }
+ReadsOver old new (Err faults.DiskFault) = new ≡ record old { down = true; disk = new.disk }
+ReadsOver old new (Err (faults.Changed number)) = new ≡ record old { down = true; disk = new.disk }
+ReadsOver old new (Err _) = ⊥
+
+-- ---- why nothing is answered
+
+-- It is down, or memory ran out, or the read failed, or gave what was never kept so.
+abbrev pub IsUnread : Bool → ProviderFault → Type 0
+IsUnread up faults.Down = up ≡ false
+IsUnread up faults.NoMemory = up ≡ true
+IsUnread up faults.DiskFault = up ≡ true
+IsUnread up (faults.Changed number) = up ≡ true
+IsUnread up _ = ⊥
+
+-- Why the entry of a number isn't told, of so many: there is none, or for one of these causes.
+abbrev pub IsUntold : Bool → ℕ → ℕ → ProviderFault → Type 0
+IsUntold up entries number faults.Down = up ≡ false
+IsUntold up entries number faults.NoItem = (up ≡ true) × (entries ≤ number)
+IsUntold up entries number fault = IsUnread up fault × (number < entries)
+
+-- why nothing was composed of the entry of a number, as a provider tells it
+abbrev pub as_provider : ℕ → ComposeFault → ProviderFault
+as_provider number compose.Changed = faults.Changed number
+as_provider number compose.NoMemory = faults.NoMemory
+
+-- and what that leaves: where the entry isn't what was needed nothing is read any more
+abbrev pub GivesUp : {D : Type 0} → ChronicleState D → ChronicleState D → ComposeFault → Type 0
+GivesUp old new compose.Changed = new ≡ record old { down = true }
+GivesUp old new compose.NoMemory = new ≡ old
+
+-- ---- what was never kept so
+
+-- what is said of the number of an entry that isn't what it is to be
+abbrev pub OnChanged : (ℕ → Type 0) → ProviderFault → Type 0
+OnChanged Is (faults.Changed number) = Is number
+OnChanged Is _ = Unit {0}
+
+-- there is no entry of a number, and this is the number
+abbrev pub IsAbsent : List Entry → ℕ → ℕ → Type 0
+IsAbsent journal number told = (told ≡ number) × (slice_get journal number ≡ None)
+
+module _ (trade : Trade) (me : ℕ) (journal : List Entry) where
+  -- Of the entry of this number a letter is to be composed, and it isn't what that is composed of.
+  pub record IsNotOf (letter : Letter) (number : ℕ) : Type 0 where
+    pub needs : needed me (half trade me journal) letter ≡ Some number
+    pub serves : (entry : Entry) → slice_get journal number ≡ Some entry
+        → Serves trade me (half trade me journal) letter entry → ⊥
+
+  -- A letter is due to a provider for which that is so.
+  pub record LetterIsChanged (to room : ℕ) (owed : List Letter) (number : ℕ) : Type 0 where
+    pub letter : Letter
+    pub due : Contains (due_letters trade me (half trade me journal) to room owed) letter
+    pub is : IsNotOf letter number
+
+  -- Of the entry of this number the item at a place of an account's mailbox is to be composed, and it isn't what that is
+  -- composed of.
+  pub record ItemIsChanged (account : Bytes) (place : ℕ) (number : ℕ) : Type 0 where
+    pub needs : needed_item (half trade me journal) account place ≡ Some number
+    pub serves : (entry : Entry) → slice_get journal number ≡ Some entry
+        → ServesItem trade me (half trade me journal) account place entry → ⊥
