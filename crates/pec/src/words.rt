@@ -6,8 +6,8 @@ use std::env::{Env, FillError};
 /// How often the room for a word is doubled: from 64 bytes past every size that there is.
 const DOUBLINGS: u32 = 58;
 
-/// The words behind the program's own name, which isn't read. In a word that isn't UTF-8 each wrong piece becomes U+FFFD,
-/// so such a word is no form of the program.
+/// The words behind the program's own name, which isn't read. In a word that isn't UTF-8 each wrong piece becomes
+/// U+FFFD, so such a word is no form of the program.
 pub(crate) fn words<R: Env>(rt: &R, alloc: Global) -> Result<Vec<String>, AllocError> {
     let mut words = Vec::new(alloc);
     for place in 1..usize::MAX {

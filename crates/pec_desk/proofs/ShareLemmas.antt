@@ -35,7 +35,7 @@ use Rattle.pec_http.specs.Desks.{IsItemFault, IsLookFault, IsSubmitFault}
 use Rattle.pec_http.specs.declared.demands.Look.{Look}
 use Rattle.pec_http.specs.declared.demands.Look.TheVariants as looks
 use Rattle.pec_script.specs.Texts.{book_text, items_text}
-use Rattle.pec_desk.specs.Desks.{IsSeen, as_they_are, bytes_shown, items_shown, lines_shown}
+use Rattle.pec_desk.specs.Desks.{IsSeen, items_shown, lines_shown}
 use Rattle.pec_service.specs.Own.{Share, entry_for, numbered, said_by, share_at, shown_to, text_or_none}
 use Rattle.pec_service.specs.ShareLaws.{found_at}
 
@@ -99,7 +99,7 @@ abbrev bytes_in : Answer → Option Bytes
 bytes_in (Shown bytes) = Some bytes
 bytes_in _ = None
 
-pub bytes_tell : Tells bytes_shown
+pub bytes_tell : Tells Shown
 bytes_tell = record { inverse = bytes_in; back = λ x. refl; refused = λ fault. refl }
 
 abbrev submitted_shown : Submitted → Answer
@@ -140,6 +140,7 @@ module _ {X : Type 0} (tells : X → Answer) (tell : Tells tells) (text : X → 
   seen_is (Err faults.Full) shows = inr (seen_err faults.Full shows)
   seen_is (Err faults.NoItem) shows = inr (seen_err faults.NoItem shows)
   seen_is (Err faults.JournalFull) shows = inr (seen_err faults.JournalFull shows)
+  seen_is (Err (faults.Changed entry)) shows = inr (seen_err (faults.Changed entry) shows)
 
 -- ---- an account
 
@@ -184,7 +185,7 @@ module _ (kept : List Kept) (seals : Seals) (state : List Site) (screens : List 
   abbrev up : Bool
   up = (site_at state number).up
 
-  at_home : trade.home address ≡ Some number
+  pub at_home : trade.home address ≡ Some number
   unfolding account_home
   at_home = home_found _ _ _ home
 
@@ -216,11 +217,6 @@ module _ (kept : List Kept) (seals : Seals) (state : List Site) (screens : List 
   abbrev lines_said : Result (List ItemLine) ProviderFault
   lines_said = if up then Ok (mailbox_lines ledger address) else Err faults.Down
 
-  abbrev text_said : ℕ → Result Bytes ProviderFault
-  text_said place =
-      if up then text_or_none (option_and_then (item_text trade number journal) (slice_get (mailbox ledger address) place))
-      else Err faults.Down
-
   book_told : (luck : Luck) → (played trade luck state (Book address)).answer ≡ told lines_shown rows_said
   unfolding played
   book_told luck =
@@ -233,37 +229,7 @@ module _ (kept : List Kept) (seals : Seals) (state : List Site) (screens : List 
       shows_so items_shown (λ provider half. answers state (Items (mailbox_lines half address)))
       (Ok (mailbox_lines ledger address)) refl
 
-  item_told : (luck : Luck) (place : ℕ)
-      → (played trade luck state (Show address place)).answer ≡ told bytes_shown (text_said place)
-  unfolding played
-  item_told luck place =
-      shows_so bytes_shown (λ provider half. shown trade state provider (slice_get (mailbox half address) place))
-      (text_or_none (option_and_then (item_text trade number journal) (slice_get (mailbox ledger address) place)))
-      (posted_told (slice_get (mailbox ledger address) place))
-    where
-      bytes_told : (text : Option Bytes) → (shown_bytes state text).answer ≡ told bytes_shown (text_or_none text)
-      bytes_told None = refl
-      bytes_told (Some bytes) = refl
-
-      posted_told : (posted : Option Posted) → (shown trade state number posted).answer
-          ≡ told bytes_shown (text_or_none (option_and_then (item_text trade number journal) posted))
-      posted_told None = refl
-      posted_told (Some posted) = bytes_told (item_text trade number journal posted)
-
   -- ---- what it looks at
-
-  text_at : (place : ℕ) → option_and_then (λ (text : Option Bytes). text) (slice_get share.own.texts place)
-      ≡ option_and_then (item_text trade number journal) (slice_get (mailbox ledger address) place)
-  text_at place =
-      ap (λ (o : Option (Option Bytes)). option_and_then (λ (text : Option Bytes). text) o)
-      (slice_get-map (λ (posted : Posted). item_text trade number journal posted) (mailbox ledger address) place)
-      ∙ through (slice_get (mailbox ledger address) place)
-    where
-      through : (posted : Option Posted)
-          → option_and_then (λ (text : Option Bytes). text) (option_map (λ (one : Posted). item_text trade number journal one) posted)
-          ≡ option_and_then (item_text trade number journal) posted
-      through None = refl
-      through (Some posted) = refl
 
   abbrev IsOwn : Look → Result Bytes ProviderFault → Type 0
   IsOwn looked seen = (seen ≡ Err faults.NoMemory) ⊎ (seen ≡ shown_to (providers_of kept) share looked)
@@ -289,21 +255,6 @@ module _ (kept : List Kept) (seals : Seals) (state : List Site) (screens : List 
       (seen_if (items_text (providers_of kept)) up (Ok (mailbox_lines ledger address)) (Err faults.Down))
       (seen_is items_shown items_tell (items_text (providers_of kept)) state (played trade luck state (Mailbox address)) lines_said
       (mailbox_told luck) seen shows)
-
-  same_bytes : (said : Result Bytes ProviderFault) → seen_as as_they_are said ≡ said
-  same_bytes (Ok bytes) = refl
-  same_bytes (Err fault) = refl
-
-  pub item_is : (luck : Luck) (place : ℕ) (seen : Result Bytes ProviderFault)
-      → IsSeen bytes_shown as_they_are (played trade luck state (Show address place)) state seen
-      → IsOwn (looks.Item place) seen
-  item_is luck place seen shows =
-      own_or (looks.Item place) seen (seen_as as_they_are (text_said place))
-      (same_bytes (text_said place)
-      ∙ ap (λ (t : Option Bytes). (let r : Result Bytes ProviderFault = (if up then text_or_none t else Err faults.Down) in r))
-      (sym (text_at place)))
-      (seen_is bytes_shown bytes_tell as_they_are state (played trade luck state (Show address place)) (text_said place)
-      (item_told luck place) seen shows)
 
   -- ---- what it hands in
 
@@ -373,6 +324,7 @@ module _ (kept : List Kept) (seals : Seals) (state : List Site) (screens : List 
     submission_is after (Err faults.Full) is = inl (submitted_err faults.Full after is)
     submission_is after (Err faults.NoItem) is = inl (submitted_err faults.NoItem after is)
     submission_is after (Err faults.JournalFull) is = inl (submitted_err faults.JournalFull after is)
+    submission_is after (Err (faults.Changed number)) is = inl (submitted_err (faults.Changed number) after is)
 
     said_refuses : (works back few full : Bool) (last : ℕ)
         → IfErr (if works then (if back then Err (faults.ClockBack last)
@@ -403,11 +355,6 @@ module _ (kept : List Kept) (seals : Seals) (state : List Site) (screens : List 
   open_refuses true bytes = tt
   open_refuses false bytes = tt
 
-  open_misses : (works : Bool) (text : Option Bytes) → IfErr (if works then text_or_none text else Err faults.Down) IsItemFault
-  open_misses true None = tt
-  open_misses true (Some bytes) = tt
-  open_misses false text = tt
-
   refuses_by : (Fault : ProviderFault → Type 0) (looked : Look) (seen : Result Bytes ProviderFault) → Fault faults.NoMemory
       → IfErr (shown_to (providers_of kept) share looked) Fault → IsOwn looked seen → IfErr seen Fault
   refuses_by Fault looked seen lacks shown own = elim own [
@@ -428,14 +375,6 @@ module _ (kept : List Kept) (seals : Seals) (state : List Site) (screens : List 
   items_refuse luck seen shows =
       refuses_by IsLookFault looks.Items seen tt (open_refuses up (items_text (providers_of kept) share.own.lines))
       (items_is luck seen shows)
-
-  pub item_refuses : (luck : Luck) (place : ℕ) (seen : Result Bytes ProviderFault)
-      → IsSeen bytes_shown as_they_are (played trade luck state (Show address place)) state seen
-      → IfErr seen IsItemFault
-  item_refuses luck place seen shows =
-      refuses_by IsItemFault (looks.Item place) seen tt
-      (open_misses up (option_and_then (λ (text : Option Bytes). text) (slice_get share.own.texts place)))
-      (item_is luck place seen shows)
 
 -- ---- an address that is no account
 
@@ -478,12 +417,3 @@ module _ (kept : List Kept) (seals : Seals) (state : List Site) (address : Bytes
       seen_is items_shown items_tell (items_text (providers_of kept)) state (played nobody luck state (Mailbox address))
       (Err faults.NoAccount)
       (refused_is items_shown (λ provider half. answers state (Items (mailbox_lines half address)))) seen shows
-
-  pub item_of_nobody : (luck : Luck) (place : ℕ) (seen : Result Bytes ProviderFault)
-      → IsSeen bytes_shown as_they_are (played nobody luck state (Show address place)) state seen
-      → IsNobodys seen
-  unfolding played
-  item_of_nobody luck place seen shows =
-      seen_is bytes_shown bytes_tell as_they_are state (played nobody luck state (Show address place))
-      (Err faults.NoAccount)
-      (refused_is bytes_shown (λ provider half. shown nobody state provider (slice_get (mailbox half address) place))) seen shows

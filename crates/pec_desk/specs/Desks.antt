@@ -16,9 +16,10 @@ use Rattle.pec_seal.specs.Seals.{Seals}
 use Rattle.pec_ledger.specs.Network.{Site}
 use Rattle.pec_plays.specs.Commands.{Answer, Book, Items, Lines, Mailbox, Played, Refuses, Show, Shown, Submit, Submits, answers, played}
 use Rattle.pec_network.specs.OfProviders.{ProviderState, luck_of}
+use Rattle.pec_network.specs.Carrying.{AllStand}
 use Rattle.pec_network.specs.Changing.{ConcernsOne}
 use Rattle.pec_network.specs.Network.{NetworkState, sites, world_of}
-use Rattle.pec_network.specs.Playing.{IsPlayedOver}
+use Rattle.pec_network.specs.Playing.{IsPlayedOver, IsReadOver}
 use Rattle.pec_http.specs.Desks.{Answers}
 use Rattle.pec_service.specs.Passes.{pass_of}
 use Rattle.pec_script.specs.Texts.{book_text, items_text}
@@ -64,6 +65,21 @@ pub record HandsIn {D S : Type 0} (sight : D → Sight) (count : D → ℕ) (tel
       (Submit number old.moment address addresses message (finds_in old.screens number message)) old.network new.network said
   pub concerns : ConcernsOne sight count tells seals number old.network new.network said
 
+-- An account looked at the item at a place of its mailbox, and its provider said this: the command was played so, and its
+-- entry was read from the provider's disk. Moment and screens stay, no other provider was touched, and the disks carry
+-- on.
+pub record LooksAt {D S : Type 0} (sight : D → Sight) (count : D → ℕ) (tells : Type 0) (seals : S → Seals)
+    (old : DeskState D S) (address : Bytes) (place : ℕ) (said : Result Bytes ProviderFault) (new : DeskState D S)
+    : Type 0 where
+  pub number : ℕ
+  pub home : account_home (providers_of old.network.kept) address ≡ Some number
+  pub within : number < length old.network.kept
+  pub moment : new.moment ≡ old.moment
+  pub screens : new.screens ≡ old.screens
+  pub reads : IsReadOver (tells × AllStand sight old.network.providers) seals Shown (Show address place) old.network
+      new.network said
+  pub concerns : ConcernsOne sight count tells seals number old.network new.network said
+
 -- What was answered to a command that shows something is written so.
 pub record IsWritten {X : Type 0} (tells : X → Answer) (text : X → Bytes) (asked : Played) (state : List Site) (bytes : Bytes) : Type 0 where
   pub what : X
@@ -82,15 +98,9 @@ lines_shown lines = Lines lines
 abbrev pub items_shown : List ItemLine → Answer
 items_shown lines = Items lines
 
-abbrev pub bytes_shown : Bytes → Answer
-bytes_shown bytes = Shown bytes
-
-abbrev pub as_they_are : Bytes → Bytes
-as_they_are bytes = bytes
-
 -- ---- the desk
 
--- What the desk answers: of a command no luck changes what an account is shown, so it stands here with any.
+-- What the desk answers: no luck changes what a book or a mailbox shows, so those commands stand here with any.
 abbrev pub answers_of : {D S : Type 0} → (D → Sight) → (D → ℕ) → Type 0 → (S → Seals) → Answers (DeskState D S)
 answers_of sight count tells seals = record {
   is_account = λ desk address. is_some (account_home (providers_of desk.network.kept) address);
@@ -102,6 +112,5 @@ answers_of sight count tells seals = record {
       (played (world_of seals desk.network) (luck_of false) (sites desk.network) (Book address)) (sites desk.network) said;
   items = λ desk address said. IsSeen items_shown (items_text (providers_of desk.network.kept))
       (played (world_of seals desk.network) (luck_of false) (sites desk.network) (Mailbox address)) (sites desk.network) said;
-  item = λ desk address place said. IsSeen bytes_shown as_they_are
-      (played (world_of seals desk.network) (luck_of false) (sites desk.network) (Show address place)) (sites desk.network) said;
+  item = λ desk address place said after. LooksAt sight count tells seals desk address place said after;
 }

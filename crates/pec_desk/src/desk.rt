@@ -132,11 +132,12 @@ impl<D: Disk, J: Judge> Desk for NetworkDesk<D, J> {
     }
 
     fn item(
-        &self,
+        &mut self,
         alloc: Global,
         address: &Address,
         place: u32,
     ) -> Result<Vec<u8>, ProviderFaultView> {
-        item(alloc, &self.network, address, place, self.home(address))
+        let home = self.home(address);
+        item(alloc, &mut self.network, home, address, place)
     }
 }

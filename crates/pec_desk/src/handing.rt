@@ -13,8 +13,8 @@ use pec_seal::Sealer;
 use pec_types::{Address, Moment, ProviderFault, Submitted};
 use std::alloc::Global;
 
-/// Hands the provider of an account, by its number, a message that the account submits at a moment for a forward path. The
-/// screens of a provider are those at its number.
+/// Hands the provider of an account, by its number, a message that the account submits at a moment for a forward path.
+/// The screens of a provider are those at its number.
 pub(crate) fn hand_in<D: Disk, S: Sealer, J: Judge>(
     alloc: Global,
     network: &mut Network<D, S>,
@@ -48,7 +48,7 @@ pub(crate) fn hand_in<D: Disk, S: Sealer, J: Judge>(
 }
 
 /// A network has the providers of its directory.
-fn as_many_providers<D, S: Sealer>(network: &Network<D, S>)
+pub(crate) fn as_many_providers<D, S: Sealer>(network: &Network<D, S>)
     ensures { length network.now.providers ≡ length network.now.kept }
 {
     network.directory();

@@ -4,7 +4,8 @@ ghost use Rattle.pec_service.specs.Passes.{limit_in};
 
 use pec_directory::{Directory, a_first_domain_is_one_providers};
 
-/// The most bytes of a message that the provider of a number takes; 0 where there is no such provider. It takes no memory.
+/// The most bytes of a message that the provider of a number takes; 0 where there is no such provider. It takes no
+/// memory.
 pub(crate) fn limit_at(directory: &Directory, number: u32) -> u64
     ensures value { result ≡ limit_in (slice_get directory.now number) }
     ensures bound { result ≤ 31457280 }

@@ -1,21 +1,26 @@
-ghost use Rattle.std.specs.Prelude.{◌≡◌, false, Some, IfErr};
+ghost use Rattle.std.specs.Prelude.{◌≡◌, ℕ, ◌<◌, ◌≤◌, false, List, Option, Some, Err, length, IfErr};
+ghost use Rattle.pec_outside.specs.Flow.{HasRisen};
 ghost use Rattle.pec_types.specs.Answers.{seen_as};
+ghost use Rattle.pec_types.specs.declared.turns.ProviderFault.TheVariants as faults;
 ghost use Rattle.pec_directory.specs.Directory.{account_home, providers_of};
 ghost use Rattle.pec_http.specs.Desks.{IsItemFault, IsLookFault};
-ghost use Rattle.pec_plays.specs.Commands.{Book, Mailbox, Show, played};
+ghost use Rattle.pec_plays.specs.Commands.{Book, Mailbox, played};
+ghost use Rattle.pec_screen.specs.Verdicts.{Patterns};
 ghost use Rattle.pec_network.specs.OfProviders.{luck_of};
 ghost use Rattle.pec_network.specs.Network.{sites, world_of};
 ghost use Rattle.pec_script.specs.Texts.{book_text as book_lines, items_text as item_lines};
-ghost use Rattle.pec_desk.specs.Desks.{IsSeen, as_they_are, bytes_shown, items_shown, lines_shown};
+ghost use Rattle.pec_desk.specs.Desks.{IsSeen, LooksAt, count_at, items_shown, lines_shown};
 
+use crate::handing::as_many_providers;
 use pec_network::Network;
+use pec_outside::Disk;
 use pec_script::{book_text, items_text};
 use pec_seal::Sealer;
 use pec_types::{Address, NoMemory, ProviderFault};
 use std::alloc::Global;
 
-// What an account is shown. An account is refused for no other cause than that its provider is down, or that an item isn't
-// there.
+// What an account is shown. An account is refused for no other cause than that its provider is down, that an item isn't
+// there, or that the disk failed or gave back another entry.
 
 /// The lines of an account's book, and `book COUNT`.
 pub(crate) fn book<D, S: Sealer>(
@@ -61,22 +66,31 @@ pub(crate) fn mailbox<D, S: Sealer>(
     }
 }
 
-/// The bytes of the item at a place of an account's mailbox, from 0.
-pub(crate) fn item<D, S: Sealer>(
+/// The bytes of the item at a place of an account's mailbox, from 0. Its provider, by its number, reads the entry from
+/// its disk.
+pub(crate) fn item<D: Disk, S: Sealer>(
     alloc: Global,
-    network: &Network<D, S>,
+    network: &mut Network<D, S>,
+    number: u32,
     account: &Address,
     place: u32,
-    number: u32,
 ) -> Result<Vec<u8>, ProviderFault>
-    requires home { account_home (providers_of network.now.kept) account.now ≡ Some number }
-    ensures seen { IsSeen bytes_shown as_they_are
-        (played (world_of S.seals network.now) (luck_of false) (sites network.now) (Show account.now place))
-        (sites network.now) (seen_as (λ bytes. bytes.items) result) }
+    requires home { account_home (providers_of network.old.kept) account.now ≡ Some number }
+    requires within { number < length network.old.kept }
+    ensures looks { (moment : ℕ) (screens : List (List Patterns)) → LooksAt D.sight D.faults D.tells S.seals
+        (record { network = network.old; moment = moment; screens = screens }) account.now place
+        (seen_as (λ bytes. bytes.items) result)
+        (record { network = network.new; moment = moment; screens = screens }) }
+    ensures same { network.new.kept ≡ network.old.kept }
     ensures refusals { IfErr result IsItemFault }
+    ensures later { (home : Option ℕ)
+        → count_at D.faults network.old.providers home ≤ count_at D.faults network.new.providers home }
+    ensures cause { result ≡ Err faults.DiskFault
+        → HasRisen (count_at D.faults network.old.providers (Some number))
+        (count_at D.faults network.new.providers (Some number)) }
 {
-    match network.show(alloc, account, place) {
-        Ok(bytes) => return Ok(bytes),
-        Err(fault) => return Err(fault),
-    }
+    as_many_providers(network);
+    let said = network.show(alloc, account, place);
+    as_many_providers(network);
+    said
 }

@@ -1,5 +1,5 @@
 -- What came, and what a connection still has to come.
-use Rattle.std.proofs.Common.{◌≡◌, ℕ, ◌++◌, List, [], Option, None, Some, refl, sym, ap, subst, ◌∙◌, append_assoc}
+use Rattle.std.proofs.Common.{◌≡◌, ◌++◌, [], Option, None, Some, refl, sym, ap, subst}
 use Rattle.pec_outside.specs.Flow.{behind}
 use Rattle.pec_types.specs.Bytes.{Bytes}
 use Rattle.pec_http_head.specs.Cuts.{WholeCut, cut_of}

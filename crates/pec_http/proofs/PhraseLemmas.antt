@@ -1,5 +1,5 @@
 -- Phrases of statuses are short.
-use Rattle.std.proofs.Common.{◌≡◌, ℕ, ◌≤◌, List, [], length, Option, Some, None, unwrap_or, ap, sym, subst, ◌∙◌, lit≤}
+use Rattle.std.proofs.Common.{◌≡◌, ℕ, ◌≤◌, List, [], length, Option, unwrap_or, ap, ◌∙◌, lit≤}
 use Rattle.http.specs.StatusCode.{reason_phrase}
 use Rattle.pec_http.specs.Statuses.{number_of, phrase_of}
 use Rattle.pec_http.specs.declared.statuses.Status.{Status}

@@ -1,5 +1,5 @@
 -- The tests decide the rows, so a request is stopped by the first row that applies.
-use Rattle.std.proofs.Common.{◌≡◌, ◌≢◌, ℕ, ◌<◌, nat_lt, Bool, true, false, not, ◌&&◌, ◌↔◌, List, [], length, Option, Some, None, Result, Ok, Err, IsOk, cond, unwrap_or, Decides, refl, sym, ap, subst, ◌∙◌}
+use Rattle.std.proofs.Common.{◌≡◌, ◌≢◌, ℕ, nat_lt, Bool, true, false, not, ◌&&◌, ◌↔◌, [], length, Option, Some, None, Result, Ok, Err, IsOk, Decides, refl, sym, ap, subst, ◌∙◌}
 use Rattle.std.proofs.lemmas.Bool.Decides.{Decides-and, Decides-ltb}
 use Rattle.std.proofs.lemmas.Option.{none-some}
 use Rattle.std.proofs.lemmas.Slice.Eq.{bytes_eq-Decides}
@@ -7,7 +7,7 @@ use Rattle.std.specs.List.{find}
 use Rattle.std.specs.Option.{is_none}
 use Rattle.std.specs.Str.{bytes_eq}
 use Rattle.pec_types.specs.Bytes.{Bytes, Path}
-use Rattle.pec_types.specs.Tables.{IsFirst, NoneApplies, first_again, first_is, none_again, none_is}
+use Rattle.pec_types.specs.Tables.{first_again, first_is, none_again, none_is}
 use Rattle.pec_http_head.specs.Fields.{key_of, length_of, path_of}
 use Rattle.pec_http_head.specs.Requests as requests
 use Rattle.pec_http_head.specs.Requests.{Request, Seen}

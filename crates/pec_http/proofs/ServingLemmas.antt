@@ -1,24 +1,29 @@
 -- What a request asks, by what was read of it.
-use Rattle.std.proofs.Common.{◌≡◌, ◌≢◌, ℕ, ◌+◌, ◌<◌, ◌≤◌, ◌++◌, nat_lt, List, [], length, take, drop, Bool, true, false, cond, Option, None, Some, Result, Ok, Err, IfOk, ◌⊎◌, inl, inr, refl, sym, ap, subst, ◌∙◌, arith, length-append, length-drop, append_assoc}
+use Rattle.std.proofs.Common.{◌≡◌, ◌≢◌, ℕ, ◌+◌, ◌<◌, ◌≤◌, ◌++◌, nat_lt, length, take, drop, true, false, Option, None, Some, Result, Ok, Err, IfOk, IfErr, ◌⊎◌, inl, inr, refl, sym, ap, subst, ◌∙◌, arith, length-append, length-drop, append_assoc}
 use Rattle.std.proofs.lemmas.Bool.Decides.{nat_tests}
 use Rattle.std.proofs.lemmas.List.{take-append-le, drop-append-le}
 use Rattle.pec_outside.specs.Flow.{HasRisen, behind}
+use Rattle.pec_types.specs.Answers.{seen_as}
 use Rattle.pec_types.specs.Bytes.{Bytes, Path}
 use Rattle.pec_types.specs.Results.{◌>>=◌}
 use Rattle.pec_http_head.specs.Cuts.{WholeCut, Ends, TooLarge, Short, cut_of}
-use Rattle.pec_http_head.specs.Requests.{ReadsHead, Request, Seen, LargeHead, NoHead, Head, Sees, SeesCut, seen_behind}
-use Rattle.pec_http.specs.Asking.{Asks, Demands, Question, Submit, See, asked_with, demand_in, demand_of, question_of}
+use Rattle.pec_http_head.specs.Requests.{ReadsHead, Request, Seen, LargeHead, NoHead, SeesCut, seen_behind}
+use Rattle.pec_http.specs.Asking.{Asks, Demands, Question, Submit, See, asked_with, demand_in, question_of}
 use Rattle.pec_http.specs.Input.{IsInput, StopsBody, StopsHead, TakesMore}
-use Rattle.pec_http.specs.Desks.{Answers}
-use Rattle.pec_http.specs.Replies.{Reply, memory_reply, reply_text, shown_reply, stop_reply}
-use Rattle.pec_http.specs.Serving.{IsAnswerOrLack, MayShow, Sends, Serves, Shows, StopsFor, Submits, kind_of}
+use Rattle.pec_http.specs.Desks.{Answers, IsLookFault}
+use Rattle.pec_http.specs.Replies.{Reply, fault_reply, memory_reply, reply_text, shown_reply, stop_reply}
+use Rattle.pec_http.specs.Serving.{HasRested, IsAnswerOrLack, MayShow, Sends, Serves, Shows, StopsFor, Submits, kind_of}
 use Rattle.pec_http.specs.declared.serving.Served.{Served}
 use Rattle.pec_http.specs.declared.serving.Served.TheVariants.{Answered, ReadFault, WriteFault}
+use Rattle.pec_http.specs.declared.statuses.Kind.TheVariants.{Message}
 use Rattle.pec_http.specs.declared.statuses.Status.{Status}
+use Rattle.pec_http.specs.declared.statuses.Status.TheVariants as statuses
 use Rattle.pec_http.specs.Writing.{Exchanges, IsReply}
 use Rattle.pec_types.specs.declared.turns.ProviderFault.{ProviderFault}
+use Rattle.pec_types.specs.declared.turns.ProviderFault.TheVariants as faults
 use Rattle.pec_http.specs.declared.replies.Reply.{Reply as Written}
 use Rattle.pec_http.specs.declared.demands.Look.{Look}
+use Rattle.pec_http.specs.declared.demands.Look.TheVariants as looks
 use Rattle.pec_http.specs.declared.demands.Demand.{Demand}
 use Rattle.pec_http.specs.declared.demands.Demand.TheVariants as demands
 use Rattle.pec_http.specs.declared.passes.Pass.{Pass}
@@ -89,14 +94,45 @@ shown_so : (answer : Result Written Stop) (P : Reply → Type 0) (reply : Reply)
 shown_so (Ok written) P reply p is = (reply, p, is)
 shown_so (Err stop) P reply p is = record {}
 
-pub seen_so : {Desk : Type 0} (answers : Answers Desk) (desk : Desk) (address : Bytes) (look known : Look) (said : Result Bytes ProviderFault) (answer : Result Written Stop)
-    → look ≡ known → MayShow answers desk address known said → IfOk answer (λ written. IsReply written (shown_reply (kind_of known) said))
+-- for a look at a book or at a mailbox no disk fails
+no_disk : {X : Type 0} (seen : X → Bytes) (said : Result X ProviderFault) → IfErr said IsLookFault → seen_as seen said ≡ Err faults.DiskFault → ⊥
+no_disk seen (Ok value) looks e = absurd cc
+no_disk seen (Err fault) looks e =
+    let P : Result Bytes ProviderFault → Type 0 = λ r. IfErr r IsLookFault in subst P e looks
+
+pub seen_so : {Desk X : Type 0} (answers : Answers Desk) (desk : Desk) (address : Bytes) (look known : Look) (seen : X → Bytes) (said : Result X ProviderFault)
+    (answer : Result Written Stop) → look ≡ known → MayShow answers desk address known (seen_as seen said) desk → IfErr said IsLookFault
+    → IfOk answer (λ written. IsReply written (shown_reply (kind_of known) (seen_as seen said)))
     → IfOk answer (λ written. (shown : Reply) × (Shows answers desk address look desk shown) × IsReply written shown)
-seen_so answers desk address look known said answer is may shown =
-    let P : Look → Type 0 = λ l. MayShow answers desk address l said in
-    let Q : Look → Type 0 = λ l. IfOk answer (λ written. IsReply written (shown_reply (kind_of l) said)) in
-    shown_so answer (λ reply. Shows answers desk address look desk reply) (shown_reply (kind_of look) said)
-    (record { said = said; may_say = subst P (sym is) may; same = refl; answer = refl }) (subst Q (sym is) shown)
+seen_so answers desk address look known seen said answer is may looks shown =
+    let P : Look → Type 0 = λ l. MayShow answers desk address l (seen_as seen said) desk in
+    let Q : Look → Type 0 = λ l. IfOk answer (λ written. IsReply written (shown_reply (kind_of l) (seen_as seen said))) in
+    shown_so answer (λ reply. Shows answers desk address look desk reply) (shown_reply (kind_of look) (seen_as seen said))
+    (record { said = seen_as seen said; may_say = subst P (sym is) may; cause = λ e. absurd (no_disk seen said looks e); answer = refl }) (subst Q (sym is) shown)
+
+-- what failed for such a look left the desk as it is
+pub rested_so : {Desk : Type 0} (answers : Answers Desk) (desk : Desk) (answer : Result Written Stop) → IfErr answer (λ stop. HasRested answers desk desk)
+rested_so answers desk (Ok written) = record {}
+rested_so answers desk (Err stop) = inl refl
+
+-- an item is shown
+pub item_shown : {Desk : Type 0} (answers : Answers Desk) (before after : Desk) (address : Bytes) (place : ℕ) (bytes : Bytes) (written : Written)
+    → answers.item before address place (Ok bytes) after → IsReply written (record { status = statuses.Ok; kind = Message; body = bytes })
+    → (shown : Reply) × (Shows answers before address (looks.Item place) after shown) × IsReply written shown
+item_shown answers before after address place bytes written may is =
+    (record { status = statuses.Ok; kind = Message; body = bytes }, record { said = Ok bytes; may_say = may; cause = λ e. absurd cc; answer = refl }, is)
+
+-- the fault is the same, whatever would have been answered without it
+fault_same : {X : Type 0} (fault known : ProviderFault) → (let wrong : Result X ProviderFault = Err fault in wrong ≡ Err known) → fault ≡ known
+fault_same {X} fault known e = cc
+
+-- an item is refused
+pub item_refused : {Desk X : Type 0} (answers : Answers Desk) (before after : Desk) (address : Bytes) (place : ℕ) (fault : ProviderFault) (written : Written)
+    → answers.item before address place (Err fault) after
+    → ((let said : Result X ProviderFault = Err fault in said ≡ Err faults.DiskFault) → HasRisen (answers.faults before address) (answers.faults after address))
+    → IsReply written (fault_reply fault) → (shown : Reply) × (Shows answers before address (looks.Item place) after shown) × IsReply written shown
+item_refused answers before after address place fault written may cause is =
+    (fault_reply fault, record { said = Err fault; may_say = may; cause = λ e. cause (ap (λ f. Err f) (fault_same fault faults.DiskFault e)); answer = refl }, is)
 
 -- ---- bodies
 
@@ -138,10 +174,10 @@ body_stops pass left left_then came end until length_ address path _ head asking
 -- ---- whole exchanges
 
 -- an account looks, and is answered
-pub look_answered : {Desk : Type 0} (answers : Answers Desk) (left left_then : Option Bytes) (came : Bytes) (end : ℕ) (before : Desk) (address : Bytes) (look : Look)
+pub look_answered : {Desk : Type 0} (answers : Answers Desk) (left left_then : Option Bytes) (came : Bytes) (end : ℕ) (before after : Desk) (address : Bytes) (look : Look)
     (written : Written) → HeadCame left left_then came end → Demands (answers.pass before) (take end came) (Ok (demands.Look address look))
-    → ((shown : Reply) × (Shows answers before address look before shown) × IsReply written shown) → Exchanges answers left before before written
-look_answered answers left left_then came end before address look written head asking shown =
+    → ((shown : Reply) × (Shows answers before address look after shown) × IsReply written shown) → Exchanges answers left before after written
+look_answered answers left left_then came end before after address look written head asking shown =
     let rest = rest_of left_then in
     record {
       input = came ++ rest.0;
@@ -192,40 +228,45 @@ demands_so pass text text_is asked asked_is e f h =
 
 -- ---- calls
 
-refused : {Desk : Type 0} (answers : Answers Desk) (left : Option Bytes) (before after : Desk) (stop : Stop) (reply : Reply) → after ≡ before → stop ≢ stops.NoMemory
+-- a request that isn't put to the desk leaves it as it is, and so does want of memory, but that an item may have been read
+pub record RestsAt {Desk : Type 0} (answers : Answers Desk) (before after : Desk) (stop : Stop) : Type 0 where
+  pub same : stop ≢ stops.NoMemory → after ≡ before
+  pub rested : HasRested answers before after
+
+refused : {Desk : Type 0} (answers : Answers Desk) (left : Option Bytes) (before after : Desk) (stop : Stop) (reply : Reply) → RestsAt answers before after stop → stop ≢ stops.NoMemory
     → stop ≢ stops.ReadFault → StopsFor (answers.pass before) left stop → reply ≡ stop_reply stop
     → (input : Bytes) × IsInput left input × IsAnswerOrLack answers before input after reply
-refused answers left before after stop reply same no_lack no_read stopped is =
+refused answers left before after stop reply rests no_lack no_read stopped is =
     let why = stopped no_lack no_read in
-    (why.0, why.1, inl (record { asked = Err stop; asks = why.2; answered = record { same = same; is = is } }))
+    (why.0, why.1, inl (record { asked = Err stop; asks = why.2; answered = record { same = rests.same no_lack; is = is } }))
 
-lacking : {Desk : Type 0} (answers : Answers Desk) (left : Option Bytes) (before after : Desk) (reply : Reply) → after ≡ before → reply ≡ memory_reply
+lacking : {Desk : Type 0} (answers : Answers Desk) (left : Option Bytes) (before after : Desk) (reply : Reply) → HasRested answers before after → reply ≡ memory_reply
     → (input : Bytes) × IsInput left input × IsAnswerOrLack answers before input after reply
-lacking answers left before after reply same is =
-    let rest = rest_of left in (rest.0, rest.1, inr (record { same = same; is = is }))
+lacking answers left before after reply rested is =
+    let rest = rest_of left in (rest.0, rest.1, inr (is, rested))
 
-stop_answered : {Desk : Type 0} (answers : Answers Desk) (left : Option Bytes) (before after : Desk) (stop : Stop) (reply : Reply) → after ≡ before
+stop_answered : {Desk : Type 0} (answers : Answers Desk) (left : Option Bytes) (before after : Desk) (stop : Stop) (reply : Reply) → RestsAt answers before after stop
     → stop ≢ stops.ReadFault → StopsFor (answers.pass before) left stop → reply ≡ stop_reply stop
     → (input : Bytes) × IsInput left input × IsAnswerOrLack answers before input after reply
-stop_answered answers left before after stops.NoMemory reply same no_read stopped is = lacking answers left before after reply same is
-stop_answered answers left before after stops.ReadFault reply same no_read stopped is = absurd (no_read refl)
-stop_answered answers left before after stops.LargeHead reply same no_read stopped is = refused answers left before after stops.LargeHead reply same (λ e. absurd cc) no_read stopped is
-stop_answered answers left before after stops.BadHead reply same no_read stopped is = refused answers left before after stops.BadHead reply same (λ e. absurd cc) no_read stopped is
-stop_answered answers left before after stops.NoRoute reply same no_read stopped is = refused answers left before after stops.NoRoute reply same (λ e. absurd cc) no_read stopped is
-stop_answered answers left before after stops.OtherMethod reply same no_read stopped is = refused answers left before after stops.OtherMethod reply same (λ e. absurd cc) no_read stopped is
-stop_answered answers left before after stops.NoAccount reply same no_read stopped is = refused answers left before after stops.NoAccount reply same (λ e. absurd cc) no_read stopped is
-stop_answered answers left before after stops.NoKey reply same no_read stopped is = refused answers left before after stops.NoKey reply same (λ e. absurd cc) no_read stopped is
-stop_answered answers left before after stops.WrongKey reply same no_read stopped is = refused answers left before after stops.WrongKey reply same (λ e. absurd cc) no_read stopped is
-stop_answered answers left before after stops.NoLength reply same no_read stopped is = refused answers left before after stops.NoLength reply same (λ e. absurd cc) no_read stopped is
-stop_answered answers left before after stops.NoPath reply same no_read stopped is = refused answers left before after stops.NoPath reply same (λ e. absurd cc) no_read stopped is
-stop_answered answers left before after stops.TooLarge reply same no_read stopped is = refused answers left before after stops.TooLarge reply same (λ e. absurd cc) no_read stopped is
-stop_answered answers left before after stops.CutBody reply same no_read stopped is = refused answers left before after stops.CutBody reply same (λ e. absurd cc) no_read stopped is
+stop_answered answers left before after stops.NoMemory reply rests no_read stopped is = lacking answers left before after reply rests.rested is
+stop_answered answers left before after stops.ReadFault reply rests no_read stopped is = absurd (no_read refl)
+stop_answered answers left before after stops.LargeHead reply rests no_read stopped is = refused answers left before after stops.LargeHead reply rests (λ e. absurd cc) no_read stopped is
+stop_answered answers left before after stops.BadHead reply rests no_read stopped is = refused answers left before after stops.BadHead reply rests (λ e. absurd cc) no_read stopped is
+stop_answered answers left before after stops.NoRoute reply rests no_read stopped is = refused answers left before after stops.NoRoute reply rests (λ e. absurd cc) no_read stopped is
+stop_answered answers left before after stops.OtherMethod reply rests no_read stopped is = refused answers left before after stops.OtherMethod reply rests (λ e. absurd cc) no_read stopped is
+stop_answered answers left before after stops.NoAccount reply rests no_read stopped is = refused answers left before after stops.NoAccount reply rests (λ e. absurd cc) no_read stopped is
+stop_answered answers left before after stops.NoKey reply rests no_read stopped is = refused answers left before after stops.NoKey reply rests (λ e. absurd cc) no_read stopped is
+stop_answered answers left before after stops.WrongKey reply rests no_read stopped is = refused answers left before after stops.WrongKey reply rests (λ e. absurd cc) no_read stopped is
+stop_answered answers left before after stops.NoLength reply rests no_read stopped is = refused answers left before after stops.NoLength reply rests (λ e. absurd cc) no_read stopped is
+stop_answered answers left before after stops.NoPath reply rests no_read stopped is = refused answers left before after stops.NoPath reply rests (λ e. absurd cc) no_read stopped is
+stop_answered answers left before after stops.TooLarge reply rests no_read stopped is = refused answers left before after stops.TooLarge reply rests (λ e. absurd cc) no_read stopped is
+stop_answered answers left before after stops.CutBody reply rests no_read stopped is = refused answers left before after stops.CutBody reply rests (λ e. absurd cc) no_read stopped is
 
-stop_or_lack : {Desk : Type 0} (answers : Answers Desk) (left : Option Bytes) (before after : Desk) (stop : Stop) (reply : Reply) → after ≡ before
+stop_or_lack : {Desk : Type 0} (answers : Answers Desk) (left : Option Bytes) (before after : Desk) (stop : Stop) (reply : Reply) → RestsAt answers before after stop
     → stop ≢ stops.ReadFault → StopsFor (answers.pass before) left stop → (reply ≡ stop_reply stop) ⊎ (reply ≡ memory_reply)
     → (input : Bytes) × IsInput left input × IsAnswerOrLack answers before input after reply
-stop_or_lack answers left before after stop reply same no_read stopped (inl is) = stop_answered answers left before after stop reply same no_read stopped is
-stop_or_lack answers left before after stop reply same no_read stopped (inr is) = lacking answers left before after reply same is
+stop_or_lack answers left before after stop reply rests no_read stopped (inl is) = stop_answered answers left before after stop reply rests no_read stopped is
+stop_or_lack answers left before after stop reply rests no_read stopped (inr is) = lacking answers left before after reply rests.rested is
 
 replies : {Desk : Type 0} (answers : Answers Desk) (left held : Option Bytes) (before after : Desk) (held_then : Option Bytes) (served : Served) (reply : Reply)
     → ((input : Bytes) × IsInput left input × IsAnswerOrLack answers before input after reply) → Sends held held_then served reply.status (reply_text reply)
@@ -236,12 +277,12 @@ replies answers left held before after held_then ReadFault reply answer sends = 
 
 -- a request that isn't put to the desk is served; reading it left what the connection held
 pub stop_served : {Desk : Type 0} (answers : Answers Desk) (left held held_read : Option Bytes) (before after : Desk) (stop : Stop) (held_then : Option Bytes) (served : Served)
-    → held_read ≡ held → after ≡ before → stop ≢ stops.ReadFault → StopsFor (answers.pass before) left stop
+    → held_read ≡ held → RestsAt answers before after stop → stop ≢ stops.ReadFault → StopsFor (answers.pass before) left stop
     → ((reply : Reply) × ((reply ≡ stop_reply stop) ⊎ (reply ≡ memory_reply)) × Sends held_read held_then served reply.status (reply_text reply))
     → Serves answers left held before after held_then served
-stop_served answers left held held_read before after stop held_then served kept same no_read stopped answered =
+stop_served answers left held held_read before after stop held_then served kept rests no_read stopped answered =
     let P : Option Bytes → Type 0 = λ h. Sends h held_then served answered.0.status (reply_text answered.0) in
-    replies answers left held before after held_then served answered.0 (stop_or_lack answers left before after stop answered.0 same no_read stopped answered.1)
+    replies answers left held before after held_then served answered.0 (stop_or_lack answers left before after stop answered.0 rests no_read stopped answered.1)
     (subst P kept answered.2)
 
 -- one that is put to the desk is served

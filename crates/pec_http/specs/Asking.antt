@@ -1,6 +1,6 @@
 -- What a request asks of a desk: `Asks`, at the end, and why it isn't put to the desk, rows 1 to 11 of `Rows`. This
 -- project's profile.
-use Rattle.std.specs.Prelude.{◌≡◌, ℕ, ◌<◌, ◌≤◌, nat_lt, Bool, true, List, [], length, take, Option, Some, None, unwrap_or, Result, Ok, Err, ⊤, if◌then◌else◌}
+use Rattle.std.specs.Prelude.{◌≡◌, ℕ, ◌<◌, ◌≤◌, nat_lt, Bool, true, [], length, take, Option, Some, None, unwrap_or, Result, Ok, Err, ⊤, if◌then◌else◌}
 use Rattle.std.specs.Str.{bytes_eq}
 use Rattle.pec_types.specs.Bytes.{Bytes, Path}
 use Rattle.pec_types.specs.Results.{◌>>=◌}

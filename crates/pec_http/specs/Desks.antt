@@ -24,8 +24,8 @@ pub record Answers (Desk : Type 0) : Type 1 where
   pub book : Desk → Bytes → Result Bytes ProviderFault → Type 0
   -- and this as the lines of its mailbox
   pub items : Desk → Bytes → Result Bytes ProviderFault → Type 0
-  -- and this as the item at a place of it
-  pub item : Desk → Bytes → ℕ → Result Bytes ProviderFault → Type 0
+  -- and this as the item at a place of it, which is read from a disk, and be in this state then
+  pub item : Desk → Bytes → ℕ → Result Bytes ProviderFault → Desk → Type 0
 
 -- No provider takes messages of more than 30 MiB.
 abbrev pub IsWithinLimit : Pass → Type 0
@@ -44,7 +44,9 @@ IsLookFault faults.Down = ⊤
 IsLookFault faults.NoMemory = ⊤
 IsLookFault _ = ⊥
 
--- Those of an item.
+-- Those of an item: it may not be there, the disk may fail, or give back another entry than it took.
 abbrev pub IsItemFault : ProviderFault → Type 0
 IsItemFault faults.NoItem = ⊤
+IsItemFault faults.DiskFault = ⊤
+IsItemFault (faults.Changed entry) = ⊤
 IsItemFault fault = IsLookFault fault

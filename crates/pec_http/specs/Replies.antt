@@ -9,7 +9,7 @@ use Rattle.pec_types.specs.declared.turns.Submitted.{Submitted}
 use Rattle.pec_types.specs.declared.turns.Submitted.TheVariants as submissions
 use Rattle.pec_http.specs.Statuses.{kind_text, number_of, phrase_of}
 use Rattle.pec_http.specs.declared.statuses.Kind.{Kind}
-use Rattle.pec_http.specs.declared.statuses.Kind.TheVariants.{Plain, Message}
+use Rattle.pec_http.specs.declared.statuses.Kind.TheVariants.{Plain}
 use Rattle.pec_http.specs.declared.statuses.Status.{Status}
 use Rattle.pec_http.specs.declared.statuses.Status.TheVariants as statuses
 use Rattle.pec_http.specs.declared.stops.Stop.{Stop}
@@ -53,6 +53,7 @@ fault_reply faults.Full = plain statuses.InsufficientStorage (codes "full")
 fault_reply faults.JournalFull = plain statuses.InsufficientStorage (codes "journal-full")
 fault_reply faults.DiskFault = plain statuses.ServiceUnavailable (codes "fault disk")
 fault_reply faults.NoMemory = memory_reply
+fault_reply (faults.Changed entry) = plain statuses.ServiceUnavailable (codes "changed " ++ decimal entry)
 
 -- What became of a submission at a provider of this first domain; row 17 where it isn't accepted.
 abbrev pub submitted_reply : Bytes → Result Submitted ProviderFault → Reply

@@ -1,8 +1,8 @@
 -- The rows by tests. `Rows` says what they mean.
-use Rattle.std.specs.Prelude.{ℕ, nat_lt, Bool, true, false, not, ◌&&◌, List, [], length, Option, Some, None, unwrap_or}
+use Rattle.std.specs.Prelude.{ℕ, nat_lt, Bool, true, false, not, ◌&&◌, length, Option, Some, None}
 use Rattle.std.specs.Option.{is_none}
 use Rattle.std.specs.Str.{bytes_eq}
-use Rattle.pec_types.specs.Bytes.{Bytes, Path}
+use Rattle.pec_types.specs.Bytes.{Bytes}
 use Rattle.pec_http_head.specs.Fields.{key_of, length_of, path_of}
 use Rattle.pec_http_head.specs.Requests as requests
 use Rattle.pec_http_head.specs.Requests.{Request, Seen}

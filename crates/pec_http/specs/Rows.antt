@@ -1,6 +1,6 @@
 -- The rows that stop a request before the desk is asked, 1 to 11, in their order: `IsStop` and `IsQuestion`, at the end.
 -- Each row says when it applies; the answer is that of the first row that does. This project's profile.
-use Rattle.std.specs.Prelude.{◌≡◌, ◌≢◌, ℕ, ◌<◌, List, [], ◌∷◌, length, Option, Some, None, Ok, unwrap_or}
+use Rattle.std.specs.Prelude.{◌≡◌, ◌≢◌, ℕ, ◌<◌, List, [], ◌∷◌, length, Option, Some, None, unwrap_or}
 use Rattle.pec_types.specs.Bytes.{Bytes}
 use Rattle.pec_types.specs.Tables.{IsFirst, NoneApplies}
 use Rattle.pec_http_head.specs.Fields.{key_of, length_of, path_of}

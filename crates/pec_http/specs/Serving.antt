@@ -32,22 +32,24 @@ pub record Submits {Desk : Type 0} (answers : Answers Desk) (before : Desk) (add
   pub cause : said ≡ Err faults.DiskFault → HasRisen (answers.faults before address) (answers.faults after address)
   pub answer : reply ≡ submitted_reply (answers.domain before address) said
 
--- The desk may show this to an account that looks.
-abbrev pub MayShow : {Desk : Type 0} → Answers Desk → Desk → Bytes → Look → Result Bytes ProviderFault → Type 0
-MayShow answers desk address looks.Book said = answers.book desk address said
-MayShow answers desk address looks.Items said = answers.items desk address said
-MayShow answers desk address (looks.Item place) said = answers.item desk address place said
+-- The desk may show this to an account that looks, and be in this state then. A look at a book or at a mailbox leaves it
+-- as it is.
+abbrev pub MayShow : {Desk : Type 0} → Answers Desk → Desk → Bytes → Look → Result Bytes ProviderFault → Desk → Type 0
+MayShow answers before address looks.Book said after = answers.book before address said × (after ≡ before)
+MayShow answers before address looks.Items said after = answers.items before address said × (after ≡ before)
+MayShow answers before address (looks.Item place) said after = answers.item before address place said after
 
 abbrev pub kind_of : Look → Kind
 kind_of looks.Book = Plain
 kind_of looks.Items = Plain
 kind_of (looks.Item place) = Message
 
--- The desk was asked to show something, stays as it is, and this is answered.
+-- The desk was asked to show something, and this is answered. The status of a failed disk is answered only where the
+-- address's count of faults has risen.
 pub record Shows {Desk : Type 0} (answers : Answers Desk) (before : Desk) (address : Bytes) (look : Look) (after : Desk) (reply : Reply) : Type 0 where
   pub said : Result Bytes ProviderFault
-  pub may_say : MayShow answers before address look said
-  pub same : after ≡ before
+  pub may_say : MayShow answers before address look said after
+  pub cause : said ≡ Err faults.DiskFault → HasRisen (answers.faults before address) (answers.faults after address)
   pub answer : reply ≡ shown_reply (kind_of look) said
 
 -- The desk wasn't asked to do anything, and this is answered.
@@ -69,9 +71,22 @@ pub record IsAnswer {Desk : Type 0} (answers : Answers Desk) (before : Desk) (in
   pub asks : Asks (answers.pass before) input asked
   pub answered : IsAnswered answers before asked after reply
 
--- The same, where memory may have run out before the desk was asked.
+-- The desk showed an item, and no more.
+pub record HasRead {Desk : Type 0} (answers : Answers Desk) (before after : Desk) : Type 0 where
+  pub address : Bytes
+  pub place : ℕ
+  pub bytes : Bytes
+  pub shown : answers.item before address place (Ok bytes) after
+
+-- Where memory ran out: the desk wasn't asked to do anything, or it showed an item for which there was no room in an
+-- answer.
+abbrev pub HasRested : {Desk : Type 0} → Answers Desk → Desk → Desk → Type 0
+HasRested answers before after = (after ≡ before) ⊎ HasRead answers before after
+
+-- The same as `IsAnswer`, where memory may have run out before anything was handed in, refused or answered.
 abbrev pub IsAnswerOrLack : {Desk : Type 0} → Answers Desk → Desk → Bytes → Desk → Reply → Type 0
-IsAnswerOrLack answers before input after reply = IsAnswer answers before input after reply ⊎ Stays before after reply memory_reply
+IsAnswerOrLack answers before input after reply =
+    IsAnswer answers before input after reply ⊎ ((reply ≡ memory_reply) × HasRested answers before after)
 
 -- Over a connection with this to come a request isn't put to the desk, for this reason. Want of memory and a fault of the
 -- connection say nothing of it.

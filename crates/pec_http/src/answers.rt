@@ -174,7 +174,7 @@ fn put_id(body: &mut Vec<u8>, domain: &[u8], id: MsgId)
 }
 
 /// Puts the body of a refusal's answer, and tells its status.
-fn put_fault(body: &mut Vec<u8>, fault: ProviderFault) -> Status
+pub(crate) fn put_fault(body: &mut Vec<u8>, fault: ProviderFault) -> Status
     requires empty { body.old.items ≡ [] }
     requires fits { 384 ≤ vec_capacity body.old }
     ensures status { result ≡ (fault_reply fault).status }
@@ -194,6 +194,7 @@ fn put_fault(body: &mut Vec<u8>, fault: ProviderFault) -> Status
         ProviderFault::DiskFault => word(body, Status::ServiceUnavailable, b"fault disk\n"),
         ProviderFault::NoMemory => word(body, Status::InternalServerError, b"no-memory\n"),
         ProviderFault::ClockBack(last) => put_clock(body, last),
+        ProviderFault::Changed(entry) => put_changed(body, entry),
     }
 }
 
@@ -208,6 +209,19 @@ fn put_clock(body: &mut Vec<u8>, last: Moment) -> Status
     put_number(body, last.seconds());
     put(body, b"\n");
     Status::Conflict
+}
+
+fn put_changed(body: &mut Vec<u8>, entry: u64) -> Status
+    requires empty { body.old.items ≡ [] }
+    requires fits { 384 ≤ vec_capacity body.old }
+    ensures status { result ≡ statuses.ServiceUnavailable }
+    ensures items { body.new.items ≡ codes "changed " ++ decimal entry ++ line_feed ∷ [] }
+    ensures len { vec_len body.new ≤ 384 }
+{
+    put(body, b"changed ");
+    put_number(body, entry);
+    put(body, b"\n");
+    Status::ServiceUnavailable
 }
 
 fn word(body: &mut Vec<u8>, status: Status, line: &[u8]) -> Status

@@ -63,14 +63,19 @@ pub trait Desk {
         ensures given { answers.items self.now address.now (seen_as (λ bytes. bytes.items) result) }
         ensures refusals { IfErr result IsLookFault };
 
-    /// The item at this place of the account's mailbox, from 0.
+    /// The item at this place of the account's mailbox, from 0. It is read from the disk of the account's provider,
+    /// which may fail (`DiskFault`), or give back another entry than it took (`Changed`).
     fn item(
-        &self,
+        &mut self,
         alloc: Global,
         address: &Address,
         place: u32,
     ) -> Result<Vec<u8>, ProviderFaultView>
-        requires { answers.is_account self.now address.now ≡ true }
-        ensures given { answers.item self.now address.now place (seen_as (λ bytes. bytes.items) result) }
-        ensures refusals { IfErr result IsItemFault };
+        requires { answers.is_account self.old address.now ≡ true }
+        ensures given { answers.item self.old address.now place (seen_as (λ bytes. bytes.items) result) self.new }
+        ensures refusals { IfErr result IsItemFault }
+        // The count of faults of each address never falls. It has risen where the address's disk failed.
+        ensures later { (other : Bytes) → answers.faults self.old other ≤ answers.faults self.new other }
+        ensures cause { result ≡ Err faults.DiskFault
+            → HasRisen (answers.faults self.old address.now) (answers.faults self.new address.now) };
 }

@@ -35,9 +35,9 @@ pub fn serve_one<C: Source + Sink, K: Desk>(
     connection: &mut C,
     desk: &mut K,
 ) -> Served
-    // What is written, behind what the connection held, is the answer to the bytes of the request at this desk, or a front
-    // of it after a fault of writing, and nothing after one of reading. The desk is asked to take a submission once where
-    // no row from 1 to 11 applies to one, and never otherwise.
+    // What is written, behind what the connection held, is the answer to the bytes of the request at this desk, or a
+    // front of it after a fault of writing, and nothing after one of reading. The desk is asked to take a submission
+    // once where no row from 1 to 11 applies to one, and never otherwise.
     ensures serves { Serves K.answers (C.left connection.old) (C.held connection.old) desk.old desk.new
         (C.held connection.new) result }
     // A fault is told only where the connection's count rose in this call.

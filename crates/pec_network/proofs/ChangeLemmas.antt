@@ -18,7 +18,7 @@ use Rattle.pec_provider.specs.Playing.{Plays}
 use Rattle.pec_provider.specs.Provider.{ProviderState, Runs, desk_of, site_of}
 use Rattle.pec_provider.specs.Ticking.{Ticks}
 use Rattle.pec_seal.specs.Seals.{Seals}
-use Rattle.pec_network.specs.Carrying.{AllCarryOn, NoneFalls}
+use Rattle.pec_network.specs.Carrying.{AllCarryOn, AllStand, NoneFalls}
 use Rattle.pec_network.specs.Changing.{HasRisenAt, StandsAt}
 use Rattle.pec_network.specs.Network.{IsOfDirectory, NetworkState, sites_of}
 use Rattle.pec_network.specs.Playing.{IsPlayed}
@@ -82,6 +82,10 @@ module _ {D : Type 0} (providers : List (ProviderState D)) (number : ℕ) (old n
 
   pub stands_from : (sight : D → Sight) → StandsAt sight number providers → Stands sight old.chronicle
   stands_from sight stands = subst (λ (p : ProviderState D). Stands sight p.chronicle) (at_old old) (stands old)
+
+  -- so it is where all stand
+  pub stands_of_all : (sight : D → Sight) → AllStand sight providers → Stands sight old.chronicle
+  stands_of_all sight all = subst (λ (p : ProviderState D). Stands sight p.chronicle) (at_old old) (all number old within)
 
   pub entries_from : (waiting : List Waiting) → length waiting ≡ length providers
       → length (journal_at (sites_of providers waiting) number) ≡ length old.chronicle.entries

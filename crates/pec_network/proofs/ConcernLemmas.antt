@@ -1,5 +1,6 @@
 -- What the command of one provider leaves of a network, from what it leaves of that provider.
-use Rattle.std.proofs.Common.{◌≡◌, ℕ, ◌<◌, ◌≤◌, length, get_or, set}
+use Rattle.std.proofs.Common.{◌≡◌, ℕ, ◌<◌, ◌≤◌, List, length, get_or, set, ap, sym, arith, Err}
+use Rattle.std.proofs.lemmas.List.{set-get_or}
 use Rattle.std.specs.Prelude.{Result, IsErrOf}
 use Rattle.pec_types.specs.declared.turns.ProviderFault.{ProviderFault}
 use Rattle.pec_types.specs.declared.turns.ProviderFault.TheVariants as refusals
@@ -7,6 +8,7 @@ use Rattle.pec_outside.specs.DiskModel.{Sight}
 use Rattle.pec_outside.specs.Flow.{HasRisen}
 use Rattle.pec_ledger.specs.Ledger.{Journals}
 use Rattle.pec_chronicle.specs.Carrying.{CarriesOn, NothingMay}
+use Rattle.pec_chronicle.specs.CarryingLaws.{carries_nothing}
 use Rattle.pec_chronicle.specs.Chronicle.{ChronicleState}
 use Rattle.pec_provider.specs.Following.{MayFollow}
 use Rattle.pec_provider.specs.Provider.{ProviderState}
@@ -31,4 +33,19 @@ concerns_one was number old new within here sight count tells seals result rests
       (rests told) (carries told journals);
   disk_fault = λ failed. risen_from was.providers number old new within here count (risen failed);
   later = falls_from was.providers number old new within here count later;
+}
+
+-- a call that changes nothing concerns whomever
+pub concerns_nobody : {D S X : Type 0} (was : NetworkState D S) (number : ℕ)
+    → (sight : D → Sight) (count : D → ℕ) (tells : Type 0) (seals : S → Seals)
+    → (tells → (state : ChronicleState D) → CarriesOn sight NothingMay state state)
+    → ConcernsOne {X = X} sight count tells seals number was was (Err refusals.NoAccount)
+concerns_nobody {D} {S} was number sight count tells seals rests = record {
+  others = λ other. ap (λ (p : List (ProviderState D)). (let n : NetworkState D S = record was { providers = p } in n))
+      (sym (set-get_or was.providers number other));
+  carries = λ told journals k other l. carries_nothing sight (MayFollow (world_of seals was) journals k)
+      (get_or was.providers k other).chronicle (get_or was.providers k other).chronicle
+      (rests told (get_or was.providers k other).chronicle);
+  disk_fault = λ failed. absurd (cc);
+  later = λ k other l. omega arith;
 }

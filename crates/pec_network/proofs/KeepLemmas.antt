@@ -5,7 +5,10 @@ use Rattle.pec_records.specs.declared.entries.Entry.{Entry}
 use Rattle.pec_ledger.specs.Ledger.{Fit, Journals}
 use Rattle.pec_ledger.specs.Network.{FollowsState, Site, Sound, journal_at, journals_of}
 use Rattle.pec_ledger.specs.Trade.{Trade}
-use Rattle.pec_plays.specs.Commands.{Round, played}
+use Rattle.pec_plays.specs.Commands.{Luck, Round, played}
+use Rattle.pec_plays.specs.Possible.{GaveWhatWasKept, IsOfKept}
+use Rattle.pec_plays.specs.Scripts.{PutsNoneForged}
+use Rattle.pec_plays.specs.Turns.{Cut}
 use Rattle.pec_network.specs.Rounds.{StopsWithin}
 
 -- a journal follows the state that it is in
@@ -24,3 +27,9 @@ stopped_fit trade moment old left stops sound any =
     any (played trade stops.luck old (Round moment)).after sound (journals_of left) (λ provider.
     subst (λ (l : List Entry). FollowsState trade (played trade stops.luck old (Round moment)).after provider l)
     (sym (stops.journals provider)) (follows_itself trade (played trade stops.luck old (Round moment)).after provider))
+
+-- where no other frames are put none is forged
+pub none_forged : (trade : Trade) (luck : Luck) (sites : List Site) (moment : ℕ) → GaveWhatWasKept luck
+    → PutsNoneForged trade luck sites moment
+none_forged trade luck sites moment kept = λ provider out within is.
+    absurd (subst (λ (cut : Cut). IsOfKept cut) is (kept provider))

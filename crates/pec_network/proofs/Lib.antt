@@ -13,6 +13,7 @@ pub mod LinkingLemmas
 pub mod MomentLemmas
 pub mod PassLemmas
 pub mod ProviderLemmas
+pub mod PutLemmas
 pub mod RoundLemmas
 pub mod SeatLemmas
 pub mod ShowLemmas

@@ -26,11 +26,11 @@ use Rattle.pec_chronicle.specs.Chronicle.{ChronicleState, Stands}
 use Rattle.pec_posts.specs.Arrivals.{Waiting, deliveries, room_on, waiting_for, waiting_from}
 use Rattle.pec_provider.specs.Following.{MayFollow}
 use Rattle.pec_provider.specs.Provider.{ProviderState, Runs, desk_of, site_of}
-use Rattle.pec_network.specs.Turning.{CarriesFrames, StopsShort, Took, cut_told, room_in, told_of, turn_of}
+use Rattle.pec_network.specs.Turning.{CarriesFrames, StopsShort, Took, room_in, told_of, turn_of}
 use Rattle.pec_seal.specs.Seals.{Seals}
 use Rattle.pec_network.specs.Carrying.{AllCarryOn, AllStand, NoneFalls}
 use Rattle.pec_network.specs.Network.{IsOfDirectory, sites_of}
-use Rattle.pec_network.specs.Rounds.{AreRooms, BlamesDisks, FramesAreGenuine, IsRound, StopsWithin}
+use Rattle.pec_network.specs.Rounds.{AreRooms, BlamesDisks, FramesAreGenuine, IsRound, KeepsSound, StopsWithin}
 use Rattle.pec_network.proofs.ProviderLemmas.{whole_at, whole_with}
 use Rattle.pec_network.proofs.RoundLemmas.{AllHad, HadTurn, HasFront, HaveFronts, front_of, front_short, fronts_more}
 use Rattle.pec_network.proofs.RoundLemmas.{get_push, had_more, is_round, no_turn_yet, stops_within}
@@ -64,12 +64,16 @@ module _ {D : Type 0} (Tells : Type 0) (sight : D → Sight) (count : D → ℕ)
   abbrev before : List Site
   before = sites_of old waited
 
+  -- the disks tell what they hold, and what was kept stood on them
+  abbrev AllStood : Type 0
+  AllStood = Tells × AllStand sight old
+
   -- The workers of the providers before a number are done; the other providers are as they were.
   pub record WorkedSoFar (number : ℕ) (now : List (ProviderState D)) (waiting : List Waiting) : Type 0 where
     pub whole : IsOfDirectory kept seals now waiting
     pub next : (k : ℕ) (other : ProviderState D) → number ≤ k → get_or now k other ≡ get_or old k other
     pub waits : (k : ℕ) → number ≤ k → waiting_for waiting k ≡ waiting_for waited k
-    pub fronts : HaveFronts trade moment before (sites_of now waiting)
+    pub fronts : HaveFronts AllStood trade moment before (sites_of now waiting)
     pub carries : Tells → (journals : Journals) → Fit trade journals → FramesAreGenuine trade journals before
         → AllCarryOn sight trade journals old now
     pub stands : Tells → AllStand sight old → AllStand sight now
@@ -80,7 +84,7 @@ module _ {D : Type 0} (Tells : Type 0) (sight : D → Sight) (count : D → ℕ)
       (outs : List (List (List Bytes))) : Type 0 where
     pub told : length turns ≡ number
     pub puts : length outs ≡ number
-    pub had : AllHad trade moment before (sites_of now waiting) turns outs
+    pub had : AllHad AllStood trade moment before (sites_of now waiting) turns outs
     pub blames : BlamesDisks count turns old now
 
   pub begun : IsOfDirectory kept seals old waited
@@ -89,7 +93,7 @@ module _ {D : Type 0} (Tells : Type 0) (sight : D → Sight) (count : D → ℕ)
     whole = whole;
     next = λ k other l. refl;
     waits = λ k l. refl;
-    fronts = no_turn_yet trade moment before;
+    fronts = no_turn_yet AllStood trade moment before;
     carries = λ tells journals fit genuine k other l.
         carries_nothing sight (MayFollow trade journals k) (get_or old k other).chronicle (get_or old k other).chronicle
         (rests tells (get_or old k other).chronicle);
@@ -201,7 +205,7 @@ module _ {D : Type 0} (Tells : Type 0) (sight : D → Sight) (count : D → ℕ)
           each_more (λ (k : ℕ) (o n : ProviderState D). count o.chronicle.disk ≤ count n.chronicle.disk) so_far.later
           later
 
-      pub worked_more : HasFront trade moment before number behind → Runs kept seals number new → new.owed ≡ []
+      pub worked_more : HasFront AllStood trade moment before number behind → Runs kept seals number new → new.owed ≡ []
           → length left ≡ length links
           → (Tells → CarriesFrames trade number moment sight was.chronicle links new.chronicle left)
           → (Tells → Stands sight was.chronicle → Stands sight new.chronicle)
@@ -212,8 +216,8 @@ module _ {D : Type 0} (Tells : Type 0) (sight : D → Sight) (count : D → ℕ)
             ∙ so_far.next k other (omega arith);
         waits = λ k l. get_or-set_other waiting number k left [] (λ e. absurd (omega (arith, l, e)))
             ∙ so_far.waits k (omega arith);
-        fronts = subst (λ (s : List Site). HaveFronts trade moment before s) (sym sites_more)
-            (fronts_more trade moment before (sites_of now waiting) number behind
+        fronts = subst (λ (s : List Site). HaveFronts AllStood trade moment before s) (sym sites_more)
+            (fronts_more AllStood trade moment before (sites_of now waiting) number behind
             (let m = sites_count now waiting in omega arith) so_far.fronts front);
         carries = carries_more carries;
         stands = stands_more stands;
@@ -222,22 +226,28 @@ module _ {D : Type 0} (Tells : Type 0) (sight : D → Sight) (count : D → ℕ)
 
       -- memory ran out in it
       pub short_front : StopsShort trade number moment (site_of (desk_of was) links) behind
-          → HasFront trade moment before number behind
-      short_front short = front_short trade moment before number (site_of (desk_of was) links) behind stood short
+          → HasFront AllStood trade moment before number behind
+      short_front short = front_short AllStood trade moment before number (site_of (desk_of was) links) behind stood short
+
+      -- what was kept of it stood
+      was_stands : AllStand sight old → Stands sight was.chronicle
+      was_stands all = subst (λ (p : ProviderState D). Stands sight p.chronicle) (was_old was)
+          (all number was (let e = many in omega arith))
 
       -- ---- it is told
 
       module _ (turn : Turn) (out : List (List Bytes)) where
         -- the turn as it was taken, with the rooms of the round
         had_turn : (rooms : List ℕ) → rooms ≡ map (room_on number) waited
-            → Took trade number moment (room_in rooms) (site_of (desk_of was) links) (turn_of behind turn out)
+            → Took (Tells × Stands sight was.chronicle) trade number moment (room_in rooms) (site_of (desk_of was) links)
+            (turn_of behind turn out)
             → turn ≡ told_of number (turn_of behind turn out)
             → ((to : ℕ) → length (get_or out to []) ≤ room_in rooms to)
             → (turn.ended ≡ Some faults.NoMemory → ⊥)
-            → HadTurn trade moment before number behind turn out
+            → HadTurn AllStood trade moment before number behind turn out
         had_turn rooms are took told fit memory =
-            let at = subst (λ (s : Site). Took trade number moment (room_in rooms) s (turn_of behind turn out)) stood
-            took in
+            let at = subst (λ (s : Site). Took (Tells × Stands sight was.chronicle) trade number moment (room_in rooms) s
+            (turn_of behind turn out)) stood took in
             let waits : (to : ℕ) → rooms_of before number to ≡ room_on number (waiting_for waited to) = λ to.
             ap (λ (w : Waiting). link_size - length (waiting_from w number)) (waiting_at old waited to same_before) in
             let size = same_before in
@@ -245,11 +255,15 @@ module _ {D : Type 0} (Tells : Type 0) (sight : D → Sight) (count : D → ℕ)
             let alike : (to : ℕ) → to < length waited → room_in rooms to ≡ rooms_of before number to = λ to l.
             ap (λ (r : List ℕ). room_in r to) are ∙ room_at number waited to l ∙ sym (waits to) in record {
               took = record {
-                is = sym (turned_alike trade number moment (room_in rooms) (rooms_of before number)
-                    (cut_told turn.ended turn.events)
-                    (site_at before number) (λ to l. alike to (omega arith)))
+                cut = at.cut;
+                tells = at.tells;
+                is = sym (turned_alike trade number moment (room_in rooms) (rooms_of before number) at.cut
+                    (site_at before number) at.few (λ to l. alike to (omega arith)))
                     ∙ at.is;
                 may = at.may;
+                kept = λ stood. at.kept (stood.0, was_stands stood.1);
+                unchanged = λ stood. at.unchanged (stood.0, was_stands stood.1);
+                few = at.few;
               };
               told = told;
               fit = λ to.
@@ -267,12 +281,13 @@ module _ {D : Type 0} (Tells : Type 0) (sight : D → Sight) (count : D → ℕ)
             }
 
         pub turn_front : (rooms : List ℕ) → rooms ≡ map (room_on number) waited
-            → Took trade number moment (room_in rooms) (site_of (desk_of was) links) (turn_of behind turn out)
+            → Took (Tells × Stands sight was.chronicle) trade number moment (room_in rooms) (site_of (desk_of was) links)
+            (turn_of behind turn out)
             → turn ≡ told_of number (turn_of behind turn out)
             → ((to : ℕ) → length (get_or out to []) ≤ room_in rooms to)
-            → (turn.ended ≡ Some faults.NoMemory → ⊥) → HasFront trade moment before number behind
+            → (turn.ended ≡ Some faults.NoMemory → ⊥) → HasFront AllStood trade moment before number behind
         turn_front rooms are took told fit memory =
-            front_of trade moment before number behind turn out (had_turn rooms are took told fit memory)
+            front_of AllStood trade moment before number behind turn out (had_turn rooms are took told fit memory)
 
         -- so many turns before it were told
         module _ (turns : List Turn) (outs : List (List (List Bytes))) (turns_so_far : TurnsSoFar number now waiting turns outs) where
@@ -299,7 +314,8 @@ module _ {D : Type 0} (Tells : Type 0) (sight : D → Sight) (count : D → ℕ)
               ]
 
           pub taken_more : (rooms : List ℕ) → rooms ≡ map (room_on number) waited
-              → Took trade number moment (room_in rooms) (site_of (desk_of was) links) (turn_of behind turn out)
+              → Took (Tells × Stands sight was.chronicle) trade number moment (room_in rooms) (site_of (desk_of was) links)
+              (turn_of behind turn out)
               → turn ≡ told_of number (turn_of behind turn out)
               → ((to : ℕ) → length (get_or out to []) ≤ room_in rooms to)
               → (turn.ended ≡ Some faults.NoMemory → ⊥)
@@ -311,9 +327,9 @@ module _ {D : Type 0} (Tells : Type 0) (sight : D → Sight) (count : D → ℕ)
               record {
                 told = length-append turns (turn ∷ []) ∙ ap (λ (n : ℕ). n + 1) turns_so_far.told;
                 puts = length-append outs (out ∷ []) ∙ ap (λ (n : ℕ). n + 1) turns_so_far.puts;
-                had = subst (λ (s : List Site). AllHad trade moment before s (turns ++ turn ∷ []) (outs ++ out ∷ []))
+                had = subst (λ (s : List Site). AllHad AllStood trade moment before s (turns ++ turn ∷ []) (outs ++ out ∷ []))
                     (sym sites_more)
-                    (had_more trade moment before (sites_of now waiting) turns outs number behind turn out
+                    (had_more AllStood trade moment before (sites_of now waiting) turns outs number behind turn out
                     turns_so_far.told turns_so_far.puts place turns_so_far.had had);
                 blames = blames_more risen;
               }
@@ -323,12 +339,13 @@ module _ {D : Type 0} (Tells : Type 0) (sight : D → Sight) (count : D → ℕ)
     pub stops_behind : (number : ℕ) (now : List (ProviderState D)) (waiting arrivals : List Waiting)
         → WorkedSoFar number now waiting → StopsWithin trade moment before (sites_of now arrivals)
     stops_behind number now waiting arrivals so_far =
-        stops_within trade moment before (sites_of now arrivals)
+        stops_within AllStood trade moment before (sites_of now arrivals)
         (sites_count now arrivals ∙ so_far.whole.count ∙ sym whole_before.count ∙ sym (sites_count old waited))
         (λ k.
         let front = so_far.fronts k in
         let same = desk_stays now arrivals waiting k in record {
           cut = front.cut;
+          kept = front.kept;
           journal = λ l. same.0 ∙ front.journal l;
           interrupted = λ l. same.1 ∙ front.interrupted l;
         })
@@ -344,9 +361,10 @@ module _ {D : Type 0} (Tells : Type 0) (sight : D → Sight) (count : D → ℕ)
       now_same : length waiting ≡ length now
       now_same = so_far.whole.links ∙ sym so_far.whole.count
 
-      pub round_so : IsRound trade moment before turns (sites_of now (deliveries outs 0 waiting))
-      round_so =
-          is_round trade moment before (sites_of now waiting) turns outs
+      pub round_so : KeepsSound trade moment before
+          → IsRound AllStood trade moment before turns (sites_of now (deliveries outs 0 waiting))
+      round_so keeps =
+          is_round AllStood trade moment before (sites_of now waiting) turns outs
           (turns_so_far.told ∙ all ∙ sym old_count) (turns_so_far.puts ∙ all ∙ sym old_count) turns_so_far.had
           (sites_of now (deliveries outs 0 waiting))
           (sites_count now (deliveries outs 0 waiting) ∙ so_far.whole.count ∙ sym old_count)
@@ -354,7 +372,7 @@ module _ {D : Type 0} (Tells : Type 0) (sight : D → Sight) (count : D → ℕ)
           (let e = old_count in let f = so_far.whole.count in omega arith) now_same
           ∙ ap (λ (n : ℕ). with_waiting (site_at (sites_of now waiting) k)
           (delivered_to n outs (site_at (sites_of now waiting) k).waiting))
-          (let place : 0 + k ≡ k = omega arith in place))
+          (let place : 0 + k ≡ k = omega arith in place)) keeps
 
 -- ---- what was put is delivered
 

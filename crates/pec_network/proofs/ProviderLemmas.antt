@@ -39,6 +39,7 @@ played_so tells play all new me site (Err (faults.ClockBack moment)) next plays 
 played_so tells play all new me site (Err faults.NoAccount) next plays = (plays.0, stays all new me site next plays.1)
 played_so tells play all new me site (Err faults.Full) next plays = (plays.0, stays all new me site next plays.1)
 played_so tells play all new me site (Err faults.NoItem) next plays = (plays.0, stays all new me site next plays.1)
+played_so tells play all new me site (Err (faults.Changed which)) next plays = (plays.0, stays all new me site next plays.1)
 played_so tells play all new me site (Err faults.JournalFull) next plays = (plays.0, stays all new me site next plays.1)
 
 -- ---- disks

@@ -1,29 +1,30 @@
 -- A round by its turns: each provider had the turn that is told of it, and what they put is delivered. Here by sites;
 -- what it is to providers and their disks stands in `PassLemmas`.
-use Rattle.std.proofs.Common.{◌≡◌, ◌≢◌, ℕ, zero, suc, ◌+◌, ◌<◌, ◌≤◌, false, List, [], ◌∷◌, ◌++◌, length, get_or, set}
-use Rattle.std.proofs.Common.{refl, ap, sym, subst, ◌∙◌, ◌⊎◌, inl, inr, arith, Some, None}
-use Rattle.std.specs.Prelude.{slice_get}
+use Rattle.std.proofs.Common.{◌≡◌, ◌≢◌, ℕ, zero, suc, ◌+◌, ◌<◌, ◌≤◌, true, false, List, [], ◌∷◌, ◌++◌, length, get_or, set}
+use Rattle.std.proofs.Common.{refl, ap, sym, subst, ◌∙◌, ◌⊎◌, inl, inr, arith, Option, Some, None}
+use Rattle.std.specs.Prelude.{nat_lt, slice_get}
 use Rattle.std.proofs.Math.Seq.{get_or-append_seam}
 use Rattle.std.proofs.lemmas.Bool.{cases_eq, cases_lt}
 use Rattle.std.proofs.lemmas.List.{ext_get_or, get_or-set_other, get_or-set_same, get_or_append_left, get_or_past}
 use Rattle.std.proofs.lemmas.List.Elements.{All-append, All-from_get_or, All-nil}
 use Rattle.std.proofs.lemmas.Option.{none-some, same_Some, slice_get-get_or}
 use Rattle.pec_types.specs.Bytes.{Bytes}
+use Rattle.pec_types.specs.declared.turns.ProviderFault.{ProviderFault}
 use Rattle.pec_types.specs.declared.turns.ProviderFault.TheVariants as faults
 use Rattle.pec_types.specs.declared.turns.Turn.{Turn}
-use Rattle.pec_ledger.specs.Ledger.{Journals}
-use Rattle.pec_ledger.specs.Network.{AreGenuine, IsGenuine, Site, empty_site, site_at}
+use Rattle.pec_ledger.specs.Ledger.{Fit, Journals}
+use Rattle.pec_ledger.specs.Network.{AreGenuine, IsGenuine, Site, Sound, empty_site, journals_of, site_at}
 use Rattle.pec_ledger.specs.Trade.{Trade}
-use Rattle.pec_plays.specs.Commands.{Luck, Played, Turns, played}
-use Rattle.pec_plays.specs.Possible.{MayCut}
+use Rattle.pec_plays.specs.Commands.{Luck, Played, Round, Turns, played}
+use Rattle.pec_plays.specs.Possible.{IsOfKept, MayCut, TellsCut, cut_by}
 use Rattle.pec_plays.specs.Rounds.{delivered, delivered_to, outs_of, rooms_of, rounded, told_from}
 use Rattle.pec_plays.specs.Rounds.{turns_from, turns_of, with_waiting}
-use Rattle.pec_plays.specs.Turns.{Cut, Stops, Turned, frames_in, plan, turned}
+use Rattle.pec_plays.specs.Turns.{Cut, Fails, Full, Other, Stops, Turned, Whole, frames_in, last_of, plan, turned}
 use Rattle.pec_posts.specs.Arrivals.{Waiting, waiting_from}
-use Rattle.pec_network.specs.Turning.{StopsShort, Took, cut_told, told_of, turn_of}
-use Rattle.pec_network.specs.Rounds.{IsRound, StopsWithin, cut_of, luck_of_turns}
+use Rattle.pec_network.specs.Turning.{StopsShort, Took, told_of, turn_of}
+use Rattle.pec_network.specs.Rounds.{IsRound, KeepsSound, NoneChanged, StopsWithin, luck_of_cuts}
 use Rattle.pec_network.proofs.DeliveryLemmas.{after_is, after_length, out_at, outs_length, turn_in, turn_is, turns_length}
-use Rattle.pec_network.proofs.TurnLemmas.{stops_first, stops_short}
+use Rattle.pec_network.proofs.TurnLemmas.{stops_first, stops_short, without_other, without_same}
 
 -- ---- lists
 
@@ -57,15 +58,37 @@ told_at first (t ∷ turns) (suc k) turn other e =
 abbrev untold : Turn
 untold = record { provider = 0; events = []; sent = []; ended = None }
 
+-- what is told is no cut with other frames
+kept_told : (ended : Option ProviderFault) (told : ℕ) → IsOfKept (cut_by ended told)
+kept_told None told = tt
+kept_told (Some faults.DiskFault) told = tt
+kept_told (Some faults.Down) told = tt
+kept_told (Some (faults.ClockBack moment)) told = tt
+kept_told (Some faults.NoAccount) told = tt
+kept_told (Some faults.Full) told = tt
+kept_told (Some faults.NoItem) told = tt
+kept_told (Some (faults.Changed which)) told = tt
+kept_told (Some faults.JournalFull) told = tt
+kept_told (Some faults.NoMemory) told = tt
+
+kept_without : (trade : Trade) (me now : ℕ) (ended : Option ProviderFault) (told : ℕ) (cut : Cut)
+    → TellsCut ended told cut → IsOfKept (without_other trade me now cut)
+kept_without trade me now ended told (Other out) tells = tt
+kept_without trade me now ended told Whole tells = tt
+kept_without trade me now ended told (Fails number fault) tells =
+    subst (λ (c : Cut). IsOfKept c) (sym tells) (kept_told ended told)
+kept_without trade me now ended told (Full number) tells = tt
+kept_without trade me now ended told (Stops number) tells = tt
+
 abbrev rounds_to : List Turn → List Site → Played
 rounds_to turns sites = record { answer = Turns turns; after = sites }
 
-module _ (trade : Trade) (moment : ℕ) (old : List Site) where
+module _ (Stood : Type 0) (trade : Trade) (moment : ℕ) (old : List Site) where
   -- ---- turns so far
 
   -- The provider of this number had this turn, and stands so behind it.
   pub record HadTurn (number : ℕ) (new : Site) (turn : Turn) (out : List (List Bytes)) : Type 0 where
-    pub took : Took trade number moment (rooms_of old number) (site_at old number) (turn_of new turn out)
+    pub took : Took Stood trade number moment (rooms_of old number) (site_at old number) (turn_of new turn out)
     pub told : turn ≡ told_of number (turn_of new turn out)
     pub fit : (to : ℕ) → length (get_or out to []) ≤ rooms_of old number to
     pub memory : turn.ended ≢ Some faults.NoMemory
@@ -107,8 +130,36 @@ module _ (trade : Trade) (moment : ℕ) (old : List Site) where
 
   module _ (new : List Site) (turns : List Turn) (outs : List (List (List Bytes)))
       (count : length turns ≡ length old) (puts : length outs ≡ length old) (had : AllHad new turns outs) where
+    -- how its turn was cut, where one is told
+    abbrev cut_by_turn : (k : ℕ) (found : Option Turn) → slice_get turns k ≡ found → Cut
+    cut_by_turn k None e = Whole
+    cut_by_turn k (Some turn) e = (had k turn e).took.cut
+
     abbrev cuts : ℕ → Cut
-    cuts = (luck_of_turns turns).cuts
+    cuts k = cut_by_turn k (slice_get turns k) refl
+
+    -- what is said of it
+    pub record IsCutOf (k : ℕ) (turn : Turn) (cut : Cut) : Type 0 where
+      pub tells : TellsCut turn.ended (length turn.events) cut
+      pub is : turned trade k moment (rooms_of old k) cut (site_at old k)
+          ≡ turn_of (site_at new k) turn (get_or outs k [])
+      pub may : (site_at old k).up ≡ true → nat_lt moment (last_of trade k (site_at old k).journal) ≡ false
+          → MayCut (plan trade k moment (site_at old k).journal (frames_in (site_at old k).waiting)) cut
+
+    found_cut : (k : ℕ) (found : Option Turn) (e : slice_get turns k ≡ found) (turn : Turn) → found ≡ Some turn
+        → IsCutOf k turn (cut_by_turn k found e)
+    found_cut k None e turn is = absurd (none-some turn is)
+    found_cut k (Some told) e turn is =
+        let had_it = had k told e in
+        subst (λ (t : Turn). IsCutOf k t had_it.took.cut) (same_Some told turn is)
+        (record { tells = had_it.took.tells; is = had_it.took.is; may = had_it.took.may })
+
+    cut_is : (k : ℕ) (turn : Turn) → slice_get turns k ≡ Some turn → IsCutOf k turn (cuts k)
+    cut_is k turn e = found_cut k (slice_get turns k) refl turn e
+
+    found_kept : Stood → (k : ℕ) (found : Option Turn) (e : slice_get turns k ≡ found) → IsOfKept (cut_by_turn k found e)
+    found_kept stood k None e = tt
+    found_kept stood k (Some turn) e = (had k turn e).took.kept stood
 
     abbrev all : List Turned
     all = turns_from trade moment old cuts 0 old
@@ -119,14 +170,9 @@ module _ (trade : Trade) (moment : ℕ) (old : List Site) where
     had_at : (k : ℕ) → k < length old → HadTurn k (site_at new k) (get_or turns k untold) (get_or outs k [])
     had_at k l = had k (get_or turns k untold) (there k l)
 
-    cut_so : (k : ℕ) → k < length old → cuts k ≡ cut_told (get_or turns k untold).ended (get_or turns k untold).events
-    cut_so k l = ap cut_of (there k l)
-
     turn_so : (k : ℕ) → k < length old → turn_in trade moment cuts old k
         ≡ turn_of (site_at new k) (get_or turns k untold) (get_or outs k [])
-    turn_so k l =
-        ap (λ (cut : Cut). turned trade k moment (rooms_of old k) cut (site_at old k)) (cut_so k l)
-        ∙ (had_at k l).took.is
+    turn_so k l = (cut_is k (get_or turns k untold) (there k l)).is
 
     told_so : told_from 0 all ≡ turns
     told_so =
@@ -164,16 +210,33 @@ module _ (trade : Trade) (moment : ℕ) (old : List Site) where
         outs_so
         ∙ sym (each k l))
 
-    pub is_round : (after : List Site) → length after ≡ length old → AreDelivered after
-        → IsRound trade moment old turns after
+    -- no entry is told as changed, where the journals behind the round are Fit
+    none_changed : Stood → (after : List Site) → AreDelivered after → Fit trade (journals_of after) → NoneChanged turns
+    none_changed stood after each fit =
+        All-from_get_or (λ (t : Turn). (number : ℕ) → t.ended ≢ Some (faults.Changed number)) turns untold
+        (λ k within.
+        let l : k < length old = omega arith in
+        (had_at k l).took.unchanged stood (journals_of after) fit (ap (λ (s : Site). s.journal) (each k l)))
+
+    played_so : (after : List Site) → length after ≡ length old → AreDelivered after
+        → played trade (luck_of_cuts cuts) old (Round moment) ≡ rounds_to turns after
     unfolding played rounded turns_of
-    is_round after same each = record {
-      is = ap (λ (t : List Turn). rounds_to t (delivered (outs_of all) 0 all)) told_so
-          ∙ ap (λ (s : List Site). rounds_to turns s) (sites_so after same each);
-      may = λ k l up time.
-          subst (λ (cut : Cut). MayCut (plan trade k moment (site_at old k).journal (frames_in (site_at old k).waiting))
-          cut) (sym (cut_so k l))
-          ((had_at k l).took.may up time);
+    played_so after same each =
+        ap (λ (t : List Turn). rounds_to t (delivered (outs_of all) 0 all)) told_so
+        ∙ ap (λ (s : List Site). rounds_to turns s) (sites_so after same each)
+
+    pub is_round : (after : List Site) → length after ≡ length old → AreDelivered after → KeepsSound trade moment old
+        → IsRound Stood trade moment old turns after
+    is_round after same each keeps = record {
+      cuts = cuts;
+      tells = λ k turn e. (cut_is k turn e).tells;
+      is = played_so after same each;
+      may = λ k l. (cut_is k (get_or turns k untold) (there k l)).may;
+      kept = λ stood k. found_kept stood k (slice_get turns k) refl;
+      unchanged = λ stood sound.
+          none_changed stood after each
+          (subst (λ (p : Played). Sound trade p.after) (played_so after same each)
+          (keeps (luck_of_cuts cuts) (λ k. found_kept stood k (slice_get turns k) refl) sound)).fit;
       memory = All-from_get_or (λ (t : Turn). t.ended ≢ Some faults.NoMemory) turns untold
           (λ k within. (had_at k (omega arith)).memory);
     }
@@ -183,6 +246,7 @@ module _ (trade : Trade) (moment : ℕ) (old : List Site) where
   -- The provider of this number has the entries of a turn that was cut somewhere.
   pub record HasFront (number : ℕ) (site : Site) : Type 0 where
     pub cut : Cut
+    pub kept : IsOfKept cut
     pub journal : number < length old
         → site.journal ≡ (turned trade number moment (rooms_of old number) cut (site_at old number)).site.journal
     pub interrupted : number < length old
@@ -195,14 +259,19 @@ module _ (trade : Trade) (moment : ℕ) (old : List Site) where
   pub no_turn_yet : HaveFronts old
   no_turn_yet = λ number.
       let first = stops_first trade number moment (rooms_of old number) (site_at old number) in
-      record { cut = Stops 0; journal = λ l. first.0; interrupted = λ l. first.1 }
+      record { cut = Stops 0; kept = tt; journal = λ l. first.0; interrupted = λ l. first.1 }
 
   pub front_of : (number : ℕ) (new : Site) (turn : Turn) (out : List (List Bytes)) → HadTurn number new turn out
       → HasFront number new
   front_of number new turn out had = record {
-    cut = cut_told turn.ended turn.events;
-    journal = λ l. sym (ap (λ (t : Turned). t.site.journal) had.took.is);
-    interrupted = λ l. sym (ap (λ (t : Turned). t.site.interrupted) had.took.is);
+    cut = without_other trade number moment had.took.cut;
+    kept = kept_without trade number moment turn.ended (length turn.events) had.took.cut had.took.tells;
+    journal = λ l. sym (ap (λ (s : Site). s.journal)
+        (without_same trade number moment (rooms_of old number) had.took.cut (site_at old number))
+        ∙ ap (λ (t : Turned). t.site.journal) had.took.is);
+    interrupted = λ l. sym (ap (λ (s : Site). s.interrupted)
+        (without_same trade number moment (rooms_of old number) had.took.cut (site_at old number))
+        ∙ ap (λ (t : Turned). t.site.interrupted) had.took.is);
   }
 
   pub front_short : (number : ℕ) (was new : Site) → was ≡ site_at old number → StopsShort trade number moment was new
@@ -211,7 +280,7 @@ module _ (trade : Trade) (moment : ℕ) (old : List Site) where
       let at : StopsShort trade number moment (site_at old number) new = subst
       (λ (s : Site). StopsShort trade number moment s new) here short in
       let so = stops_short trade number moment (rooms_of old number) (site_at old number) new at in
-      record { cut = Stops at.front.steps; journal = λ l. so.0; interrupted = λ l. so.1 }
+      record { cut = Stops at.front.steps; kept = tt; journal = λ l. so.0; interrupted = λ l. so.1 }
 
   pub fronts_more : (new : List Site) (number : ℕ) (site : Site) → number < length new → HaveFronts new
       → HasFront number site
@@ -228,13 +297,14 @@ module _ (trade : Trade) (moment : ℕ) (old : List Site) where
   pub stops_within : (new : List Site) → length new ≡ length old → HaveFronts new → StopsWithin trade moment old new
   unfolding played rounded turns_of
   stops_within new same fronts =
-      let luck : Luck = record { cuts = λ number. (fronts number).cut; fails = false; found = false } in
+      let luck : Luck = luck_of_cuts (λ number. (fronts number).cut) in
       let after = delivered (outs_of (turns_from trade moment old luck.cuts 0 old)) 0
       (turns_from trade moment old luck.cuts 0 old) in
       let many = after_length trade moment luck.cuts old in
       let past : (k : ℕ) → length old ≤ k → site_at new k ≡ site_at after k = λ k l.
       get_or_past new k empty_site (omega arith) ∙ sym (get_or_past after k empty_site (omega arith)) in record {
         luck = luck;
+        kept = λ k. (fronts k).kept;
         journals = λ k.
             elim (cases_lt k (length old)) [
               | inl l ↦ (fronts k).journal l ∙ sym (ap (λ (s : Site). s.journal)

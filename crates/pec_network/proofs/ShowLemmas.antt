@@ -1,6 +1,10 @@
 -- What an account is shown, by what its provider answers.
-use Rattle.std.proofs.Common.{◌≡◌, ℕ, ◌<◌, Bool, true, false, Global, List, Vec, get_or, length, refl, ap, sym, ◌∙◌, Option, Some, None, Result, Ok, Err}
-use Rattle.std.specs.Prelude.{IfErr, IfOk, OnOk, if◌then◌else◌, not, slice_get}
+use Rattle.std.proofs.Common.{◌≡◌, ℕ, ◌<◌, Bool, true, false, Global, List, Vec, get_or, set, length, refl, ap, sym}
+use Rattle.std.proofs.Common.{◌∙◌, ◌⊎◌, inl, inr, Option, Some, None, Result, Ok, Err}
+use Rattle.std.specs.Prelude.{IfErr, IfOk, IsErrOf, IsSome, OnOk, if◌then◌else◌, not, slice_get}
+use Rattle.std.proofs.lemmas.Bool.{cases_eq}
+use Rattle.std.proofs.lemmas.Option.{same_Some}
+use Rattle.std.proofs.lemmas.Result.{IfErr-at_err}
 use Rattle.std.specs.Option.{option_and_then}
 use Rattle.pec_types.specs.Bytes.{Bytes}
 use Rattle.pec_types.specs.declared.turns.ProviderFault.{ProviderFault}
@@ -14,13 +18,21 @@ use Rattle.pec_ledger.specs.Lookups.{mailbox}
 use Rattle.pec_ledger.specs.Network.{Site, site_at}
 use Rattle.pec_ledger.specs.Steps.{half}
 use Rattle.pec_ledger.specs.Trade.{Trade}
-use Rattle.pec_plays.specs.Commands.{Answer, Book, Items, Lines, Luck, Mailbox, Played, Refuses, Show, Shown, account_home, answers, asked, played, shown, shown_bytes}
+use Rattle.pec_plays.specs.Commands.{Answer, Book, Items, Lines, Luck, Mailbox, Played, Refuses, Show, Shown}
+use Rattle.pec_plays.specs.Commands.{account_home, answers, asked, played, shown, shown_bytes, stopped_site, with_site}
 use Rattle.pec_posts.specs.Arrivals.{Waiting, waiting_for}
 use Rattle.pec_provider.specs.Playing.{IsUnasked, IsUnshown, item_at}
-use Rattle.pec_provider.specs.Provider.{Desk, ProviderState, desk_of, site_of}
+use Rattle.pec_provider.specs.Provider.{Desk, ProviderState, desk_of, site_of, stopped}
+use Rattle.pec_provider.specs.Reading.{OnChanged, Reads}
 use Rattle.pec_network.specs.Network.{sites_of}
-use Rattle.pec_network.specs.Playing.{IsShown}
-use Rattle.pec_network.proofs.SiteLemmas.{site_is}
+use Rattle.pec_network.specs.Playing.{IsReadSo, IsShown, luck_of_read}
+use Rattle.pec_network.proofs.EndLemmas.{lists_same}
+use Rattle.pec_network.proofs.SiteLemmas.{provider_changes, site_again, site_is}
+
+-- no entry is told as changed where none is
+pub none_told : {X : Type 0} (Is : ℕ → Type 0) (r : Result X ProviderFault) → IfErr r (OnChanged Is)
+    → ((number : ℕ) → Is number → ⊥) → (number : ℕ) → IsErrOf r (faults.Changed number) → ⊥
+none_told Is r changed none number is = none number (IfErr-at_err (OnChanged Is) is changed)
 
 module _ {X : Type 0} (trade : Trade) (sites : List Site) (address : Bytes) (show : ℕ → Half → Played) (tells : X → Answer) where
   abbrev asks : Option ℕ → Played
@@ -65,6 +77,7 @@ module _ {X : Type 0} (trade : Trade) (sites : List Site) (address : Bytes) (sho
     shown_so down up (Err (faults.ClockBack moment)) asked unasked shows = absurd unasked
     shown_so down up (Err faults.Full) asked unasked shows = absurd unasked
     shown_so down up (Err faults.NoItem) asked unasked shows = absurd unasked
+    shown_so down up (Err (faults.Changed which)) asked unasked shows = absurd unasked
     shown_so down up (Err faults.JournalFull) asked unasked shows = absurd unasked
 
 -- ---- books and mailboxes
@@ -122,65 +135,175 @@ module _ {D : Type 0} (trade : Trade) (luck : Luck) (providers : List (ProviderS
 -- ---- items
 
 module _ (trade : Trade) (luck : Luck) (sites : List Site) (address : Bytes) (place : ℕ) where
-  pub show_nowhere : trade.home address ≡ None → played trade luck sites (Show address place) ≡ answers sites (Refuses faults.NoAccount)
+  pub show_nowhere : trade.home address ≡ None
+      → played trade luck sites (Show address place) ≡ answers sites (Refuses faults.NoAccount)
   unfolding played
   show_nowhere none =
-      shown_nowhere {X = Bytes} trade sites address (λ provider half. shown trade sites provider (slice_get (mailbox half address) place))
-      (λ bytes. Shown bytes) none
+      shown_nowhere {X = Bytes} trade sites address
+      (λ provider half. shown trade luck sites provider (slice_get (mailbox half address) place)) (λ bytes. Shown bytes)
+      none
 
-module _ {D : Type 0} (trade : Trade) (luck : Luck) (providers : List (ProviderState D)) (waiting : List Waiting) (address : Bytes) (place me : ℕ)
-    (old : ProviderState D) (within : me < length providers) (count : length waiting ≡ length providers) (here : old ≡ get_or providers me old)
+module _ {D : Type 0} (trade : Trade) (providers : List (ProviderState D)) (waiting : List Waiting) (address : Bytes)
+    (place me : ℕ) (old new : ProviderState D) (within : me < length providers)
+    (count : length waiting ≡ length providers) (here : old ≡ get_or providers me old)
     (home : trade.home address ≡ Some me) where
   abbrev everywhere : List Site
   everywhere = sites_of providers waiting
 
-  is_there : site_at everywhere me ≡ site_of (desk_of old) (waiting_for waiting me)
-  is_there = site_is providers waiting me old within count ∙ ap (λ (p : ProviderState D). site_of (desk_of p) (waiting_for waiting me)) (sym here)
+  abbrev afterwards : List Site
+  afterwards = sites_of (set providers me new) waiting
 
-  abbrev shows : ℕ → Half → Played
-  shows provider half = shown trade everywhere provider (slice_get (mailbox half address) place)
+  is_there : site_at everywhere me ≡ site_of (desk_of old) (waiting_for waiting me)
+  is_there = site_is providers waiting me old within count
+      ∙ ap (λ (p : ProviderState D). site_of (desk_of p) (waiting_for waiting me)) (sym here)
+
+  changes_so : (desk : Desk) → desk_of new ≡ desk
+      → afterwards ≡ with_site everywhere me (site_of desk (waiting_for waiting me))
+  changes_so desk same =
+      provider_changes providers waiting me new within count
+      ∙ ap (λ (d : Desk). with_site everywhere me (site_of d (waiting_for waiting me))) same
+
+  -- a call that leaves the provider as it was
+  stays_so : desk_of new ≡ desk_of old → afterwards ≡ everywhere
+  stays_so same =
+      changes_so (desk_of old) same ∙ ap (λ (s : Site). with_site everywhere me s) (sym is_there)
+      ∙ site_again everywhere me
+
+  -- and one that leaves it down
+  stops_so : desk_of new ≡ stopped (desk_of old)
+      → with_site everywhere me (stopped_site (site_at everywhere me)) ≡ afterwards
+  stops_so same =
+      ap (λ (s : Site). with_site everywhere me (stopped_site s)) is_there ∙ sym (changes_so (stopped (desk_of old)) same)
 
   abbrev item : Option Bytes
   item = item_at trade me old.chronicle.entries address place
 
-  shown_by : (found : Option Posted)
-      → shown trade everywhere me found ≡ shown_bytes everywhere (option_and_then (item_text trade me old.chronicle.entries) found)
-  shown_by None = refl
-  shown_by (Some posted) = ap (λ (s : Site). shown_bytes everywhere (item_text trade me s.journal posted)) is_there
+  abbrev play : Luck → Played
+  play luck = played trade luck everywhere (Show address place)
 
-  open_shows : trade.is_account me address ≡ true → old.chronicle.down ≡ false
-      → asked everywhere shows trade (account_home trade address (trade.home address)) ≡ shown_bytes everywhere item
-  open_shows account up =
-      ours {X = Bytes} trade everywhere address shows (λ bytes. Shown bytes) me (desk_of old) (waiting_for waiting me) home is_there account
-      ∙ at_work (ap not up)
-      ∙ shown_by (slice_get (mailbox (half trade me old.chronicle.entries) address) place)
-    where
-      at_work : not old.chronicle.down ≡ true
-          → (if not old.chronicle.down then shows me (half trade me old.chronicle.entries) else answers everywhere (Refuses faults.Down))
-          ≡ shows me (half trade me old.chronicle.entries)
-      at_work e = rw e refl
+  module _ (luck : Luck) where
+    abbrev shows : ℕ → Half → Played
+    shows provider half = shown trade luck everywhere provider (slice_get (mailbox half address) place)
 
-  pub show_so : (r : Result (Vec ℕ Global) ProviderFault)
-      → OnOk r ((trade.is_account me address ≡ true) × (old.chronicle.down ≡ false))
+    shown_by : (found : Option Posted)
+        → shown trade luck everywhere me found
+        ≡ shown_bytes luck everywhere me (option_and_then (item_text trade me old.chronicle.entries) found)
+    shown_by None = refl
+    shown_by (Some posted) =
+        ap (λ (s : Site). shown_bytes luck everywhere me (item_text trade me s.journal posted)) is_there
+
+    open_shows : trade.is_account me address ≡ true → old.chronicle.down ≡ false
+        → play luck ≡ shown_bytes luck everywhere me item
+    unfolding played
+    open_shows account up =
+        ours {X = Bytes} trade everywhere address shows (λ bytes. Shown bytes) me (desk_of old)
+        (waiting_for waiting me) home is_there account
+        ∙ at_work (ap not up)
+        ∙ shown_by (slice_get (mailbox (half trade me old.chronicle.entries) address) place)
+      where
+        at_work : not old.chronicle.down ≡ true
+            → (if not old.chronicle.down then shows me (half trade me old.chronicle.entries)
+            else answers everywhere (Refuses faults.Down))
+            ≡ shows me (half trade me old.chronicle.entries)
+        at_work e = rw e refl
+
+    refused_so : (fault : ProviderFault) (r : Result Bytes ProviderFault) → r ≡ Err fault
+        → IfErr r (IsUnasked (trade.is_account me address) (not old.chronicle.down))
+        → IsShown (λ (bytes : Bytes). Shown bytes) (play luck) everywhere r
+    unfolding played
+    refused_so fault (Ok bytes) e unasked = absurd (cc)
+    refused_so fault (Err other) e unasked =
+        shown_so trade everywhere address shows (λ (bytes : Bytes). Shown bytes) me (desk_of old)
+        (waiting_for waiting me) home is_there old.chronicle.down refl (Err other) tt unasked tt
+
+  is_open : (down : Bool) → not down ≡ true → down ≡ false
+  is_open false e = refl
+  is_open true e = absurd (cc)
+
+  there_is : (o : Option Bytes) → IsSome o → (bytes : Bytes) × (o ≡ Some bytes)
+  there_is None some = absurd (cc)
+  there_is (Some bytes) some = (bytes, refl)
+
+  -- how the read failed is told
+  stops_on : (fault : ProviderFault) → trade.is_account me address ≡ true → not old.chronicle.down ≡ true → IsSome item
+      → desk_of new ≡ stopped (desk_of old)
+      → play (luck_of_read (Some fault) None) ≡ record { answer = Refuses fault; after = afterwards }
+  stops_on fault account up some same =
+      open_shows (luck_of_read (Some fault) None) account (is_open old.chronicle.down up)
+      ∙ ap (λ (o : Option Bytes). shown_bytes (luck_of_read (Some fault) None) everywhere me o) (there_is item some).1
+      ∙ ap (λ (s : List Site). record { answer = Refuses fault; after = s }) (stops_so same)
+
+  -- ---- what is shown
+
+  -- the bytes that are shown, where they aren't the item's
+  pub record Shows (Stood : Type 0) (bytes : Bytes) : Type 0 where
+    pub other : Option Bytes
+    pub kept : Stood → other ≡ None
+    pub is : play (luck_of_read None other) ≡ answers everywhere (Shown bytes)
+
+  shows_so : (Stood : Type 0) (bytes text : Bytes) → trade.is_account me address ≡ true → old.chronicle.down ≡ false
+      → item ≡ Some text → (Stood → item ≡ Some bytes) → (text ≡ bytes) ⊎ (text ≡ bytes → ⊥) → Shows Stood bytes
+  shows_so Stood bytes text account up is kept (inl same) = record {
+    other = None;
+    kept = λ stood. refl;
+    is = open_shows (luck_of_read None None) account up
+        ∙ ap (λ (o : Option Bytes). shown_bytes (luck_of_read None None) everywhere me o) is
+        ∙ ap (λ (b : Bytes). answers everywhere (Shown b)) same;
+  }
+  shows_so Stood bytes text account up is kept (inr apart) = record {
+    other = Some bytes;
+    kept = λ stood. absurd (apart (same_Some text bytes (sym is ∙ kept stood)));
+    is = open_shows (luck_of_read None (Some bytes)) account up
+        ∙ ap (λ (o : Option Bytes). shown_bytes (luck_of_read None (Some bytes)) everywhere me o) is;
+  }
+
+  -- What a call that reads answers, of a result that may be any.
+  pub record IsReadHere {X : Type 0} (Stood : Type 0) (tells : X → Answer) (r : Result X ProviderFault) : Type 0 where
+    pub other : Option Bytes
+    pub kept : Stood → other ≡ None
+    pub is : IsReadSo tells (λ (read : Option ProviderFault). play (luck_of_read read other)) everywhere afterwards r
+
+  pub show_so : (Stood : Type 0) (r : Result (Vec ℕ Global) ProviderFault) → Reads (desk_of old) (desk_of new) r
+      → OnOk r ((trade.is_account me address ≡ true) × (old.chronicle.down ≡ false)) → OnOk r (IsSome item)
       → IfErr r (IsUnshown (trade.is_account me address) (not old.chronicle.down) item)
-      → IfOk r (λ bytes. item ≡ Some bytes.items)
-      → IsShown (λ (bytes : Vec ℕ Global). Shown bytes.items) (played trade luck everywhere (Show address place)) everywhere r
-  unfolding played
-  show_so (Ok bytes) asked refused found = open_shows asked.0 asked.1 ∙ ap (λ (o : Option Bytes). shown_bytes everywhere o) found
-  show_so (Err faults.NoItem) asked refused found =
-      open_shows refused.0 (is_open old.chronicle.down refused.1) ∙ ap (λ (o : Option Bytes). shown_bytes everywhere o) refused.2
-    where
-      is_open : (down : Bool) → not down ≡ true → down ≡ false
-      is_open false e = refl
-      is_open true e = absurd (cc)
-  show_so (Err faults.NoAccount) asked refused found =
-      shown_so trade everywhere address shows (λ (bytes : Vec ℕ Global). Shown bytes.items) me (desk_of old) (waiting_for waiting me) home is_there
-      old.chronicle.down refl (Err faults.NoAccount) asked refused tt
-  show_so (Err faults.Down) asked refused found =
-      shown_so trade everywhere address shows (λ (bytes : Vec ℕ Global). Shown bytes.items) me (desk_of old) (waiting_for waiting me) home is_there
-      old.chronicle.down refl (Err faults.Down) asked refused tt
-  show_so (Err faults.NoMemory) asked refused found = tt
-  show_so (Err faults.DiskFault) asked refused found = absurd refused
-  show_so (Err (faults.ClockBack moment)) asked refused found = absurd refused
-  show_so (Err faults.Full) asked refused found = absurd refused
-  show_so (Err faults.JournalFull) asked refused found = absurd refused
+      → (Stood → IfOk r (λ bytes. item ≡ Some bytes.items))
+      → IsReadHere Stood (λ (bytes : Vec ℕ Global). Shown bytes.items) r
+  show_so Stood (Ok bytes) reads asked some refused found =
+      let there = there_is item some in
+      let shows = shows_so Stood bytes.items there.0 asked.0 asked.1 there.1 found
+      (lists_same cases_eq there.0 bytes.items) in
+      record { other = shows.other; kept = shows.kept; is = (shows.is, stays_so reads) }
+  show_so Stood (Err faults.DiskFault) reads asked some refused found = record {
+    other = None;
+    kept = λ stood. refl;
+    is = stops_on faults.DiskFault refused.0 refused.1 refused.2 reads.2;
+  }
+  show_so Stood (Err (faults.Changed number)) reads asked some refused found = record {
+    other = None;
+    kept = λ stood. refl;
+    is = stops_on (faults.Changed number) refused.0 refused.1 refused.2 reads.2;
+  }
+  show_so Stood (Err faults.NoMemory) reads asked some refused found =
+      record { other = None; kept = λ stood. refl; is = stays_so reads }
+  show_so Stood (Err faults.NoItem) reads asked some refused found = record {
+    other = None;
+    kept = λ stood. refl;
+    is = (
+      open_shows (luck_of_read None None) refused.0 (is_open old.chronicle.down refused.1)
+          ∙ ap (λ (o : Option Bytes). shown_bytes (luck_of_read None None) everywhere me o) refused.2,
+      stays_so reads,
+    );
+  }
+  show_so Stood (Err faults.NoAccount) reads asked some refused found = record {
+    other = None;
+    kept = λ stood. refl;
+    is = (refused_so (luck_of_read None None) faults.NoAccount (Err faults.NoAccount) refl refused, stays_so reads);
+  }
+  show_so Stood (Err faults.Down) reads asked some refused found = record {
+    other = None;
+    kept = λ stood. refl;
+    is = (refused_so (luck_of_read None None) faults.Down (Err faults.Down) refl refused, stays_so reads);
+  }
+  show_so Stood (Err (faults.ClockBack moment)) reads asked some refused found = absurd refused
+  show_so Stood (Err faults.Full) reads asked some refused found = absurd refused
+  show_so Stood (Err faults.JournalFull) reads asked some refused found = absurd refused

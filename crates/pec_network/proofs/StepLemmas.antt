@@ -1,13 +1,15 @@
 -- How a turn goes from step to step, and how it ends.
 use Rattle.std.proofs.Common.{◌≡◌, ℕ, suc, ◌+◌, ◌<◌, ◌≤◌, Bool, true, false, List, [], ◌∷◌, ◌++◌, length, take, refl}
 use Rattle.std.proofs.Common.{ap, sym, subst, ◌∙◌, append_assoc, arith, Option, Some, None, Ok, Err}
+use Rattle.std.proofs.Common.{inl, inr}
 use Rattle.std.specs.Prelude.{Contains, IsSome, if◌then◌else◌, nat_lt, slice_get}
 use Rattle.std.specs.Option.{option_and_then, option_to_list}
 use Rattle.std.proofs.lemmas.Bool.{false≢true, le-ltb, lt-ltb}
 use Rattle.std.proofs.lemmas.Grind.{flat_map-append}
-use Rattle.std.proofs.lemmas.List.{append-nil, length-append, length-map, map-append, take_at}
+use Rattle.std.proofs.lemmas.List.{append-nil, length-append, length-map, map-append, take_all, take_at}
 use Rattle.std.proofs.lemmas.List.Elements.{All-push}
 use Rattle.std.proofs.lemmas.List.Sums.{fold-append}
+use Rattle.std.proofs.lemmas.Option.{slice_get_past}
 use Rattle.pec_types.specs.Bytes.{Bytes}
 use Rattle.pec_types.specs.declared.letters.Letter.{Letter}
 use Rattle.pec_types.specs.declared.turns.Event.{Event}
@@ -24,18 +26,20 @@ use Rattle.pec_ledger.specs.Steps.{half, moment_of, step as half_step}
 use Rattle.pec_ledger.specs.Trade.{Trade}
 use Rattle.pec_ledger.specs.TradeLaws.{IsTrade}
 use Rattle.pec_plays.specs.Decisions.{decide, undecided}
-use Rattle.pec_plays.specs.Possible.{HaveRoom, MayCut}
+use Rattle.pec_plays.specs.Possible.{HaveRoom, IsOfKept, IsOfRead, MayCut, TellsCut, cut_by}
 use Rattle.pec_plays.specs.Reception.{arrive}
 use Rattle.pec_plays.specs.Steps.{Step, journal_after}
-use Rattle.pec_plays.specs.Turns.{Whole, Turned, cut_turn, decisions, entries_of, entry_at, events_of, frames_in}
-use Rattle.pec_plays.specs.Turns.{last_of, not_begun, owed_of, plan, puts_from, turned, without_first}
+use Rattle.pec_plays.specs.Turns.{Cut, Fails, Other, Whole, Turned, cut_turn, decisions, entries_of, entry_at}
+use Rattle.pec_plays.specs.Turns.{events_of, frames_in, last_of, not_begun, owed_of, plan, puts_from, that_fit, turned}
+use Rattle.pec_plays.specs.Turns.{without_first}
 use Rattle.pec_chronicle.specs.Carrying.{CarriesOn, NothingMay}
 use Rattle.pec_chronicle.specs.CarryingLaws.{carries_and_then, carries_nothing}
 use Rattle.pec_chronicle.specs.Chronicle.{ChronicleState}
 use Rattle.pec_provider.specs.Following.{MayFollow}
-use Rattle.pec_provider.specs.Provider.{Desk, site_of}
+use Rattle.pec_provider.specs.Provider.{Desk, site_of, stopped}
 use Rattle.pec_provider.specs.Working.{Arrives, Decides, DecidesFirst, Does, IsAtWork, Works, behind}
-use Rattle.pec_network.specs.Turning.{CarriesFrames, Ends, EndsSo, Far, IsFront, Leads, Took, Waiting, cut_told}
+use Rattle.pec_network.specs.Turning.{CarriesFrames, Ends, EndsSo, Far, IsForFew, IsFront, Leads, NoneIsChanged, Took}
+use Rattle.pec_network.specs.Turning.{Waiting}
 use Rattle.pec_network.proofs.FrameLemmas.{none_left, none_taken}
 
 -- ---- lists of steps
@@ -261,7 +265,10 @@ module _ (trade : Trade) (me now : ℕ) where
           (entry_so ∙ does.1 ∙ sym (ap (λ (d : Desk). d.interrupted) does.3))
           (sym gone_so))
           events_so refl;
-      may = (more_room does.2, subst (λ (o : Option Entry). IsSome o) (sym (entry_so ∙ does.1)) refl);
+      may = (
+        more_room does.2,
+        inl (refl, subst (λ (o : Option Entry). IsSome o) (sym (entry_so ∙ does.1)) refl),
+      );
     }
     ends_step faults.JournalFull does = record {
       is = λ rooms. turn_same
@@ -293,85 +300,171 @@ module _ (trade : Trade) (me now : ℕ) where
     ends_step faults.NoAccount does = does
     ends_step faults.Full does = does
     ends_step faults.NoItem does = does
+    ends_step (faults.Changed which) does = does
 
   -- ---- whole turns
 
   -- Nothing is left to do.
-  pub whole_of : (begun desk : Desk) (waiting left : Waiting) (events : List Event)
-      → Far trade me now begun waiting desk left events
-      → frames_in left ≡ [] → undecided trade me desk.journal ≡ [] → begun.owed ≡ [] → (rooms : ℕ → ℕ)
-      → (cut_turn trade me rooms (site_of begun waiting) (plan trade me now begun.journal (frames_in waiting)) Whole
-      ≡ turn_with (site_of desk left) events (puts_from trade me desk.journal rooms desk.owed 0 trade.providers) None)
-      × HaveRoom (plan trade me now begun.journal (frames_in waiting))
-  whole_of begun desk waiting left events far none decided owed rooms =
-      let all = plan trade me now begun.journal (frames_in waiting) in
-      let rest : plan trade me now desk.journal (frames_in left) ≡ [] =
-      ap (λ (l : List Bytes). plan trade me now desk.journal l) none
-      ∙ ap (λ (l : List Pair). decisions trade me now desk.journal l) decided in
-      let same : all ≡ far.steps =
-      far.whole ∙ ap (λ (l : List Step). far.steps ++ l) rest ∙ append-nil far.steps in
-      let journal : begun.journal ++ entries_of all ≡ desk.journal =
-      ap (λ (l : List Step). begun.journal ++ entries_of l) same ∙ sym (ap (λ (d : Desk). d.journal) far.here) in
-      let due : owed_of all ≡ desk.owed =
-      ap owed_of same ∙ sym (ap (λ (d : Desk). d.owed) far.here
-      ∙ ap (λ (l : List Letter). l ++ owed_of far.steps) owed) in (
+  module _ (begun desk : Desk) (waiting left : Waiting) (events : List Event)
+      (far : Far trade me now begun waiting desk left events)
+      (none : frames_in left ≡ []) (decided : undecided trade me desk.journal ≡ []) where
+    abbrev whole_plan : List Step
+    whole_plan = plan trade me now begun.journal (frames_in waiting)
+
+    all_done : whole_plan ≡ far.steps
+    all_done =
+        let rest : plan trade me now desk.journal (frames_in left) ≡ [] =
+        ap (λ (l : List Bytes). plan trade me now desk.journal l) none
+        ∙ ap (λ (l : List Pair). decisions trade me now desk.journal l) decided in
+        far.whole ∙ ap (λ (l : List Step). far.steps ++ l) rest ∙ append-nil far.steps
+
+    pub all_room : HaveRoom whole_plan
+    all_room = subst (λ (l : List Step). HaveRoom l) (sym all_done) far.room
+
+    all_entries : begun.journal ++ entries_of whole_plan ≡ desk.journal
+    all_entries =
+        ap (λ (l : List Step). begun.journal ++ entries_of l) all_done ∙ sym (ap (λ (d : Desk). d.journal) far.here)
+
+    all_events : events_of whole_plan ≡ events
+    all_events = ap events_of all_done ∙ sym far.told
+
+    all_gone : without_first (length whole_plan) waiting ≡ left
+    all_gone = ap (λ (l : List Step). without_first (length l) waiting) all_done ∙ sym far.gone
+
+    all_there : site_with (begun.journal ++ entries_of whole_plan) begun.up begun.interrupted
+        (without_first (length whole_plan) waiting)
+        ≡ site_of desk left
+    all_there =
+        site_same (begun.journal ++ entries_of whole_plan) desk.journal begun.up desk.up begun.interrupted
+        desk.interrupted
+        (without_first (length whole_plan) waiting) left
+        all_entries
+        (sym (ap (λ (d : Desk). d.up) far.here))
+        (sym (ap (λ (d : Desk). d.interrupted) far.here))
+        all_gone
+
+    -- what is due is put
+    pub whole_of : begun.owed ≡ [] → (rooms : ℕ → ℕ)
+        → cut_turn trade me rooms (site_of begun waiting) whole_plan Whole
+        ≡ turn_with (site_of desk left) events (puts_from trade me desk.journal rooms desk.owed 0 trade.providers) None
+    whole_of owed rooms =
+        let due : owed_of whole_plan ≡ desk.owed =
+        ap owed_of all_done ∙ sym (ap (λ (d : Desk). d.owed) far.here
+        ∙ ap (λ (l : List Letter). l ++ owed_of far.steps) owed) in
         turn_same
-            (site_with (begun.journal ++ entries_of all) begun.up begun.interrupted
-            (without_first (length all) waiting))
-            (site_of desk left) (events_of all) events
-            (puts_from trade me (begun.journal ++ entries_of all) rooms (owed_of all) 0 trade.providers)
-            (puts_from trade me desk.journal rooms desk.owed 0 trade.providers) None
-            (site_same (begun.journal ++ entries_of all) desk.journal begun.up desk.up begun.interrupted
-            desk.interrupted
-            (without_first (length all) waiting) left
-            journal
-            (sym (ap (λ (d : Desk). d.up) far.here))
-            (sym (ap (λ (d : Desk). d.interrupted) far.here))
-            (ap (λ (l : List Step). without_first (length l) waiting) same ∙ sym far.gone))
-            (ap events_of same ∙ sym far.told)
-            (ap (λ (j : List Entry). puts_from trade me j rooms (owed_of all) 0 trade.providers) journal
-            ∙ ap (λ (l : List Letter). puts_from trade me desk.journal rooms l 0 trade.providers) due),
-        subst (λ (l : List Step). HaveRoom l) (sym same) far.room,
-      )
+        (site_with (begun.journal ++ entries_of whole_plan) begun.up begun.interrupted
+        (without_first (length whole_plan) waiting))
+        (site_of desk left) (events_of whole_plan) events
+        (puts_from trade me (begun.journal ++ entries_of whole_plan) rooms (owed_of whole_plan) 0 trade.providers)
+        (puts_from trade me desk.journal rooms desk.owed 0 trade.providers) None
+        all_there all_events
+        (ap (λ (j : List Entry). puts_from trade me j rooms (owed_of whole_plan) 0 trade.providers) all_entries
+        ∙ ap (λ (l : List Letter). puts_from trade me desk.journal rooms l 0 trade.providers) due)
+
+    -- other frames are put
+    pub other_of : (rooms : ℕ → ℕ) (out : List (List Bytes)) → that_fit rooms 0 out ≡ out
+        → cut_turn trade me rooms (site_of begun waiting) whole_plan (Other out)
+        ≡ turn_with (site_of desk left) events out None
+    other_of rooms out fit =
+        turn_same
+        (site_with (begun.journal ++ entries_of whole_plan) begun.up begun.interrupted
+        (without_first (length whole_plan) waiting))
+        (site_of desk left) (events_of whole_plan) events (that_fit rooms 0 out) out None all_there all_events fit
+
+    -- ---- a read fails
+
+    all_told : length events ≡ length whole_plan
+    all_told = sym (ap length all_events) ∙ length-map whole_plan (λ (s : Step). s.event)
+
+    front_all : (number : ℕ) → length events ≤ number → take number whole_plan ≡ whole_plan
+    front_all number l = let e = all_told in take_all number whole_plan (omega (arith, e, l))
+
+    pub unread_of : Joins → desk.interrupted ≡ None → (rooms : ℕ → ℕ) (fault : ProviderFault)
+        → cut_turn trade me rooms (site_of begun waiting) whole_plan (Fails (length events) fault)
+        ≡ turn_with (site_of (stopped desk) left) events [] (Some fault)
+    unread_of joins whole rooms fault =
+        let front = front_all (length events) (omega arith) in
+        let more : without_first (length events + 1) waiting ≡ left =
+        sym (joins (length events) 1 waiting)
+        ∙ ap (λ (w : Waiting). without_first 1 w)
+        (ap (λ (k : ℕ). without_first k waiting) all_told ∙ all_gone)
+        ∙ none_left left 1 none in
+        let past : entry_at whole_plan (length events) ≡ None =
+        ap (λ (o : Option Step). option_and_then (λ (s : Step). s.entry) o)
+        (slice_get_past whole_plan (length events) (let e = all_told in omega (arith, e))) in
+        turn_same
+        (site_with (begun.journal ++ entries_of (take (length events) whole_plan)) false
+        (entry_at whole_plan (length events))
+        (without_first (length events + 1) waiting))
+        (site_of (stopped desk) left) (events_of (take (length events) whole_plan)) events [] [] (Some fault)
+        (site_same (begun.journal ++ entries_of (take (length events) whole_plan)) desk.journal false false
+        (entry_at whole_plan (length events)) desk.interrupted
+        (without_first (length events + 1) waiting) left
+        (ap (λ (l : List Step). begun.journal ++ entries_of l) front ∙ all_entries)
+        refl (past ∙ sym whole) more)
+        (ap events_of front ∙ all_events) refl
+
+    pub unread_may : (fault : ProviderFault) → IsOfRead fault → MayCut whole_plan (Fails (length events) fault)
+    unread_may fault is = (
+      subst (λ (l : List Step). HaveRoom l) (sym (front_all (length events + 1) (omega arith))) all_room,
+      inr (all_told, is),
+    )
 
   -- ---- what a turn was
 
-  pub took_at_work : (rooms : ℕ → ℕ) (old : Site) (turn : Turned) → old.up ≡ true → last_of trade me old.journal ≤ now
-      → cut_turn trade me rooms old (plan trade me now old.journal (frames_in old.waiting))
-      (cut_told turn.ended turn.events) ≡ turn
-      → MayCut (plan trade me now old.journal (frames_in old.waiting)) (cut_told turn.ended turn.events)
-      → Took trade me now rooms old turn
+  pub took_at_work : (Stood : Type 0) (rooms : ℕ → ℕ) (old : Site) (turn : Turned) (cut : Cut) → old.up ≡ true
+      → last_of trade me old.journal ≤ now
+      → TellsCut turn.ended (length turn.events) cut
+      → cut_turn trade me rooms old (plan trade me now old.journal (frames_in old.waiting)) cut ≡ turn
+      → MayCut (plan trade me now old.journal (frames_in old.waiting)) cut
+      → (Stood → IsOfKept cut) → IsForFew trade.providers cut
+      → (Stood → NoneIsChanged trade me turn.site.journal turn.ended)
+      → Took Stood trade me now rooms old turn
   unfolding turned
-  took_at_work rooms old turn up time is may = record {
+  took_at_work Stood rooms old turn cut up time tells is may kept few unchanged = record {
+    cut = cut;
+    tells = tells;
     is = if_so old.up
         (if nat_lt now (last_of trade me old.journal) then not_begun old
         (faults.ClockBack (last_of trade me old.journal))
-        else cut_turn trade me rooms old (plan trade me now old.journal (frames_in old.waiting))
-        (cut_told turn.ended turn.events))
+        else cut_turn trade me rooms old (plan trade me now old.journal (frames_in old.waiting)) cut)
         (not_begun old faults.Down) up
         ∙ if_not (nat_lt now (last_of trade me old.journal))
         (not_begun old (faults.ClockBack (last_of trade me old.journal)))
-        (cut_turn trade me rooms old (plan trade me now old.journal (frames_in old.waiting))
-        (cut_told turn.ended turn.events))
+        (cut_turn trade me rooms old (plan trade me now old.journal (frames_in old.waiting)) cut)
         (le-ltb now (last_of trade me old.journal) time)
         ∙ is;
     may = λ works late. may;
+    kept = kept;
+    unchanged = unchanged;
+    few = few;
   }
 
-  pub took_down : (rooms : ℕ → ℕ) (old : Site) → old.up ≡ false
-      → Took trade me now rooms old (not_begun old faults.Down)
+  pub took_down : (Stood : Type 0) (rooms : ℕ → ℕ) (old : Site) → old.up ≡ false
+      → Took Stood trade me now rooms old (not_begun old faults.Down)
   unfolding turned
-  took_down rooms old down = record {
+  took_down Stood rooms old down = record {
+    cut = Whole;
+    tells = refl;
     is = rw down refl;
     may = λ up. absurd (false≢true (sym down ∙ up));
+    kept = λ stood. tt;
+    unchanged = λ stood journals fit here number is. cc;
+    few = tt;
   }
 
-  pub took_late : (rooms : ℕ → ℕ) (old : Site) (moment : ℕ) → old.up ≡ true → now < last_of trade me old.journal
-      → moment ≡ last_of trade me old.journal → Took trade me now rooms old (not_begun old (faults.ClockBack moment))
+  pub took_late : (Stood : Type 0) (rooms : ℕ → ℕ) (old : Site) (moment : ℕ) → old.up ≡ true
+      → now < last_of trade me old.journal
+      → moment ≡ last_of trade me old.journal → Took Stood trade me now rooms old (not_begun old (faults.ClockBack moment))
   unfolding turned
-  took_late rooms old moment up late is = record {
+  took_late Stood rooms old moment up late is = record {
+    cut = Whole;
+    tells = refl;
     is = rw (up, lt-ltb now (last_of trade me old.journal) late, is) refl;
     may = λ works time. absurd (false≢true (sym time ∙ lt-ltb now (last_of trade me old.journal) late));
+    kept = λ stood. tt;
+    unchanged = λ stood journals fit here number is. cc;
+    few = tt;
   }
 
   -- ---- on a frame
@@ -392,6 +485,7 @@ module _ (trade : Trade) (me now : ℕ) where
   at_work_frame desk new step faults.NoAccount works answer = answer.1
   at_work_frame desk new step faults.Full works answer = answer.1
   at_work_frame desk new step faults.NoItem works answer = answer.1
+  at_work_frame desk new step (faults.Changed which) works answer = answer.1
   at_work_frame desk new step faults.JournalFull works answer = answer.1
   at_work_frame desk new step faults.NoMemory works answer = answer.1
 
@@ -475,6 +569,7 @@ module _ (trade : Trade) (me now : ℕ) where
   at_work_pair pairs desk new faults.NoAccount works answer = answer.1
   at_work_pair pairs desk new faults.Full works answer = answer.1
   at_work_pair pairs desk new faults.NoItem works answer = answer.1
+  at_work_pair pairs desk new (faults.Changed which) works answer = answer.1
   at_work_pair pairs desk new faults.JournalFull works answer = answer.1
   at_work_pair pairs desk new faults.NoMemory works answer = answer.1
 
@@ -491,6 +586,7 @@ module _ (trade : Trade) (me now : ℕ) where
   nothing_ends desk new left events faults.NoAccount none = absurd none
   nothing_ends desk new left events faults.Full none = absurd none
   nothing_ends desk new left events faults.NoItem none = absurd none
+  nothing_ends desk new left events (faults.Changed which) none = absurd none
   nothing_ends desk new left events faults.JournalFull none = absurd none
 
   first_ends : Joins → PairsAreNext → (desk new : Desk) (left : Waiting) (events : List Event) (fault : ProviderFault)

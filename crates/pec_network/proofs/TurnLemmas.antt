@@ -1,6 +1,6 @@
 -- What one turn of a round leaves, however it is cut.
 use Rattle.std.proofs.Common.{◌≡◌, ℕ, zero, suc, ◌+◌, ◌-◌, ◌<◌, ◌≤◌, Bool, true, false, List, [], ◌∷◌, ◌++◌, length}
-use Rattle.std.proofs.Common.{get_or, refl, ap, sym, subst, ◌∙◌, arith, Option, None}
+use Rattle.std.proofs.Common.{get_or, take, refl, ap, sym, subst, ◌∙◌, arith, Option, None}
 use Rattle.std.specs.Prelude.{nat_lt, if◌then◌else◌}
 use Rattle.std.proofs.lemmas.Bool.{le-ltb}
 use Rattle.std.proofs.lemmas.List.{append-nil, length-drop}
@@ -14,10 +14,11 @@ use Rattle.pec_ledger.specs.Network.{Site}
 use Rattle.pec_ledger.specs.Trade.{Trade}
 use Rattle.pec_plays.specs.Frames.{due_frames}
 use Rattle.pec_plays.specs.Steps.{Step}
-use Rattle.pec_plays.specs.Turns.{Cut, Fails, Full, Stops, Turned, Whole, behind, cut_turn, entries_of, events_of}
-use Rattle.pec_plays.specs.Turns.{frames_in, last_of, not_begun, owed_of, plan, puts_from, turned, without_first}
+use Rattle.pec_plays.specs.Turns.{Cut, Fails, Full, Other, Stops, Turned, Whole, behind, cut_turn, entries_of}
+use Rattle.pec_plays.specs.Turns.{events_of, frames_in, last_of, not_begun, owed_of, plan, puts_from, that_fit, turned}
+use Rattle.pec_plays.specs.Turns.{without_first}
 use Rattle.pec_posts.specs.Arrivals.{Waiting}
-use Rattle.pec_network.specs.Turning.{StopsShort}
+use Rattle.pec_network.specs.Turning.{IsForFew, StopsShort}
 
 abbrev turn_with : Site → List Event → List (List Bytes) → Option ProviderFault → Turned
 turn_with site events out ended = record { site = site; events = events; out = out; ended = ended }
@@ -76,29 +77,52 @@ module _ (trade : Trade) (me now : ℕ) where
       here
       ∙ ap (λ (out : List (List Bytes)). due_frames trade me journal to (others to) owed ∷ out) more
 
-  cut_alike : (rooms others : ℕ → ℕ) (site : Site) (steps : List Step) (cut : Cut)
+  fit_count : (rooms : ℕ → ℕ) (to : ℕ) (out : List (List Bytes)) → length (that_fit rooms to out) ≡ length out
+  fit_count rooms to [] = refl
+  fit_count rooms to (frames ∷ out) = ap suc (fit_count rooms (to + 1) out)
+
+  fit_alike : (rooms others : ℕ → ℕ) (to : ℕ) (out : List (List Bytes))
+      → ((k : ℕ) → k < length out → rooms (to + k) ≡ others (to + k))
+      → that_fit rooms to out ≡ that_fit others to out
+  fit_alike rooms others to [] same = refl
+  fit_alike rooms others to (frames ∷ out) same =
+      let none : to + 0 ≡ to = omega arith in
+      let here : rooms to ≡ others to = subst (λ (n : ℕ). rooms n ≡ others n) none (same 0 (omega arith)) in
+      let more : that_fit rooms (to + 1) out ≡ that_fit others (to + 1) out =
+      fit_alike rooms others (to + 1) out (λ k l.
+      let next : to + suc k ≡ (to + 1) + k = omega arith in
+      subst (λ (n : ℕ). rooms n ≡ others n) next (same (suc k) (omega arith))) in
+      ap (λ (room : ℕ). take room frames ∷ that_fit rooms (to + 1) out) here
+      ∙ ap (λ (rest : List (List Bytes)). take (others to) frames ∷ rest) more
+
+  cut_alike : (rooms others : ℕ → ℕ) (site : Site) (steps : List Step) (cut : Cut) → IsForFew trade.providers cut
       → ((k : ℕ) → k < trade.providers → rooms k ≡ others k)
       → cut_turn trade me rooms site steps cut ≡ cut_turn trade me others site steps cut
-  cut_alike rooms others site steps Whole same =
+  cut_alike rooms others site steps Whole few same =
       ap (λ (out : List (List Bytes)). turn_with (behind site steps (length steps)) (events_of steps) out None)
       (puts_alike (site.journal ++ entries_of steps) rooms others (owed_of steps) 0 trade.providers (λ k l.
       let here : k ≡ 0 + k = omega arith in
       subst (λ (n : ℕ). rooms n ≡ others n) here (same k l)))
-  cut_alike rooms others site steps (Fails number) same = refl
-  cut_alike rooms others site steps (Full number) same = refl
-  cut_alike rooms others site steps (Stops number) same = refl
+  cut_alike rooms others site steps (Fails number fault) few same = refl
+  cut_alike rooms others site steps (Full number) few same = refl
+  cut_alike rooms others site steps (Stops number) few same = refl
+  cut_alike rooms others site steps (Other out) few same =
+      ap (λ (put : List (List Bytes)). turn_with (behind site steps (length steps)) (events_of steps) put None)
+      (fit_alike rooms others 0 out (λ k l.
+      let here : k ≡ 0 + k = omega arith in
+      subst (λ (n : ℕ). rooms n ≡ others n) here (same k (omega (arith, l, few)))))
 
   -- a turn looks at the rooms of the trade's providers alone
-  pub turned_alike : (rooms others : ℕ → ℕ) (cut : Cut) (site : Site)
+  pub turned_alike : (rooms others : ℕ → ℕ) (cut : Cut) (site : Site) → IsForFew trade.providers cut
       → ((k : ℕ) → k < trade.providers → rooms k ≡ others k)
       → turned trade me now rooms cut site ≡ turned trade me now others cut site
   unfolding turned
-  turned_alike rooms others cut site same =
+  turned_alike rooms others cut site few same =
       ap (λ (t : Turned). if site.up
       then (if nat_lt now (last_of trade me site.journal) then not_begun site
       (faults.ClockBack (last_of trade me site.journal)) else t)
       else not_begun site faults.Down)
-      (cut_alike rooms others site (plan trade me now site.journal (frames_in site.waiting)) cut same)
+      (cut_alike rooms others site (plan trade me now site.journal (frames_in site.waiting)) cut few same)
 
   -- ---- what waits, and what is put
 
@@ -106,9 +130,10 @@ module _ (trade : Trade) (me now : ℕ) where
       → length (get_or (cut_turn trade me rooms site steps cut).site.waiting from []) ≤ length
       (get_or site.waiting from [])
   cut_shorter rooms site steps Whole from = without_shorter (length steps) site.waiting from
-  cut_shorter rooms site steps (Fails number) from = without_shorter (number + 1) site.waiting from
+  cut_shorter rooms site steps (Fails number fault) from = without_shorter (number + 1) site.waiting from
   cut_shorter rooms site steps (Full number) from = without_shorter (number + 1) site.waiting from
   cut_shorter rooms site steps (Stops number) from = without_shorter (number + 1) site.waiting from
+  cut_shorter rooms site steps (Other out) from = without_shorter (length steps) site.waiting from
 
   -- a turn only takes frames
   pub waits_shorter : (rooms : ℕ → ℕ) (cut : Cut) (site : Site) (from : ℕ)
@@ -119,21 +144,49 @@ module _ (trade : Trade) (me now : ℕ) where
       (λ fault. omega arith)
       (cut_shorter rooms site (plan trade me now site.journal (frames_in site.waiting)) cut from)
 
-  cut_few : (rooms : ℕ → ℕ) (site : Site) (steps : List Step) (cut : Cut)
+  cut_few : (rooms : ℕ → ℕ) (site : Site) (steps : List Step) (cut : Cut) → IsForFew trade.providers cut
       → length (cut_turn trade me rooms site steps cut).out ≤ trade.providers
-  cut_few rooms site steps Whole =
+  cut_few rooms site steps Whole few =
       let count = puts_count (site.journal ++ entries_of steps) rooms (owed_of steps) 0 trade.providers in
       omega (arith, count)
-  cut_few rooms site steps (Fails number) = omega arith
-  cut_few rooms site steps (Full number) = omega arith
-  cut_few rooms site steps (Stops number) = omega arith
+  cut_few rooms site steps (Fails number fault) few = omega arith
+  cut_few rooms site steps (Full number) few = omega arith
+  cut_few rooms site steps (Stops number) few = omega arith
+  cut_few rooms site steps (Other out) few = let count = fit_count rooms 0 out in omega (arith, count, few)
 
   -- it puts frames for no other provider
-  pub puts_few : (rooms : ℕ → ℕ) (cut : Cut) (site : Site)
+  pub puts_few : (rooms : ℕ → ℕ) (cut : Cut) (site : Site) → IsForFew trade.providers cut
       → length (turned trade me now rooms cut site).out ≤ trade.providers
-  puts_few rooms cut site =
+  puts_few rooms cut site few =
       each_turn (λ (t : Turned). length t.out ≤ trade.providers) rooms cut site (λ fault. omega arith)
-      (cut_few rooms site (plan trade me now site.journal (frames_in site.waiting)) cut)
+      (cut_few rooms site (plan trade me now site.journal (frames_in site.waiting)) cut few)
+
+  -- ---- the entries that a cut leaves
+
+  -- the same without frames that were put in place of those that are due
+  abbrev pub without_other : Cut → Cut
+  without_other (Other out) = Whole
+  without_other cut = cut
+
+  one_site : (up late : Bool) (waits one other stays : Turned) → one.site ≡ other.site
+      → (if up then (if late then waits else one) else stays).site
+      ≡ (if up then (if late then waits else other) else stays).site
+  one_site true true waits one other stays e = refl
+  one_site true false waits one other stays e = e
+  one_site false late waits one other stays e = refl
+
+  pub without_same : (rooms : ℕ → ℕ) (cut : Cut) (site : Site)
+      → (turned trade me now rooms (without_other cut) site).site ≡ (turned trade me now rooms cut site).site
+  unfolding turned
+  without_same rooms (Other out) site =
+      let steps = plan trade me now site.journal (frames_in site.waiting) in
+      one_site site.up (nat_lt now (last_of trade me site.journal))
+      (not_begun site (faults.ClockBack (last_of trade me site.journal))) (cut_turn trade me rooms site steps Whole)
+      (cut_turn trade me rooms site steps (Other out)) (not_begun site faults.Down) refl
+  without_same rooms Whole site = refl
+  without_same rooms (Fails number fault) site = refl
+  without_same rooms (Full number) site = refl
+  without_same rooms (Stops number) site = refl
 
   -- ---- want of memory
 

@@ -28,8 +28,8 @@ use Rattle.pec_seal.specs.Seals.{Seals}
 use Rattle.pec_trade.specs.TradeOf.{trade_of}
 use Rattle.pec_network.specs.Carrying.{AllCarryOn, AllStand, NoneFalls}
 use Rattle.pec_network.specs.Network.{IsOfDirectory, sites_of}
-use Rattle.pec_network.specs.Rounds.{AreRooms, BlamesDisks, FramesAreGenuine, IsRound, StopsWithin}
-use Rattle.pec_network.specs.Turning.{Took, cut_told, room_in}
+use Rattle.pec_network.specs.Rounds.{AreRooms, BlamesDisks, FramesAreGenuine, IsRound, KeepsSound, StopsWithin}
+use Rattle.pec_network.specs.Turning.{Took, room_in}
 use Rattle.pec_network.specs.Working.{IsReady, Worked, providers_in, putters_in, rooms_in, takers_in, tolds_in}
 use Rattle.pec_network.specs.declared.working.Slot.{Slot}
 use Rattle.pec_network.proofs.PassLemmas.{TurnsSoFar, WorkedSoFar, begun, deliveries_at, deliveries_count, no_turns, room_small, rooms_of_all}
@@ -41,13 +41,13 @@ use Rattle.pec_network.proofs.TurnLemmas.{puts_few}
 -- ---- what a turn puts
 
 -- there is an end with room for it
-pub can_put : (trade : Trade) (me now : ℕ) (rooms : List ℕ) (site : Site) (turn : Turned) (out : List (List Bytes))
+pub can_put : (Stood : Type 0) (trade : Trade) (me now : ℕ) (rooms : List ℕ) (site : Site) (turn : Turned) (out : List (List Bytes))
     (putters : List Putting) {count : ℕ} → trade.providers ≡ count → length putters ≡ count
-    → Took trade me now (room_in rooms) site turn → out ≡ turn.out → ((to : ℕ) → length (get_or turn.out to []) ≤ room_in rooms to)
+    → Took Stood trade me now (room_in rooms) site turn → out ≡ turn.out → ((to : ℕ) → length (get_or turn.out to []) ≤ room_in rooms to)
     → ((to : ℕ) (other : Putting) → to < length putters → room_in rooms to ≤ (get_or putters to other).free)
     → CanPut putters out
-can_put trade me now rooms site turn out putters all many took is fit free =
-    let few = puts_few trade me now (room_in rooms) (cut_told turn.ended turn.events) site in
+can_put Stood trade me now rooms site turn out putters all many took is fit free =
+    let few = puts_few trade me now (room_in rooms) took.cut site took.few in
     let put = ap (λ (t : Turned). length t.out) took.is in
     let size = ap (λ (o : List (List Bytes)). length o) is in record {
       addressees = omega (arith, few, put, size, all, many);
@@ -80,7 +80,7 @@ module _ {D : Type 0} (Tells : Type 0) (sight : D → Sight) (count : D → ℕ)
 
   -- Each told its turn, and these are the turns.
   pub record TellsAll (turns : List Turn) (now : List (ProviderState D)) (arrivals : List Waiting) : Type 0 where
-    pub plays : IsRound (trade_of kept seals) moment (sites_of old waited) turns (sites_of now arrivals)
+    pub plays : IsRound (Tells × AllStand sight old) (trade_of kept seals) moment (sites_of old waited) turns (sites_of now arrivals)
     pub disk_fault : BlamesDisks count turns old now
 
 module _ {D : Type 0} (Tells : Type 0) (sight : D → Sight) (count : D → ℕ) (kept : List Kept) (seals : Seals) (moment : ℕ)
@@ -248,7 +248,7 @@ module _ {D : Type 0} (Tells : Type 0) (sight : D → Sight) (count : D → ℕ)
             sym (mixed_at left waited k (waits was.takers) short left_many
             ∙ get_or_default waited k (waits was.takers) [] short ∙ waits_at k slot l)
 
-        front_so : (told : Option Turn) → done.told ≡ told → HasFront trade moment (sites_of old waited) k
+        front_so : (told : Option Turn) → done.told ≡ told → HasFront (Tells × AllStand sight old) trade moment (sites_of old waited) k
             (site_of (desk_of done.provider) (waits done.takers))
         front_so None is =
             short_front Tells sight count kept seals trade moment old waited seated.whole all_of k (mixed k new old) (mixed k left waited)
@@ -506,11 +506,12 @@ module _ {D : Type 0} (Tells : Type 0) (sight : D → Sight) (count : D → ℕ)
               (mixed_all left waited (length slots) (left_many ∙ seated.whole.links ∙ sym many) (seated.whole.links ∙ sym many))
               all_told.turns_are))
 
-          pub plays_so : IsRound trade moment (sites_of old waited) turns (sites_of new arrivals)
-          plays_so =
-              subst (λ (w : List Waiting). IsRound trade moment (sites_of old waited) turns (sites_of new w)) (sym delivered_so)
+          pub plays_so : KeepsSound trade moment (sites_of old waited)
+              → IsRound (Tells × AllStand sight old) trade moment (sites_of old waited) turns (sites_of new arrivals)
+          plays_so keeps =
+              subst (λ (w : List Waiting). IsRound (Tells × AllStand sight old) trade moment (sites_of old waited) turns (sites_of new w)) (sym delivered_so)
               (round_so Tells sight count kept seals trade moment old waited seated.whole all_of new left turns all_told.outs
-              (length slots) many all_worked turns_all)
+              (length slots) many all_worked turns_all keeps)
 
           pub blames_so : BlamesDisks count turns old new
           blames_so = turns_all.blames
@@ -546,10 +547,11 @@ module _ {D : Type 0} (Tells : Type 0) (sight : D → Sight) (count : D → ℕ)
 
           pub tells_all : (turns : List Turn) → tolds_in after ≡ map (λ (turn : Turn). Some turn) turns
               → ((to : ℕ) (outs : List (List (List Bytes))) (one other : Waiting) → IsBehind to outs one other → other ≡ delivered_to to outs one)
+              → KeepsSound trade moment (sites_of old waited)
               → TellsAll Tells sight count kept seals moment old waited turns now arrivals
-          tells_all turns told law = record {
-            plays = subst (λ (p : List (ProviderState D)). IsRound trade moment (sites_of old waited) turns (sites_of p arrivals))
-                (sym now_is) (plays_so arrivals are_joined turns told law);
+          tells_all turns told law keeps = record {
+            plays = subst (λ (p : List (ProviderState D)). IsRound (Tells × AllStand sight old) trade moment (sites_of old waited) turns (sites_of p arrivals))
+                (sym now_is) (plays_so arrivals are_joined turns told law keeps);
             disk_fault = subst (λ (p : List (ProviderState D)). BlamesDisks count turns old p) (sym now_is)
                 (blames_so arrivals are_joined turns told law);
           }

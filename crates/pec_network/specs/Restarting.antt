@@ -1,6 +1,6 @@
 -- What a restart answers, and what it leaves: it is played with the luck that the number of entries tells. This
 -- project's profile.
-use Rattle.std.specs.Prelude.{◌≡◌, ℕ, nat_lt, true, false, List, length, slice_index_or}
+use Rattle.std.specs.Prelude.{◌≡◌, ℕ, nat_lt, true, false, List, length, slice_index_or, None}
 use Rattle.pec_records.specs.declared.entries.Entry.{Entry}
 use Rattle.pec_ledger.specs.Network.{Site, journal_at, site_at}
 use Rattle.pec_plays.specs.Commands.{IsUp, Luck, Played, Refuses, Restarted, answers}
@@ -24,8 +24,13 @@ restarted_as reopen.NoMemory = faults.NoMemory
 
 -- The interrupted entry was found exactly where there are more entries now.
 abbrev pub luck_told : List Site → ℕ → ℕ → Luck
-luck_told sites provider entries =
-    record { cuts = λ number. Whole; fails = false; found = nat_lt (length (journal_at sites provider)) entries }
+luck_told sites provider entries = record {
+  cuts = λ number. Whole;
+  fails = false;
+  found = nat_lt (length (journal_at sites provider)) entries;
+  read = None;
+  shown = None;
+}
 
 -- A restart was played, and told so many entries.
 abbrev pub IsRestarted : (Luck → Played) → List Site → ℕ → List Site → ℕ → Type 0

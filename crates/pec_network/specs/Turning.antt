@@ -1,25 +1,26 @@
--- A provider's turn, as its calls make it: how far it has come (`Far`), how it ends (`Ends`), and what it was (`Took`).
--- This project's profile.
-use Rattle.std.specs.Prelude.{◌≡◌, ℕ, ◌≤◌, nat_lt, true, false, List, [], ◌++◌, length, take, slice_index_or, Option}
-use Rattle.std.specs.Prelude.{Some}
+-- A provider's turn, as its calls make it: how far it has come (`Far`), how it ends (`Ends`), what it puts behind all
+-- steps (`Puts`), and what it was (`Took`). This project's profile.
+use Rattle.std.specs.Prelude.{◌≡◌, ◌≢◌, ℕ, ◌≤◌, nat_lt, true, false, List, [], ◌++◌, length, take, slice_index_or, Option}
+use Rattle.std.specs.Prelude.{Some, None}
 use Rattle.pec_types.specs.Bytes.{Bytes}
 use Rattle.pec_types.specs.declared.turns.Event.{Event}
 use Rattle.pec_types.specs.declared.turns.ProviderFault.{ProviderFault}
 use Rattle.pec_types.specs.declared.turns.ProviderFault.TheVariants as faults
 use Rattle.pec_types.specs.declared.turns.Turn.{Turn}
+use Rattle.pec_records.specs.declared.entries.Entry.{Entry}
 use Rattle.pec_outside.specs.DiskModel.{Sight}
 use Rattle.pec_ledger.specs.Ledger.{Fit, Journals}
 use Rattle.pec_ledger.specs.Network.{AreGenuine, Site}
 use Rattle.pec_ledger.specs.Trade.{Trade}
-use Rattle.pec_plays.specs.Possible.{HaveRoom, MayCut, cut_by}
+use Rattle.pec_plays.specs.Possible.{HaveRoom, IsOfKept, IsOfRead, MayCut, TellsCut, cut_by}
 use Rattle.pec_plays.specs.Rounds.{sent_from}
 use Rattle.pec_plays.specs.Steps.{Step}
-use Rattle.pec_plays.specs.Turns.{Cut, Turned, behind, cut_turn, entries_of, events_of, frames_in, last_of, owed_of}
-use Rattle.pec_plays.specs.Turns.{plan, turned, without_first}
+use Rattle.pec_plays.specs.Turns.{Cut, Other, Turned, behind, cut_turn, entries_of, events_of, frames_in, last_of}
+use Rattle.pec_plays.specs.Turns.{owed_of, plan, turned, without_first}
 use Rattle.pec_chronicle.specs.Carrying.{CarriesOn}
 use Rattle.pec_chronicle.specs.Chronicle.{ChronicleState}
 use Rattle.pec_provider.specs.Following.{MayFollow}
-use Rattle.pec_provider.specs.Provider.{Desk, site_of}
+use Rattle.pec_provider.specs.Provider.{Desk, site_of, stopped}
 
 -- the frames that wait for a provider, a list for each sender
 abbrev pub Waiting : Type 0
@@ -40,15 +41,38 @@ room_in rooms to = slice_index_or rooms to 0
 
 -- ---- turns
 
--- The cut of a turn that ended so, by what it told.
-abbrev pub cut_told : Option ProviderFault → List Event → Cut
-cut_told ended events = cut_by ended (length events)
+-- frames that are put in place of those that are due are for so many providers at most
+abbrev pub IsForFew : ℕ → Cut → Type 0
+IsForFew count (Other out) = length out ≤ count
+IsForFew count cut = Unit {0}
 
--- A turn was this one: it was cut as it tells, and it may be cut so.
-pub record Took (trade : Trade) (me now : ℕ) (rooms : ℕ → ℕ) (old : Site) (turn : Turned) : Type 0 where
-  pub is : turned trade me now rooms (cut_told turn.ended turn.events) old ≡ turn
+-- It isn't told that an entry isn't what a letter is composed of, where these are the provider's entries in journals that
+-- are Fit.
+abbrev pub NoneIsChanged : Trade → ℕ → List Entry → Option ProviderFault → Type 0
+NoneIsChanged trade me entries ended =
+    (journals : Journals) → Fit trade journals → journals me ≡ entries → (number : ℕ) → ended ≢ Some (faults.Changed number)
+
+-- A turn was this one: it was cut so, as it tells, and it may be cut so. `Stood` says when its disk gave back what it
+-- took; then no other frames were put than those that were due, and no entry is told as changed.
+pub record Took (Stood : Type 0) (trade : Trade) (me now : ℕ) (rooms : ℕ → ℕ) (old : Site) (turn : Turned) : Type 0 where
+  pub cut : Cut
+  pub tells : TellsCut turn.ended (length turn.events) cut
+  pub is : turned trade me now rooms cut old ≡ turn
   pub may : old.up ≡ true → nat_lt now (last_of trade me old.journal) ≡ false
-      → MayCut (plan trade me now old.journal (frames_in old.waiting)) (cut_told turn.ended turn.events)
+      → MayCut (plan trade me now old.journal (frames_in old.waiting)) cut
+  pub kept : Stood → IsOfKept cut
+  pub unchanged : Stood → NoneIsChanged trade me turn.site.journal turn.ended
+  pub few : IsForFew trade.providers cut
+
+-- What a provider puts behind all its steps, where these frames are due: those, or others where its disk may have given
+-- back other bytes than it took, no more than the links have room for. Or a read failed: it puts nothing and is down, and
+-- no entry is interrupted.
+abbrev pub Puts : Type 0 → List (List Bytes) → (ℕ → ℕ) → Desk → Desk → Option ProviderFault → List (List Bytes) → Type 0
+Puts Stood due rooms old new None out =
+    (new ≡ old) × (Stood → out ≡ due) × (length out ≡ length due)
+    × ((to : ℕ) → length (slice_index_or out to []) ≤ rooms to)
+Puts Stood due rooms old new (Some fault) out =
+    (new ≡ stopped old) × (old.interrupted ≡ None) × IsOfRead fault × (out ≡ [])
 
 -- Some steps of a turn were done, and some frames are gone.
 pub record IsFront (trade : Trade) (me now : ℕ) (old new : Site) : Type 0 where
@@ -89,14 +113,15 @@ module _ (trade : Trade) (me now : ℕ) where
   Leads desk left events later less more =
       (begun : Desk) (waiting : Waiting) → Far begun waiting desk left events → Far begun waiting later less more
 
-  -- a turn that began so was cut, and was this one
+  -- a turn that began so was cut as it tells, and was this one
   pub record Cuts (begun : Site) (turn : Turned) : Type 0 where
     pub is : (rooms : ℕ → ℕ) → cut_turn trade me rooms begun (plan trade me now begun.journal (frames_in begun.waiting))
-        (cut_told turn.ended turn.events) ≡ turn
-    pub may : MayCut (plan trade me now begun.journal (frames_in begun.waiting)) (cut_told turn.ended turn.events)
+        (cut_by turn.ended (length turn.events)) ≡ turn
+    pub may : MayCut (plan trade me now begun.journal (frames_in begun.waiting))
+        (cut_by turn.ended (length turn.events))
 
-  -- A turn ended for a cause. It had begun while the provider was at work, so want of memory, a full journal and a
-  -- fault of the disk are the causes.
+  -- Before all steps were done a turn ended for a cause. It had begun while the provider was at work, so want of memory, a
+  -- full journal and a fault of the disk are the causes.
   abbrev pub EndsSo : Site → Desk → Waiting → List Event → ProviderFault → Type 0
   EndsSo begun desk left events faults.NoMemory = IsFront trade me now begun (site_of desk left)
   EndsSo begun desk left events faults.DiskFault =

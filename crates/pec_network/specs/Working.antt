@@ -56,8 +56,8 @@ module _ {D : Type 0} (Tells : Type 0) (sight : D → Sight) (count : D → ℕ)
     (old new : Slot D) where
   -- The turn was this one, and was told so.
   pub record TookTurn (turn : Turn) (out : List (List Bytes)) : Type 0 where
-    pub took : Took (trade_of kept seals) me moment (room_in old.rooms) (site_of (desk_of old.provider) (waits old.takers))
-        (turn_of (site_of (desk_of new.provider) (waits new.takers)) turn out)
+    pub took : Took (Tells × Stands sight old.provider.chronicle) (trade_of kept seals) me moment (room_in old.rooms)
+        (site_of (desk_of old.provider) (waits old.takers)) (turn_of (site_of (desk_of new.provider) (waits new.takers)) turn out)
     pub told : turn ≡ told_of me (turn_of (site_of (desk_of new.provider) (waits new.takers)) turn out)
     pub memory : turn.ended ≢ Some faults.NoMemory
     pub fit : (to : ℕ) → length (slice_index_or out to []) ≤ room_in old.rooms to

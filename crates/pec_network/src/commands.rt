@@ -26,8 +26,8 @@ use std::alloc::Global;
 impl<D: Disk, S: Sealer> Network<D, S> {
     /// Hands a provider a message that an account submits for a forward path, in bytes as it was handed in. The first
     /// of these refusals that applies is answered, and leaves all as it was: `NoAccount`, `Down`, `ClockBack`, `Full`,
-    /// `NoMemory`, `JournalFull`. After `DiskFault` the provider is down. The screens are that provider's; they look where
-    /// none of the first four applies and no row of the admission table before theirs does.
+    /// `NoMemory`, `JournalFull`. After `DiskFault` the provider is down. The screens are that provider's; they look
+    /// where none of the first four applies and no row of the admission table before theirs does.
     pub fn submit<J: Judge>(
         &mut self,
         alloc: Global,

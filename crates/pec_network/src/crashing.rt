@@ -17,6 +17,7 @@ use crate::network::Network;
 use pec_outside::{Depot, Disk};
 use pec_provider::House;
 use pec_seal::Sealer;
+use pec_trade::a_trade_says_what_its_parts_say;
 use std::alloc::Global;
 
 impl<D: Disk, S: Sealer> Network<D, S> {
@@ -68,6 +69,7 @@ impl<D: Disk, S: Sealer> Network<D, S> {
         ensures later { NoneFalls D.faults self.old.providers self.new.providers }
     {
         what_rests_carries_on::<D>();
+        a_trade_says_what_its_parts_say();
         let number = provider as usize;
         if !self.providers[number].is_down() {
             return Err(RestartFault::Up);

@@ -2,6 +2,7 @@ ghost use Rattle.std.specs.Prelude.{◌≡◌, ℕ, ◌<◌, ◌≤◌, List, []
 ghost use Rattle.pec_types.specs.Bytes.{Bytes};
 ghost use Rattle.pec_outside.specs.Depots.{depot_places};
 ghost use Rattle.pec_outside.specs.DiskModel.{LeavesOnly};
+ghost use Rattle.pec_directory.specs.Directory.{providers_of};
 ghost use Rattle.pec_records.specs.declared.entries.Entry.{Entry};
 ghost use Rattle.pec_ledger.specs.Ledger.{Fit, Journals};
 ghost use Rattle.pec_ledger.specs.Network.{FollowsState, Site, Sound, interrupted_at, journal_at, journals_in, journals_of};
@@ -9,15 +10,21 @@ ghost use Rattle.pec_ledger.specs.Trade.{Trade};
 ghost use Rattle.pec_chronicle.specs.Carrying.{CarriesOn, FollowsSo, IsImage, NothingMay};
 ghost use Rattle.pec_chronicle.specs.Chronicle.{ChronicleState, Stands};
 ghost use Rattle.pec_posts.specs.Arrivals.{Waiting};
+ghost use Rattle.pec_trade.specs.Houses.{Fits};
+ghost use Rattle.pec_trade.specs.TradeOf.{trade_of};
 ghost use Rattle.pec_provider.specs.Following.{MayFollow};
 ghost use Rattle.pec_provider.specs.Provider.{ProviderState};
 ghost use Rattle.pec_network.specs.Carrying.{AllCarryOn};
 ghost use Rattle.pec_network.specs.Network.{sites_of};
-ghost use Rattle.pec_network.specs.Rounds.{FramesAreGenuine};
+ghost use Rattle.pec_network.specs.Rounds.{FramesAreGenuine, KeepsSound};
 
 use pec_directory::Directory;
 use pec_outside::Disk;
+use pec_plays::a_network_stays_sound;
 use pec_provider::what_follows_goes_on;
+use pec_seal::Sealer;
+use pec_trade::the_texts_are_a_trade;
+use pec_types::Moment;
 
 // In whatever order the puts and takes of the turns of a round come, each link ends as the round leaves it.
 pub use pec_schedules::interleavings;
@@ -34,6 +41,19 @@ pub(crate) fn few_providers(directory: &Directory)
     directory.count();
 }
 
+/// Each round at a moment keeps the state of a network of a directory Sound, where no turn puts other frames than those
+/// that are due.
+pub(crate) fn rounds_keep_a_state_sound<S: Sealer>(directory: &Directory, moment: Moment)
+    ensures { (sealer : S) → Fits (S.seals sealer) (providers_of directory.now) → (old : List Site)
+        → KeepsSound (trade_of directory.now (S.seals sealer)) moment old }
+{
+    // A directory is lawful, and a moment has a bound, as a proof learns here.
+    directory.count();
+    moment.seconds();
+    the_texts_are_a_trade::<S>();
+    a_network_stays_sound();
+}
+
 /// What a crash may leave of a provider's disk is the journal of entries that follow the state.
 pub fn images_follow()
     ensures { (trade : Trade) (state : List Site) (number : ℕ) (bytes : Bytes)
@@ -44,10 +64,10 @@ pub fn images_follow()
     what_follows_goes_on();
 }
 
-/// What a call leaves of a provider, where all carry on with entries that may follow in the ledger of the state before it:
-/// what is kept and stood on the disk stands there again, and at any moment of the call a crash leaves of the disk the
-/// journal of a list that follows that state. Providers that aren't touched carry on. The ledger sees the entries that are
-/// kept of each.
+/// What a call leaves of a provider, where all carry on with entries that may follow in the ledger of the state before
+/// it: what is kept and stood on the disk stands there again, and at any moment of the call a crash leaves of the disk
+/// the journal of a list that follows that state. Providers that aren't touched carry on. The ledger sees the entries
+/// that are kept of each.
 pub fn a_call_leaves_what_follows<D: Disk>()
     ensures follows { (trade : Trade) (old new : List (ProviderState D)) (waiting : List Waiting)
         → AllCarryOn D.sight trade (journals_of (sites_of old waiting)) old new

@@ -66,8 +66,8 @@ impl<D: Disk, S: Sealer + Drop> Network<D, S> {
     }
 
     /// A network over the journals that are on the disks, each of which is first made durable as it reads; it writes
-    /// nothing. It is refused where the depot doesn't hand out a disk or the disk fails (`DiskFault`), where the journal
-    /// on one isn't its provider's own (`NotFit`), and for want of memory.
+    /// nothing. It is refused where the depot doesn't hand out a disk or the disk fails (`DiskFault`), where the
+    /// journal on one isn't its provider's own (`NotFit`), and for want of memory.
     pub fn resume<P: Depot<D = D>>(
         alloc: Global,
         directory: Directory,

@@ -11,7 +11,7 @@ ghost use Rattle.pec_network.specs.Rounds.{AreRooms, BlamesDisks, FramesAreGenui
 ghost use Rattle.pec_network.specs.Working.{providers_in, putters_in, rooms_in, takers_in, tolds_in, turns_told};
 
 use crate::gates::Gate;
-use crate::laws::what_rests_carries_on;
+use crate::laws::{rounds_keep_a_state_sound, what_rests_carries_on};
 use crate::network::Network;
 use crate::working::{Slot, all_work};
 use pec_directory::Directory;
@@ -27,11 +27,11 @@ use std::thread::Threads;
 
 impl<D: Disk + Send, S: Sealer + Sync> Network<D, S> {
     /// A round at a moment: each provider has its turn, from the state as the round began, and then what they put is
-    /// delivered. Each turn runs in a worker of its own, which holds the provider and its ends of the links, and passes the
-    /// gate first. The answer is what is told of each turn. Where a journal is full, a disk fails, a provider is down or the
-    /// clock is behind its journal, that turn tells how it ended, and the others go on. Where memory runs out in a turn the
-    /// others go on too: each provider has the entries of a front of its turn, and the frames of whole turns are on their
-    /// links.
+    /// delivered. Each turn runs in a worker of its own, which holds the provider and its ends of the links, and passes
+    /// the gate first. The answer is what is told of each turn. Where a journal is full, a disk fails or gives back
+    /// what it didn't take, a provider is down or the clock is behind its journal, that turn tells how it ended, and
+    /// the others go on. Where memory runs out in a turn the others go on too: each provider has the entries of a front
+    /// of its turn, and the frames of whole turns are on their links.
     pub fn round<X: Threads + Sync, G: Gate + Sync>(
         &mut self,
         rt: &X,
@@ -40,9 +40,11 @@ impl<D: Disk + Send, S: Sealer + Sync> Network<D, S> {
         gate: &G,
     ) -> Result<Vec<Turn>, NoMemory>
 
-        // It is played as the command, with the luck that its turns tell.
-        ensures plays { IfOk result (λ turns. IsRound (world_of S.seals self.old) moment
-            (sites self.old) turns.items (sites self.new)) }
+        // It is played as the command, with cuts that its turns tell. Over disks that tell what they hold, and on which
+        // what is kept stood, no turn put other frames than those that were due, and from a Sound state none ended by
+        // `Changed`.
+        ensures plays { IfOk result (λ turns. IsRound (D.tells × AllStand D.sight self.old.providers)
+            (world_of S.seals self.old) moment (sites self.old) turns.items (sites self.new)) }
         ensures stops { OnErr result (StopsWithin (world_of S.seals self.old) moment
             (sites self.old) (sites self.new)) }
         ensures same { (self.new.kept ≡ self.old.kept) × (self.new.sealer ≡ self.old.sealer) }
@@ -86,7 +88,8 @@ fn take_turns<X: Threads + Sync, D: Disk + Send, S: Sealer + Sync, G: Gate + Syn
     gate: &G,
 ) -> Result<Vec<Turn>, NoMemory>
     requires whole { IsOfDirectory directory.now (S.seals sealer.now) providers.old.items arrivals.old.items }
-    ensures plays { IfOk result (λ turns. IsRound (trade_of directory.now (S.seals sealer.now)) moment
+    ensures plays { IfOk result (λ turns. IsRound (D.tells × AllStand D.sight providers.old.items)
+        (trade_of directory.now (S.seals sealer.now)) moment
         (sites_of providers.old.items arrivals.old.items) turns.items
         (sites_of providers.new.items arrivals.new.items)) }
     ensures stops { OnErr result (StopsWithin (trade_of directory.now (S.seals sealer.now)) moment
@@ -104,6 +107,7 @@ fn take_turns<X: Threads + Sync, D: Disk + Send, S: Sealer + Sync, G: Gate + Syn
     ensures later { NoneFalls D.faults providers.old.items providers.new.items }
 {
     what_rests_carries_on::<D>();
+    rounds_keep_a_state_sound::<S>(directory, moment);
     a_row_is_delivered_link_by_link();
     let count = directory.count();
     let Table {
@@ -137,8 +141,8 @@ fn take_turns<X: Threads + Sync, D: Disk + Send, S: Sealer + Sync, G: Gate + Syn
     }
 }
 
-/// What a round needs beside its workers: the room on the links, by the provider that puts; lists in which links are taken
-/// apart and put together; and what is told.
+/// What a round needs beside its workers: the room on the links, by the provider that puts; lists in which links are
+/// taken apart and put together; and what is told.
 #[derive(Drop)]
 struct Table {
     rooms: Vec<Items<usize>>,
@@ -173,8 +177,8 @@ fn laid(alloc: Global, count: u32, arrivals: &[Arrivals]) -> Result<Table, NoMem
     })
 }
 
-/// Gives each worker its provider and its ends of links. The lists of providers and of ends are then empty, with as much
-/// room as before. It takes no memory.
+/// Gives each worker its provider and its ends of links. The lists of providers and of ends are then empty, with as
+/// much room as before. It takes no memory.
 fn seat<D>(
     providers: &mut Vec<Provider<D>>,
     rows: Vec<Vec<Putter>>,

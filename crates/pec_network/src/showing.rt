@@ -1,11 +1,16 @@
 ghost use Rattle.std.specs.Prelude.{◌≡◌, ◌<◌, length};
+ghost use Rattle.std.specs.Option.{unwrap_or};
 ghost use Rattle.pec_ledger.specs.Network.{journal_at};
 ghost use Rattle.pec_plays.specs.Commands.{Book, Items as ItemsShown, Lines, Luck, Mailbox, Show, Shown, played};
+ghost use Rattle.pec_network.specs.Carrying.{AllStand};
+ghost use Rattle.pec_network.specs.Changing.{ConcernsOne};
 ghost use Rattle.pec_network.specs.Network.{sites, world_of};
-ghost use Rattle.pec_network.specs.Playing.{IsShown};
+ghost use Rattle.pec_network.specs.Playing.{IsReadOver, IsShown};
 
+use crate::laws::what_rests_carries_on;
 use crate::network::Network;
-use pec_provider::{House, ProviderFault};
+use pec_outside::Disk;
+use pec_provider::{House, ProviderFault, nothing_has_changed};
 use pec_seal::Sealer;
 use pec_trade::a_trade_says_what_its_parts_say;
 use pec_types::{Address, BookLine, ItemLine};
@@ -47,20 +52,31 @@ impl<D, S: Sealer> Network<D, S> {
         };
         self.providers[me as usize].mailbox(alloc, &house, account)
     }
+}
 
-    /// The bytes of the item at a place of an account's mailbox, counted from 0. `NoItem` where the mailbox has none
-    /// there.
+impl<D: Disk, S: Sealer> Network<D, S> {
+    /// The bytes of the item at a place of an account's mailbox, counted from 0, composed of an entry that is read for
+    /// it. Beside the refusals of a mailbox: `NoItem` where the mailbox has none there, before `NoMemory`. After
+    /// `DiskFault`, and after `Changed`, where the entry of that number isn't what the item is composed of, the
+    /// provider is down.
     pub fn show(
-        &self,
+        &mut self,
         alloc: Global,
         account: &Address,
         place: u32,
     ) -> Result<Vec<u8>, ProviderFault>
-        ensures { (luck : Luck) → IsShown (λ bytes. Shown bytes.items)
-            (played (world_of S.seals self.now) luck (sites self.now) (Show account.now place))
-            (sites self.now) result }
+        // It is played as the command. Over disks that tell what they hold, and on which what is kept stood, the bytes
+        // are those of the item, and `Changed` doesn't come.
+        ensures shown { IsReadOver (D.tells × AllStand D.sight self.old.providers) S.seals (λ bytes. Shown bytes.items)
+            (Show account.now place) self.old self.new result }
+        // It concerns the provider where the account is at home.
+        ensures concerns { ConcernsOne D.sight D.faults D.tells S.seals
+            (unwrap_or ((world_of S.seals self.old).home account.now) 0) self.old self.new result }
+        ensures same { (self.new.kept ≡ self.old.kept) × (self.new.sealer ≡ self.old.sealer) }
     {
         a_trade_says_what_its_parts_say();
+        nothing_has_changed();
+        what_rests_carries_on::<D>();
         let Some(me) = self.directory.home_of(account) else {
             return Err(ProviderFault::NoAccount);
         };
@@ -80,6 +96,7 @@ impl<D, S: Sealer> Network<D, S> {
         requires { provider < length self.now.kept }
         ensures { result ≡ length (journal_at (sites self.now) provider) }
     {
+        a_trade_says_what_its_parts_say();
         self.providers[provider as usize].entries()
     }
 }

@@ -1,4 +1,4 @@
-ghost use Rattle.std.specs.Prelude.{◌≡◌, ◌≢◌, ℕ, ◌≤◌, [], length, slice_index_or, Some, None};
+ghost use Rattle.std.specs.Prelude.{◌≡◌, ◌≢◌, ℕ, ◌<◌, ◌≤◌, ◌^◌, false, [], length, slice_index_or, Some, None};
 ghost use Rattle.std.specs.Prelude.{IfOk, IfErr, IsErrOf, OnOk, OnErr};
 ghost use Rattle.pec_types.specs.declared.turns.ProviderFault.TheVariants as faults;
 ghost use Rattle.pec_outside.specs.Flow.{HasRisen};
@@ -6,15 +6,18 @@ ghost use Rattle.pec_plays.specs.Decisions.{undecided};
 ghost use Rattle.pec_plays.specs.Rounds.{link_size, sent_from};
 ghost use Rattle.pec_plays.specs.Turns.{frames_in, puts_from};
 ghost use Rattle.pec_trade.specs.Houses.{world_at};
+ghost use Rattle.pec_chronicle.specs.Carrying.{CarriesOn, NothingMay};
 ghost use Rattle.pec_chronicle.specs.Chronicle.{Stands};
 ghost use Rattle.pec_provider.specs.Provider.{RunsIn, desk_of, site_of};
 ghost use Rattle.pec_provider.specs.Working.{IsAtWork};
 ghost use Rattle.pec_rows.specs.Rows.{knowns, waits};
-ghost use Rattle.pec_network.specs.Turning.{CarriesFrames, Ends, Leads, StopsShort, Took, room_in, told_of, turn_of};
+ghost use Rattle.pec_network.specs.Turning.{CarriesFrames, Ends, Leads, NoneIsChanged, Puts, StopsShort, Took, room_in};
+ghost use Rattle.pec_network.specs.Turning.{told_of, turn_of};
 
 use crate::putting::{puts, sent};
 use crate::steps::{decide_pairs, take_frames, what_rests_carries_on};
 use pec_outside::Disk;
+use pec_plays::{a_turn_puts_what_is_due, frames_are_taken_in_order};
 use pec_provider::{Event, House, Provider, ProviderFault, a_house_is_a_trade};
 use pec_rows::Takers;
 use pec_seal::Sealer;
@@ -30,8 +33,10 @@ pub struct Taken {
 
 /// A provider's turn in a round, with the frames that wait for it, where its links have so much room by number of
 /// provider. Where it is down or the clock is behind its journal it takes and puts nothing. Otherwise it handles the
-/// frames in their order, decides on what it took, and puts the letters that are due. A full journal or a fault of the
-/// disk ends the turn: the frame in hand is gone, later frames stay, and nothing is put.
+/// frames in their order, decides on what it took, and puts the letters that are due, once all are composed. A full
+/// journal or a fault of the disk ends the turn: the frame in hand is gone, later frames stay, and nothing is put. So
+/// does an entry that can't be read for a letter, or isn't what the letter is composed of: all frames are handled by
+/// then.
 pub fn take_turn<D: Disk, S: Sealer>(
     alloc: Global,
     house: &House<'_, S>,
@@ -45,10 +50,12 @@ pub fn take_turn<D: Disk, S: Sealer>(
     requires rooms { length rooms.now ≡ length house.now.directory.now }
     requires short { (to : ℕ) → room_in rooms.now to ≤ link_size }
 
-    // It is a turn of the rounds of pec_plays, cut as it tells.
-    ensures took { IfOk result (λ taken. Took (world_at house.now) house.now.me moment
-        (room_in rooms.now) (site_of (desk_of provider.old) (waits takers.old)) (turn_of (site_of (desk_of provider.new)
-        (waits takers.new)) taken.turn taken.out)) }
+    // It is a turn of the rounds of pec_plays, with a cut that it tells. Over a disk that tells what it holds, and on
+    // which what is kept stood, no other frames were put than those that were due; and where the journals as the
+    // letters are composed are Fit it doesn't end by `Changed`.
+    ensures took { IfOk result (λ taken. Took (D.tells × Stands D.sight provider.old.chronicle) (world_at house.now)
+        house.now.me moment (room_in rooms.now) (site_of (desk_of provider.old) (waits takers.old))
+        (turn_of (site_of (desk_of provider.new) (waits takers.new)) taken.turn taken.out)) }
     ensures told { IfOk result (λ taken. taken.turn ≡ told_of house.now.me (turn_of (site_of (desk_of provider.new)
         (waits takers.new)) taken.turn taken.out)) }
 
@@ -95,9 +102,9 @@ fn turn<D: Disk, S: Sealer>(
     requires nothing_owed { provider.old.owed ≡ [] }
     requires rooms { length rooms.now ≡ length house.now.directory.now }
     requires short { (to : ℕ) → room_in rooms.now to ≤ link_size }
-    ensures took { IfOk result (λ taken. Took (world_at house.now) house.now.me moment
-        (room_in rooms.now) (site_of (desk_of provider.old) (waits takers.old)) (turn_of (site_of (desk_of provider.new)
-        (waits takers.new)) taken.turn taken.out)) }
+    ensures took { IfOk result (λ taken. Took (D.tells × Stands D.sight provider.old.chronicle) (world_at house.now)
+        house.now.me moment (room_in rooms.now) (site_of (desk_of provider.old) (waits takers.old))
+        (turn_of (site_of (desk_of provider.new) (waits takers.new)) taken.turn taken.out)) }
     ensures told { IfOk result (λ taken. taken.turn ≡ told_of house.now.me (turn_of (site_of (desk_of provider.new)
         (waits takers.new)) taken.turn taken.out)) }
     ensures memory { IfOk result (λ taken. taken.turn.ended ≢ Some faults.NoMemory) }
@@ -115,6 +122,8 @@ fn turn<D: Disk, S: Sealer>(
     ensures later { D.faults provider.old.chronicle.disk ≤ D.faults provider.new.chronicle.disk }
 {
     a_house_is_a_trade(house);
+    a_turn_puts_what_is_due();
+    frames_are_taken_in_order();
     what_rests_carries_on::<D>();
     if let Err(fault) = provider.at_work(moment) {
         return Ok(ended(alloc, house.me, Vec::new(alloc), fault));
@@ -160,31 +169,64 @@ fn take_steps<D: Disk, S: Sealer>(
     Ok(())
 }
 
-/// The turn of a provider that did all its steps: the letters that are due are put.
+/// The turn of a provider that did all its steps: the letters that are due are put, once all are composed. Where a read
+/// fails nothing is put.
 fn whole<D: Disk, S: Sealer>(
     alloc: Global,
     house: &House<'_, S>,
-    provider: &Provider<D>,
+    provider: &mut Provider<D>,
     rooms: &[usize],
     events: Vec<Event>,
 ) -> Result<Taken, NoMemory>
-    requires runs { RunsIn house.now provider.now }
+    requires runs { RunsIn house.now provider.old }
+    requires up { provider.old.chronicle.down ≡ false }
     requires rooms { length rooms.now ≡ length house.now.directory.now }
     requires short { (to : ℕ) → room_in rooms.now to ≤ link_size }
-    ensures out { IfOk result (λ taken. taken.out ≡ puts_from (world_at house.now) house.now.me
-        provider.now.chronicle.entries (room_in rooms.now) provider.now.owed 0 (length house.now.directory.now)) }
-    ensures fit { IfOk result (λ taken. (to : ℕ) → length (slice_index_or taken.out to []) ≤ room_in rooms.now to) }
+    ensures puts { IfOk result (λ taken. Puts (D.tells × Stands D.sight provider.old.chronicle)
+        (puts_from (world_at house.now) house.now.me provider.old.chronicle.entries (room_in rooms.now)
+        provider.old.owed 0 (length house.now.directory.now))
+        (room_in rooms.now) (desk_of provider.old) (desk_of provider.new) taken.turn.ended taken.out) }
+    ensures unchanged { D.tells × Stands D.sight provider.old.chronicle → IfOk result (λ taken. NoneIsChanged
+        (world_at house.now) house.now.me provider.old.chronicle.entries taken.turn.ended) }
     ensures turn { IfOk result (λ taken. taken.turn ≡ record {
       provider = house.now.me;
       events = events.items;
       sent = sent_from 0 taken.out;
+      ended = taken.turn.ended;
+    }) }
+    ensures no_memory { OnErr result (desk_of provider.new ≡ desk_of provider.old) }
+    ensures runs { RunsIn house.now provider.new }
+    ensures carries { D.tells → CarriesOn D.sight NothingMay provider.old.chronicle provider.new.chronicle }
+    ensures disk_fault { IfOk result (λ taken. taken.turn.ended ≡ Some faults.DiskFault →
+        HasRisen (D.faults provider.old.chronicle.disk) (D.faults provider.new.chronicle.disk)) }
+    ensures later { D.faults provider.old.chronicle.disk ≤ D.faults provider.new.chronicle.disk }
+{
+    match puts(alloc, house, provider, rooms) {
+        Ok(out) => all_put(alloc, house.me, events, out),
+        Err(fault) => cut_off(alloc, house.me, events, fault),
+    }
+}
+
+/// A turn that was done, with the frames that it puts.
+fn all_put(
+    alloc: Global,
+    me: u32,
+    events: Vec<Event>,
+    out: Vec<Items<Frame>>,
+) -> Result<Taken, NoMemory>
+    requires count { length out.items < 2 ^ 32 }
+    requires short { (to : ℕ) → length (slice_index_or out.items to []) ≤ link_size }
+    ensures out { IfOk result (λ taken. taken.out ≡ out.items) }
+    ensures turn { IfOk result (λ taken. taken.turn ≡ record {
+      provider = me;
+      events = events.items;
+      sent = sent_from 0 out.items;
       ended = None;
     }) }
 {
-    let out = puts(alloc, house, provider, rooms)?;
     let sent = sent(alloc, &out)?;
     let turn = Turn {
-        provider: house.me,
+        provider: me,
         events: Items::of(events),
         sent: Items::of(sent),
         ended: None,

@@ -15,8 +15,8 @@ use std::alloc::Global;
 use std::thread;
 use std::thread::Threads;
 
-/// What one worker holds in a round: its provider, the ends that put of the links from it and how much room they have, the
-/// ends that take of the links to it, and what is told of its turn, none where memory ran out.
+/// What one worker holds in a round: its provider, the ends that put of the links from it and how much room they have,
+/// the ends that take of the links to it, and what is told of its turn, none where memory ran out.
 pub(crate) struct Slot<D> {
     pub(crate) provider: Provider<D>,
     pub(crate) putters: Putters,
@@ -28,8 +28,8 @@ pub(crate) struct Slot<D> {
 /// At least as many workers as a directory has providers: each has a thread of its own, where one can be made.
 const MOST: usize = 16;
 
-/// The turns of providers, one beside another. Each worker passes the gate, and takes the frames alone that waited before
-/// all began. Where memory runs out in one turn the others go on.
+/// The turns of providers, one beside another. Each worker passes the gate, and takes the frames alone that waited
+/// before all began. Where memory runs out in one turn the others go on.
 pub(crate) fn all_work<X: Threads + Sync, D: Disk + Send, S: Sealer + Sync, G: Gate + Sync>(
     rt: &X,
     alloc: Global,

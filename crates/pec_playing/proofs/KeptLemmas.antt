@@ -51,6 +51,22 @@ keeps_on sight count tells old mid new first second = record {
       omega (arith, first.later number other within, second.later number other (omega (arith, within, first.many)));
 }
 
+-- directory, number and seals stay, and providers carry on
+pub keeps_same : {D S : Type 0} (sight : D → Sight) (count : D → ℕ) (tells : Type 0) (trade : Trade)
+    (old new : NetworkState D S) → new.kept ≡ old.kept → new.sealer ≡ old.sealer
+    → length new.providers ≡ length old.providers
+    → (tells → (journals : Journals) → AllCarryOn sight trade journals old.providers new.providers)
+    → NoneFalls count old.providers new.providers → Keeps sight count tells old new
+keeps_same sight count tells trade old new kept seals many carries later = record {
+  directory = kept;
+  many = many;
+  seals = seals;
+  stands = λ told all k other l.
+      (let l2 : k < length old.providers = omega (arith, l, many) in
+      (carries told (λ p. []) k other l2).stands (all k other l2));
+  later = later;
+}
+
 -- counts that didn't change don't fall
 pub same_falls : {D : Type 0} (count : D → ℕ) (old new : List (ProviderState D)) → SameCounts count old new
     → NoneFalls count old new
@@ -73,12 +89,6 @@ module _ {D S : Type 0} (old new : NetworkState D S) (number : ℕ) (only : Chan
   pub keeps_others : (sight : D → Sight) (count : D → ℕ) (tells : Type 0) (trade : Trade)
       → (tells → (journals : Journals) → AllCarryOn sight trade journals old.providers new.providers)
       → NoneFalls count old.providers new.providers → Keeps sight count tells old new
-  keeps_others sight count tells trade carries later = record {
-    directory = ap (λ (n : NetworkState D S). n.kept) (only some);
-    many = as_many;
-    seals = ap (λ (n : NetworkState D S). n.sealer) (only some);
-    stands = λ told all k other l.
-        (let l2 : k < length old.providers = omega (arith, l, as_many) in
-        (carries told (λ p. []) k other l2).stands (all k other l2));
-    later = later;
-  }
+  keeps_others sight count tells trade carries later =
+      keeps_same sight count tells trade old new (ap (λ (n : NetworkState D S). n.kept) (only some))
+      (ap (λ (n : NetworkState D S). n.sealer) (only some)) as_many carries later

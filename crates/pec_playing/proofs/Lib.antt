@@ -1,4 +1,5 @@
 pub mod AskLemmas
+pub mod ChangeLemmas
 pub mod CountLemmas
 pub mod KeptLemmas
 pub mod LineLemmas
@@ -9,4 +10,5 @@ pub mod PlayLemmas
 pub mod RestartLemmas
 pub mod RoundLemmas
 pub mod SameLemmas
+pub mod ShowLemmas
 pub mod WritingLemmas

@@ -11,6 +11,7 @@ use Rattle.pec_ledger.specs.Network.{Site}
 use Rattle.pec_ledger.specs.Trade.{Trade}
 use Rattle.pec_plays.specs.Commands.{Answer, Command, Inject, Injected, LinkFull, Lose, Lost, Luck, NoFrame, Played}
 use Rattle.pec_plays.specs.Commands.{Repeat, Repeated, Swap, Swapped, answers, played}
+use Rattle.pec_network.specs.Carrying.{AllStand}
 use Rattle.pec_network.specs.OfProviders.{luck_of}
 use Rattle.pec_network.specs.Network.{NetworkState, sites}
 use Rattle.pec_network.specs.Playing.{IsPlayedOnLink}
@@ -23,9 +24,10 @@ use Rattle.pec_runs.specs.Ran.{LeavesOff, Behind}
 use Rattle.pec_playing.specs.Doing.{Does}
 use Rattle.pec_playing.specs.Playing.{IsPlayedSo, counts_in}
 use Rattle.pec_playing.specs.Saying.{IsLinkText}
+use Rattle.pec_playing.proofs.ChangeLemmas.{inject_unchanged, lose_unchanged, repeat_unchanged, swap_unchanged}
 use Rattle.pec_playing.proofs.CountLemmas.{counts_stay}
 use Rattle.pec_playing.proofs.KeptLemmas.{keeps_providers}
-use Rattle.pec_playing.proofs.PlayLemmas.{IsFree, does_say, does_stop, left_so, played_so}
+use Rattle.pec_playing.proofs.PlayLemmas.{IsFree, does_say, does_stop, left_so, none_read, played_so}
 
 -- An answer is done with this line.
 pub record IsLine (answer : Answer) (line : Line) : Type 0 where
@@ -59,12 +61,15 @@ injected_line = record { memory = tt; text = λ providers. refl }
 module _ {D S : Type 0} (sight : D → Sight) (count : D → ℕ) (tells : Type 0) (trade : Trade) (command : Command)
     (old new : NetworkState D S) (same : new ≡ record old { waiting = new.waiting }) (free : IsFree trade command)
     (done : Answer) (line : Line) (is_line : IsLine done line) where
-  luck : Luck
+  abbrev luck : Luck
   luck = luck_of false
+
+  abbrev Stood : Type 0
+  Stood = tells × AllStand sight old.providers
 
   abbrev Comes : Bytes → Type 0
   Comes text =
-      (elsewhere : ℕ → ℕ) → IsPlayedSo trade (providers_of old.kept) (sites old)
+      (elsewhere : ℕ → ℕ) → IsPlayedSo Stood trade (providers_of old.kept) (sites old)
       (counts_in count old.providers elsewhere)
       (counts_in count new.providers elsewhere) command text (sites new)
 
@@ -72,12 +77,13 @@ module _ {D S : Type 0} (sight : D → Sight) (count : D → ℕ) (tells : Type 
       → played trade luck (sites old) command ≡ record { answer = answer; after = sites new }
       → text ≡ texts.answer_text its → Comes text
   comes answer its of text is written elsewhere =
-      played_so trade (sites old) command (providers_of old.kept) (counts_in count old.providers elsewhere)
+      played_so Stood trade (sites old) command (providers_of old.kept) (counts_in count old.providers elsewhere)
       (counts_in count new.providers elsewhere) luck answer (sites new) text is (free.meets luck (sites old)) of.memory
       (λ provider. counts_stay count old.providers new.providers
       (ap (λ (n : NetworkState D S). length n.providers) same) elsewhere
-      (keeps_providers sight count tells old new same).later provider (faults_by provider command answer)
+      (keeps_providers sight count tells old new same).later provider (faults_by trade provider command answer)
       (free.blames provider answer))
+      (none_read Stood trade (sites old) command false (free.unchanged luck (sites old)))
       (written ∙ sym (of.text (providers_of old.kept)))
 
   unchanged : (answer : Answer) → played trade luck (sites old) command ≡ answers (sites old) answer
@@ -122,13 +128,29 @@ module _ {D S : Type 0} (sight : D → Sight) (count : D → ℕ) (tells : Type 
 -- ---- the four
 
 pub lose_free : (trade : Trade) (from to place : ℕ) → IsFree trade (Lose from to place)
-lose_free trade from to place = record { meets = λ luck state. tt; blames = λ provider answer. refl }
+lose_free trade from to place = record {
+  meets = λ luck state. tt;
+  blames = λ provider answer. refl;
+  unchanged = λ luck state. lose_unchanged trade luck state from to place;
+}
 
 pub repeat_free : (trade : Trade) (from to place : ℕ) → IsFree trade (Repeat from to place)
-repeat_free trade from to place = record { meets = λ luck state. tt; blames = λ provider answer. refl }
+repeat_free trade from to place = record {
+  meets = λ luck state. tt;
+  blames = λ provider answer. refl;
+  unchanged = λ luck state. repeat_unchanged trade luck state from to place;
+}
 
 pub swap_free : (trade : Trade) (from to place : ℕ) → IsFree trade (Swap from to place)
-swap_free trade from to place = record { meets = λ luck state. tt; blames = λ provider answer. refl }
+swap_free trade from to place = record {
+  meets = λ luck state. tt;
+  blames = λ provider answer. refl;
+  unchanged = λ luck state. swap_unchanged trade luck state from to place;
+}
 
 pub inject_free : (trade : Trade) (from to : ℕ) (frame : Bytes) → IsFree trade (Inject from to frame)
-inject_free trade from to frame = record { meets = λ luck state. tt; blames = λ provider answer. refl }
+inject_free trade from to frame = record {
+  meets = λ luck state. tt;
+  blames = λ provider answer. refl;
+  unchanged = λ luck state. inject_unchanged trade luck state from to frame;
+}

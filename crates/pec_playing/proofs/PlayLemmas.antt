@@ -1,5 +1,5 @@
 -- A command that was played as its definition says: it is told so, and what it leaves.
-use Rattle.std.proofs.Common.{◌≡◌, inl, inr, ℕ, List, refl, ap, sym, subst, ◌∙◌, Global, Vec, Some, Result, Ok, Err}
+use Rattle.std.proofs.Common.{◌≡◌, inl, inr, ℕ, Bool, List, refl, ap, sym, subst, ◌∙◌, Global, Vec, Some, Result, Ok, Err}
 use Rattle.std.specs.Prelude.{IfOk, IsErr, OnErr}
 use Rattle.std.proofs.lemmas.Bool.{false≢true}
 use Rattle.pec_outside.specs.DiskModel.{Sight}
@@ -8,40 +8,60 @@ use Rattle.pec_types.specs.declared.faults.NoMemory.{NoMemory}
 use Rattle.pec_directory.specs.Directory.{Provider, providers_of}
 use Rattle.pec_ledger.specs.Network.{Site, interrupted_at, journal_at}
 use Rattle.pec_ledger.specs.Trade.{Trade}
-use Rattle.pec_plays.specs.Commands.{Answer, Command, Luck, Played, Restart, played}
-use Rattle.pec_plays.specs.Possible.{MayMeet}
+use Rattle.pec_plays.specs.Commands.{Answer, Command, Luck, Played, played}
+use Rattle.pec_plays.specs.Possible.{GaveWhatWasKept, MayMeet}
 use Rattle.pec_network.specs.Carrying.{AllStand}
 use Rattle.pec_network.specs.Network.{NetworkState, sites}
+use Rattle.pec_network.specs.OfProviders.{luck_of}
 use Rattle.pec_runs.specs.AnswerLines.{answer_text}
-use Rattle.pec_runs.specs.Plays.{HasMemory, MayStray, RoseBy, faults_by}
+use Rattle.pec_runs.specs.Plays.{HasMemory, IsUnchanged, MayStray, RoseBy, ShowsItsOwn, UnchangedIn, faults_by}
 use Rattle.pec_runs.specs.Ran.{LeavesOff, Within}
 use Rattle.pec_playing.specs.Doing.{Does, Keeps, Strange}
 use Rattle.pec_playing.specs.Playing.{HasPlayed, HasStopped, IsPlayedSo, counts_in}
 
--- A command meets any luck, and no fault of a disk is told of it.
+-- A command meets any luck, no fault of a disk is told of it, and no entry is told as changed.
 pub record IsFree (trade : Trade) (command : Command) : Type 0 where
   pub meets : (luck : Luck) (state : List Site) → MayMeet trade luck state command
-  pub blames : (provider : ℕ) (answer : Answer) → faults_by provider command answer ≡ 0
+  pub blames : (provider : ℕ) (answer : Answer) → faults_by trade provider command answer ≡ 0
+  pub unchanged : (luck : Luck) (state : List Site) → IsUnchanged (played trade luck state command).answer
 
-module _ (trade : Trade) (state : List Site) (command : Command) where
+-- Where disks gave back what they took, in a command no frame was put and no item shown in place of another, and no
+-- entry is told as changed.
+pub record GaveBack (Stood : Type 0) (trade : Trade) (state : List Site) (command : Command) (luck : Luck) : Type 0 where
+  pub kept : Stood → GaveWhatWasKept luck
+  pub shown : Stood → ShowsItsOwn luck
+  pub unchanged : Stood → UnchangedIn trade state (played trade luck state command).answer
+
+module _ (Stood : Type 0) (trade : Trade) (state : List Site) (command : Command) where
+  -- nothing was read
+  pub none_read : (fails : Bool) → IsUnchanged (played trade (luck_of fails) state command).answer
+      → GaveBack Stood trade state command (luck_of fails)
+  none_read fails is =
+      record { kept = λ stood provider. tt; shown = λ stood. refl; unchanged = λ stood world sound. is }
+
   pub played_so : (providers : List Provider) (from upto : ℕ → ℕ) (luck : Luck) (answer : Answer) (after : List Site)
       (text : Bytes)
       → played trade luck state command ≡ record { answer = answer; after = after }
       → MayMeet trade luck state command → HasMemory answer
-      → ((provider : ℕ) → RoseBy (faults_by provider command answer) (from provider) (upto provider))
+      → ((provider : ℕ) → RoseBy (faults_by trade provider command answer) (from provider) (upto provider))
+      → GaveBack Stood trade state command luck
       → text ≡ answer_text providers answer
-      → IsPlayedSo trade providers state from upto command text after
-  played_so providers from upto luck answer after text is meet memory counts lines = record {
+      → IsPlayedSo Stood trade providers state from upto command text after
+  played_so providers from upto luck answer after text is meet memory counts gave lines = record {
     luck = luck;
     meet = meet;
     memory = subst (λ (p : Played). HasMemory p.answer) (sym is) memory;
     counts = λ provider.
-        subst (λ (p : Played). RoseBy (faults_by provider command p.answer) (from provider) (upto provider)) (sym is)
-        (counts provider);
+        subst (λ (p : Played). RoseBy (faults_by trade provider command p.answer) (from provider) (upto provider))
+        (sym is) (counts provider);
+    kept = gave.kept;
+    shown = gave.shown;
+    unchanged = gave.unchanged;
     lines = lines ∙ ap (λ (p : Played). answer_text providers p.answer) (sym is);
     state = ap (λ (p : Played). p.after) (sym is);
   }
 
+module _ (trade : Trade) (state : List Site) (command : Command) where
   pub left_so : (luck : Luck) (answer : Answer) (after : List Site)
       → played trade luck state command ≡ record { answer = answer; after = after }
       → LeavesOff trade state (Some command) after
@@ -54,8 +74,8 @@ module _ {D S : Type 0} (sight : D → Sight) (count : D → ℕ) (tells : Type 
     (old new : NetworkState D S) (keeps : Keeps sight count tells old new) where
   pub does_say : (text : Vec ℕ Global)
       → ((elsewhere : ℕ → ℕ)
-      → IsPlayedSo trade (providers_of old.kept) (sites old) (counts_in count old.providers elsewhere)
-      (counts_in count new.providers elsewhere) command text.items (sites new))
+      → IsPlayedSo (tells × AllStand sight old.providers) trade (providers_of old.kept) (sites old)
+      (counts_in count old.providers elsewhere) (counts_in count new.providers elsewhere) command text.items (sites new))
       → Does sight count tells trade command old new (Ok text)
   does_say text said = record { said = λ elsewhere. inl (said elsewhere); left = tt; keeps = keeps }
 
@@ -67,14 +87,30 @@ module _ {D S : Type 0} (sight : D → Sight) (count : D → ℕ) (tells : Type 
 
 -- a call that stands beside a depot
 module _ {D S : Type 0} (sight : D → Sight) (count : D → ℕ) (home disks : Type 0) (trade : Trade) (command : Command)
-    (old new : NetworkState D S)
-    (stands : (provider : ℕ) → command ≡ Restart provider → home × disks → AllStand sight old.providers) where
+    (old new : NetworkState D S) (stands : home × disks → AllStand sight old.providers) where
   strays : Strange sight disks old.providers (sites old) command → MayStray (home × disks) (sites old) (Some command)
   strays strange = record {
-    untold = λ tells. strange.never tells.1 (stands strange.provider strange.restarts tells);
+    untold = λ tells. strange.never tells.1 (stands tells);
     provider = strange.provider;
     restarts = ap (λ (c : Command). Some c) strange.restarts;
     down = strange.down;
+  }
+
+  -- what is told by a depot too
+  told_too : (from upto : ℕ → ℕ) (text : Bytes)
+      → IsPlayedSo (disks × AllStand sight old.providers) trade (providers_of old.kept) (sites old) from upto command text
+      (sites new)
+      → IsPlayedSo (home × disks) trade (providers_of old.kept) (sites old) from upto command text (sites new)
+  told_too from upto text is = record {
+    luck = is.luck;
+    meet = is.meet;
+    memory = is.memory;
+    counts = is.counts;
+    kept = λ tells. is.kept (tells.1, stands tells);
+    shown = λ tells. is.shown (tells.1, stands tells);
+    unchanged = λ tells. is.unchanged (tells.1, stands tells);
+    lines = is.lines;
+    state = is.state;
   }
 
   pub play_says : (result : Result (Vec ℕ Global) NoMemory) → Does sight count disks trade command old new result
@@ -82,7 +118,10 @@ module _ {D S : Type 0} (sight : D → Sight) (count : D → ℕ) (home disks : 
       (counts_in count old.providers elsewhere) (counts_in count new.providers elsewhere) command text.items
       (sites new))
   play_says (Ok text) does elsewhere =
-      elim (does.said elsewhere) [ inl is ↦ inl is | inr strange ↦ inr (strays strange) ]
+      elim (does.said elsewhere) [
+        | inl is ↦ inl (told_too (counts_in count old.providers elsewhere) (counts_in count new.providers elsewhere) text.items is)
+        | inr strange ↦ inr (strays strange)
+      ]
   play_says (Err fault) does elsewhere = tt
 
   pub play_stops : (result : Result (Vec ℕ Global) NoMemory) → Does sight count disks trade command old new result

@@ -1,7 +1,7 @@
 -- A crash, and a restart: over a disk that doesn't tell what it holds, it is told by the state that a restart came to
 -- whether it was played.
 use Rattle.std.proofs.Common.{◌≡◌, ◌⊎◌, inl, inr, ℕ, ◌<◌, true, false, List, length, refl, ap, sym, ◌∙◌, Global, Vec}
-use Rattle.std.proofs.Common.{Result, Ok, Err}
+use Rattle.std.proofs.Common.{Bool, Result, Ok, Err}
 use Rattle.std.specs.Prelude.{IfErr, IfOk, IsErr, IsErrOf, OnOk}
 use Rattle.std.proofs.lemmas.Bool.{cases_eq}
 use Rattle.pec_outside.specs.DiskModel.{Sight}
@@ -13,6 +13,7 @@ use Rattle.pec_ledger.specs.Network.{Site, is_up, site_at}
 use Rattle.pec_ledger.specs.Trade.{Trade}
 use Rattle.pec_plays.specs.Commands.{Answer, Crash, Crashed, IsUp, Luck, Played, Refuses, Restart, Restarted, answers}
 use Rattle.pec_plays.specs.Commands.{played, restarted_site, with_site}
+use Rattle.pec_network.specs.Carrying.{AllStand}
 use Rattle.pec_network.specs.OfProviders.{luck_of}
 use Rattle.pec_network.specs.Changing.{HasRisenAt, StandsAt}
 use Rattle.pec_network.specs.Network.{NetworkState, sites}
@@ -27,8 +28,9 @@ use Rattle.pec_runs.specs.Ran.{Behind}
 use Rattle.pec_playing.specs.Doing.{Does, Keeps, Strange}
 use Rattle.pec_playing.specs.Playing.{counts_in}
 use Rattle.pec_playing.specs.Saying.{IsRestartText}
+use Rattle.pec_playing.proofs.ChangeLemmas.{crash_unchanged, restart_unchanged}
 use Rattle.pec_playing.proofs.CountLemmas.{counts_of_refusal, counts_stay}
-use Rattle.pec_playing.proofs.PlayLemmas.{does_say, does_stop, left_so, played_so}
+use Rattle.pec_playing.proofs.PlayLemmas.{GaveBack, does_say, does_stop, left_so, none_read, played_so}
 use Rattle.pec_playing.proofs.SameLemmas.{CausesFound, Told, sites_told}
 
 -- ---- lines
@@ -62,10 +64,13 @@ module _ {D S : Type 0} (sight : D → Sight) (count : D → ℕ) (disks : Type 
       → Does sight count disks trade (Crash provider) old new (Ok text)
   crash_says text written =
       does_say sight count disks trade (Crash provider) old new keeps text (λ elsewhere.
-      played_so trade (sites old) (Crash provider) (providers_of old.kept) (counts_in count old.providers elsewhere)
+      played_so (disks × AllStand sight old.providers) trade (sites old) (Crash provider) (providers_of old.kept)
+      (counts_in count old.providers elsewhere)
       (counts_in count new.providers elsewhere) (luck_of false) Crashed (sites new) text.items
       (plays trade (luck_of false)) tt tt
       (λ number. counts_stay count old.providers new.providers many elsewhere keeps.later number 0 refl)
+      (none_read (disks × AllStand sight old.providers) trade (sites old) (Crash provider) false
+      (crash_unchanged trade (luck_of false) (sites old) provider))
       (written ∙ sym (crashed_line (providers_of old.kept))))
 
   pub crash_stops : (result : Result (Vec ℕ Global) NoMemory) → IsErr result
@@ -143,17 +148,32 @@ module _ {D S : Type 0} (sight : D → Sight) (count : D → ℕ) (disks : Type 
   strays down never (Ok text) = record { said = λ elsewhere. inr (strange down never); left = tt; keeps = keeps }
   strays down never (Err fault) = record { said = λ elsewhere. tt; left = inr (strange down never); keeps = keeps }
 
-  plays_so : (luck : Luck) (answer : Answer) (line : Bytes)
+  abbrev Gave : Luck → Type 0
+  Gave luck = GaveBack (disks × AllStand sight old.providers) trade (sites old) (Restart provider) luck
+
+  by_entries : (entries : ℕ) → Gave (luck_told (sites old) provider entries)
+  by_entries entries = record {
+    kept = λ stood number. tt;
+    shown = λ stood. refl;
+    unchanged = λ stood world sound. restart_unchanged trade (luck_told (sites old) provider entries) (sites old) provider;
+  }
+
+  by_fault : (fails : Bool) → Gave (luck_of fails)
+  by_fault fails =
+      none_read (disks × AllStand sight old.providers) trade (sites old) (Restart provider) fails
+      (restart_unchanged trade (luck_of fails) (sites old) provider)
+
+  plays_so : (luck : Luck) → Gave luck → (answer : Answer) (line : Bytes)
       → played trade luck (sites old) (Restart provider) ≡ record { answer = answer; after = sites new }
-      → ((elsewhere : ℕ → ℕ) (number : ℕ) → RoseBy (faults_by number (Restart provider) answer)
+      → ((elsewhere : ℕ → ℕ) (number : ℕ) → RoseBy (faults_by trade number (Restart provider) answer)
       (counts_in count old.providers elsewhere number) (counts_in count new.providers elsewhere number))
       → HasMemory answer → answer_text (providers_of old.kept) answer ≡ line
       → (text : Vec ℕ Global) → text.items ≡ line → Done (Ok text)
-  plays_so luck answer line is counts memory its text written =
+  plays_so luck gave answer line is counts memory its text written =
       does_say sight count disks trade (Restart provider) old new keeps text (λ elsewhere.
-      played_so trade (sites old) (Restart provider) (providers_of old.kept) (counts_in count old.providers elsewhere)
-      (counts_in count new.providers elsewhere) luck answer (sites new) text.items is tt memory (counts elsewhere)
-      (written ∙ sym its))
+      played_so (disks × AllStand sight old.providers) trade (sites old) (Restart provider) (providers_of old.kept)
+      (counts_in count old.providers elsewhere) (counts_in count new.providers elsewhere) luck answer (sites new)
+      text.items is tt memory (counts elsewhere) gave (written ∙ sym its))
 
   -- it is up again
   module _ (entries : ℕ) (down : is_up (sites old) provider ≡ false)
@@ -168,7 +188,7 @@ module _ {D S : Type 0} (sight : D → Sight) (count : D → ℕ) (disks : Type 
         (lines.Restarted entries)
         → Done (Ok text)
     says_if (inl is) text written =
-        plays_so (luck_told (sites old) provider entries) (Restarted entries)
+        plays_so (luck_told (sites old) provider entries) (by_entries entries) (Restarted entries)
         (texts.answer_text (lines.Restarted entries)) is
         (λ elsewhere number. counts_stay count old.providers new.providers many elsewhere keeps.later number 0 refl) tt
         (restarted_line (providers_of old.kept) entries) text written
@@ -205,11 +225,11 @@ module _ {D S : Type 0} (sight : D → Sight) (count : D → ℕ) (disks : Type 
       → (fault ≡ restart_faults.DiskFault → HasRisenAt count provider old.providers new.providers)
       → (text : Vec ℕ Global) → IsRestartText (Err fault) text.items → Done (Ok text)
   refused_says restart_faults.Up is fit rose text written =
-      plays_so (luck_of false) IsUp (texts.answer_text lines.Up) (unchanged (luck_of false) IsUp is.0 is.1)
+      plays_so (luck_of false) (by_fault false) IsUp (texts.answer_text lines.Up) (unchanged (luck_of false) IsUp is.0 is.1)
       (λ elsewhere number. counts_stay count old.providers new.providers many elsewhere keeps.later number 0 refl) tt
       (up_line (providers_of old.kept)) text written
   refused_says restart_faults.DiskFault is fit rose text written =
-      plays_so (luck_of true) (Refuses faults.DiskFault) (texts.fault_text faults.DiskFault)
+      plays_so (luck_of true) (by_fault true) (Refuses faults.DiskFault) (texts.fault_text faults.DiskFault)
       (unchanged (luck_of true) (Refuses faults.DiskFault) is.0 is.1)
       (λ elsewhere number. counts_of_refusal count old.providers new.providers many elsewhere keeps.later provider
       within

@@ -4,6 +4,7 @@ use Rattle.std.proofs.Common.{◌∷◌, length, refl, ap, sym, subst, ◌∙◌
 use Rattle.std.proofs.Common.{Ok}
 use Rattle.std.specs.Prelude.{IsErr, filter, if◌then◌else◌, slice_get}
 use Rattle.std.proofs.lemmas.Bool.{eq-eqb, ne_eqb}
+use Rattle.std.proofs.lemmas.List.Elements.{All-weaker}
 use Rattle.std.proofs.lemmas.Option.{slice_get_within}
 use Rattle.pec_outside.specs.DiskModel.{Sight}
 use Rattle.pec_types.specs.declared.faults.NoMemory.{NoMemory}
@@ -19,17 +20,18 @@ use Rattle.pec_plays.specs.Turns.{Cut, Turned}
 use Rattle.pec_posts.specs.Arrivals.{Waiting}
 use Rattle.pec_network.specs.OfProviders.{ProviderState}
 use Rattle.pec_network.specs.Network.{NetworkState, sites, sites_of}
-use Rattle.pec_network.specs.Rounds.{BlamesDisks, IsRound, StopsWithin, luck_of_turns}
+use Rattle.pec_network.specs.Carrying.{AllStand}
+use Rattle.pec_network.specs.Rounds.{BlamesDisks, IsRound, NoneChanged, StopsWithin, luck_of_cuts}
 use Rattle.pec_script.specs.Texts.{turns_text}
 use Rattle.pec_runs.specs.AnswerLines.{answer_text}
-use Rattle.pec_runs.specs.Plays.{RoseBy, faults_in, is_disk_fault}
+use Rattle.pec_runs.specs.Plays.{IsUnchanged, RoseBy, faults_in, is_change, is_disk_fault}
 use Rattle.pec_runs.specs.Ran.{Within}
 use Rattle.pec_playing.specs.Doing.{Does, Keeps}
 use Rattle.pec_playing.specs.Playing.{counts_in}
 use Rattle.pec_playing.proofs.CountLemmas.{counts_rose, counts_stay}
-use Rattle.pec_playing.proofs.PlayLemmas.{does_say, does_stop, left_so, played_so}
+use Rattle.pec_playing.proofs.PlayLemmas.{GaveBack, does_say, does_stop, left_so, played_so}
 
-sites_count : {D : Type 0} (providers : List (ProviderState D)) (waiting : List Waiting)
+pub sites_count : {D : Type 0} (providers : List (ProviderState D)) (waiting : List Waiting)
     → length (sites_of providers waiting) ≡ length providers
 sites_count [] waiting = refl
 sites_count (provider ∷ providers) [] = ap suc (sites_count providers [])
@@ -82,6 +84,7 @@ fault_of (Some faults.Full) e = absurd cc
 fault_of (Some faults.NoItem) e = absurd cc
 fault_of (Some faults.JournalFull) e = absurd cc
 fault_of (Some faults.NoMemory) e = absurd cc
+fault_of (Some (faults.Changed entry)) e = absurd cc
 
 -- none, or one by the turn at this place
 pub record Once (turns : List Turn) (place count : ℕ) : Type 0 where
@@ -164,13 +167,47 @@ turns_line : (providers : List Provider) (turns : List Turn) → answer_text pro
 unfolding answer_text
 turns_line providers turns = refl
 
+-- ---- entries that changed
+
+not_changed : (ended : Option ProviderFault) → ((entry : ℕ) → ended ≢ Some (faults.Changed entry))
+    → is_change ended ≡ false
+not_changed None never = refl
+not_changed (Some (faults.Changed entry)) never = absurd (never entry refl)
+not_changed (Some faults.DiskFault) never = refl
+not_changed (Some faults.Down) never = refl
+not_changed (Some (faults.ClockBack last)) never = refl
+not_changed (Some faults.NoAccount) never = refl
+not_changed (Some faults.Full) never = refl
+not_changed (Some faults.NoItem) never = refl
+not_changed (Some faults.JournalFull) never = refl
+not_changed (Some faults.NoMemory) never = refl
+
+none_changed : (turns : List Turn) → NoneChanged turns → IsUnchanged (Turns turns)
+none_changed turns all =
+    All-weaker (λ (turn : Turn). (entry : ℕ) → turn.ended ≢ Some (faults.Changed entry))
+    (λ (turn : Turn). is_change turn.ended ≡ false) (λ turn never. not_changed turn.ended never) turns all
+
 -- ---- a round
 
 module _ {D S : Type 0} (sight : D → Sight) (count : D → ℕ) (disks : Type 0) (trade : Trade) (moment : ℕ)
     (old new : NetworkState D S) (keeps : Keeps sight count disks old new)
     (many : length new.providers ≡ length old.providers) where
-  module _ (turns : List Turn) (is : IsRound trade moment (sites old) turns (sites new))
+  abbrev Stood : Type 0
+  Stood = disks × AllStand sight old.providers
+
+  module _ (turns : List Turn) (is : IsRound Stood trade moment (sites old) turns (sites new))
       (blames : BlamesDisks count turns old.providers new.providers) where
+    abbrev luck : Luck
+    luck = luck_of_cuts is.cuts
+
+    gave : GaveBack Stood trade (sites old) (Round moment) luck
+    gave = record {
+      kept = is.kept;
+      shown = λ stood. refl;
+      unchanged = λ stood world sound.
+          subst (λ (p : Played). IsUnchanged p.answer) (sym is.is) (none_changed turns (is.unchanged stood sound));
+    }
+
     rises : (elsewhere : ℕ → ℕ) (provider : ℕ) (told : ℕ) → (told ≡ 0) ⊎ Once turns provider told
         → RoseBy told (counts_in count old.providers elsewhere provider)
         (counts_in count new.providers elsewhere provider)
@@ -181,7 +218,7 @@ module _ {D S : Type 0} (sight : D → Sight) (count : D → ℕ) (disks : Type 
         omega (
           arith,
           slice_get_within turns provider once.turn once.there,
-          as_many_turns trade (luck_of_turns turns) (sites old) (sites new) moment turns is.is,
+          as_many_turns trade luck (sites old) (sites new) moment turns is.is,
           sites_count old.providers old.waiting,
         ) in
         subst (λ (n : ℕ). RoseBy n (counts_in count old.providers elsewhere provider)
@@ -194,25 +231,24 @@ module _ {D S : Type 0} (sight : D → Sight) (count : D → ℕ) (disks : Type 
         → RoseBy (faults_in provider turns) (counts_in count old.providers elsewhere provider)
         (counts_in count new.providers elsewhere provider)
     counts elsewhere provider =
-        let told = turns_are trade (luck_of_turns turns) (sites old) (sites new) moment turns is.is in
+        let told = turns_are trade luck (sites old) (sites new) moment turns is.is in
         rises elsewhere provider (faults_in provider turns)
         (subst (λ (l : List Turn). (faults_in provider l ≡ 0) ⊎ Once l provider (faults_in provider l)) (sym told)
-        (none_or_once 0 provider provider (turns_of trade moment (luck_of_turns turns).cuts (sites old)) (omega arith)))
+        (none_or_once 0 provider provider (turns_of trade moment is.cuts (sites old)) (omega arith)))
 
     pub round_says : (text : Vec ℕ Global) → text.items ≡ turns_text (providers_of old.kept) turns
         → Does sight count disks trade (Round moment) old new (Ok text)
     round_says text written =
         does_say sight count disks trade (Round moment) old new keeps text (λ elsewhere.
-        played_so trade (sites old) (Round moment) (providers_of old.kept) (counts_in count old.providers elsewhere)
-        (counts_in count new.providers elsewhere) (luck_of_turns turns) (Turns turns) (sites new) text.items is.is
-        is.may is.memory
-        (counts elsewhere) (written ∙ sym (turns_line (providers_of old.kept) turns)))
+        played_so Stood trade (sites old) (Round moment) (providers_of old.kept)
+        (counts_in count old.providers elsewhere) (counts_in count new.providers elsewhere) luck (Turns turns)
+        (sites new) text.items is.is is.may is.memory (counts elsewhere) gave (written ∙ sym (turns_line (providers_of old.kept) turns)))
 
     pub round_is_left : (result : Result (Vec ℕ Global) NoMemory) → IsErr result → Does sight count disks trade
         (Round moment) old new result
     round_is_left result failed =
         does_stop sight count disks trade (Round moment) old new keeps result failed
-        (left_so trade (sites old) (Round moment) (luck_of_turns turns) (Turns turns) (sites new) is.is)
+        (left_so trade (sites old) (Round moment) luck (Turns turns) (sites new) is.is)
 
   pub round_stops : StopsWithin trade moment (sites old) (sites new) → (result : Result (Vec ℕ Global) NoMemory)
       → IsErr result

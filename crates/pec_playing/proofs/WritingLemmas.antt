@@ -15,7 +15,7 @@ use Rattle.pec_runs.specs.Ran.{LeavesOff}
 use Rattle.pec_runs.specs.Steps.{Goes, IsCall, IsWritten, NoneFell, NoMemory, Plays, Point, WriteFault}
 use Rattle.pec_runs.specs.Steps as runs
 use Rattle.pec_playing.specs.Doing.{Keeps}
-use Rattle.pec_playing.specs.Playing.{HasPlayed, HasStopped}
+use Rattle.pec_playing.specs.Playing.{HasPlayed, HasStopped, IsPlayedSo}
 use Rattle.pec_playing.specs.Points.{point_of, stop_in}
 use Rattle.pec_playing.specs.declared.stops.Stop.{Stop}
 use Rattle.pec_playing.specs.declared.stops.Stop.TheVariants as stops
@@ -25,7 +25,7 @@ use Rattle.pec_playing.proofs.CountLemmas.{counts_later}
 pub record ActLaws {D : Type 0} (sight : D → Sight) (trade : Trade) (providers : List Provider) (tells : Type 0)
     (command : Command) (here there : Point D) : Type 0 where
   pub played_so : (luck : Luck) (stop : Option runs.Stop)
-      → IsCall trade here.state.sites here.state.counts there.state.counts command luck there.state.sites
+      → IsCall trade tells here.state.sites here.state.counts there.state.counts command luck there.state.sites
       → NoneFell here there
       → IsWritten (answer_text providers (played trade luck here.state.sites command).answer) here there stop
       → Goes trade providers tells sight (Plays command ∷ []) here there stop
@@ -58,6 +58,21 @@ module _ {D S : Type 0} (sight : D → Sight) (count : D → ℕ) (disks : Type 
     output = later;
   }
 
+  -- the call of a command that was played so
+  call_of : (text : Bytes)
+      → (is : IsPlayedSo tells trade (providers_of old.kept) (sites old) here.state.counts there.state.counts command
+      text (sites new))
+      → IsCall trade tells (sites old) here.state.counts there.state.counts command is.luck (sites new)
+  call_of text is = record {
+    meet = is.meet;
+    memory = is.memory;
+    counts = is.counts;
+    state = is.state;
+    kept = is.kept;
+    shown = is.shown;
+    unchanged = is.unchanged;
+  }
+
   module _ (laws : ActLaws sight trade (providers_of old.kept) tells command here there) where
     -- its lines were written
     pub play_ends : (text : Bytes)
@@ -65,8 +80,7 @@ module _ {D S : Type 0} (sight : D → Sight) (count : D → ℕ) (disks : Type 
         (sites new)
         → after ≡ followed_by before text → GoesSo None
     play_ends text (inl is) wrote =
-        laws.played_so is.luck None (record { meet = is.meet; memory = is.memory; counts = is.counts; state = is.state }) fell
-        (wrote ∙ ap (followed_by before) is.lines)
+        laws.played_so is.luck None (call_of text is) fell (wrote ∙ ap (followed_by before) is.lines)
     play_ends text (inr may) wrote = laws.strayed_so text None may fell wrote (λ e. absurd cc)
 
     -- a front of its lines was written
@@ -77,8 +91,7 @@ module _ {D S : Type 0} (sight : D → Sight) (count : D → ℕ) (disks : Type 
         → result ≡ Err stops.WriteFault → GoesSo (stop_in result)
     play_breaks text (inl is) part rose result e =
         subst (λ (r : Result (Unit {0}) Stop). GoesSo (stop_in r)) (sym e)
-        (laws.played_so is.luck (Some WriteFault)
-        (record { meet = is.meet; memory = is.memory; counts = is.counts; state = is.state }) fell
+        (laws.played_so is.luck (Some WriteFault) (call_of text is) fell
         (subst (λ (t : Bytes). WrotePart before after t) is.lines part, rose))
     play_breaks text (inr may) part rose result e =
         subst (λ (r : Result (Unit {0}) Stop). GoesSo (stop_in r)) (sym e)

@@ -1,6 +1,5 @@
 -- What a call for one command comes to, whoever asked for it: `Does`. It speaks of disks alone, and not of a depot.
--- This
--- project's profile.
+-- This project's profile.
 use Rattle.std.specs.Prelude.{◌≡◌, ◌⊎◌, ℕ, false, List, length, Some, Result, IfOk, OnErr}
 use Rattle.std.specs.declared.alloc.Global.{Global}
 use Rattle.std.specs.declared.vec.Vec.{Vec}
@@ -17,11 +16,9 @@ use Rattle.pec_runs.specs.Ran.{LeavesOff}
 use Rattle.pec_playing.specs.Playing.{IsPlayedSo, counts_in}
 
 -- A provider that was down was restarted, and came to what it doesn't come to over a disk that tells what it holds,
--- where
--- each provider stands on its disk.
+-- where each provider stands on its disk.
 pub record Strange {D : Type 0} (sight : D → Sight) (tells : Type 0) (providers : List (ProviderState D))
-    (state : List Site)
-    (command : Command) : Type 0 where
+    (state : List Site) (command : Command) : Type 0 where
   pub provider : ℕ
   pub restarts : command ≡ Restart provider
   pub down : is_up state provider ≡ false
@@ -44,12 +41,13 @@ Carries sight tells trade old new =
     tells → Sound trade (sites old)
     → AllCarryOn sight trade (journals_of (sites old)) old.providers new.providers
 
--- A command was played and its answer's lines are given, or memory ran out.
+-- A command was played and its answer's lines are given, or memory ran out. Where disks tell what they hold, and what is
+-- kept of each provider stood on its own, they gave back what they took.
 pub record Does {D S : Type 0} (sight : D → Sight) (faults : D → ℕ) (tells : Type 0) (trade : Trade) (command : Command)
     (old new : NetworkState D S) (result : Result (Vec ℕ Global) NoMemory) : Type 0 where
   pub said : (elsewhere : ℕ → ℕ) → IfOk result (λ text.
-      IsPlayedSo trade (providers_of old.kept) (sites old) (counts_in faults old.providers elsewhere)
-      (counts_in faults new.providers elsewhere) command text.items (sites new)
+      IsPlayedSo (tells × AllStand sight old.providers) trade (providers_of old.kept) (sites old)
+      (counts_in faults old.providers elsewhere) (counts_in faults new.providers elsewhere) command text.items (sites new)
       ⊎ Strange sight tells old.providers (sites old) command)
   pub left : OnErr result (LeavesOff trade (sites old) (Some command) (sites new)
       ⊎ Strange sight tells old.providers (sites old) command)

@@ -7,12 +7,12 @@ use Rattle.pec_records.specs.Entry.{longest_message, most_addresses}
 use Rattle.pec_ledger.specs.Network.{Site}
 use Rattle.pec_ledger.specs.Trade.{Trade}
 use Rattle.pec_plays.specs.Commands.{Command, Luck, played}
-use Rattle.pec_plays.specs.Possible.{MayMeet}
+use Rattle.pec_plays.specs.Possible.{GaveWhatWasKept, MayMeet}
 use Rattle.pec_network.specs.OfProviders.{ProviderState}
 use Rattle.pec_script.specs.declared.commands.Command.{Command as Written}
 use Rattle.pec_script.specs.declared.commands.Command.TheVariants as written
 use Rattle.pec_runs.specs.AnswerLines.{answer_text}
-use Rattle.pec_runs.specs.Plays.{HasMemory, MayStray, RoseBy, faults_by}
+use Rattle.pec_runs.specs.Plays.{HasMemory, MayStray, RoseBy, ShowsItsOwn, UnchangedIn, faults_by}
 use Rattle.pec_runs.specs.Ran.{LeavesOff}
 
 -- ---- which commands may be played
@@ -48,24 +48,29 @@ counts_in faults providers elsewhere number = count_or faults (elsewhere number)
 -- ---- a command
 
 -- A command was played with a luck that it may meet: these are the lines of its answer, and this is the state behind
--- it.
--- No turn that is told ended for want of memory, and each fault that is told of a disk raised that disk's count.
-pub record IsPlayedSo (trade : Trade) (providers : List Provider) (sites : List Site) (from upto : ℕ → ℕ)
-    (command : Command)
-    (text : Bytes) (after : List Site) : Type 0 where
+-- it. No turn that is told ended for want of memory, and each fault that is told of a disk raised that disk's count.
+-- `Stood` says when all disks gave back what they took; then no frame was put and no item shown in place of another, and
+-- from a Sound state no entry is told as changed.
+pub record IsPlayedSo (Stood : Type 0) (trade : Trade) (providers : List Provider) (sites : List Site)
+    (from upto : ℕ → ℕ) (command : Command) (text : Bytes) (after : List Site) : Type 0 where
   pub luck : Luck
   pub meet : MayMeet trade luck sites command
   pub memory : HasMemory (played trade luck sites command).answer
   pub counts : (provider : ℕ)
-      → RoseBy (faults_by provider command (played trade luck sites command).answer) (from provider) (upto provider)
+      → RoseBy (faults_by trade provider command (played trade luck sites command).answer) (from provider)
+      (upto provider)
+  pub kept : Stood → GaveWhatWasKept luck
+  pub shown : Stood → ShowsItsOwn luck
+  pub unchanged : Stood → UnchangedIn trade sites (played trade luck sites command).answer
   pub lines : text ≡ answer_text providers (played trade luck sites command).answer
   pub state : after ≡ (played trade luck sites command).after
 
--- It was played so; or the run strays, for a disk that doesn't tell what it holds gave a journal back.
+-- It was played so, where disks that tell what they hold gave back what they took; or the run strays, for a disk that
+-- doesn't tell gave a journal back.
 abbrev pub HasPlayed : Type 0 → Trade → List Provider → List Site → (ℕ → ℕ) → (ℕ → ℕ) → Command → Bytes → List Site
     → Type 0
 HasPlayed tells trade providers sites from upto command text after =
-    IsPlayedSo trade providers sites from upto command text after ⊎ MayStray tells sites (Some command)
+    IsPlayedSo tells trade providers sites from upto command text after ⊎ MayStray tells sites (Some command)
 
 -- Memory ran out: the journals are those before the command, or it was played, in whole or in part; or the run strays.
 abbrev pub HasStopped : Type 0 → Trade → List Site → Command → List Site → Type 0

@@ -1,10 +1,10 @@
 -- Where a run stands over a network, `point_of`, and what stops it, `stop_in`, in the words of pec_runs; and a run that
 -- goes by one command: `GoesBy`. This project's profile.
-use Rattle.std.specs.Prelude.{◌≡◌, ℕ, List, [], ◌∷◌, slice_get, Option, None, Some, option_map, Result, Ok, Err}
+use Rattle.std.specs.Prelude.{ℕ, List, [], ◌∷◌, slice_get, Option, None, Some, option_map, Result, Ok, Err}
 use Rattle.pec_types.specs.Bytes.{Bytes}
 use Rattle.pec_outside.specs.DiskModel.{Sight}
 use Rattle.pec_directory.specs.Directory.{providers_of}
-use Rattle.pec_plays.specs.Commands.{Command, Restart}
+use Rattle.pec_plays.specs.Commands.{Command}
 use Rattle.pec_seal.specs.Seals.{Seals}
 use Rattle.pec_network.specs.Carrying.{AllStand}
 use Rattle.pec_network.specs.OfProviders.{ChronicleState, ProviderState}
@@ -41,11 +41,11 @@ stop_in (Err stops.NoMemory) = Some runs.NoMemory
 stop_in (Err stops.WriteFault) = Some runs.WriteFault
 
 -- A run went by this command alone, played over a network and its answer written: from what the output held, and its
--- count of faults, to what they are. Past the providers the counts of disks may be any. All that is asked: for a restart,
--- where disks tell what they hold, each provider stands on its own.
+-- count of faults, to what they are. Past the providers the counts of disks may be any. All that is asked: where disks
+-- tell what they hold, each provider stands on its own.
 abbrev pub GoesBy : {D S : Type 0} → Type 0 → (D → Sight) → (D → ℕ) → (S → Seals) → Command → (old new : NetworkState D S)
     → (before after : Option Bytes) → (from upto : ℕ) → Option runs.Stop → Type 0
 GoesBy tells sight faults seals command old new before after from upto stop =
-    ((provider : ℕ) → command ≡ Restart provider → tells → AllStand sight old.providers) → (elsewhere : ℕ → ℕ)
+    (tells → AllStand sight old.providers) → (elsewhere : ℕ → ℕ)
     → Goes (world_of seals old) (providers_of old.kept) tells sight (Plays command ∷ [])
     (point_of faults elsewhere old before from) (point_of faults elsewhere new after upto) stop

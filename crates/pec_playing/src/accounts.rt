@@ -1,7 +1,8 @@
 ghost use Rattle.pec_plays.specs.Commands.{Book, Mailbox, Show};
-ghost use Rattle.pec_playing.specs.Doing.{Does};
+ghost use Rattle.pec_playing.specs.Doing.{Carries, Does};
 ghost use Rattle.pec_network.specs.Network.{world_of};
 
+use crate::providers::as_many_providers;
 use crate::refusals::refusal_text;
 use pec_network::Network;
 use pec_outside::Disk;
@@ -54,17 +55,22 @@ pub(crate) fn mailbox<D: Disk, S: Sealer>(
     }
 }
 
-/// The bytes of the item at a place of a mailbox, in base64 on one line.
+/// The bytes of the item at a place of a mailbox, in base64 on one line. Its entry is read for it: where that fails, or
+/// another entry is found than was kept, the provider is down, and the line tells it.
 pub(crate) fn show<D: Disk, S: Sealer>(
     alloc: Global,
-    network: &Network<D, S>,
+    network: &mut Network<D, S>,
     account: &Address,
     place: u32,
 ) -> Result<Vec<u8>, NoMemory>
-    ensures { Does D.sight D.faults D.tells (world_of S.seals network.now)
-        (Show account.now place) network.now network.now result }
+    ensures does { Does D.sight D.faults D.tells (world_of S.seals network.old)
+        (Show account.now place) network.old network.new result }
+    ensures carries { Carries D.sight D.tells (world_of S.seals network.old) network.old network.new }
 {
-    match network.show(alloc, account, place) {
+    as_many_providers(network);
+    let outcome = network.show(alloc, account, place);
+    as_many_providers(network);
+    match outcome {
         Ok(bytes) => {
             let text = item_text(alloc, bytes.as_slice())?;
             return Ok(text);

@@ -50,8 +50,8 @@ pub fn what_is_kept_is_kept_on<D: Disk, S: Sealer>()
         → Keeps D.sight D.faults D.tells mid new → Keeps D.sight D.faults D.tells old new }
 {}
 
-/// Where the providers of a network carry on, a crash leaves at each moment of that what may follow, as a run says it of a
-/// step.
+/// Where the providers of a network carry on, a crash leaves at each moment of that what may follow, as a run says it
+/// of a step.
 pub fn what_carries_on_is_a_moment<D: Disk, S: Sealer>()
     ensures { D.tells → (trade : Trade) (old new : NetworkState D S) → length new.providers ≡ length old.providers
         → Carries D.sight D.tells trade old new → (elsewhere : ℕ → ℕ)

@@ -27,9 +27,9 @@ use pec_types::NoMemory;
 use std::alloc::Global;
 use std::thread::Threads;
 
-/// Plays a command of a script, and writes the lines of its answer. The screens of a provider are those at its number, and
-/// none where there are fewer. Want of memory ends the run: the command may have been played then, in whole or in part, and
-/// none of its lines is written.
+/// Plays a command of a script, and writes the lines of its answer. The screens of a provider are those at its number,
+/// and none where there are fewer. Want of memory ends the run: the command may have been played then, in whole or in
+/// part, and none of its lines is written.
 pub fn play_and_write<
     X: Threads + Sync,
     D: Disk + Send,

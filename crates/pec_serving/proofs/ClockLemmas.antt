@@ -1,6 +1,6 @@
 -- The clock calls and the round behind an answer, one after another.
 use Rattle.std.proofs.Common.{◌≡◌, ℕ, zero, suc, ◌+◌, ◌-◌, ◌<◌, List, [], ◌∷◌, ◌++◌, map, ap, arith, Option, None, Some, Result, Ok, Err}
-use Rattle.pec_plays.specs.Commands.{Command, Restart, Round, Tick}
+use Rattle.pec_plays.specs.Commands.{Round, Tick}
 use Rattle.pec_runs.specs.Steps.{Act, NoMemory, Plays, WriteFault}
 use Rattle.pec_runs.specs.Steps as runs
 use Rattle.pec_service.specs.Calls.{clock_from}
@@ -40,14 +40,3 @@ pub by_result : (some all : Option runs.Stop → Type 0) → (some None → all 
     → (result : Result (Unit {0}) Stop) → some (stop_in result) → all (stop_in result)
 by_result some all whole each (Ok done) one = whole one
 by_result some all whole each (Err stop) one = by_stop some all each stop one
-
-abbrev is_restart : Command → ℕ
-is_restart (Restart provider) = 1
-is_restart _ = 0
-
--- no clock call and no round is a restart, which alone may go astray
-pub tick_calm : (provider moment other : ℕ) → Tick provider moment ≡ Restart other → ⊥
-tick_calm provider moment other is = let e : 0 ≡ 1 = ap is_restart is in omega (arith, e)
-
-pub round_calm : (moment other : ℕ) → Round moment ≡ Restart other → ⊥
-round_calm moment other is = let e : 0 ≡ 1 = ap is_restart is in omega (arith, e)

@@ -14,11 +14,13 @@ use Rattle.pec_http.specs.Asking.{Question, See}
 use Rattle.pec_http.specs.Asking as asking
 use Rattle.pec_http.specs.Desks.{Answers}
 use Rattle.pec_http.specs.Replies.{Reply}
-use Rattle.pec_http.specs.Serving.{IsAnswerOrLack, IsAnswered, Serves}
+use Rattle.pec_http.specs.Serving.{HasRested, IsAnswerOrLack, IsAnswered, Serves}
+use Rattle.pec_http.specs.declared.demands.Look.TheVariants as looks
 use Rattle.pec_http.specs.declared.serving.Served.{Served}
 use Rattle.pec_http.specs.declared.serving.Served.TheVariants as served
 use Rattle.pec_http.specs.declared.stops.Stop.{Stop}
-use Rattle.pec_desk.specs.Desks.{DeskState, HandsIn, answers_of}
+use Rattle.pec_desk.specs.Desks.{DeskState, HandsIn, LooksAt, answers_of}
+use Rattle.pec_desk.specs.OfNetworks.{ConcernsOne}
 use Rattle.pec_playing.specs.Doing.{Keeps}
 
 module _ {D S : Type 0} (sight : D → Sight) (count : D → ℕ) (disks : Type 0) where
@@ -43,10 +45,12 @@ module _ {D S : Type 0} (sight : D → Sight) (count : D → ℕ) (disks : Type 
         omega (arith, first.later number other within, second.later number other (omega (arith, within, first.many)));
   }
 
-  -- What holds of a desk, and of it with a message handed in, holds of whatever it leaves.
+  -- What holds of a desk, and of it with a message handed in or an item looked at, holds of whatever it leaves.
   module _ (seals : S → Seals) (desk after : DeskState D S) (Holds : DeskState D S → Type 0) (rests : Holds desk)
       (hands : (address : Bytes) (path : List Bytes) (message : Bytes) (said : Result Submitted ProviderFault)
-      → HandsIn sight count disks seals desk address path message said after → Holds after) where
+      → HandsIn sight count disks seals desk address path message said after → Holds after)
+      (reads : (address : Bytes) (place : ℕ) (said : Result Bytes ProviderFault)
+      → LooksAt sight count disks seals desk address place said after → Holds after) where
     abbrev desk_answers : Answers (DeskState D S)
     desk_answers = answers_of sight count disks seals
 
@@ -58,11 +62,17 @@ module _ {D S : Type 0} (sight : D → Sight) (count : D → ℕ) (disks : Type 
     holds_answered (Err stop) reply stays = holds_same stays.same
     holds_answered (Ok (asking.Submit address path message)) reply submits =
         hands address path message submits.said submits.may_say
-    holds_answered (Ok (See address looked)) reply shows = holds_same shows.same
+    holds_answered (Ok (See address looks.Book)) reply shows = holds_same shows.may_say.1
+    holds_answered (Ok (See address looks.Items)) reply shows = holds_same shows.may_say.1
+    holds_answered (Ok (See address (looks.Item place))) reply shows = reads address place shows.said shows.may_say
+
+    holds_rested : HasRested desk_answers desk after → Holds after
+    holds_rested (inl same) = holds_same same
+    holds_rested (inr read) = reads read.address read.place (Ok read.bytes) read.shown
 
     holds_by : (input : Bytes) (reply : Reply) → IsAnswerOrLack desk_answers desk input after reply → Holds after
     holds_by input reply (inl answer) = holds_answered answer.asked reply answer.answered
-    holds_by input reply (inr stays) = holds_same stays.same
+    holds_by input reply (inr lack) = holds_rested lack.1
 
     pub holds_served : (left held held_then : Option Bytes) (told : Served)
         → Serves desk_answers left held desk after held_then told → Holds after
@@ -71,15 +81,16 @@ module _ {D S : Type 0} (sight : D → Sight) (count : D → ℕ) (disks : Type 
     holds_served left held held_then served.ReadFault rest = holds_same rest.same
 
   module _ (seals : S → Seals) (desk after : DeskState D S) where
-    keeps_handed : (whole : length desk.network.providers ≡ length desk.network.kept)
-        (whole_after : length after.network.providers ≡ length after.network.kept) (address : Bytes) (path : List Bytes)
-        (message : Bytes) (said : Result Submitted ProviderFault)
-        → HandsIn sight count disks seals desk address path message said after
+    -- a call at one provider keeps what every command keeps
+    concern_keeps : {X : Type 0} (whole : length desk.network.providers ≡ length desk.network.kept)
+        (whole_after : length after.network.providers ≡ length after.network.kept) (provider : ℕ)
+        → provider < length desk.network.kept → (said : Result X ProviderFault)
+        → ConcernsOne sight count disks seals provider desk.network after.network said
         → Keeps sight count disks desk.network after.network
-    keeps_handed whole whole_after address path message said handed =
-        elim (slice_get_cases desk.network.providers handed.number).1 [
+    concern_keeps whole whole_after provider below_all said concerns =
+        elim (slice_get_cases desk.network.providers provider).1 [
           | inl there ↦
-              let only = handed.concerns.others there.0
+              let only = concerns.others there.0
               in let kept : after.network.kept ≡ desk.network.kept = ap (λ (n : NetworkState D S). n.kept) only
               in let many : length after.network.providers ≡ length desk.network.providers =
               whole_after ∙ ap (λ (k : List Kept). length k) kept ∙ sym whole
@@ -89,10 +100,10 @@ module _ {D S : Type 0} (sight : D → Sight) (count : D → ℕ) (disks : Type 
                 seals = ap (λ (n : NetworkState D S). n.sealer) only;
                 stands = λ told all number other within.
                     (let below : number < length desk.network.providers = omega (arith, within, many)
-                    in (handed.concerns.carries told (λ p. []) number other below).stands (all number other below));
-                later = handed.concerns.later;
+                    in (concerns.carries told (λ p. []) number other below).stands (all number other below));
+                later = concerns.later;
               }
-          | inr past ↦ absurd (omega (arith, past.0, handed.within, whole))
+          | inr past ↦ absurd (omega (arith, past.0, below_all, whole))
         ]
 
     pub serves_keep : length desk.network.providers ≡ length desk.network.kept
@@ -101,14 +112,18 @@ module _ {D S : Type 0} (sight : D → Sight) (count : D → ℕ) (disks : Type 
         → Keeps sight count disks desk.network after.network
     serves_keep whole whole_after left held held_then told serves =
         holds_served seals desk after (λ (d : DeskState D S). Keeps sight count disks desk.network d.network)
-        (keeps_all desk.network) (keeps_handed whole whole_after) left held held_then told serves
+        (keeps_all desk.network)
+        (λ address path message said handed. concern_keeps whole whole_after handed.number handed.within said handed.concerns)
+        (λ address place said looked. concern_keeps whole whole_after looked.number looked.within said looked.concerns)
+        left held held_then told serves
 
     -- the screens look for what they looked for
     pub serves_look : (left held held_then : Option Bytes) (told : Served)
         → Serves (answers_of sight count disks seals) left held desk after held_then told → after.screens ≡ desk.screens
     serves_look left held held_then told serves =
         holds_served seals desk after (λ (d : DeskState D S). d.screens ≡ desk.screens) refl
-        (λ address path message said handed. handed.screens) left held held_then told serves
+        (λ address path message said handed. handed.screens) (λ address place said looked. looked.screens)
+        left held held_then told serves
 
 -- a list that was lent whole, and came back with what is said of its items unchanged
 pub given_back : {X Z : Type 0} (items back : List X) (count : ℕ) (told : X → Z) → count ≡ length items

@@ -1,6 +1,6 @@
--- How a network moves on while a connection is answered: not at all, or by a submission that was played, or for which memory
--- ran out.
-use Rattle.std.proofs.Common.{◌≡◌, false, inl, inr, ℕ, ◌<◌, ◌⊎◌, List, [], ◌∷◌, length, refl, sym, subst, Option, Result, Err}
+-- How a network moves on while a connection is answered: not at all, or by a submission or a look at an item that was
+-- played, or for which memory ran out.
+use Rattle.std.proofs.Common.{◌≡◌, false, inl, inr, ℕ, ◌<◌, ◌⊎◌, List, [], ◌∷◌, length, refl, sym, subst, Option, None, Result, Err}
 use Rattle.pec_types.specs.Bytes.{Bytes}
 use Rattle.pec_types.specs.declared.moments.TheConstants.{END_OF_TIME}
 use Rattle.pec_types.specs.declared.turns.ProviderFault.{ProviderFault}
@@ -11,7 +11,7 @@ use Rattle.pec_seal.specs.Seals.{Seals}
 use Rattle.pec_ledger.specs.Network.{Site, Sound, journals_of}
 use Rattle.pec_ledger.specs.Trade.{Trade}
 use Rattle.pec_ledger.specs.TradeLaws.{IsTrade}
-use Rattle.pec_plays.specs.Commands.{Command, Luck, Submit, played}
+use Rattle.pec_plays.specs.Commands.{Answer, Command, Luck, Show, Shown, Submit, Submits, played}
 use Rattle.pec_plays.specs.Scripts.{IsUnforged}
 use Rattle.pec_plays.specs.Turns.{Whole}
 use Rattle.pec_directory.specs.Directory.{Kept}
@@ -21,10 +21,10 @@ use Rattle.pec_playing.specs.OfNetworks.{NetworkState, sites, world_of}
 use Rattle.pec_playing.specs.Points.{state_in}
 use Rattle.pec_http.specs.Serving.{Serves}
 use Rattle.pec_http.specs.declared.serving.Served.{Served}
-use Rattle.pec_desk.specs.Desks.{DeskState, HandsIn, answers_of}
+use Rattle.pec_desk.specs.Desks.{DeskState, HandsIn, LooksAt, answers_of}
 use Rattle.pec_runs.specs.Moves.{Moves, MovesOn}
 use Rattle.pec_runs.specs.Steps.{IsMoment, State, Writes}
-use Rattle.pec_serving.proofs.HearingLemmas.{Called, called_or}
+use Rattle.pec_serving.proofs.HearingLemmas.{Called, called_or, looked_or, told}
 use Rattle.pec_service.specs.Connections.{Place}
 use Rattle.pec_serving.specs.Serving.{ComesNext}
 use Rattle.pec_serving.specs.declared.next.Came.{Came}
@@ -34,7 +34,7 @@ use Rattle.pec_serving.proofs.KeepLemmas.{as_begun, holds_served}
 module _ {D : Type 0} (sight : D → Sight) (tells : Type 0) (trade : Trade) where
   pub moves_none : (here : State D) → MovesOn trade tells sight here here
   moves_none here = record {
-    moves = record { steps = []; sound = tt; moments = λ told. record { each = tt; last = inl refl } };
+    moves = record { steps = []; sound = λ told. tt; moments = λ told. record { each = tt; last = inl refl } };
     whole = refl;
   }
 
@@ -44,7 +44,7 @@ module _ {D : Type 0} (sight : D → Sight) (tells : Type 0) (trade : Trade) whe
   moves_one luck here there sound moment = record {
     moves = record {
       steps = record { act = Writes []; luck = luck; behind = there } ∷ [];
-      sound = (sound, tt);
+      sound = λ told. (sound, tt);
       moments = λ told. record { each = (moment told, tt); last = inl refl };
     };
     whole = refl;
@@ -54,7 +54,7 @@ module _ {D S : Type 0} (sight : D → Sight) (count : D → ℕ) (tells : Type 
     (desk after : DeskState D S) (elsewhere : ℕ → ℕ) (in_time : desk.moment < END_OF_TIME)
     (many : length after.network.providers ≡ length desk.network.providers)
     (stays : IsTrade (world_of seals desk.network) → (luck : Luck) (state : List Site) (command : Command)
-    → Sound (world_of seals desk.network) state → IsUnforged (world_of seals desk.network) state command
+    → Sound (world_of seals desk.network) state → IsUnforged (world_of seals desk.network) luck state command
     → Sound (world_of seals desk.network) (played (world_of seals desk.network) luck state command).after)
     (moment : tells → Carries sight tells (world_of seals desk.network) desk.network after.network
     → IsMoment (world_of seals desk.network) sight (state_in count elsewhere desk.network)
@@ -65,37 +65,48 @@ module _ {D S : Type 0} (sight : D → Sight) (count : D → ℕ) (tells : Type 
   abbrev MovesTo : DeskState D S → Type 0
   MovesTo to = MovesOn trade tells sight (state_in count elsewhere desk.network) (state_in count elsewhere to.network)
 
+  quiet : Luck
+  quiet = record { cuts = λ provider. Whole; fails = false; found = false; read = None; shown = None }
+
+  -- A command that was played, or for which memory ran out, keeps a state Sound.
+  sound_by : (command : Command) → ((luck : Luck) → IsUnforged trade luck (sites desk.network) command)
+      → (shown_so : Option Bytes) (answer : Answer) (Lacks : Type 0)
+      → Called (λ luck. played trade luck (sites desk.network) command) (sites after.network) shown_so answer
+      ⊎ (Lacks × (sites after.network ≡ sites desk.network))
+      → IsTrade trade → Sound trade (sites desk.network) → Sound trade (sites after.network)
+  sound_by command may shown_so answer Lacks (inl called) is_trade sound =
+      subst (λ (s : List Site). Sound trade s) (sym called.after)
+      (stays is_trade called.luck (sites desk.network) command sound (may called.luck))
+  sound_by command may shown_so answer Lacks (inr lack) is_trade sound =
+      subst (λ (s : List Site). Sound trade s) (sym lack.1) sound
+
   handed_moves : (address : Bytes) (path : List Bytes) (message : Bytes) (said : Result Submitted ProviderFault)
       → HandsIn sight count tells seals desk address path message said after → MovesTo after
   handed_moves address path message said handed =
+      let command : Command =
+      Submit handed.number desk.moment address path message (finds_in desk.screens handed.number message)
+      in moves_one sight tells trade quiet (state_in count elsewhere desk.network) (state_in count elsewhere after.network)
+      (sound_by command (λ luck. (handed.path.0, handed.path.1, in_time)) None (told Submits said)
+      (said ≡ Err faults.NoMemory)
+      (called_or (λ luck. played trade luck (sites desk.network) command) (sites desk.network) (sites after.network) said
+      handed.plays))
+      (λ told. moment told (λ again sound. handed.concerns.carries again (journals_of (sites desk.network))))
+
+  looked_moves : (address : Bytes) (place : ℕ) (said : Result Bytes ProviderFault)
+      → LooksAt sight count tells seals desk address place said after → MovesTo after
+  looked_moves address place said looked =
       moves_one sight tells trade quiet (state_in count elsewhere desk.network) (state_in count elsewhere after.network)
-      sound_so (λ told. moment told (λ again sound. handed.concerns.carries again (journals_of (sites desk.network))))
-    where
-      command : Command
-      command = Submit handed.number desk.moment address path message (finds_in desk.screens handed.number message)
-
-      quiet : Luck
-      quiet = record { cuts = λ provider. Whole; fails = false; found = false }
-
-      by_call : IsTrade trade → Sound trade (sites desk.network)
-          → Called (λ luck. played trade luck (sites desk.network) command) (sites after.network) said
-          ⊎ ((said ≡ Err faults.NoMemory) × (sites after.network ≡ sites desk.network))
-          → Sound trade (sites after.network)
-      by_call is_trade sound (inl called) =
-          subst (λ (s : List Site). Sound trade s) (sym called.after)
-          (stays is_trade called.luck (sites desk.network) command sound (handed.path.0, handed.path.1, in_time))
-      by_call is_trade sound (inr lack) = subst (λ (s : List Site). Sound trade s) (sym lack.1) sound
-
-      sound_so : IsTrade trade → Sound trade (sites desk.network) → Sound trade (sites after.network)
-      sound_so is_trade sound = by_call is_trade sound
-          (called_or (λ luck. played trade luck (sites desk.network) command) (sites desk.network) (sites after.network) said
-          handed.plays)
+      (sound_by (Show address place) (λ luck. tt) looked.reads.shown (told Shown said) (said ≡ Err faults.NoMemory)
+      (looked_or (λ luck. played trade luck (sites desk.network) (Show address place)) (sites desk.network)
+      (sites after.network) looked.reads.shown said looked.reads.is))
+      (λ told. moment told (λ again sound. looked.concerns.carries again (journals_of (sites desk.network))))
 
   pub serves_move : (left held held_then : Option Bytes) (told : Served)
       → Serves (answers_of sight count tells seals) left held desk after held_then told → MovesTo after
   serves_move left held held_then told serves =
       holds_served sight count tells seals desk after MovesTo
-      (moves_none sight tells trade (state_in count elsewhere desk.network)) handed_moves left held held_then told serves
+      (moves_none sight tells trade (state_in count elsewhere desk.network)) handed_moves looked_moves left held held_then told
+      serves
 
 -- ---- a service
 
@@ -144,9 +155,9 @@ module _ {D S : Type 0} (sight : D → Sight) (count : D → ℕ) (disks all : T
         clock)
 
 -- a connection that was served came at a moment that a clock tells
-pub served_in_time : (trade : Trade) (kept : List Kept) (finds : Finds) (here there : Place) (moment : ℕ) (told : Served)
-    (came : Came) → came ≡ came_variants.Served moment told → ComesNext trade kept finds here there came
+pub served_in_time : (trade : Trade) (tells : Type 0) (kept : List Kept) (finds : Finds) (here there : Place) (moment : ℕ) (told : Served)
+    (came : Came) → came ≡ came_variants.Served moment told → ComesNext trade tells kept finds here there came
     → moment < END_OF_TIME
-served_in_time trade kept finds here there moment told came is comes =
-    let next = subst (λ (c : Came). ComesNext trade kept finds here there c) is comes in
+served_in_time trade tells kept finds here there moment told came is comes =
+    let next = subst (λ (c : Came). ComesNext trade tells kept finds here there c) is comes in
     subst (λ (m : ℕ). m < END_OF_TIME) next.moment_is next.is.in_time

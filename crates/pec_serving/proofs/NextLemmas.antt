@@ -14,21 +14,23 @@ use Rattle.pec_ledger.specs.Trade.{Trade}
 use Rattle.pec_http.specs.Replies.{reply_text}
 use Rattle.pec_http.specs.declared.serving.Served.{Served}
 use Rattle.pec_http.specs.declared.serving.Served.TheVariants as served
-use Rattle.pec_service.specs.Calls.{AreCalls, Call, state_behind}
-use Rattle.pec_service.specs.Connections.{Hearing, IsReplied, Place, answered_by, outcome_line}
+use Rattle.pec_service.specs.Calls.{AreCalls, Call, State, state_behind}
+use Rattle.pec_service.specs.Connections.{Connection, Hearing, IsConnection, IsReplied, Place, answered_by, calls_of, outcome_line}
 use Rattle.pec_service.specs.Connections as connections
 use Rattle.pec_serving.specs.Hearing.{Hears, IsServed}
-use Rattle.pec_serving.specs.Serving.{IsServedNext, served_line}
+use Rattle.pec_serving.specs.Serving.{ComesNext, IsServedNext, served_line}
+use Rattle.pec_serving.specs.declared.next.Came.{Came}
+use Rattle.pec_serving.specs.declared.next.Came.TheVariants as came_variants
 
 rose_from : (faults : ℕ) → HasRisen 0 faults → nat_lt 0 faults ≡ true
 rose_from faults risen = lt-ltb 0 faults (risen (omega arith))
 
-module _ (trade : Trade) (kept : List Kept) (finds : Finds) (moment : ℕ) (in_time : moment < END_OF_TIME) (here there : Place)
+module _ (trade : Trade) (tells : Type 0) (kept : List Kept) (finds : Finds) (moment : ℕ) (in_time : moment < END_OF_TIME) (here there : Place)
     (left held held_then : Option Bytes) (fresh faults : ℕ) (told : Served)
     (gives : Gives here.moments moment there.moments) (came : here.requests ≡ in_front left there.requests)
     (empty : IfSome here.replies (λ rs. held ≡ Some [])) (none_yet : fresh ≡ 0)
     (closed : there.replies ≡ replied here.replies held_then faults)
-    (hears : Hears trade kept finds moment here.network there.network left held held_then told)
+    (hears : Hears trade tells kept finds moment here.network there.network left held held_then told)
     (read_fault : told ≡ served.ReadFault → HasRisen fresh faults)
     (write_fault : told ≡ served.WriteFault → HasRisen fresh faults) where
   abbrev reply : Bytes → ToldReply
@@ -77,7 +79,7 @@ module _ (trade : Trade) (kept : List Kept) (finds : Finds) (moment : ℕ) (in_t
       ∙ ap (λ (o : Option Bytes). replied (Some replies) o faults)
       (done.held_is (subst (λ (o : Option (List ToldReply)). IfSome o (λ rs. held ≡ Some [])) is empty))
 
-  pub served_next : IsServedNext trade kept finds here there moment told
+  pub served_next : IsServedNext trade tells kept finds here there moment told
   served_next = record {
     connection = record {
       moment = moment;
@@ -100,7 +102,7 @@ module _ (trade : Trade) (kept : List Kept) (finds : Finds) (moment : ℕ) (in_t
       hands = hears.hands;
       unplayed = _;
       plays = refl;
-      calls = subst (λ (l : List Call). AreCalls trade here.network l) (sym (append-nil hears.handed)) hears.calls;
+      calls = subst (λ (l : List Call). AreCalls trade tells here.network l) (sym (append-nil hears.handed)) hears.calls;
       state = hears.state ∙ ap (λ (l : List Call). (state_behind here.network l).sites) (sym (append-nil hears.handed));
       later = λ provider.
           (let e : (state_behind here.network (hears.handed ++ [])).counts provider
@@ -120,3 +122,54 @@ pub unserved_replies : (replies : Option (List ToldReply)) (held : Option Bytes)
 unserved_replies None held faults empty fresh = refl
 unserved_replies (Some replies) held faults empty fresh =
     ap (λ (o : Option Bytes). replied (Some replies) o faults) empty ∙ ap (λ (n : ℕ). replied (Some replies) (Some []) n) fresh
+
+-- ---- what disks tell
+
+-- what is said where some disks tell is said where more is asked
+module _ (trade : Trade) (tells all : Type 0) (more : all → tells) where
+  calls_told : (here : State) (calls : List Call) → AreCalls trade tells here calls → AreCalls trade all here calls
+  calls_told here [] are = tt
+  calls_told here (call ∷ calls) are = (
+    record {
+      meet = are.0.meet;
+      memory = are.0.memory;
+      counts = are.0.counts;
+      state = are.0.state;
+      kept = λ told. are.0.kept (more told);
+      shown = λ told. are.0.shown (more told);
+      unchanged = λ told. are.0.unchanged (more told);
+    },
+    calls_told call.behind calls are.1,
+  )
+
+  connection_told : (kept : List Kept) (finds : Finds) (here : Place) (connection : Connection)
+      → IsConnection trade tells kept finds here connection → IsConnection trade all kept finds here connection
+  connection_told kept finds here connection is = record {
+    moment = is.moment;
+    in_time = is.in_time;
+    left = is.left;
+    request = is.request;
+    is_input = is.is_input;
+    heard = is.heard;
+    replied = is.replied;
+    replies = is.replies;
+    hands = is.hands;
+    unplayed = is.unplayed;
+    plays = is.plays;
+    calls = calls_told here.network (calls_of connection) is.calls;
+    state = is.state;
+    later = is.later;
+  }
+
+  pub comes_told : (kept : List Kept) (finds : Finds) (here there : Place) (came : Came)
+      → ComesNext trade tells kept finds here there came → ComesNext trade all kept finds here there came
+  comes_told kept finds here there (came_variants.Served moment told) next = record {
+    connection = next.connection;
+    is = connection_told kept finds here next.connection next.is;
+    moment_is = next.moment_is;
+    unplayed = next.unplayed;
+    behind_is = next.behind_is;
+    line = next.line;
+  }
+  comes_told kept finds here there came_variants.NoMoment next = next
+  comes_told kept finds here there came_variants.NoConnection next = next

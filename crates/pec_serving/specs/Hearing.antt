@@ -24,7 +24,7 @@ module _ (trade : Trade) (kept : List Kept) where
   IsServed sites handed (Broken answering) held held_then told =
       (told ≡ served.WriteFault) × WrotePart held held_then (reply_text (answered_by trade kept sites handed answering))
 
-module _ (trade : Trade) (kept : List Kept) (finds : Finds) where
+module _ (trade : Trade) (tells : Type 0) (kept : List Kept) (finds : Finds) where
   -- A connection that had this to come and held that was answered at the desk at a moment, where screens find this, or
   -- failed.
   pub record Hears (moment : ℕ) (here there : State) (left held held_then : Option Bytes) (told : Served) : Type 0 where
@@ -34,7 +34,7 @@ module _ (trade : Trade) (kept : List Kept) (finds : Finds) where
     pub handed : List Call
     pub heard : IsHeardSo kept input hearing
     pub hands : commands_of handed ≡ handed_in finds moment hearing
-    pub calls : AreCalls trade here handed
+    pub calls : AreCalls trade tells here handed
     pub state : there.sites ≡ (state_behind here handed).sites
     pub later : (provider : ℕ) → (state_behind here handed).counts provider ≤ there.counts provider
     pub served : IsServed trade kept here.sites handed hearing held held_then told

@@ -32,26 +32,26 @@ abbrev pub place_of : {D S : Type 0} → (D → ℕ) → (ℕ → ℕ) → Netwo
 place_of count elsewhere network moments requests replies =
     record { network = state_of count elsewhere network; moments = moments; requests = requests; replies = replies }
 
-module _ (trade : Trade) (kept : List Kept) (finds : Finds) where
-  -- ---- the next connection
+-- ---- the next connection
 
+-- Nothing but the door's replies changed: a connection was closed with nothing written.
+pub record IsUnserved (here there : Place) : Type 0 where
+  pub network : there.network ≡ here.network
+  pub replies : there.replies ≡ replied here.replies (Some []) 0
+
+pub record IsUnmet (here there : Place) : Type 0 where
+  pub network : there.network ≡ here.network
+  pub replies : there.replies ≡ here.replies
+
+module _ (trade : Trade) (tells : Type 0) (kept : List Kept) (finds : Finds) where
   -- A connection was served, of which no clock call was played yet.
   pub record IsServedNext (here there : Place) (moment : ℕ) (told : Served) : Type 0 where
     pub connection : Connection
-    pub is : IsConnection trade kept finds here connection
+    pub is : IsConnection trade tells kept finds here connection
     pub moment_is : connection.moment ≡ moment
     pub unplayed : connection.clock ≡ []
     pub behind_is : connection.behind ≡ there
     pub line : served_line told ≡ outcome_line trade kept here.network.sites connection.handed connection.hearing
-
-  -- Nothing but the door's replies changed: a connection was closed with nothing written.
-  pub record IsUnserved (here there : Place) : Type 0 where
-    pub network : there.network ≡ here.network
-    pub replies : there.replies ≡ replied here.replies (Some []) 0
-
-  pub record IsUnmet (here there : Place) : Type 0 where
-    pub network : there.network ≡ here.network
-    pub replies : there.replies ≡ here.replies
 
   abbrev pub ComesNext : Place → Place → Came → Type 0
   ComesNext here there (came.Served moment told) = IsServedNext here there moment told
@@ -74,9 +74,9 @@ AreWritten endings.WriteFault before after text = WrotePart before after text
 AreWritten _ before after text = after ≡ followed_by before text
 
 -- A service of so many connections went from here to there, where screens find this, and its lines were written.
-pub record ServesSo (trade : Trade) (kept : List Kept) (finds : Finds) (wanted : ℕ) (here there : Place)
+pub record ServesSo (trade : Trade) (tells : Type 0) (kept : List Kept) (finds : Finds) (wanted : ℕ) (here there : Place)
     (before after : Option Bytes) (ending : Ending) : Type 0 where
   pub service : Service
-  pub is : IsService trade kept finds wanted here there service
+  pub is : IsService trade tells kept finds wanted here there service
   pub ending_is : service.ending ≡ ending_of ending
   pub written : AreWritten ending before after (service_text trade kept here service)

@@ -4,7 +4,7 @@ ghost use Rattle.pec_outside.specs.Flow.{HasRisen};
 ghost use Rattle.pec_http.specs.declared.serving.Served.TheVariants as served;
 ghost use Rattle.pec_screen.specs.Screened.{finds_in};
 ghost use Rattle.pec_playing.specs.Doing.{Keeps};
-ghost use Rattle.pec_playing.specs.OfNetworks.{world_of};
+ghost use Rattle.pec_playing.specs.OfNetworks.{AllStand, world_of};
 ghost use Rattle.pec_playing.specs.Points.{state_in};
 ghost use Rattle.pec_runs.specs.Moves.{MovesOn};
 ghost use Rattle.pec_serving.specs.Hearing.{Hears};
@@ -20,8 +20,8 @@ use pec_seal::{HmacSealer, Sealer};
 use pec_types::Moment;
 use std::alloc::Global;
 
-/// Answers the request of a connection at the desk of a network, at a moment. The network and the screens are given back as
-/// the desk left them.
+/// Answers the request of a connection at the desk of a network, at a moment. The network and the screens are given
+/// back as the desk left them.
 pub(crate) fn answer<D: Disk, J: Judge, C: Source + Sink>(
     alloc: Global,
     network: Network<D, HmacSealer>,
@@ -29,9 +29,10 @@ pub(crate) fn answer<D: Disk, J: Judge, C: Source + Sink>(
     moment: Moment,
     connection: &mut C,
 ) -> (Network<D, HmacSealer>, Vec<J>, Served)
+    // What is read is what was kept, where disks tell what they hold, and what is kept stands on them.
     ensures hears { (elsewhere : ℕ → ℕ)
-        → Hears (world_of (⟦<HmacSealer as Sealer>⟧.seals) network) network.kept
-        (finds_in (map J.patterns screens.items)) moment
+        → Hears (world_of (⟦<HmacSealer as Sealer>⟧.seals) network) (D.tells × AllStand D.sight network.providers)
+        network.kept (finds_in (map J.patterns screens.items)) moment
         (state_of D.faults elsewhere network) (state_of D.faults elsewhere result.0)
         (C.left connection.old) (C.held connection.old) (C.held connection.new) result.2 }
     ensures keeps { Keeps D.sight D.faults D.tells network result.0 }

@@ -3,7 +3,7 @@ ghost use Rattle.pec_outside.specs.Depots.{Alike};
 ghost use Rattle.pec_outside.specs.Flow.{HasRisen};
 ghost use Rattle.pec_directory.specs.Directory.{providers_of};
 ghost use Rattle.pec_playing.specs.Doing.{Keeps};
-ghost use Rattle.pec_playing.specs.OfNetworks.{world_of};
+ghost use Rattle.pec_playing.specs.OfNetworks.{AllStand, world_of};
 ghost use Rattle.pec_playing.specs.Points.{point_of, stop_in};
 ghost use Rattle.pec_service.specs.Calls.{ClockWent, clock_from};
 
@@ -36,7 +36,9 @@ pub(crate) fn play_clock<
     moment: Moment,
     out: &mut W,
 ) -> Result<(), Stop>
-    ensures clock { (elsewhere : ℕ → ℕ) → ClockWent (world_of S.seals network.old) (providers_of network.old.kept)
+    // Where disks tell what they hold, what is kept stands on them as the first command is played.
+    ensures clock { (P.tells × D.tells → AllStand D.sight network.old.providers) → (elsewhere : ℕ → ℕ)
+        → ClockWent (world_of S.seals network.old) (providers_of network.old.kept)
         (P.tells × D.tells) D.sight (clock_from (length network.old.kept) 0 moment)
         (point_of D.faults elsewhere network.old (W.held out.old) (W.faults out.old))
         (point_of D.faults elsewhere network.new (W.held out.new) (W.faults out.new)) (stop_in result) }

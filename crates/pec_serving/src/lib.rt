@@ -1,5 +1,5 @@
-//! Serves connections at the desk of a network: each is answered at one moment, and then every provider looks at the clock
-//! and one round is played.
+//! Serves connections at the desk of a network: each is answered at one moment, and then every provider looks at the
+//! clock and one round is played.
 #![tactic(auto)]
 
 mod answering;

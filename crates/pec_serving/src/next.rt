@@ -2,7 +2,7 @@ ghost use Rattle.std.specs.Prelude.{◌≡◌, ℕ, ◌≤◌, map};
 ghost use Rattle.pec_outside.specs.Flow.{HasRisen};
 ghost use Rattle.pec_screen.specs.Screened.{finds_in};
 ghost use Rattle.pec_playing.specs.Doing.{Keeps};
-ghost use Rattle.pec_playing.specs.OfNetworks.{world_of};
+ghost use Rattle.pec_playing.specs.OfNetworks.{AllStand, world_of};
 ghost use Rattle.pec_playing.specs.Points.{state_in};
 ghost use Rattle.pec_runs.specs.Moves.{MovesOn};
 ghost use Rattle.pec_serving.specs.Serving.{ComesNext, place_of};
@@ -27,8 +27,8 @@ pub(crate) enum Came {
     NoConnection,
 }
 
-/// Accepts the next connection, asks for the moment, answers the connection at the desk of the network at that moment, and
-/// closes it. A connection for which there is no moment is closed unread.
+/// Accepts the next connection, asks for the moment, answers the connection at the desk of the network at that moment,
+/// and closes it. A connection for which there is no moment is closed unread.
 pub(crate) fn next<D: Disk, J: Judge, T: Ticks, R: Door>(
     alloc: Global,
     network: Network<D, HmacSealer>,
@@ -36,9 +36,10 @@ pub(crate) fn next<D: Disk, J: Judge, T: Ticks, R: Door>(
     ticks: &mut T,
     door: &mut R,
 ) -> (Network<D, HmacSealer>, Vec<J>, Came)
+    // What is read is what was kept, where disks tell what they hold, and what is kept stands on them.
     ensures comes { (elsewhere : ℕ → ℕ)
-        → ComesNext (world_of (⟦<HmacSealer as Sealer>⟧.seals) network) network.kept
-        (finds_in (map J.patterns screens.items))
+        → ComesNext (world_of (⟦<HmacSealer as Sealer>⟧.seals) network) (D.tells × AllStand D.sight network.providers)
+        network.kept (finds_in (map J.patterns screens.items))
         (place_of D.faults elsewhere network (T.coming ticks.old) (R.requests door.old) (R.replies door.old))
         (place_of D.faults elsewhere result.0 (T.coming ticks.new) (R.requests door.new) (R.replies door.new)) result.2 }
     ensures keeps { Keeps D.sight D.faults D.tells network result.0 }

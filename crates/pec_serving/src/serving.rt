@@ -3,7 +3,7 @@ ghost use Rattle.pec_outside.specs.Depots.{Alike};
 ghost use Rattle.pec_outside.specs.Flow.{HasRisen};
 ghost use Rattle.pec_screen.specs.Screened.{finds_in};
 ghost use Rattle.pec_playing.specs.Doing.{Keeps};
-ghost use Rattle.pec_playing.specs.OfNetworks.{world_of};
+ghost use Rattle.pec_playing.specs.OfNetworks.{AllStand, world_of};
 ghost use Rattle.pec_playing.specs.Points.{state_in};
 ghost use Rattle.pec_runs.specs.Moves.{Moves};
 ghost use Rattle.pec_serving.specs.Serving.{ServesSo, place_of};
@@ -35,10 +35,10 @@ pub enum Ending {
     WriteFault,
 }
 
-/// Serves so many connections, one after another, over a network whose journals are made or opened. Each is answered at the
-/// desk of the network at one moment, its line is written, and then every provider looks at the clock, in the order of the
-/// directory, and one round is played, all at that moment. The screens of a provider are those at its number; a provider
-/// past them has none. They are dropped in the end. This project's profile.
+/// Serves so many connections, one after another, over a network whose journals are made or opened. Each is answered at
+/// the desk of the network at one moment, its line is written, and then every provider looks at the clock, in the order
+/// of the directory, and one round is played, all at that moment. The screens of a provider are those at its number; a
+/// provider past them has none. They are dropped in the end. This project's profile.
 pub fn serve<
     X: Threads + Sync,
     D: Disk + Send,
@@ -58,15 +58,16 @@ pub fn serve<
     out: &mut W,
     wanted: u32,
 ) -> (Network<D, HmacSealer>, Ending)
-    ensures serves { (elsewhere : ℕ → ℕ)
-        → ServesSo (world_of (⟦<HmacSealer as Sealer>⟧.seals) network) network.kept
+    // Where disks tell what they hold, what is kept stands on them as the service begins.
+    ensures serves { (P.tells × D.tells → AllStand D.sight network.providers) → (elsewhere : ℕ → ℕ)
+        → ServesSo (world_of (⟦<HmacSealer as Sealer>⟧.seals) network) (P.tells × D.tells) network.kept
         (finds_in (map J.patterns screens.items)) wanted
         (place_of D.faults elsewhere network (T.coming ticks.old) (R.requests door.old) (R.replies door.old))
         (place_of D.faults elsewhere result.0 (T.coming ticks.new) (R.requests door.new) (R.replies door.new))
         (W.held out.old) (W.held out.new) result.1 }
     ensures keeps { Keeps D.sight D.faults D.tells network result.0 }
     // What a crash may leave at any moment of it.
-    ensures moves { (elsewhere : ℕ → ℕ)
+    ensures moves { (P.tells × D.tells → AllStand D.sight network.providers) → (elsewhere : ℕ → ℕ)
         → Moves (world_of (⟦<HmacSealer as Sealer>⟧.seals) network) (P.tells × D.tells) D.sight
         (state_in D.faults elsewhere network) (state_in D.faults elsewhere result.0) }
     ensures home { P.tells → Alike (P.home depot.old) (P.home depot.new) }
@@ -81,8 +82,8 @@ pub fn serve<
     ensures door_later { R.faults door.old ≤ R.faults door.new }
     ensures out_later { W.faults out.old ≤ W.faults out.new }
 {
-    calls_are_joined();
-    connections_are_joined();
+    calls_are_joined::<P>();
+    connections_are_joined::<P>();
     acts_are_calls::<P>();
     moves_are_joined::<P>();
     let mut network = network;

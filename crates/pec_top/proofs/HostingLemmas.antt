@@ -166,13 +166,13 @@ no_course = record {
 
 -- ---- the run at its stages
 
-module _ (asked : Asked) (status : Status) (unread before after : Option Bytes) (old new : Disks) (here there : Outside)
-    (from upto : ℕ → ℕ) where
+module _ (asked : Asked) (status : Status) (unread before after : Option Bytes) (tells : Type 0) (old new : Disks)
+    (here there : Outside) (from upto : ℕ → ℕ) where
   module _ (untouched_ : AreUntouched old new) (same : there ≡ here) where
     -- It is over.
     unfoldable pub served_over : (directory : Bytes) (end : End) → stage_of false directory ≡ Over end
         → IfSome unread (λ text. directory ≡ text) → TellsAs status before after (end_text [] end) (plays.Ends end)
-        → HasServed asked status unread before after old new here there from upto
+        → HasServed asked status unread before after tells old new here there from upto
     served_over directory end stage input told =
         let happened : Happened = record {
           directory = directory;
@@ -185,13 +185,13 @@ module _ (asked : Asked) (status : Status) (unread before after : Option Bytes) 
           happened = happened;
           input = input;
           setting = λ begins. absurd (over_not end (sym stage ∙ begins));
-          is_at = subst (IsAt asked status before after old new here there from upto happened) (sym stage)
+          is_at = subst (IsAt asked status before after tells old new here there from upto happened) (sym stage)
               (record { told = told; disks = untouched_; outside = same });
         }
 
     -- It was halted before a disk was asked for.
     unfoldable pub served_halted : TellsAs status before after [] plays.Stops
-        → HasServed asked status unread before after old new here there from upto
+        → HasServed asked status unread before after tells old new here there from upto
     served_halted told =
         let text = text_there unread
         in let happened : Happened = record {
@@ -206,7 +206,7 @@ module _ (asked : Asked) (status : Status) (unread before after : Option Bytes) 
           happened = happened;
           input = text.1;
           setting = λ begins. absurd (halts_not (sym stage ∙ begins));
-          is_at = subst (IsAt asked status before after old new here there from upto happened) (sym stage)
+          is_at = subst (IsAt asked status before after tells old new here there from upto happened) (sym stage)
               (record { told = told; disks = untouched_; outside = same });
         }
 
@@ -214,9 +214,9 @@ module _ (asked : Asked) (status : Status) (unread before after : Option Bytes) 
       (reads : directory_in bytes ≡ Ok (providers_in setting)) (is_setting : IsSetting (providers_in setting) setting)
       (input : IfSome unread (λ text. bytes ≡ text)) where
     unfoldable pub begun_with : (form : Option Form) (course : Course)
-        → IsAt asked status before after old new here there from upto
+        → IsAt asked status before after tells old new here there from upto
         (record { directory = bytes; early = false; setting = setting; form = form; course = course }) Begins
-        → HasServed asked status unread before after old new here there from upto
+        → HasServed asked status unread before after tells old new here there from upto
     begun_with form course at =
         let happened : Happened = record {
           directory = bytes;
@@ -232,31 +232,31 @@ module _ (asked : Asked) (status : Status) (unread before after : Option Bytes) 
           setting = λ begins providers read.
               let same = same_ok (directory_in bytes) (providers_in setting) providers reads read
               in subst (λ (p : List Provider). IsSetting p setting) same is_setting;
-          is_at = subst (IsAt asked status before after old new here there from upto happened) (sym stage) at;
+          is_at = subst (IsAt asked status before after tells old new here there from upto happened) (sym stage) at;
         }
 
     -- A disk couldn't be looked at.
     unfoldable pub served_unlooked : AreUntouched old new → there ≡ here → TellsAs status before after [] plays.Fails
-        → HasServed asked status unread before after old new here there from upto
+        → HasServed asked status unread before after tells old new here there from upto
     served_unlooked untouched_ same told =
         begun_with None no_course (record { told = told; disks = untouched_; outside = same })
 
     -- The disks were looked at.
     unfoldable pub served_begun : (form : Form) (course : Course) → IsChosen old (trade_in setting).providers form
-        → HasJournals asked status before after old new here there from upto setting course form
-        → HasServed asked status unread before after old new here there from upto
+        → HasJournals asked status before after tells old new here there from upto setting course form
+        → HasServed asked status unread before after tells old new here there from upto
     served_begun form course chosen journals = begun_with (Some form) course (chosen, journals)
 
 -- A run that was to serve and whose journals can't all be had: nobody is let in.
-pub goes_next : (asked : Asked) (status : Status) (before after : Option Bytes) (old new : Disks) (here : Outside) (from upto : ℕ → ℕ)
-    (setting : Setting) (course : Course) (form : Form) (next : Next) → (next ≡ NoMore → ⊥)
-    → ServesNone asked status before after old new here here from upto setting course form
-    → GoesOn asked status before after old new here here from upto setting course form next
-goes_next asked status before after old new here from upto setting course form NoMore some none = absurd (some refl)
-goes_next asked status before after old new here from upto setting course form Holds some none = none
-goes_next asked status before after old new here from upto setting course form (Unfits unfit) some none = none
-goes_next asked status before after old new here from upto setting course form Fails some none = none
-goes_next asked status before after old new here from upto setting course form Stops some none = none
+pub goes_next : (asked : Asked) (status : Status) (before after : Option Bytes) (tells : Type 0) (old new : Disks)
+    (here : Outside) (from upto : ℕ → ℕ) (setting : Setting) (course : Course) (form : Form) (next : Next) → (next ≡ NoMore → ⊥)
+    → ServesNone asked status before after tells old new here here from upto setting course form
+    → GoesOn asked status before after tells old new here here from upto setting course form next
+goes_next asked status before after tells old new here from upto setting course form NoMore some none = absurd (some refl)
+goes_next asked status before after tells old new here from upto setting course form Holds some none = none
+goes_next asked status before after tells old new here from upto setting course form (Unfits unfit) some none = none
+goes_next asked status before after tells old new here from upto setting course form Fails some none = none
+goes_next asked status before after tells old new here from upto setting course form Stops some none = none
 
 -- an input that is too long for a directory
 pub long_text : (most : ℕ) (unread : Option Bytes) → IfSome unread (λ text. most < length text)

@@ -87,8 +87,8 @@ module _ (asked : Asked) (status : Status) (unread before after : Option Bytes) 
         → HasServedOver tells sight asked status unread before after home left here there from upto
     unfolding served_over
     over_through directory end stage input told =
-        let so = served_over asked status unread before after (disks_at tells sight home) (disks_at tells sight left) here
-        there from upto untouched_ same directory end stage input told in
+        let so = served_over asked status unread before after tells (disks_at tells sight home) (disks_at tells sight left)
+        here there from upto untouched_ same directory end stage input told in
         record {
           so = so;
           through = went_unasked tells sight home left from upto so.happened
@@ -99,8 +99,8 @@ module _ (asked : Asked) (status : Status) (unread before after : Option Bytes) 
         → HasServedOver tells sight asked status unread before after home left here there from upto
     unfolding served_halted
     halted_through told =
-        let so = served_halted asked status unread before after (disks_at tells sight home) (disks_at tells sight left) here
-        there from upto untouched_ same told in
+        let so = served_halted asked status unread before after tells (disks_at tells sight home) (disks_at tells sight left)
+        here there from upto untouched_ same told in
         record {
           so = so;
           through = went_unasked tells sight home left from upto so.happened
@@ -118,22 +118,22 @@ module _ (asked : Asked) (status : Status) (unread before after : Option Bytes) 
         → HasServedOver tells sight asked status unread before after home left here there from upto
     unfolding served_unlooked begun_with
     unlooked_through untouched_ same told had =
-        let so = served_unlooked asked status unread before after (disks_at tells sight home) (disks_at tells sight left)
-        here there from upto bytes short setting reads is_setting input untouched_ same told in
+        let so = served_unlooked asked status unread before after tells (disks_at tells sight home)
+        (disks_at tells sight left) here there from upto bytes short setting reads is_setting input untouched_ same told in
         record {
           so = so;
           through = went_unlooked tells sight home left from upto so.happened begins_so refl (had (world so.happened));
         }
 
     module _ (form : Form) (course : Course) (chosen : IsChosen (disks_at tells sight home) (trade_in setting).providers form)
-        (had_journals : HasJournals asked status before after (disks_at tells sight home) (disks_at tells sight left) here
-        there from upto setting course form) where
+        (had_journals : HasJournals asked status before after tells (disks_at tells sight home) (disks_at tells sight left)
+        here there from upto setting course form) where
       pub stopped_through : (course.opening.next ≡ NoMore → ⊥) → AreHadFrom sight tells form (trade_in setting) home left
           → HasServedOver tells sight asked status unread before after home left here there from upto
       unfolding served_begun begun_with
       stopped_through some had =
-          let so = served_begun asked status unread before after (disks_at tells sight home) (disks_at tells sight left)
-          here there from upto bytes short setting reads is_setting input form course chosen had_journals in
+          let so = served_begun asked status unread before after tells (disks_at tells sight home)
+          (disks_at tells sight left) here there from upto bytes short setting reads is_setting input form course chosen had_journals in
           record {
             so = so;
             through = went_stopped tells sight home left from upto so.happened begins_so form refl some had;
@@ -144,8 +144,8 @@ module _ (asked : Asked) (status : Status) (unread before after : Option Bytes) 
           → HasServedOver tells sight asked status unread before after home left here there from upto
       unfolding served_begun begun_with
       served_through all moves =
-          let so = served_begun asked status unread before after (disks_at tells sight home) (disks_at tells sight left)
-          here there from upto bytes short setting reads is_setting input form course chosen had_journals in
+          let so = served_begun asked status unread before after tells (disks_at tells sight home)
+          (disks_at tells sight left) here there from upto bytes short setting reads is_setting input form course chosen had_journals in
           record {
             so = so;
             through = went_served tells sight home left from upto so.happened begins_so form refl all moves;
@@ -179,7 +179,7 @@ unopened_through asked status unread before after tells sight home left here fro
       holds = at.holds;
       service = record { whole = []; part = None; ending = Halted };
     }
-    in let none : ServesNone asked status before after old new here here from upto setting course at.form = record {
+    in let none : ServesNone asked status before after tells old new here here from upto setting course at.form = record {
       told = told (providers_of kept) (finish_at at.holds (next_of at.opening) at.opening.next) at.finishes;
       outside = refl;
       disks = at.left;
@@ -190,5 +190,6 @@ unopened_through asked status unread before after tells sight home left here fro
     at.is_setting input at.form course chosen (record {
       opening = at.is_opening;
       looked_at = at.may_hold;
-      goes_on = goes_next asked status before after old new here from upto setting course at.form at.opening.next at.some none;
+      goes_on = goes_next asked status before after tells old new here from upto setting course at.form at.opening.next
+          at.some none;
     }) at.some at.went

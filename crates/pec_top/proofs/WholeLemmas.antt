@@ -62,6 +62,9 @@ may_between tells trade sites earlier from upto later script lucks rest first se
   meet = may.meet;
   memory = may.memory;
   counts = rose_along trade lucks sites script.commands earlier from upto later first second may.counts;
+  kept = may.kept;
+  shown = may.shown;
+  unchanged = may.unchanged;
   strays = may.strays;
 }
 

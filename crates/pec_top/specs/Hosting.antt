@@ -27,8 +27,8 @@ CountsGo status old new = Blames status old new × NoneFell old new
 pub record HasServedOver {D : Type 0} (tells : Type 0) (sight : D → Sight) (asked : Asked) (status : statuses.Status)
     (unread before after : Option Bytes) (home left : ℕ → Option D) (here there : Outside) (from upto : ℕ → ℕ)
     : Type 0 where
-  pub so : HasServed asked status unread before after (disks_at tells sight home) (disks_at tells sight left) here there
-      from upto
+  pub so : HasServed asked status unread before after tells (disks_at tells sight home) (disks_at tells sight left) here
+      there from upto
   pub through : DisksWent tells sight home left from upto so.happened
 
 -- ---- how a service ended

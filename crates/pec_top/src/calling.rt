@@ -16,10 +16,10 @@ use pec_outside::{Depot, Disk};
 use pec_runs::runs_go_on_from_one_another;
 use pec_service::calls_go_on_from_one_another;
 
-/// What the contract of `run_pec` says of its call is what the laws on runs one after another ask of a run. So a program that
-/// ran on empty disks, at whatever status, for want of memory too, and is resumed on what it left, and then serves, and then
-/// is resumed again, each time on what the one before left or a crash left of it, opens journals that are Fit. So it is
-/// with any other row of calls: law `calls_go_on_from_one_another` of pec_service.
+/// What the contract of `run_pec` says of its call is what the laws on runs one after another ask of a run. So a
+/// program that ran on empty disks, at whatever status, for want of memory too, and is resumed on what it left, and
+/// then serves, and then is resumed again, each time on what the one before left or a crash left of it, opens journals
+/// that are Fit. So it is with any other row of calls: law `calls_go_on_from_one_another` of pec_service.
 pub fn four_calls_go_on_from_one_another<P: Depot>()
     ensures plays { (call : Call P.D) (form : Form)
         → IsRun (P.tells × P.D.tells) P.D.sight call.words call.finds call.status call.old call.new (Plays form)

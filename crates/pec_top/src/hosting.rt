@@ -20,7 +20,8 @@ use pec_serving::{Ending, serve};
 use std::alloc::Global;
 use std::thread::Threads;
 
-/// Runs the program in the form that serves so many connections at the desk of the network whose directory is the input.
+/// Runs the program in the form that serves so many connections at the desk of the network whose directory is the
+/// input.
 pub(crate) fn serve_form<
     X: Threads + Sync,
     S: Source,

@@ -29,8 +29,8 @@ use std::thread::Threads;
 /// How many bytes of its input a load reads at once.
 const PIECE: usize = 65_536;
 
-/// Runs the program in the form that plays a load of so many messages: it makes a directory and a script, plays them as a
-/// run does, and in the end writes what has become of the messages.
+/// Runs the program in the form that plays a load of so many messages: it makes a directory and a script, plays them as
+/// a run does, and in the end writes what has become of the messages.
 pub(crate) fn load_form<X: Threads + Sync, W: Sink, P: Depot, J: Judge>(
     rt: &X,
     alloc: Global,

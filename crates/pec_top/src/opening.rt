@@ -42,8 +42,8 @@ pub(crate) enum Journals {
 /// How a run ends that can't have all its journals.
 #[derive(Drop)]
 pub(crate) enum Refusal {
-    /// A disk isn't empty on which a journal was to be made, or one that holds something doesn't begin as a journal does.
-    /// This is the last line.
+    /// A disk isn't empty on which a journal was to be made, or one that holds something doesn't begin as a journal
+    /// does. This is the last line.
     NotEmpty(Vec<u8>),
     /// The journal on a disk isn't its provider's own. This is the last line.
     NotFit(Vec<u8>),

@@ -9,8 +9,8 @@ ghost use Rattle.pec_top.specs.Surveys.{AreAsTheyWere, HoldsSo};
 use crate::forms::Form;
 use pec_outside::{Depot, Disk, Failed, a_disk_is_so};
 
-/// How the providers of so many disks come to their journals where connections are served: they are made where all disks are
-/// empty, and opened where one holds something. The first that does is the last that is looked at.
+/// How the providers of so many disks come to their journals where connections are served: they are made where all
+/// disks are empty, and opened where one holds something. The first that does is the last that is looked at.
 pub(crate) fn choose_form<P: Depot>(depot: &mut P, count: u32) -> Result<Form, Failed>
     requires { count ≤ depot_places }
     ensures chosen { IfOk result (λ form.

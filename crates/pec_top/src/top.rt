@@ -17,16 +17,17 @@ use pec_screen::Judge;
 use std::alloc::Global;
 use std::thread::Threads;
 
-/// Runs the program: `words` are its arguments, every line goes to `out`, and the journals of providers are on the disks of
-/// the depot. In the forms `run`, which makes the journals, and `resume`, which opens them, `input` is the directory, a line
-/// `%%` and the script. In the form `serve N` the input is the directory; it makes the journals where all disks are empty,
-/// opens them otherwise, and serves N connections that come in at the door, each at the moment that the clock tells. In
-/// the form `load N` no input is read: a directory and a script of N messages are made and played as in the form `run`,
-/// and a summary of what has become of the messages is written in place of the lines. In the form `ldif` the input is the
-/// directory, and it is written as LDIF. In the form `check` it is the directory, a line `%%` and the letters that a party
-/// saved, each in base64 on a line; what they prove is written. The screens of a provider, which look at what its accounts
-/// hand in, are those at its number, and none where there are fewer; a crash and a restart leave them as they are. Moments
-/// are seconds since 1970-01-01T00:00:00Z. This project's profile of RFC 6109, sections 2 to 4.
+/// Runs the program: `words` are its arguments, every line goes to `out`, and the journals of providers are on the
+/// disks of the depot. In the forms `run`, which makes the journals, and `resume`, which opens them, `input` is the
+/// directory, a line `%%` and the script. In the form `serve N` the input is the directory; it makes the journals where
+/// all disks are empty, opens them otherwise, and serves N connections that come in at the door, each at the moment
+/// that the clock tells. In the form `load N` no input is read: a directory and a script of N messages are made and
+/// played as in the form `run`, and a summary of what has become of the messages is written in place of the lines. In
+/// the form `ldif` the input is the directory, and it is written as LDIF. In the form `check` it is the directory, a
+/// line `%%` and the letters that a party saved, each in base64 on a line; what they prove is written. The screens of a
+/// provider, which look at what its accounts hand in, are those at its number, and none where there are fewer; a crash
+/// and a restart leave them as they are. Moments are seconds since 1970-01-01T00:00:00Z. This project's profile of RFC
+/// 6109, sections 2 to 4.
 pub fn run_pec<X: Threads + Sync, S: Source, W: Sink, P: Depot, T: Ticks, R: Door, J: Judge>(
     rt: &X,
     alloc: Global,
@@ -38,9 +39,9 @@ pub fn run_pec<X: Threads + Sync, S: Source, W: Sink, P: Depot, T: Ticks, R: Doo
     door: &mut R,
     screens: Vec<J>,
 ) -> Status
-    // One run of the kind that the words ask for: what was written, the status, the counts of faults, what clock and door
-    // gave and got, and what the disks hold; and at status 0 an input that is read was read to its end, each connection
-    // that was accepted is closed, and each disk that was at home is at home again.
+    // One run of the kind that the words ask for: what was written, the status, the counts of faults, what clock and
+    // door gave and got, and what the disks hold; and at status 0 an input that is read was read to its end, each
+    // connection that was accepted is closed, and each disk that was at home is at home again.
     ensures ran { ProgramRan P.tells P.D.tells P.D.sight (map string_bytes words.now)
         (finds_in (map J.patterns screens.items)) (status_shown result)
         (view_of (S.left input.old) (S.faults input.old) (W.held out.old) (W.faults out.old)
@@ -49,8 +50,8 @@ pub fn run_pec<X: Threads + Sync, S: Source, W: Sink, P: Depot, T: Ticks, R: Doo
         (view_of (S.left input.new) (S.faults input.new) (W.held out.new) (W.faults out.new)
         (P.home depot.new) (P.last depot.new) (P.faults depot.new) (T.coming ticks.new) (T.faults ticks.new)
         (R.requests door.new) (R.replies door.new) (R.out door.new) (R.faults door.new)) }
-    // For words that are no form, and with a load, no byte of the input is read; only a run that plays or serves comes near
-    // a disk, and only one that serves asks clock and door.
+    // For words that are no form, and with a load, no byte of the input is read; only a run that plays or serves comes
+    // near a disk, and only one that serves asks clock and door.
     ensures alone { LeavesAlone (task_in (map string_bytes words.now)) input.old input.new depot.old depot.new
         ticks.old ticks.new door.old door.new }
 {

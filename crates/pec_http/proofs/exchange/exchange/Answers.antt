@@ -1,8 +1,7 @@
-use Rattle.std.proofs.Common.{◌≡◌, ◌+◌, ◌-◌, Ok, Err, take, drop, ap, refl, arith}
+use Rattle.std.proofs.Common.{◌≡◌, ◌+◌, ◌-◌, Ok, take, drop, ap, refl, arith}
 use Rattle.std.proofs.lemmas.Result.{err_from_is_err_and}
 use Rattle.pec_http.proofs.ServingLemmas.{HeadCame, body_stops, demand_stops, demands_so, look_answered, submission_answered}
 use Rattle.pec_http.proofs.exchange.exchange.Goals as goal
-use Rattle.pec_http.specs.declared.demands.Demand.TheVariants as demands
 
 pub returns-in_err-demand-clause-stop : goal.returns-in_err-demand-clause-stop
 returns-in_err-demand-clause-stop g c =
@@ -16,7 +15,7 @@ pub returns-in-Look-clause-ok : goal.returns-in-Look-clause-ok
 returns-in-Look-clause-ok g c =
     let head : HeadCame (g.S.Stream.left c.args.connection.now) (g.S.Stream.left c.read_head.new.connection) c.read_head.new.came.items c.in_ok-end.end =
     record { taken = c.in_ok-end.ensures.came; cut = c.in_ok-end.ensures.end; within = c.in_ok-end.ensures.within } in
-    look_answered _ _ _ _ _ _ c.in-Look.address c.in-Look.look _ head
+    look_answered _ _ _ _ _ _ _ c.in-Look.address c.in-Look.look _ head
     (demands_so _ _ _ _ _ (ap (λ t. take c.in_ok-end.end t) c.deref.ensures.value) (ap (λ d. Ok d) c.in-Look.is) c.in_ok-demand.ensures.ok)
     c.in_ok-reply-in-Look.ensures.ok
 

@@ -1,16 +1,27 @@
-use Rattle.pec_types.specs.Answers.{seen_as}
-use Rattle.pec_http.proofs.ServingLemmas.{seen_so}
+use Rattle.std.proofs.Common.{refl, subst, sym}
+use Rattle.pec_http.proofs.ServingLemmas.{rested_so, seen_so}
 use Rattle.pec_http.proofs.exchange.see.Goals as goal
+use Rattle.pec_http.specs.Replies.{Reply}
+use Rattle.pec_http.specs.Serving.{Shows}
+use Rattle.pec_http.specs.Writing.{IsReply}
+use Rattle.pec_http.specs.declared.demands.Look.{Look}
 use Rattle.pec_http.specs.declared.demands.Look.TheVariants as looks
 
 pub returns-in-Book-clause-ok : goal.returns-in-Book-clause-ok
 returns-in-Book-clause-ok g c = seen_so g.K.Desk.answers c.args.desk.now c.args.address.now c.args.look looks.Book
-    (seen_as (λ bytes. bytes.items) c.book.result) c.shown.result c.in-Book.is c.book.ensures.given c.shown.ensures.ok
+    (λ bytes. bytes.items) c.book.result c.shown.result c.in-Book.is (c.book.ensures.given, refl) c.book.ensures.refusals c.shown.ensures.ok
+
+pub returns-in-Book-clause-rested : goal.returns-in-Book-clause-rested
+returns-in-Book-clause-rested g c = rested_so g.K.Desk.answers c.args.desk.now c.shown.result
 
 pub returns-in-Items-clause-ok : goal.returns-in-Items-clause-ok
 returns-in-Items-clause-ok g c = seen_so g.K.Desk.answers c.args.desk.now c.args.address.now c.args.look looks.Items
-    (seen_as (λ bytes. bytes.items) c.items.result) c.shown-in-Items.result c.in-Items.is c.items.ensures.given c.shown-in-Items.ensures.ok
+    (λ bytes. bytes.items) c.items.result c.shown-in-Items.result c.in-Items.is (c.items.ensures.given, refl) c.items.ensures.refusals c.shown-in-Items.ensures.ok
 
-pub returns-in-Item-clause-ok : goal.returns-in-Item-clause-ok
-returns-in-Item-clause-ok g c = seen_so g.K.Desk.answers c.args.desk.now c.args.address.now c.args.look (looks.Item c.in-Item.place)
-    (seen_as (λ bytes. bytes.items) c.item.result) c.shown-in-Item.result c.in-Item.is c.item.ensures.given c.shown-in-Item.ensures.ok
+pub returns-in-Items-clause-rested : goal.returns-in-Items-clause-rested
+returns-in-Items-clause-rested g c = rested_so g.K.Desk.answers c.args.desk.now c.shown-in-Items.result
+
+pub returns-in_ok-reply-in-Item-clause-ok : goal.returns-in_ok-reply-in-Item-clause-ok
+returns-in_ok-reply-in-Item-clause-ok g c =
+    let P : Look → Type 0 = λ l. (answer : Reply) × (Shows g.K.Desk.answers c.args.desk.now c.args.address.now l c.see_item.new.desk answer) × IsReply c.in_ok-reply-in-Item.reply answer in
+    subst P (sym c.in-Item.is) c.in_ok-reply-in-Item.ensures.ok

@@ -3,7 +3,7 @@ use Rattle.pec_directory.specs.Directory.{Kept, providers_of}
 use Rattle.pec_directory.specs.Lawful.{IsLawful}
 use Rattle.pec_plays.specs.Commands.{Round}
 use Rattle.pec_network.specs.Network.{sites, world_of}
-use Rattle.pec_network.proofs.KeepLemmas.{stopped_fit}
+use Rattle.pec_network.proofs.KeepLemmas.{none_forged, stopped_fit}
 use Rattle.pec_network.proofs.keeping.a_network_keeps_its_promises.Goals as goal
 
 pub returns-clause-stays : goal.returns-clause-stays
@@ -26,5 +26,6 @@ returns-clause-stopped g c =
     let is = c.the_texts_are_a_trade.ensures.trade c.args.network.now.sealer c.args.network.now.kept
     (subst (λ (kept : List Kept). IsLawful (providers_of kept)) c.directory.ensures.value c.count.ensures.lawful) c.directory.ensures.whole.fits in
     λ moment left early sound stops. stopped_fit trade moment (sites c.args.network.now) left stops
-    (c.a_network_stays_sound.ensures.commands trade is stops.luck (sites c.args.network.now) (Round moment) sound early)
+    (c.a_network_stays_sound.ensures.commands trade is stops.luck (sites c.args.network.now) (Round moment) sound
+    (early, none_forged trade stops.luck (sites c.args.network.now) moment stops.kept))
     (c.any_images.ensures.journals trade)

@@ -1,10 +1,9 @@
-use Rattle.std.proofs.Common.{◌≡◌}
-use Rattle.pec_plays.specs.Turns.{puts_from}
 use Rattle.pec_trade.specs.Houses.{world_at}
 use Rattle.pec_network.specs.Turning.{room_in}
+use Rattle.pec_network.proofs.PutLemmas.{PutSoFar}
 use Rattle.pec_network.proofs.putting.puts.Given as goal
 
 abbrev pub invariant-loop-to : goal.invariant-loop-to
 invariant-loop-to g l =
-    l.out.items ≡ puts_from (world_at l.house) l.house.me
-    l.provider.chronicle.entries (room_in l.rooms) l.provider.owed 0 l.to
+    PutSoFar g.D.Disk.tells g.D.Disk.sight g.D.Counted.faults l.house.directory.now (g.S.Sealer.seals l.house.sealer.now)
+    (world_at l.house) l.house.me (room_in l.rooms) l.fn.provider l.to l.provider l.out.items

@@ -9,6 +9,7 @@ use Rattle.pec_link.specs.Ends.{Putting}
 use Rattle.pec_posts.specs.Parting.{HasRoom, ends_in}
 use Rattle.pec_provider.specs.Provider.{ProviderState}
 use Rattle.pec_trade.specs.TradeOf.{trade_of}
+use Rattle.pec_network.specs.Network.{sites_of}
 use Rattle.pec_network.specs.Working.{providers_in, putters_in, rooms_in, takers_in, tolds_in, turns_told}
 use Rattle.pec_network.specs.declared.working.Slot.{Slot}
 use Rattle.pec_network.proofs.PassLemmas.{begun, on_err, stops_behind}
@@ -301,6 +302,8 @@ told g c begun rows ends all =
     tells_all _ _ _ _ _ _ _ _ _ _ _ _ _ begun c.all_work.ensures.count c.all_work.ensures.each c.what_rests_carries_on.ensures
     c.as_mut_slice-3.result.now c.rise.new.takers.items rows ends c.rise.new.providers.items providers c.join.new.arrivals.items
     c.join.ensures c.rise.new.turns.items tolds c.a_row_is_delivered_link_by_link.ensures
+    (c.rounds_keep_a_state_sound.ensures c.args.sealer.now c.requires.whole.fits
+    (sites_of c.args.providers.now.items c.args.arrivals.now.items))
 
 pub returns-then-len-count-clause-plays : goal.returns-then-len-count-clause-plays
 returns-then-len-count-clause-plays g c =

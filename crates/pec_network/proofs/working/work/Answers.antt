@@ -5,6 +5,7 @@ use Rattle.pec_types.specs.Bytes.{Bytes}
 use Rattle.pec_directory.specs.Directory.{Kept}
 use Rattle.pec_link.specs.Ends.{Putting}
 use Rattle.pec_provider.specs.Provider.{desk_of, site_of}
+use Rattle.pec_chronicle.specs.Chronicle.{Stands}
 use Rattle.pec_rows.specs.Rows.{ArePut, waits}
 use Rattle.pec_trade.specs.Houses.{world_at}
 use Rattle.pec_network.specs.Turning.{Took, room_in, turn_of}
@@ -16,7 +17,7 @@ put_all-requires g c =
     let slot = c.args.slot.now in
     let house = c.args.house.now in
     let turn = turn_of (site_of (desk_of c.take_turn-taken.new.provider) (waits c.take_turn-taken.new.takers)) c.in-Ok.field-0.turn c.in-Ok.field-0.out in
-    can_put (world_at house) house.me c.args.moment c.as_slice.result.now (site_of (desk_of slot.provider) (waits slot.takers)) turn
+    can_put _ (world_at house) house.me c.args.moment c.as_slice.result.now (site_of (desk_of slot.provider) (waits slot.takers)) turn
     c.into_vec.result.items slot.putters (length-map house.directory.now (λ (one : Kept). one.provider)) c.requires.putters
     c.in-Ok.ensures.took c.into_vec.ensures c.in-Ok.ensures.fit
     (subst (λ (rooms : List ℕ). (to : ℕ) (other : Putting) → to < length slot.putters → room_in rooms to ≤ (get_or slot.putters to other).free)
@@ -31,7 +32,8 @@ returns-in-Ok g c =
       out = c.in-Ok.field-0.out;
       turn = λ other e.
           rw (← same_Some c.in-Ok.field-0.turn other e) (record {
-            took = subst (λ (rooms : List ℕ). Took (world_at house) house.me c.args.moment (room_in rooms)
+            took = subst (λ (rooms : List ℕ). Took (g.D.Disk.tells × Stands g.D.Disk.sight slot.provider.chronicle)
+                (world_at house) house.me c.args.moment (room_in rooms)
                 (site_of (desk_of slot.provider) (waits slot.takers)) turn) c.as_slice.ensures c.in-Ok.ensures.took;
             told = c.in-Ok.ensures.told;
             memory = c.in-Ok.ensures.memory;

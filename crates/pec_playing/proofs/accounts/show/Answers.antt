@@ -1,45 +1,81 @@
-use Rattle.std.proofs.Common.{◌∙◌, ℕ, false, Global, Vec, ap}
+use Rattle.std.proofs.Common.{◌≡◌, ◌∙◌, List, length, ap, sym, Err}
 use Rattle.pec_types.specs.Bytes.{Bytes}
-use Rattle.pec_plays.specs.Commands.{Show, Shown}
-use Rattle.pec_network.specs.Network.{world_of}
-use Rattle.pec_network.specs.OfProviders.{luck_of}
+use Rattle.pec_directory.specs.Directory.{Kept}
+use Rattle.pec_ledger.specs.Network.{journals_of}
+use Rattle.pec_network.specs.Network.{sites, world_of}
 use Rattle.pec_script.specs.Texts.{item_text}
-use Rattle.pec_playing.proofs.AskLemmas.{ask_refuses, ask_says, ask_stops, show_asked, shown_told}
+use Rattle.pec_playing.specs.Doing.{Keeps}
+use Rattle.pec_playing.proofs.KeptLemmas.{keeps_same}
+use Rattle.pec_playing.proofs.ShowLemmas.{look_refuses, look_says, look_stops}
 use Rattle.pec_playing.proofs.accounts.show.Goals as goal
 
-pub returns-in-Ok : goal.returns-in-Ok
-returns-in-Ok g c =
+pub returns-in-Ok-clause-does : goal.returns-in-Ok-clause-does
+returns-in-Ok-clause-does g c =
     let network = c.args.network.now in
-    let trade = world_of g.S.Sealer.seals network in
-    ask_says g.D.Disk.sight g.D.Counted.faults g.D.Disk.tells trade (Show c.args.account.now c.args.place) network
-    (show_asked trade c.args.account.now c.args.place)
-    (λ (told : Vec ℕ Global). Shown told.items) c.in-Ok.bytes (λ providers. item_text c.in-Ok.bytes.items)
-    (shown_told c.in-Ok.bytes.items)
-    (c.in-Ok.ensures (luck_of false)) c.in_ok-text-in-Ok.text
+    let new = c.show-outcome.new.self in
+    let told = c.show-outcome.ensures in
+    let many : length new.providers ≡ length network.providers =
+    c.as_many_providers-2.ensures ∙ ap (λ (k : List Kept). length k) told.same.0 ∙ sym c.as_many_providers.ensures in
+    let keeps : Keeps g.D.Disk.sight g.D.Counted.faults g.D.Disk.tells network new =
+    keeps_same g.D.Disk.sight g.D.Counted.faults g.D.Disk.tells (world_of g.S.Sealer.seals network) network new
+    told.same.0 told.same.1 many told.concerns.carries told.concerns.later in
+    look_says g.D.Disk.sight g.D.Counted.faults g.D.Disk.tells g.S.Sealer.seals c.args.account.now c.args.place network new
+    keeps c.in-Ok.bytes c.in-Ok.ensures.shown c.in_ok-text-in-Ok.text
     (c.in_ok-text-in-Ok.ensures ∙ ap (λ (l : Bytes). item_text l) c.as_slice.ensures.value)
 
-pub returns-in-Err : goal.returns-in-Err
-returns-in-Err g c =
+pub returns-in-Err-clause-does : goal.returns-in-Err-clause-does
+returns-in-Err-clause-does g c =
     let network = c.args.network.now in
-    let trade = world_of g.S.Sealer.seals network in
-    ask_refuses g.D.Disk.sight g.D.Counted.faults g.D.Disk.tells trade (Show c.args.account.now c.args.place) network
-    (show_asked trade c.args.account.now c.args.place)
-    (λ (told : Vec ℕ Global). Shown told.items) c.in-Err.fault (c.in-Err.ensures (luck_of false))
+    let new = c.show-outcome.new.self in
+    let told = c.show-outcome.ensures in
+    let many : length new.providers ≡ length network.providers =
+    c.as_many_providers-2.ensures ∙ ap (λ (k : List Kept). length k) told.same.0 ∙ sym c.as_many_providers.ensures in
+    let keeps : Keeps g.D.Disk.sight g.D.Counted.faults g.D.Disk.tells network new =
+    keeps_same g.D.Disk.sight g.D.Counted.faults g.D.Disk.tells (world_of g.S.Sealer.seals network) network new
+    told.same.0 told.same.1 many told.concerns.carries told.concerns.later in
+    look_refuses g.D.Disk.sight g.D.Counted.faults g.D.Disk.tells g.S.Sealer.seals c.args.account.now c.args.place network new
+    keeps c.in-Err.fault c.in-Err.ensures.shown (λ e. c.in-Err.ensures.concerns.disk_fault (ap Err e))
     c.in_ok-text-in-Err.text c.in_ok-text-in-Err.ensures
 
-pub returns-in_err-text-in-Ok : goal.returns-in_err-text-in-Ok
-returns-in_err-text-in-Ok g c =
+pub returns-in_err-text-in-Ok-clause-does : goal.returns-in_err-text-in-Ok-clause-does
+returns-in_err-text-in-Ok-clause-does g c =
     let network = c.args.network.now in
-    let trade = world_of g.S.Sealer.seals network in
-    ask_stops g.D.Disk.sight g.D.Counted.faults g.D.Disk.tells trade (Show c.args.account.now c.args.place) network
-    (show_asked trade c.args.account.now c.args.place)
-    (λ (told : Vec ℕ Global). Shown told.items) c.from_residual.result c.from_residual.ensures.0
+    let new = c.show-outcome.new.self in
+    let told = c.show-outcome.ensures in
+    let many : length new.providers ≡ length network.providers =
+    c.as_many_providers-2.ensures ∙ ap (λ (k : List Kept). length k) told.same.0 ∙ sym c.as_many_providers.ensures in
+    let keeps : Keeps g.D.Disk.sight g.D.Counted.faults g.D.Disk.tells network new =
+    keeps_same g.D.Disk.sight g.D.Counted.faults g.D.Disk.tells (world_of g.S.Sealer.seals network) network new
+    told.same.0 told.same.1 many told.concerns.carries told.concerns.later in
+    look_stops g.D.Disk.sight g.D.Counted.faults g.D.Disk.tells g.S.Sealer.seals c.args.account.now c.args.place network new
+    keeps c.show-outcome.result told.shown c.from_residual.result c.from_residual.ensures.0
 
-pub returns-in_err-text-in-Err : goal.returns-in_err-text-in-Err
-returns-in_err-text-in-Err g c =
+pub returns-in_err-text-in-Err-clause-does : goal.returns-in_err-text-in-Err-clause-does
+returns-in_err-text-in-Err-clause-does g c =
     let network = c.args.network.now in
-    let trade = world_of g.S.Sealer.seals network in
-    ask_stops g.D.Disk.sight g.D.Counted.faults g.D.Disk.tells trade (Show c.args.account.now c.args.place) network
-    (show_asked trade c.args.account.now c.args.place)
-    (λ (told : Vec ℕ Global). Shown told.items) c.from_residual-in_err-text-in-Err.result
+    let new = c.show-outcome.new.self in
+    let told = c.show-outcome.ensures in
+    let many : length new.providers ≡ length network.providers =
+    c.as_many_providers-2.ensures ∙ ap (λ (k : List Kept). length k) told.same.0 ∙ sym c.as_many_providers.ensures in
+    let keeps : Keeps g.D.Disk.sight g.D.Counted.faults g.D.Disk.tells network new =
+    keeps_same g.D.Disk.sight g.D.Counted.faults g.D.Disk.tells (world_of g.S.Sealer.seals network) network new
+    told.same.0 told.same.1 many told.concerns.carries told.concerns.later in
+    look_stops g.D.Disk.sight g.D.Counted.faults g.D.Disk.tells g.S.Sealer.seals c.args.account.now c.args.place network new
+    keeps c.show-outcome.result told.shown c.from_residual-in_err-text-in-Err.result
     c.from_residual-in_err-text-in-Err.ensures.0
+
+pub returns-in-Ok-clause-carries : goal.returns-in-Ok-clause-carries
+returns-in-Ok-clause-carries g c = λ told sound.
+    c.show-outcome.ensures.concerns.carries told (journals_of (sites c.args.network.now))
+
+pub returns-in-Err-clause-carries : goal.returns-in-Err-clause-carries
+returns-in-Err-clause-carries g c = λ told sound.
+    c.show-outcome.ensures.concerns.carries told (journals_of (sites c.args.network.now))
+
+pub returns-in_err-text-in-Ok-clause-carries : goal.returns-in_err-text-in-Ok-clause-carries
+returns-in_err-text-in-Ok-clause-carries g c = λ told sound.
+    c.show-outcome.ensures.concerns.carries told (journals_of (sites c.args.network.now))
+
+pub returns-in_err-text-in-Err-clause-carries : goal.returns-in_err-text-in-Err-clause-carries
+returns-in_err-text-in-Err-clause-carries g c = λ told sound.
+    c.show-outcome.ensures.concerns.carries told (journals_of (sites c.args.network.now))

@@ -5,7 +5,7 @@ use Rattle.pec_screen.specs.Verdicts.{Patterns}
 use Rattle.pec_seal.specs.Hmac.{hmac_seals}
 use Rattle.pec_seal.specs.declared.hmac.HmacSealer.{HmacSealer}
 use Rattle.pec_seal.specs.Seals.{Seals}
-use Rattle.pec_playing.specs.OfNetworks.{NetworkState, world_of}
+use Rattle.pec_playing.specs.OfNetworks.{AllStand, NetworkState, world_of}
 use Rattle.pec_http.specs.Serving.{Serves}
 use Rattle.pec_desk.specs.Desks.{DeskState, answers_of}
 use Rattle.pec_playing.specs.Doing.{Keeps}
@@ -68,12 +68,14 @@ returns-clause-hears g c = λ elsewhere.
     subst (λ (n : NetworkState g.row.D.Denot HmacSealer). length n.providers ≡ length c.args.network.providers) closed
     (c.as_many_providers-2.ensures ∙ ap (λ (k : List Kept). length k) keeps.directory ∙ sym c.as_many_providers.ensures) in
     subst (λ (n : NetworkState g.row.D.Denot HmacSealer).
-    Hears (world_of seals_of c.args.network) c.args.network.kept (finds_in screens) c.args.moment
+    Hears (world_of seals_of c.args.network) (g.D.Disk.tells × AllStand g.D.Disk.sight c.args.network.providers)
+    c.args.network.kept (finds_in screens) c.args.moment
     (state_of g.D.Counted.faults elsewhere c.args.network) (state_of g.D.Counted.faults elsewhere n) left held held_then
     c.serve_one-told.result) (sym closed)
     (serves_hear g.D.Disk.sight g.D.Counted.faults g.D.Disk.tells seals_of
     (record { refused = c.what_is_told_was_counted.ensures.refused; later = c.what_is_told_was_counted.ensures.later })
-    (λ desk later input reply answer asked asks. c.an_account_sees_its_own.ensures.own desk later input reply answer asked asks)
+    (λ desk later input reply answer asked asks reads.
+    c.an_account_sees_its_own.ensures.own desk later input reply answer asked asks reads)
     c.args.network c.args.moment screens after elsewhere many c.as_many_providers.ensures left held held_then c.serve_one-told.result
     serves)
 

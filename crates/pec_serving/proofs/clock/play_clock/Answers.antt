@@ -6,7 +6,7 @@ use Rattle.pec_playing.specs.Points.{point_of, stop_in}
 use Rattle.pec_plays.specs.Commands.{Round, Tick}
 use Rattle.pec_runs.specs.Steps.{Act, Climbs, Goes, Plays, Stop}
 use Rattle.pec_service.specs.Calls.{clock_from}
-use Rattle.pec_serving.proofs.ClockLemmas.{all_due, by_result, by_stop, due_from, last_due, next_due, round_calm, tick_calm}
+use Rattle.pec_serving.proofs.ClockLemmas.{all_due, by_result, by_stop, due_from, last_due, next_due}
 use Rattle.pec_serving.proofs.clock.play_clock.Goals as goal
 
 pub loop-provider-init : goal.loop-provider-init
@@ -17,7 +17,7 @@ loop-provider-init g c =
     let providers = providers_of start.kept in
     let due = map Plays (clock_from (length start.kept) 0 c.args.moment) in
     record {
-      climbs = λ elsewhere.
+      climbs = λ stand elsewhere.
           let here = point_of g.D.Counted.faults elsewhere start (g.W.Stream.held c.args.out.now)
           (g.W.Counted.faults c.args.out.now) in
           subst (λ (left : List Act). Climbs trade providers tells g.D.Disk.sight due left here here)
@@ -50,7 +50,7 @@ loop-provider-preserved g c =
       ap (λ (k : List Kept). length k) c.directory.ensures.value,
     ) in
     record {
-      climbs = λ elsewhere.
+      climbs = λ stand elsewhere.
           let first = point_of g.D.Counted.faults elsewhere start (g.W.Stream.held c.args.out.now)
           (g.W.Counted.faults c.args.out.now) in
           let here = point_of g.D.Counted.faults elsewhere c.loop-provider.network (g.W.Stream.held c.loop-provider.out)
@@ -59,9 +59,9 @@ loop-provider-preserved g c =
           (due_from size moment (number + 1)) first here _
           (subst (λ (left : List Act). Climbs trade providers tells g.D.Disk.sight due left first here) (next_due size
           moment number below)
-          (so.climbs elsewhere))
+          (so.climbs stand elsewhere))
           (rw (so.keeps.directory, so.keeps.seals) at c.in_ok-play_and_write.ensures.goes
-          (λ other restarts. absurd (tick_calm number moment other restarts)) elsewhere);
+          (λ told. so.keeps.stands told.1 (stand told)) elsewhere);
       keeps = c.what_is_kept_is_kept_on.ensures.one start c.loop-provider.network c.play_and_write.new.network
           so.keeps c.play_and_write.ensures.keeps;
       home = λ told k. c.play_and_write.ensures.home told k ∙ so.home told k;
@@ -73,7 +73,7 @@ loop-provider-preserved g c =
     }
 
 pub returns-in_err-play_and_write-clause-clock : goal.returns-in_err-play_and_write-clause-clock
-returns-in_err-play_and_write-clause-clock g c = λ elsewhere.
+returns-in_err-play_and_write-clause-clock g c = λ stand elsewhere.
     let so = c.loop-provider.invariant in
     let start = c.args.network.now in
     let tells = g.P.Depot.tells × g.D.Disk.tells in
@@ -97,9 +97,9 @@ returns-in_err-play_and_write-clause-clock g c = λ elsewhere.
     let there = point_of g.D.Counted.faults elsewhere c.play_and_write.new.network
     (g.W.Stream.held c.play_and_write.new.out) (g.W.Counted.faults c.play_and_write.new.out) in
     let climbs = subst (λ (left : List Act). Climbs trade providers tells g.D.Disk.sight due left first here)
-    (next_due size moment number below) (so.climbs elsewhere) in
+    (next_due size moment number below) (so.climbs stand elsewhere) in
     let goes = rw (so.keeps.directory, so.keeps.seals) at c.in_err-play_and_write.ensures.goes
-    (λ other restarts. absurd (tick_calm number moment other restarts)) elsewhere in
+    (λ told. so.keeps.stands told.1 (stand told)) elsewhere in
     let stop = c.in_err-play_and_write.field-0.0 in
     let p = err_from_is_err_and c.from_residual.result
     c.from_residual.ensures.1 in
@@ -111,7 +111,7 @@ returns-in_err-play_and_write-clause-clock g c = λ elsewhere.
     (due_from size moment (number + 1)) first here there why climbs one) stop goes))
 
 pub returns-clause-clock : goal.returns-clause-clock
-returns-clause-clock g c = λ elsewhere.
+returns-clause-clock g c = λ stand elsewhere.
     let so = c.loop-provider.invariant in
     let start = c.args.network.now in
     let tells = g.P.Depot.tells × g.D.Disk.tells in
@@ -136,9 +136,9 @@ returns-clause-clock g c = λ elsewhere.
     c.play_and_write-2.new.out)
     (g.W.Counted.faults c.play_and_write-2.new.out) in
     let climbs = subst (λ (left : List Act). Climbs trade providers tells g.D.Disk.sight due left first here)
-    (last_due size moment c.loop-provider.provider last) (so.climbs elsewhere) in
+    (last_due size moment c.loop-provider.provider last) (so.climbs stand elsewhere) in
     let goes = rw (so.keeps.directory, so.keeps.seals) at c.play_and_write-2.ensures.goes
-    (λ other restarts. absurd (round_calm moment other restarts)) elsewhere in
+    (λ told. so.keeps.stands told.1 (stand told)) elsewhere in
     c.acts_are_calls.ensures.went trade providers size 0 moment first there (stop_in c.play_and_write-2.result)
     (by_result (λ (o : Option Stop). Goes trade providers tells g.D.Disk.sight (Plays (Round moment) ∷ []) here there o)
     (λ (o : Option Stop). Goes trade providers tells g.D.Disk.sight due first there o)

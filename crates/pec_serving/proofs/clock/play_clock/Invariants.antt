@@ -2,7 +2,7 @@ use Rattle.std.proofs.Common.{◌≡◌, ◌≤◌, ℕ, length, map}
 use Rattle.pec_outside.specs.Depots.{Alike}
 use Rattle.pec_directory.specs.Directory.{providers_of}
 use Rattle.pec_playing.specs.Doing.{Keeps}
-use Rattle.pec_playing.specs.OfNetworks.{world_of}
+use Rattle.pec_playing.specs.OfNetworks.{AllStand, world_of}
 use Rattle.pec_playing.specs.Points.{point_of}
 use Rattle.pec_runs.specs.Steps.{Climbs, Plays}
 use Rattle.pec_service.specs.Calls.{clock_from}
@@ -16,7 +16,7 @@ invariant-loop-provider g l =
     let sink = g.W.Stream in
     let faults = g.D.Counted.faults in
     record {
-      climbs : (elsewhere : ℕ → ℕ)
+      climbs : (depot.tells × g.D.Disk.tells → AllStand g.D.Disk.sight l.fn.network.providers) → (elsewhere : ℕ → ℕ)
           → Climbs (world_of g.S.Sealer.seals l.fn.network) (providers_of l.fn.network.kept)
           (depot.tells × g.D.Disk.tells) g.D.Disk.sight (map Plays (clock_from (length l.fn.network.kept) 0 l.moment))
           (due_from (length l.fn.network.kept) l.moment l.provider)

@@ -4,7 +4,7 @@ use Rattle.pec_screen.specs.Screened.{finds_in}
 use Rattle.pec_seal.specs.Hmac.{hmac_seals}
 use Rattle.pec_seal.specs.Seals.{Seals}
 use Rattle.pec_seal.specs.declared.hmac.HmacSealer.{HmacSealer}
-use Rattle.pec_playing.specs.OfNetworks.{trade_of, world_of}
+use Rattle.pec_playing.specs.OfNetworks.{AllStand, trade_of, world_of}
 use Rattle.pec_playing.specs.Points.{state_in}
 use Rattle.pec_serving.specs.Serving.{place_of}
 use Rattle.pec_serving.proofs.MoveLemmas.{moves_none}
@@ -18,7 +18,7 @@ returns-clause-comes g c = λ elsewhere.
     let faults = g.R.C.Counted.faults c.answer-network.new.connection in
     served_next
     (trade_of c.args.network.kept (hmac_seals c.args.network.sealer.names.items c.args.network.sealer.keys.items))
-    c.args.network.kept (finds_in (map g.J.Judge.patterns c.args.screens.items)) c.in-Ok-now.moment c.in-Ok-now.ensures.bound
+    (g.D.Disk.tells × AllStand g.D.Disk.sight c.args.network.providers) c.args.network.kept (finds_in (map g.J.Judge.patterns c.args.screens.items)) c.in-Ok-now.moment c.in-Ok-now.ensures.bound
     (place_of g.D.Counted.faults elsewhere c.args.network (g.T.Ticks.coming c.args.ticks.now)
     (g.R.Door.requests c.args.door.now) (g.R.Door.replies c.args.door.now))
     (place_of g.D.Counted.faults elsewhere c.answer-network.result.0 (g.T.Ticks.coming c.now.new.self)

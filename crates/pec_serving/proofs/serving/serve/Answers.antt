@@ -16,19 +16,19 @@ use Rattle.pec_serving.proofs.KeepLemmas.{given_back, keeps_all, keeps_on}
 use Rattle.pec_serving.proofs.MoveLemmas.{MoveLaws, moves_again, moves_last, moves_stopped, served_in_time}
 use Rattle.pec_serving.proofs.ServiceLemmas.{CallLaws, ConnectionLaws, all_served, goes_none}
 use Rattle.pec_serving.proofs.serving.serve.Goals as goal
-use Rattle.pec_playing.specs.OfNetworks.{world_of}
+use Rattle.pec_playing.specs.OfNetworks.{AllStand, world_of}
 
 abbrev seals_of : HmacSealer → Seals
 seals_of sealer = hmac_seals sealer.names.items sealer.keys.items
 
 pub loop-served-init : goal.loop-served-init
 loop-served-init g c = record {
-  going = λ elsewhere.
-      goes_none (world_of seals_of c.args.network) c.args.network.kept
+  going = λ stand elsewhere.
+      goes_none (world_of seals_of c.args.network) (g.P.Depot.tells × g.D.Disk.tells) c.args.network.kept
       (finds_in (map g.J.Judge.patterns c.args.screens.items))
       (place_of g.D.Counted.faults elsewhere c.args.network (g.T.Ticks.coming c.args.ticks.now)
       (g.R.Door.requests c.args.door.now) (g.R.Door.replies c.args.door.now)) (g.W.Stream.held c.args.out.now);
-  moves = λ elsewhere. c.moves_are_joined.ensures.none (world_of seals_of c.args.network)
+  moves = λ stand elsewhere. c.moves_are_joined.ensures.none (world_of seals_of c.args.network)
       (state_in g.D.Counted.faults elsewhere c.args.network);
   patterns = refl;
   keeps = keeps_all g.D.Disk.sight g.D.Counted.faults g.D.Disk.tells c.args.network;
@@ -42,11 +42,11 @@ loop-served-init g c = record {
 }
 
 pub returns-in-NoConnection-clause-serves : goal.returns-in-NoConnection-clause-serves
-returns-in-NoConnection-clause-serves g c = λ elsewhere.
+returns-in-NoConnection-clause-serves g c = λ stand elsewhere.
     let start = c.args.network in
     let seals = seals_of in
     let trade = world_of seals_of start in
-    let laws : CallLaws trade = record {
+    let laws : CallLaws trade (g.P.Depot.tells × g.D.Disk.tells) = record {
       all = c.calls_are_joined.ensures.all trade;
       since = c.calls_are_joined.ensures.since trade;
       same = c.calls_are_joined.ensures.same;
@@ -55,7 +55,7 @@ returns-in-NoConnection-clause-serves g c = λ elsewhere.
       behind = c.calls_are_joined.ensures.behind;
     } in
     let screens : List (List Patterns) = map g.J.Judge.patterns c.args.screens.items in
-    let joins : ConnectionLaws trade start.kept (finds_in screens) = record {
+    let joins : ConnectionLaws trade (g.P.Depot.tells × g.D.Disk.tells) start.kept (finds_in screens) = record {
       one = c.connections_are_joined.ensures.one trade start.kept (finds_in screens);
       behind = c.connections_are_joined.ensures.behind;
       text = c.connections_are_joined.ensures.text trade start.kept;
@@ -65,12 +65,13 @@ returns-in-NoConnection-clause-serves g c = λ elsewhere.
     let again = c.next-again.result.0 in
     let here = place_of g.D.Counted.faults elsewhere start (g.T.Ticks.coming c.args.ticks.now)
     (g.R.Door.requests c.args.door.now) (g.R.Door.replies c.args.door.now) in
-    ends_unmet g.D.Disk.sight g.D.Counted.faults g.D.Disk.tells seals_of start screens laws joins elsewhere here now again screens_now
+    ends_unmet g.D.Disk.sight g.D.Counted.faults g.D.Disk.tells (g.P.Depot.tells × g.D.Disk.tells) seals_of start screens laws joins elsewhere here now again
+    (λ told. (told.1, c.loop-served.invariant.keeps.stands told.1 (stand told))) screens_now
     c.loop-served.invariant.patterns c.loop-served.invariant.keeps (g.T.Ticks.coming c.loop-served.ticks) (g.R.Door.requests c.loop-served.door)
     (g.R.Door.replies c.loop-served.door) c.loop-served.served (g.W.Stream.held c.args.out.now)
-    (g.W.Stream.held c.loop-served.out) (c.loop-served.invariant.going elsewhere) (g.T.Ticks.coming c.next-again.new.ticks)
+    (g.W.Stream.held c.loop-served.out) (c.loop-served.invariant.going stand elsewhere) (g.T.Ticks.coming c.next-again.new.ticks)
     (g.R.Door.requests c.next-again.new.door) (g.R.Door.replies c.next-again.new.door) c.args.wanted c.loop-served-test.true
-    (subst (λ (came : Came). ComesNext (world_of seals_of now) now.kept (finds_in screens_now)
+    (subst (λ (came : Came). ComesNext (world_of seals_of now) (g.D.Disk.tells × AllStand g.D.Disk.sight now.providers) now.kept (finds_in screens_now)
     (place_of g.D.Counted.faults elsewhere now (g.T.Ticks.coming c.loop-served.ticks) (g.R.Door.requests c.loop-served.door)
     (g.R.Door.replies c.loop-served.door))
     (place_of g.D.Counted.faults elsewhere again (g.T.Ticks.coming c.next-again.new.ticks)
@@ -89,11 +90,11 @@ returns-in-NoConnection-clause-no_connection g c = λ same.
     c.next-again.ensures.door_later (c.next-again.ensures.no_connection c.in-NoConnection.is)
 
 pub returns-in-NoMoment-clause-serves : goal.returns-in-NoMoment-clause-serves
-returns-in-NoMoment-clause-serves g c = λ elsewhere.
+returns-in-NoMoment-clause-serves g c = λ stand elsewhere.
     let start = c.args.network in
     let seals = seals_of in
     let trade = world_of seals_of start in
-    let laws : CallLaws trade = record {
+    let laws : CallLaws trade (g.P.Depot.tells × g.D.Disk.tells) = record {
       all = c.calls_are_joined.ensures.all trade;
       since = c.calls_are_joined.ensures.since trade;
       same = c.calls_are_joined.ensures.same;
@@ -102,7 +103,7 @@ returns-in-NoMoment-clause-serves g c = λ elsewhere.
       behind = c.calls_are_joined.ensures.behind;
     } in
     let screens : List (List Patterns) = map g.J.Judge.patterns c.args.screens.items in
-    let joins : ConnectionLaws trade start.kept (finds_in screens) = record {
+    let joins : ConnectionLaws trade (g.P.Depot.tells × g.D.Disk.tells) start.kept (finds_in screens) = record {
       one = c.connections_are_joined.ensures.one trade start.kept (finds_in screens);
       behind = c.connections_are_joined.ensures.behind;
       text = c.connections_are_joined.ensures.text trade start.kept;
@@ -112,12 +113,13 @@ returns-in-NoMoment-clause-serves g c = λ elsewhere.
     let again = c.next-again.result.0 in
     let here = place_of g.D.Counted.faults elsewhere start (g.T.Ticks.coming c.args.ticks.now)
     (g.R.Door.requests c.args.door.now) (g.R.Door.replies c.args.door.now) in
-    ends_untold g.D.Disk.sight g.D.Counted.faults g.D.Disk.tells seals_of start screens laws joins elsewhere here now again screens_now
+    ends_untold g.D.Disk.sight g.D.Counted.faults g.D.Disk.tells (g.P.Depot.tells × g.D.Disk.tells) seals_of start screens laws joins elsewhere here now again
+    (λ told. (told.1, c.loop-served.invariant.keeps.stands told.1 (stand told))) screens_now
     c.loop-served.invariant.patterns c.loop-served.invariant.keeps (g.T.Ticks.coming c.loop-served.ticks) (g.R.Door.requests c.loop-served.door)
     (g.R.Door.replies c.loop-served.door) c.loop-served.served (g.W.Stream.held c.args.out.now)
-    (g.W.Stream.held c.loop-served.out) (c.loop-served.invariant.going elsewhere) (g.T.Ticks.coming c.next-again.new.ticks)
+    (g.W.Stream.held c.loop-served.out) (c.loop-served.invariant.going stand elsewhere) (g.T.Ticks.coming c.next-again.new.ticks)
     (g.R.Door.requests c.next-again.new.door) (g.R.Door.replies c.next-again.new.door) c.args.wanted c.loop-served-test.true
-    (subst (λ (came : Came). ComesNext (world_of seals_of now) now.kept (finds_in screens_now)
+    (subst (λ (came : Came). ComesNext (world_of seals_of now) (g.D.Disk.tells × AllStand g.D.Disk.sight now.providers) now.kept (finds_in screens_now)
     (place_of g.D.Counted.faults elsewhere now (g.T.Ticks.coming c.loop-served.ticks) (g.R.Door.requests c.loop-served.door)
     (g.R.Door.replies c.loop-served.door))
     (place_of g.D.Counted.faults elsewhere again (g.T.Ticks.coming c.next-again.new.ticks)
@@ -136,11 +138,11 @@ returns-in-NoMoment-clause-no_moment g c = λ same.
     c.next-again.ensures.clock_later (c.next-again.ensures.no_moment c.in-NoMoment.is)
 
 pub returns-in-Err-clause-serves : goal.returns-in-Err-clause-serves
-returns-in-Err-clause-serves g c = λ elsewhere.
+returns-in-Err-clause-serves g c = λ stand elsewhere.
     let start = c.args.network in
     let seals = seals_of in
     let trade = world_of seals_of start in
-    let laws : CallLaws trade = record {
+    let laws : CallLaws trade (g.P.Depot.tells × g.D.Disk.tells) = record {
       all = c.calls_are_joined.ensures.all trade;
       since = c.calls_are_joined.ensures.since trade;
       same = c.calls_are_joined.ensures.same;
@@ -149,7 +151,7 @@ returns-in-Err-clause-serves g c = λ elsewhere.
       behind = c.calls_are_joined.ensures.behind;
     } in
     let screens : List (List Patterns) = map g.J.Judge.patterns c.args.screens.items in
-    let joins : ConnectionLaws trade start.kept (finds_in screens) = record {
+    let joins : ConnectionLaws trade (g.P.Depot.tells × g.D.Disk.tells) start.kept (finds_in screens) = record {
       one = c.connections_are_joined.ensures.one trade start.kept (finds_in screens);
       behind = c.connections_are_joined.ensures.behind;
       text = c.connections_are_joined.ensures.text trade start.kept;
@@ -159,13 +161,14 @@ returns-in-Err-clause-serves g c = λ elsewhere.
     let again = c.next-again.result.0 in
     let here = place_of g.D.Counted.faults elsewhere start (g.T.Ticks.coming c.args.ticks.now)
     (g.R.Door.requests c.args.door.now) (g.R.Door.replies c.args.door.now) in
-    ends_broken g.D.Disk.sight g.D.Counted.faults g.D.Disk.tells seals_of start screens laws joins elsewhere here now again screens_now
+    ends_broken g.D.Disk.sight g.D.Counted.faults g.D.Disk.tells (g.P.Depot.tells × g.D.Disk.tells) seals_of start screens laws joins elsewhere here now again
+    (λ told. (told.1, c.loop-served.invariant.keeps.stands told.1 (stand told))) screens_now
     c.loop-served.invariant.patterns c.loop-served.invariant.keeps (g.T.Ticks.coming c.loop-served.ticks) (g.R.Door.requests c.loop-served.door)
     (g.R.Door.replies c.loop-served.door) c.loop-served.served (g.W.Stream.held c.args.out.now)
-    (g.W.Stream.held c.loop-served.out) (c.loop-served.invariant.going elsewhere) (g.T.Ticks.coming c.next-again.new.ticks)
+    (g.W.Stream.held c.loop-served.out) (c.loop-served.invariant.going stand elsewhere) (g.T.Ticks.coming c.next-again.new.ticks)
     (g.R.Door.requests c.next-again.new.door) (g.R.Door.replies c.next-again.new.door) c.args.wanted c.loop-served-test.true
     c.in-Served.moment c.in-Served.told
-    (subst (λ (came : Came). ComesNext (world_of seals_of now) now.kept (finds_in screens_now)
+    (subst (λ (came : Came). ComesNext (world_of seals_of now) (g.D.Disk.tells × AllStand g.D.Disk.sight now.providers) now.kept (finds_in screens_now)
     (place_of g.D.Counted.faults elsewhere now (g.T.Ticks.coming c.loop-served.ticks) (g.R.Door.requests c.loop-served.door)
     (g.R.Door.replies c.loop-served.door))
     (place_of g.D.Counted.faults elsewhere again (g.T.Ticks.coming c.next-again.new.ticks)
@@ -179,11 +182,11 @@ returns-in-Err-clause-keeps g c =
     c.loop-served.invariant.keeps c.next-again.ensures.keeps
 
 pub returns-in-Err-WriteFault-clause-serves : goal.returns-in-Err-WriteFault-clause-serves
-returns-in-Err-WriteFault-clause-serves g c = λ elsewhere.
+returns-in-Err-WriteFault-clause-serves g c = λ stand elsewhere.
     let start = c.args.network in
     let seals = seals_of in
     let trade = world_of seals_of start in
-    let laws : CallLaws trade = record {
+    let laws : CallLaws trade (g.P.Depot.tells × g.D.Disk.tells) = record {
       all = c.calls_are_joined.ensures.all trade;
       since = c.calls_are_joined.ensures.since trade;
       same = c.calls_are_joined.ensures.same;
@@ -192,7 +195,7 @@ returns-in-Err-WriteFault-clause-serves g c = λ elsewhere.
       behind = c.calls_are_joined.ensures.behind;
     } in
     let screens : List (List Patterns) = map g.J.Judge.patterns c.args.screens.items in
-    let joins : ConnectionLaws trade start.kept (finds_in screens) = record {
+    let joins : ConnectionLaws trade (g.P.Depot.tells × g.D.Disk.tells) start.kept (finds_in screens) = record {
       one = c.connections_are_joined.ensures.one trade start.kept (finds_in screens);
       behind = c.connections_are_joined.ensures.behind;
       text = c.connections_are_joined.ensures.text trade start.kept;
@@ -202,19 +205,20 @@ returns-in-Err-WriteFault-clause-serves g c = λ elsewhere.
     let again = c.next-again.result.0 in
     let here = place_of g.D.Counted.faults elsewhere start (g.T.Ticks.coming c.args.ticks.now)
     (g.R.Door.requests c.args.door.now) (g.R.Door.replies c.args.door.now) in
-    ends_stopped g.D.Disk.sight g.D.Counted.faults g.D.Disk.tells seals_of start screens laws joins elsewhere here now again screens_now
+    ends_stopped g.D.Disk.sight g.D.Counted.faults g.D.Disk.tells (g.P.Depot.tells × g.D.Disk.tells) seals_of start screens laws joins elsewhere here now again
+    (λ told. (told.1, c.loop-served.invariant.keeps.stands told.1 (stand told))) screens_now
     c.loop-served.invariant.patterns c.loop-served.invariant.keeps (g.T.Ticks.coming c.loop-served.ticks) (g.R.Door.requests c.loop-served.door)
     (g.R.Door.replies c.loop-served.door) c.loop-served.served (g.W.Stream.held c.args.out.now)
-    (g.W.Stream.held c.loop-served.out) (c.loop-served.invariant.going elsewhere) (g.T.Ticks.coming c.next-again.new.ticks)
+    (g.W.Stream.held c.loop-served.out) (c.loop-served.invariant.going stand elsewhere) (g.T.Ticks.coming c.next-again.new.ticks)
     (g.R.Door.requests c.next-again.new.door) (g.R.Door.replies c.next-again.new.door) c.args.wanted c.loop-served-test.true
     c.in-Served.moment c.in-Served.told
-    (subst (λ (came : Came). ComesNext (world_of seals_of now) now.kept (finds_in screens_now)
+    (subst (λ (came : Came). ComesNext (world_of seals_of now) (g.D.Disk.tells × AllStand g.D.Disk.sight now.providers) now.kept (finds_in screens_now)
     (place_of g.D.Counted.faults elsewhere now (g.T.Ticks.coming c.loop-served.ticks) (g.R.Door.requests c.loop-served.door)
     (g.R.Door.replies c.loop-served.door))
     (place_of g.D.Counted.faults elsewhere again (g.T.Ticks.coming c.next-again.new.ticks)
     (g.R.Door.requests c.next-again.new.door) (g.R.Door.replies c.next-again.new.door)) came) c.in-Served.is
     (c.next-again.ensures.comes elsewhere))
-    (g.P.Depot.tells × g.D.Disk.tells) (keeps_on g.D.Disk.sight g.D.Counted.faults g.D.Disk.tells c.args.network c.loop-served.network c.next-again.result.0
+    (keeps_on g.D.Disk.sight g.D.Counted.faults g.D.Disk.tells c.args.network c.loop-served.network c.next-again.result.0
     c.loop-served.invariant.keeps c.next-again.ensures.keeps) c.play_clock.new.network (g.W.Stream.held c.write_outcome.new.out)
     (g.W.Stream.held c.play_clock.new.out) (g.W.Counted.faults c.write_outcome.new.out)
     (g.W.Counted.faults c.play_clock.new.out) c.in_default.ensures.ok
@@ -222,7 +226,8 @@ returns-in-Err-WriteFault-clause-serves g c = λ elsewhere.
     (g.P.Depot.tells × g.D.Disk.tells) g.D.Disk.sight (clock_from (length again.kept) 0 c.in-Served.moment)
     (point_of g.D.Counted.faults elsewhere again (g.W.Stream.held c.write_outcome.new.out) (g.W.Counted.faults c.write_outcome.new.out))
     (point_of g.D.Counted.faults elsewhere c.play_clock.new.network (g.W.Stream.held c.play_clock.new.out)
-    (g.W.Counted.faults c.play_clock.new.out)) (stop_in {T = Unit {0}} (Err stop))) c.in-Err-WriteFault.field-0-is (c.in-Err-WriteFault.ensures.clock elsewhere))
+    (g.W.Counted.faults c.play_clock.new.out)) (stop_in {T = Unit {0}} (Err stop))) c.in-Err-WriteFault.field-0-is (c.in-Err-WriteFault.ensures.clock
+    (λ told. c.next-again.ensures.keeps.stands told.1 (c.loop-served.invariant.keeps.stands told.1 (stand told))) elsewhere))
 
 pub returns-in-Err-WriteFault-clause-keeps : goal.returns-in-Err-WriteFault-clause-keeps
 returns-in-Err-WriteFault-clause-keeps g c =
@@ -231,11 +236,11 @@ returns-in-Err-WriteFault-clause-keeps g c =
     c.loop-served.invariant.keeps c.next-again.ensures.keeps) c.play_clock.ensures.keeps
 
 pub returns-in-Err-NoMemory-clause-serves : goal.returns-in-Err-NoMemory-clause-serves
-returns-in-Err-NoMemory-clause-serves g c = λ elsewhere.
+returns-in-Err-NoMemory-clause-serves g c = λ stand elsewhere.
     let start = c.args.network in
     let seals = seals_of in
     let trade = world_of seals_of start in
-    let laws : CallLaws trade = record {
+    let laws : CallLaws trade (g.P.Depot.tells × g.D.Disk.tells) = record {
       all = c.calls_are_joined.ensures.all trade;
       since = c.calls_are_joined.ensures.since trade;
       same = c.calls_are_joined.ensures.same;
@@ -244,7 +249,7 @@ returns-in-Err-NoMemory-clause-serves g c = λ elsewhere.
       behind = c.calls_are_joined.ensures.behind;
     } in
     let screens : List (List Patterns) = map g.J.Judge.patterns c.args.screens.items in
-    let joins : ConnectionLaws trade start.kept (finds_in screens) = record {
+    let joins : ConnectionLaws trade (g.P.Depot.tells × g.D.Disk.tells) start.kept (finds_in screens) = record {
       one = c.connections_are_joined.ensures.one trade start.kept (finds_in screens);
       behind = c.connections_are_joined.ensures.behind;
       text = c.connections_are_joined.ensures.text trade start.kept;
@@ -254,19 +259,20 @@ returns-in-Err-NoMemory-clause-serves g c = λ elsewhere.
     let again = c.next-again.result.0 in
     let here = place_of g.D.Counted.faults elsewhere start (g.T.Ticks.coming c.args.ticks.now)
     (g.R.Door.requests c.args.door.now) (g.R.Door.replies c.args.door.now) in
-    ends_lacking g.D.Disk.sight g.D.Counted.faults g.D.Disk.tells seals_of start screens laws joins elsewhere here now again screens_now
+    ends_lacking g.D.Disk.sight g.D.Counted.faults g.D.Disk.tells (g.P.Depot.tells × g.D.Disk.tells) seals_of start screens laws joins elsewhere here now again
+    (λ told. (told.1, c.loop-served.invariant.keeps.stands told.1 (stand told))) screens_now
     c.loop-served.invariant.patterns c.loop-served.invariant.keeps (g.T.Ticks.coming c.loop-served.ticks) (g.R.Door.requests c.loop-served.door)
     (g.R.Door.replies c.loop-served.door) c.loop-served.served (g.W.Stream.held c.args.out.now)
-    (g.W.Stream.held c.loop-served.out) (c.loop-served.invariant.going elsewhere) (g.T.Ticks.coming c.next-again.new.ticks)
+    (g.W.Stream.held c.loop-served.out) (c.loop-served.invariant.going stand elsewhere) (g.T.Ticks.coming c.next-again.new.ticks)
     (g.R.Door.requests c.next-again.new.door) (g.R.Door.replies c.next-again.new.door) c.args.wanted c.loop-served-test.true
     c.in-Served.moment c.in-Served.told
-    (subst (λ (came : Came). ComesNext (world_of seals_of now) now.kept (finds_in screens_now)
+    (subst (λ (came : Came). ComesNext (world_of seals_of now) (g.D.Disk.tells × AllStand g.D.Disk.sight now.providers) now.kept (finds_in screens_now)
     (place_of g.D.Counted.faults elsewhere now (g.T.Ticks.coming c.loop-served.ticks) (g.R.Door.requests c.loop-served.door)
     (g.R.Door.replies c.loop-served.door))
     (place_of g.D.Counted.faults elsewhere again (g.T.Ticks.coming c.next-again.new.ticks)
     (g.R.Door.requests c.next-again.new.door) (g.R.Door.replies c.next-again.new.door)) came) c.in-Served.is
     (c.next-again.ensures.comes elsewhere))
-    (g.P.Depot.tells × g.D.Disk.tells) (keeps_on g.D.Disk.sight g.D.Counted.faults g.D.Disk.tells c.args.network c.loop-served.network c.next-again.result.0
+    (keeps_on g.D.Disk.sight g.D.Counted.faults g.D.Disk.tells c.args.network c.loop-served.network c.next-again.result.0
     c.loop-served.invariant.keeps c.next-again.ensures.keeps) c.play_clock.new.network (g.W.Stream.held c.write_outcome.new.out)
     (g.W.Stream.held c.play_clock.new.out) (g.W.Counted.faults c.write_outcome.new.out)
     (g.W.Counted.faults c.play_clock.new.out) c.in_default.ensures.ok
@@ -274,7 +280,8 @@ returns-in-Err-NoMemory-clause-serves g c = λ elsewhere.
     (g.P.Depot.tells × g.D.Disk.tells) g.D.Disk.sight (clock_from (length again.kept) 0 c.in-Served.moment)
     (point_of g.D.Counted.faults elsewhere again (g.W.Stream.held c.write_outcome.new.out) (g.W.Counted.faults c.write_outcome.new.out))
     (point_of g.D.Counted.faults elsewhere c.play_clock.new.network (g.W.Stream.held c.play_clock.new.out)
-    (g.W.Counted.faults c.play_clock.new.out)) (stop_in {T = Unit {0}} (Err stop))) c.in-Err-NoMemory.field-0-is (c.in-Err-NoMemory.ensures.clock elsewhere))
+    (g.W.Counted.faults c.play_clock.new.out)) (stop_in {T = Unit {0}} (Err stop))) c.in-Err-NoMemory.field-0-is (c.in-Err-NoMemory.ensures.clock
+    (λ told. c.next-again.ensures.keeps.stands told.1 (c.loop-served.invariant.keeps.stands told.1 (stand told))) elsewhere))
 
 pub returns-in-Err-NoMemory-clause-keeps : goal.returns-in-Err-NoMemory-clause-keeps
 returns-in-Err-NoMemory-clause-keeps g c =
@@ -287,11 +294,11 @@ loop-served-preserved g c =
     let keeps_again = keeps_on g.D.Disk.sight g.D.Counted.faults g.D.Disk.tells c.args.network c.next-again.result.0 c.play_clock.new.network
     (keeps_on g.D.Disk.sight g.D.Counted.faults g.D.Disk.tells c.args.network c.loop-served.network c.next-again.result.0
     c.loop-served.invariant.keeps c.next-again.ensures.keeps) c.play_clock.ensures.keeps in record {
-      going = λ elsewhere.
+      going = λ stand elsewhere.
           let start = c.args.network in
           let seals = seals_of in
           let trade = world_of seals_of start in
-          let laws : CallLaws trade = record {
+          let laws : CallLaws trade (g.P.Depot.tells × g.D.Disk.tells) = record {
             all = c.calls_are_joined.ensures.all trade;
             since = c.calls_are_joined.ensures.since trade;
             same = c.calls_are_joined.ensures.same;
@@ -300,7 +307,7 @@ loop-served-preserved g c =
             behind = c.calls_are_joined.ensures.behind;
           } in
           let screens : List (List Patterns) = map g.J.Judge.patterns c.args.screens.items in
-          let joins : ConnectionLaws trade start.kept (finds_in screens) = record {
+          let joins : ConnectionLaws trade (g.P.Depot.tells × g.D.Disk.tells) start.kept (finds_in screens) = record {
             one = c.connections_are_joined.ensures.one trade start.kept (finds_in screens);
             behind = c.connections_are_joined.ensures.behind;
             text = c.connections_are_joined.ensures.text trade start.kept;
@@ -310,23 +317,25 @@ loop-served-preserved g c =
           let again = c.next-again.result.0 in
           let here = place_of g.D.Counted.faults elsewhere start (g.T.Ticks.coming c.args.ticks.now)
           (g.R.Door.requests c.args.door.now) (g.R.Door.replies c.args.door.now) in
-          ends_written g.D.Disk.sight g.D.Counted.faults g.D.Disk.tells seals_of start screens laws joins elsewhere here now again screens_now
+          ends_written g.D.Disk.sight g.D.Counted.faults g.D.Disk.tells (g.P.Depot.tells × g.D.Disk.tells) seals_of start screens laws joins elsewhere here now again
+          (λ told. (told.1, c.loop-served.invariant.keeps.stands told.1 (stand told))) screens_now
           c.loop-served.invariant.patterns c.loop-served.invariant.keeps (g.T.Ticks.coming c.loop-served.ticks) (g.R.Door.requests c.loop-served.door)
           (g.R.Door.replies c.loop-served.door) c.loop-served.served (g.W.Stream.held c.args.out.now)
-          (g.W.Stream.held c.loop-served.out) (c.loop-served.invariant.going elsewhere) (g.T.Ticks.coming c.next-again.new.ticks)
+          (g.W.Stream.held c.loop-served.out) (c.loop-served.invariant.going stand elsewhere) (g.T.Ticks.coming c.next-again.new.ticks)
           (g.R.Door.requests c.next-again.new.door) (g.R.Door.replies c.next-again.new.door) c.args.wanted c.loop-served-test.true
           c.in-Served.moment c.in-Served.told
-          (subst (λ (came : Came). ComesNext (world_of seals_of now) now.kept (finds_in screens_now)
+          (subst (λ (came : Came). ComesNext (world_of seals_of now) (g.D.Disk.tells × AllStand g.D.Disk.sight now.providers) now.kept (finds_in screens_now)
           (place_of g.D.Counted.faults elsewhere now (g.T.Ticks.coming c.loop-served.ticks) (g.R.Door.requests c.loop-served.door)
           (g.R.Door.replies c.loop-served.door))
           (place_of g.D.Counted.faults elsewhere again (g.T.Ticks.coming c.next-again.new.ticks)
           (g.R.Door.requests c.next-again.new.door) (g.R.Door.replies c.next-again.new.door)) came) c.in-Served.is
           (c.next-again.ensures.comes elsewhere))
-          (g.P.Depot.tells × g.D.Disk.tells) (keeps_on g.D.Disk.sight g.D.Counted.faults g.D.Disk.tells c.args.network c.loop-served.network c.next-again.result.0
+          (keeps_on g.D.Disk.sight g.D.Counted.faults g.D.Disk.tells c.args.network c.loop-served.network c.next-again.result.0
           c.loop-served.invariant.keeps c.next-again.ensures.keeps) c.play_clock.new.network (g.W.Stream.held c.write_outcome.new.out)
           (g.W.Stream.held c.play_clock.new.out) (g.W.Counted.faults c.write_outcome.new.out)
-          (g.W.Counted.faults c.play_clock.new.out) c.in_default.ensures.ok (c.in-Ok.ensures.clock elsewhere);
-      moves = λ elsewhere.
+          (g.W.Counted.faults c.play_clock.new.out) c.in_default.ensures.ok (c.in-Ok.ensures.clock
+          (λ told. c.next-again.ensures.keeps.stands told.1 (c.loop-served.invariant.keeps.stands told.1 (stand told))) elsewhere);
+      moves = λ stand elsewhere.
           let tells = g.P.Depot.tells × g.D.Disk.tells in
           let trade = world_of seals_of c.args.network in
           let laws : MoveLaws trade g.D.Disk.tells tells g.D.Disk.sight = record {
@@ -336,7 +345,7 @@ loop-served-preserved g c =
           } in
           let again = c.next-again.result.0 in
           let now = c.loop-served.network in
-          let in_time = served_in_time (world_of seals_of now) now.kept (finds_in (map g.J.Judge.patterns c.loop-served.screens.items))
+          let in_time = served_in_time (world_of seals_of now) (g.D.Disk.tells × AllStand g.D.Disk.sight now.providers) now.kept (finds_in (map g.J.Judge.patterns c.loop-served.screens.items))
           (place_of g.D.Counted.faults elsewhere now (g.T.Ticks.coming c.loop-served.ticks) (g.R.Door.requests c.loop-served.door)
           (g.R.Door.replies c.loop-served.door))
           (place_of g.D.Counted.faults elsewhere again (g.T.Ticks.coming c.next-again.new.ticks)
@@ -346,8 +355,9 @@ loop-served-preserved g c =
           let keeps_again = keeps_on g.D.Disk.sight g.D.Counted.faults g.D.Disk.tells c.args.network now again
           c.loop-served.invariant.keeps c.next-again.ensures.keeps in
           moves_last g.D.Disk.sight g.D.Counted.faults g.D.Disk.tells tells seals_of c.args.network now again elsewhere laws
-          c.loop-served.invariant.keeps (c.loop-served.invariant.moves elsewhere) (c.next-again.ensures.moves elsewhere)
-          keeps_again c.play_clock.new.network ((c.in-Ok.ensures.clock elsewhere).moves_on may refl);
+          c.loop-served.invariant.keeps (c.loop-served.invariant.moves stand elsewhere) (c.next-again.ensures.moves elsewhere)
+          keeps_again c.play_clock.new.network ((c.in-Ok.ensures.clock
+          (λ told. c.next-again.ensures.keeps.stands told.1 (c.loop-served.invariant.keeps.stands told.1 (stand told))) elsewhere).moves_on may refl);
       patterns = given_back c.next-again.result.1.items c.play_clock.new.screens c.next-again.result.1.len
           g.J.Judge.patterns c.next-again.result.1.ok.0
           (c.play_clock.ensures.patterns ∙ ap (map g.J.Judge.patterns) c.as_mut_slice.ensures.value)
@@ -363,11 +373,11 @@ loop-served-preserved g c =
     }
 
 pub returns-clause-serves : goal.returns-clause-serves
-returns-clause-serves g c = λ elsewhere.
+returns-clause-serves g c = λ stand elsewhere.
     let start = c.args.network in
     let seals = seals_of in
     let trade = world_of seals_of start in
-    let laws : CallLaws trade = record {
+    let laws : CallLaws trade (g.P.Depot.tells × g.D.Disk.tells) = record {
       all = c.calls_are_joined.ensures.all trade;
       since = c.calls_are_joined.ensures.since trade;
       same = c.calls_are_joined.ensures.same;
@@ -376,7 +386,7 @@ returns-clause-serves g c = λ elsewhere.
       behind = c.calls_are_joined.ensures.behind;
     } in
     let screens : List (List Patterns) = map g.J.Judge.patterns c.args.screens.items in
-    let joins : ConnectionLaws trade start.kept (finds_in screens) = record {
+    let joins : ConnectionLaws trade (g.P.Depot.tells × g.D.Disk.tells) start.kept (finds_in screens) = record {
       one = c.connections_are_joined.ensures.one trade start.kept (finds_in screens);
       behind = c.connections_are_joined.ensures.behind;
       text = c.connections_are_joined.ensures.text trade start.kept;
@@ -387,11 +397,11 @@ returns-clause-serves g c = λ elsewhere.
     (g.R.Door.requests c.loop-served.door) (g.R.Door.replies c.loop-served.door) in
     let all : c.loop-served.served ≡ c.args.wanted =
     omega (arith, c.loop-served-test.false, c.loop-served.auto.served-end) in
-    all_served trade start.kept (finds_in screens) laws joins here there c.loop-served.served (g.W.Stream.held c.args.out.now)
-    (g.W.Stream.held c.loop-served.out) (c.loop-served.invariant.going elsewhere) c.args.wanted all
+    all_served trade (g.P.Depot.tells × g.D.Disk.tells) start.kept (finds_in screens) laws joins here there c.loop-served.served (g.W.Stream.held c.args.out.now)
+    (g.W.Stream.held c.loop-served.out) (c.loop-served.invariant.going stand elsewhere) c.args.wanted all
 
 pub returns-in-NoConnection-clause-moves : goal.returns-in-NoConnection-clause-moves
-returns-in-NoConnection-clause-moves g c = λ elsewhere.
+returns-in-NoConnection-clause-moves g c = λ stand elsewhere.
     let tells = g.P.Depot.tells × g.D.Disk.tells in
     let trade = world_of seals_of c.args.network in
     let laws : MoveLaws trade g.D.Disk.tells tells g.D.Disk.sight = record {
@@ -400,11 +410,11 @@ returns-in-NoConnection-clause-moves g c = λ elsewhere.
       told = c.moves_are_joined.ensures.told trade;
     } in
     (moves_again g.D.Disk.sight g.D.Counted.faults g.D.Disk.tells tells seals_of c.args.network c.loop-served.network
-    c.next-again.result.0 elsewhere laws c.loop-served.invariant.keeps (c.loop-served.invariant.moves elsewhere)
+    c.next-again.result.0 elsewhere laws c.loop-served.invariant.keeps (c.loop-served.invariant.moves stand elsewhere)
     (c.next-again.ensures.moves elsewhere)).moves
 
 pub returns-in-NoMoment-clause-moves : goal.returns-in-NoMoment-clause-moves
-returns-in-NoMoment-clause-moves g c = λ elsewhere.
+returns-in-NoMoment-clause-moves g c = λ stand elsewhere.
     let tells = g.P.Depot.tells × g.D.Disk.tells in
     let trade = world_of seals_of c.args.network in
     let laws : MoveLaws trade g.D.Disk.tells tells g.D.Disk.sight = record {
@@ -413,11 +423,11 @@ returns-in-NoMoment-clause-moves g c = λ elsewhere.
       told = c.moves_are_joined.ensures.told trade;
     } in
     (moves_again g.D.Disk.sight g.D.Counted.faults g.D.Disk.tells tells seals_of c.args.network c.loop-served.network
-    c.next-again.result.0 elsewhere laws c.loop-served.invariant.keeps (c.loop-served.invariant.moves elsewhere)
+    c.next-again.result.0 elsewhere laws c.loop-served.invariant.keeps (c.loop-served.invariant.moves stand elsewhere)
     (c.next-again.ensures.moves elsewhere)).moves
 
 pub returns-in-Err-clause-moves : goal.returns-in-Err-clause-moves
-returns-in-Err-clause-moves g c = λ elsewhere.
+returns-in-Err-clause-moves g c = λ stand elsewhere.
     let tells = g.P.Depot.tells × g.D.Disk.tells in
     let trade = world_of seals_of c.args.network in
     let laws : MoveLaws trade g.D.Disk.tells tells g.D.Disk.sight = record {
@@ -426,11 +436,11 @@ returns-in-Err-clause-moves g c = λ elsewhere.
       told = c.moves_are_joined.ensures.told trade;
     } in
     (moves_again g.D.Disk.sight g.D.Counted.faults g.D.Disk.tells tells seals_of c.args.network c.loop-served.network
-    c.next-again.result.0 elsewhere laws c.loop-served.invariant.keeps (c.loop-served.invariant.moves elsewhere)
+    c.next-again.result.0 elsewhere laws c.loop-served.invariant.keeps (c.loop-served.invariant.moves stand elsewhere)
     (c.next-again.ensures.moves elsewhere)).moves
 
 pub returns-in-Err-WriteFault-clause-moves : goal.returns-in-Err-WriteFault-clause-moves
-returns-in-Err-WriteFault-clause-moves g c = λ elsewhere.
+returns-in-Err-WriteFault-clause-moves g c = λ stand elsewhere.
     let tells = g.P.Depot.tells × g.D.Disk.tells in
     let trade = world_of seals_of c.args.network in
     let laws : MoveLaws trade g.D.Disk.tells tells g.D.Disk.sight = record {
@@ -440,7 +450,7 @@ returns-in-Err-WriteFault-clause-moves g c = λ elsewhere.
     } in
     let again = c.next-again.result.0 in
     let now = c.loop-served.network in
-    let in_time = served_in_time (world_of seals_of now) now.kept (finds_in (map g.J.Judge.patterns c.loop-served.screens.items))
+    let in_time = served_in_time (world_of seals_of now) (g.D.Disk.tells × AllStand g.D.Disk.sight now.providers) now.kept (finds_in (map g.J.Judge.patterns c.loop-served.screens.items))
     (place_of g.D.Counted.faults elsewhere now (g.T.Ticks.coming c.loop-served.ticks) (g.R.Door.requests c.loop-served.door)
     (g.R.Door.replies c.loop-served.door))
     (place_of g.D.Counted.faults elsewhere again (g.T.Ticks.coming c.next-again.new.ticks)
@@ -450,11 +460,12 @@ returns-in-Err-WriteFault-clause-moves g c = λ elsewhere.
     let keeps_again = keeps_on g.D.Disk.sight g.D.Counted.faults g.D.Disk.tells c.args.network now again
     c.loop-served.invariant.keeps c.next-again.ensures.keeps in
     moves_stopped g.D.Disk.sight g.D.Counted.faults g.D.Disk.tells tells seals_of c.args.network now again elsewhere laws
-    c.loop-served.invariant.keeps (c.loop-served.invariant.moves elsewhere) (c.next-again.ensures.moves elsewhere) keeps_again
-    c.play_clock.new.network ((c.in-Err-WriteFault.ensures.clock elsewhere).moves may)
+    c.loop-served.invariant.keeps (c.loop-served.invariant.moves stand elsewhere) (c.next-again.ensures.moves elsewhere) keeps_again
+    c.play_clock.new.network ((c.in-Err-WriteFault.ensures.clock
+    (λ told. c.next-again.ensures.keeps.stands told.1 (c.loop-served.invariant.keeps.stands told.1 (stand told))) elsewhere).moves may)
 
 pub returns-in-Err-NoMemory-clause-moves : goal.returns-in-Err-NoMemory-clause-moves
-returns-in-Err-NoMemory-clause-moves g c = λ elsewhere.
+returns-in-Err-NoMemory-clause-moves g c = λ stand elsewhere.
     let tells = g.P.Depot.tells × g.D.Disk.tells in
     let trade = world_of seals_of c.args.network in
     let laws : MoveLaws trade g.D.Disk.tells tells g.D.Disk.sight = record {
@@ -464,7 +475,7 @@ returns-in-Err-NoMemory-clause-moves g c = λ elsewhere.
     } in
     let again = c.next-again.result.0 in
     let now = c.loop-served.network in
-    let in_time = served_in_time (world_of seals_of now) now.kept (finds_in (map g.J.Judge.patterns c.loop-served.screens.items))
+    let in_time = served_in_time (world_of seals_of now) (g.D.Disk.tells × AllStand g.D.Disk.sight now.providers) now.kept (finds_in (map g.J.Judge.patterns c.loop-served.screens.items))
     (place_of g.D.Counted.faults elsewhere now (g.T.Ticks.coming c.loop-served.ticks) (g.R.Door.requests c.loop-served.door)
     (g.R.Door.replies c.loop-served.door))
     (place_of g.D.Counted.faults elsewhere again (g.T.Ticks.coming c.next-again.new.ticks)
@@ -474,8 +485,9 @@ returns-in-Err-NoMemory-clause-moves g c = λ elsewhere.
     let keeps_again = keeps_on g.D.Disk.sight g.D.Counted.faults g.D.Disk.tells c.args.network now again
     c.loop-served.invariant.keeps c.next-again.ensures.keeps in
     moves_stopped g.D.Disk.sight g.D.Counted.faults g.D.Disk.tells tells seals_of c.args.network now again elsewhere laws
-    c.loop-served.invariant.keeps (c.loop-served.invariant.moves elsewhere) (c.next-again.ensures.moves elsewhere) keeps_again
-    c.play_clock.new.network ((c.in-Err-NoMemory.ensures.clock elsewhere).moves may)
+    c.loop-served.invariant.keeps (c.loop-served.invariant.moves stand elsewhere) (c.next-again.ensures.moves elsewhere) keeps_again
+    c.play_clock.new.network ((c.in-Err-NoMemory.ensures.clock
+    (λ told. c.next-again.ensures.keeps.stands told.1 (c.loop-served.invariant.keeps.stands told.1 (stand told))) elsewhere).moves may)
 
 pub returns-clause-moves : goal.returns-clause-moves
-returns-clause-moves g c = λ elsewhere. (c.loop-served.invariant.moves elsewhere).moves
+returns-clause-moves g c = λ stand elsewhere. (c.loop-served.invariant.moves stand elsewhere).moves

@@ -2,7 +2,7 @@ use Rattle.std.proofs.Common.{◌≡◌, ◌≤◌, ℕ, map}
 use Rattle.pec_outside.specs.Depots.{Alike}
 use Rattle.pec_screen.specs.Screened.{finds_in}
 use Rattle.pec_seal.specs.Hmac.{hmac_seals}
-use Rattle.pec_playing.specs.OfNetworks.{trade_of}
+use Rattle.pec_playing.specs.OfNetworks.{AllStand, trade_of}
 use Rattle.pec_playing.specs.Doing.{Keeps}
 use Rattle.pec_playing.specs.Points.{state_in}
 use Rattle.pec_runs.specs.Moves.{MovesOn}
@@ -13,15 +13,15 @@ use Rattle.pec_serving.proofs.serving.serve.Given as goal
 -- So many connections were served whole, and written.
 abbrev pub invariant-loop-served : goal.invariant-loop-served
 invariant-loop-served g l = record {
-  going : (elsewhere : ℕ → ℕ)
+  going : (g.P.Depot.tells × g.D.Disk.tells → AllStand g.D.Disk.sight l.fn.network.providers) → (elsewhere : ℕ → ℕ)
       → Going (trade_of l.fn.network.kept (hmac_seals l.fn.network.sealer.names.items l.fn.network.sealer.keys.items))
-      l.fn.network.kept (finds_in (map g.J.Judge.patterns l.fn.screens.items))
+      (g.P.Depot.tells × g.D.Disk.tells) l.fn.network.kept (finds_in (map g.J.Judge.patterns l.fn.screens.items))
       (place_of g.D.Counted.faults elsewhere l.fn.network (g.T.Ticks.coming l.fn.ticks) (g.R.Door.requests l.fn.door)
       (g.R.Door.replies l.fn.door))
       (place_of g.D.Counted.faults elsewhere l.network (g.T.Ticks.coming l.ticks) (g.R.Door.requests l.door)
       (g.R.Door.replies l.door))
       l.served (g.W.Stream.held l.fn.out) (g.W.Stream.held l.out);
-  moves : (elsewhere : ℕ → ℕ)
+  moves : (g.P.Depot.tells × g.D.Disk.tells → AllStand g.D.Disk.sight l.fn.network.providers) → (elsewhere : ℕ → ℕ)
       → MovesOn (trade_of l.fn.network.kept (hmac_seals l.fn.network.sealer.names.items l.fn.network.sealer.keys.items))
       (g.P.Depot.tells × g.D.Disk.tells) g.D.Disk.sight (state_in g.D.Counted.faults elsewhere l.fn.network)
       (state_in g.D.Counted.faults elsewhere l.network);

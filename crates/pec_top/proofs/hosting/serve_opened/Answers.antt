@@ -60,7 +60,7 @@ returns-in-Ok-clause-served g c = λ unread rest whole.
       replies = g.R.Door.replies c.serve-network.new.door;
     } in
     let counts = counts_in faults network.providers mid_last in
-    let serves = c.serve-network.ensures.serves mid_last in
+    let serves = c.serve-network.ensures.serves opened.stands mid_last in
     let journals = journals_had network.providers in
     let trade = trade_in setting in
     let course : Course = record {
@@ -87,7 +87,7 @@ returns-in-Ok-clause-served g c = λ unread rest whole.
         counts = counts;
         sooner = opened.counts;
         network = state_of faults mid_last served;
-        is = subst (λ (s : List Site). IsService trade kept asked.finds asked.wanted
+        is = subst (λ (s : List Site). IsService trade tells kept asked.finds asked.wanted
             (place_with (record { sites = s; counts = counts }) here)
             (place_with (state_of faults mid_last served) there) serves.service) opened.begins serves.is;
         told = subst (λ (s : Status). TellsService s before after (service_text trade kept
@@ -110,7 +110,7 @@ returns-in-Ok-clause-served g c = λ unread rest whole.
       stand = λ told. all_stand g.P.Depot.tells g.P.D.Disk.tells sight network c.a_network_is_whole.ensures
           (opened.stands told);
       had = opened.had;
-      moves = c.serve-network.ensures.moves mid_last;
+      moves = c.serve-network.ensures.moves opened.stands mid_last;
       kept = at_home;
     })
 

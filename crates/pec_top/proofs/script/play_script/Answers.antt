@@ -38,7 +38,7 @@ returns-in_err-play_and_write-in-Command-clause-read g c = λ stand elsewhere.
     let says = rw (c.in-Command.is, c.directory.ensures.value, so.keeps.directory, c.deref.ensures.value) at
     c.in_ok-said.ensures.says finds in
     let goes = rw (so.keeps.directory, so.keeps.seals, so.patterns) at
-    c.in_err-play_and_write-in-Command.ensures.goes (λ provider restarts told. so.keeps.stands told.1 (stand told)) elsewhere in
+    c.in_err-play_and_write-in-Command.ensures.goes (λ told. so.keeps.stands told.1 (stand told)) elsewhere in
     let p = err_from_is_err_and c.from_residual-in_err-play_and_write-in-Command.result
     c.from_residual-in_err-play_and_write-in-Command.ensures.1 in
     rw (p.1, p.2) (stops (so.reads stand elsewhere) (c.a_loop_climbs.ensures _ _ _) c.next_line.new.line.items
@@ -121,7 +121,7 @@ lines-preserved g c =
           let says = rw (c.in-Command.is, c.directory.ensures.value, so.keeps.directory, c.deref.ensures.value) at
           c.in_ok-said.ensures.says (finds_in (map g.J.Judge.patterns c.args.screens.now)) in
           let goes = rw (so.keeps.directory, so.keeps.seals, so.patterns) at
-          c.in_ok-play_and_write-in-Command.ensures.goes (λ provider restarts told. so.keeps.stands told.1 (stand told)) elsewhere in
+          c.in_ok-play_and_write-in-Command.ensures.goes (λ told. so.keeps.stands told.1 (stand told)) elsewhere in
           plays (so.reads stand elsewhere) (c.a_loop_climbs.ensures _ _ _) c.next_line.new.line.items
           (behind c.next_line.new.buffer (g.S.Stream.left c.next_line.new.source)) c.in_ok-found.found
           c.in_ok-found.ensures.found c.in-Command.command says _ goes;

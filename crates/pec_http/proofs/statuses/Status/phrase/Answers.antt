@@ -1,5 +1,4 @@
-use Rattle.std.proofs.Common.{◌≡◌, ◌≤◌, List, ℕ, length, Some, None, sym, subst, ◌∙◌}
-use Rattle.pec_http.specs.Statuses.{phrase_of}
+use Rattle.std.proofs.Common.{Some, None, ◌∙◌}
 use Rattle.pec_http.proofs.PhraseLemmas.{phrase_by, phrase_short}
 use Rattle.pec_http.proofs.statuses.Status.phrase.Goals as goal
 

@@ -5,6 +5,7 @@ use Rattle.pec_chronicle.specs.CarryingLaws.{carries_nothing}
 use Rattle.pec_provider.specs.Playing.{luck_of}
 use Rattle.pec_provider.specs.Following.{MayFollow}
 use Rattle.pec_provider.specs.Provider.{ProviderState}
+use Rattle.pec_trade.specs.TradeOf.{trade_of}
 use Rattle.pec_network.specs.Carrying.{AllCarryOn, NoneFalls}
 use Rattle.pec_network.specs.Changing.{HasRisenAt, StandsAt}
 use Rattle.pec_network.specs.Network.{IsOfDirectory, NetworkState, sites, sites_of}
@@ -156,7 +157,12 @@ returns-in-Ok-clause-plays g c = λ tells stands trade.
     (subst (λ (n : NetworkState g.row.D.Denot g.row.S.Denot). StandsAt g.D.Disk.sight c.args.provider n.providers) (sym c.self.view_is) stands) in
     subst (λ (l : List (ProviderState g.row.D.Denot)). IsRestarted (λ (luck : Luck). played trade luck (sites c.args.self.now) (Restart c.args.provider))
     (sites c.args.self.now) c.args.provider (sites_of l c.self.inside.arrivals.items) c.entries-entries.result) (sym (c.put_back.ensures ∙ ap (λ (l : List (ProviderState g.row.D.Denot)). insert l c.args.provider c.in-Ok.opened) c.remove.ensures.items ∙ put_instead c.self.inside.providers.items c.args.provider c.in-Ok.opened within))
-    (rw (← c.self.view_is, c.entries-entries.ensures)
+    (rw (
+      ← c.self.view_is,
+      (c.entries-entries.ensures c.self.inside.directory (g.S.Sealer.seals c.self.inside.sealer) c.args.provider
+          (trade_of c.self.inside.directory (g.S.Sealer.seals c.self.inside.sealer)) c.in-Ok.ensures.runs
+          (c.a_trade_says_what_its_parts_say.ensures.directory c.self.inside.directory (g.S.Sealer.seals c.self.inside.sealer))),
+    )
     (restarted_so trade c.self.inside.providers.items c.self.inside.arrivals.items c.args.provider c.remove.result c.in-Ok.opened within
     (c.self.invariant.links ∙ sym c.self.invariant.count) c.remove.ensures.value ((ap (λ (p : ProviderState g.row.D.Denot). p.chronicle.down) (c.remove.ensures.value ∙ at_old c.self.inside.providers.items c.args.provider c.index.result.now c.index.result.now within c.index.ensures c.remove.result)) ∙ sym c.is_down.ensures ∙ c.if-not-is_down.false) c.in-Ok.ensures.up
     (c.in-Ok.ensures.found tells old_stands)))
@@ -165,7 +171,10 @@ pub returns-in-Ok-clause-up : goal.returns-in-Ok-clause-up
 returns-in-Ok-clause-up g c =
     let within = number_within _ c.args.self.now c.self.view_is c.self.invariant c.args.provider c.requires in
     subst (λ (l : List (ProviderState g.row.D.Denot)). IsUpAt c.args.provider l c.entries-entries.result) (sym (c.put_back.ensures ∙ ap (λ (l : List (ProviderState g.row.D.Denot)). insert l c.args.provider c.in-Ok.opened) c.remove.ensures.items ∙ put_instead c.self.inside.providers.items c.args.provider c.in-Ok.opened within))
-    (up_at c.self.inside.providers.items c.args.provider c.remove.result c.in-Ok.opened within c.remove.ensures.value c.entries-entries.result c.entries-entries.ensures c.in-Ok.ensures.up)
+    (up_at c.self.inside.providers.items c.args.provider c.remove.result c.in-Ok.opened within c.remove.ensures.value c.entries-entries.result
+    (c.entries-entries.ensures c.self.inside.directory (g.S.Sealer.seals c.self.inside.sealer) c.args.provider
+    (trade_of c.self.inside.directory (g.S.Sealer.seals c.self.inside.sealer)) c.in-Ok.ensures.runs
+    (c.a_trade_says_what_its_parts_say.ensures.directory c.self.inside.directory (g.S.Sealer.seals c.self.inside.sealer))) c.in-Ok.ensures.up)
 
 pub returns-in-Ok-clause-down : goal.returns-in-Ok-clause-down
 returns-in-Ok-clause-down g c =
