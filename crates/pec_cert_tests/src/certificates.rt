@@ -295,7 +295,8 @@ fn fault_of(alloc: Global, text: &[u8]) -> Option<CertFault> {
     read(alloc, text).err()
 }
 
-// A byte or more of the envelope's text, by their place and number, what stands there instead, and the fault of that text.
+// A byte or more of the envelope's text, by their place and number, what stands there instead, and the fault of that
+// text.
 type Row = (usize, usize, &'static str, CertFault);
 
 static SHAPES: [Row; 26] = [

@@ -30,7 +30,8 @@ fn fault_of(alloc: Global, frame: &[u8]) -> Option<FrameFault> {
     read_frame(alloc, frame).err()
 }
 
-/// The frame of docs/formats.md: its path has one address, and its message begins at 23. Capitals are read as small letters.
+/// The frame of docs/formats.md: its path has one address, and its message begins at 23. Capitals are read as small
+/// letters.
 static PATHS: [(&[u8], &[u8], usize); 2] = [
     (
         b"Per: bob@beta.example\r\nFrom: x@y.example\r\n\r\nciao",

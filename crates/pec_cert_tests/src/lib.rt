@@ -1,6 +1,6 @@
-//! Tests of `pec_cert`, `pec_seal`, `pec_frames`, `pec_records`, `pec_heads`, `pec_bodies`, `pec_brief` and `pec_ldif` over
-//! their public calls. What is expected of heads, bodies and brief forms was worked out by hand from the rules of RFC 5322,
-//! RFC 2045, RFC 2046 and this project's profile; digests are those of the standard's examples, or of another
+//! Tests of `pec_cert`, `pec_seal`, `pec_frames`, `pec_records`, `pec_heads`, `pec_bodies`, `pec_brief` and `pec_ldif`
+//! over their public calls. What is expected of heads, bodies and brief forms was worked out by hand from the rules of
+//! RFC 5322, RFC 2045, RFC 2046 and this project's profile; digests are those of the standard's examples, or of another
 //! implementation of SHA-256.
 #![tactic(auto)]
 

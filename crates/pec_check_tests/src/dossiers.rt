@@ -10,8 +10,8 @@ const BOB: &str = "bob@beta.example";
 
 const CARL: &str = "carl@beta.example";
 
-/// A line: a letter that its provider seals; the same with other words for some, under the seal or over it; the base64 of
-/// a text that nobody sealed; or a line as it stands.
+/// A line: a letter that its provider seals; the same with other words for some, under the seal or over it; the base64
+/// of a text that nobody sealed; or a line as it stands.
 #[derive(Clone, Copy)]
 enum Line {
     Letter(Saved),
@@ -23,8 +23,8 @@ enum Line {
 
 use Line::{Letter, Over, Text, Under, Unsealed};
 
-/// A dossier, what is written of it, and its end. `I` stands for the message and `CERT0` to `CERT9` for the base64 of what
-/// the letter on the line of that number, from 0, certifies.
+/// A dossier, what is written of it, and its end. `I` stands for the message and `CERT0` to `CERT9` for the base64 of
+/// what the letter on the line of that number, from 0, certifies.
 type Case = (&'static [Line], &'static str, Result<Last, Stop>);
 
 const DELIVERY: Saved = ("delivery", 1, BOB);

@@ -1,5 +1,5 @@
-//! Tests of `pec_check`, `pec_dossier` and `pec_extract` over their public calls. What a letter is refused for was found by hand in this
-//! project's tables.
+//! Tests of `pec_check`, `pec_dossier` and `pec_extract` over their public calls. What a letter is refused for was
+//! found by hand in this project's tables.
 #![tactic(auto)]
 
 #[cfg(test)]

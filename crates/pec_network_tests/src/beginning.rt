@@ -290,8 +290,8 @@ fn a_network_is_resumed_with_what_it_had(rt: HostRuntime) -> Result<(), Fail> {
     Ok(())
 }
 
-/// The first calls of each disk behind its entries, by the provider.
-static FIRST_CALLS: [(u32, u64); 2] = [(0, 11), (1, 7)];
+/// The first calls of each disk, by its provider, behind its entries and the read for the letter that was put.
+static FIRST_CALLS: [(u32, u64); 2] = [(0, 12), (1, 7)];
 
 #[test]
 fn a_disk_that_fails_as_its_journal_is_opened_is_told(rt: HostRuntime) -> Result<(), Fail> {

@@ -1,11 +1,12 @@
-//! Providers that are down, one or both at once, and disks that fail in the middle of a round. All answers were worked
-//! out by hand.
+//! Providers that are down, one or both at once, and disks that fail in the middle of a round or as an item is shown.
+//! All answers were worked out by hand.
 
 use crate::cases::{Case, first_wrong_of};
 use std::test::Fail;
 
 // A journal is made by three calls of its disk, and an entry is appended by four: those of a provider's first entries
-// are 3 to 6 (its Start), 7 to 10, 11 to 14 and 15 to 18. Each appends by a write, a sync, the gate, a sync.
+// are 3 to 6 (its Start), 7 to 10, 11 to 14 and 15 to 18, with one call more before them for each letter that was put
+// and each item that was shown, which is a read. Each appends by a write, a sync, the gate, a sync.
 static FIRST: [Case; 3] = [
     Case {
         why: "a lost acknowledgement is sent again by a provider that crashed meanwhile",
@@ -87,7 +88,7 @@ round 1704186005 -> 0 repeat ack 0/2 anna@alfa.example, charged 0/1 1, learned 0
 static SECOND: [Case; 3] = [
     Case {
         why: "both disks fail in one round; a decision that was never told is found behind the restart",
-        failing: &[(0, 11), (1, 18)],
+        failing: &[(0, 12), (1, 19)],
         kept: &[],
         script: "
 submit 0 1704186000 alice@alfa.example bob@beta.example to-bob -> accepted 0/0
@@ -108,7 +109,7 @@ mailbox bob@beta.example -> acceptance 1/0, envelope 0/0, 2 items
     },
     Case {
         why: "an interrupted entry is gone where a crash keeps no byte of its gate",
-        failing: &[(0, 18)],
+        failing: &[(0, 19)],
         kept: &[],
         script: "
 submit 0 1704186000 alice@alfa.example anna@alfa.example to-anna -> accepted 0/0
@@ -122,7 +123,7 @@ round 1704186003 -> 0 decided 0/0 anna@alfa.example delivered, sent 0 2, | 1
     },
     Case {
         why: "and is there where a crash keeps it",
-        failing: &[(0, 18)],
+        failing: &[(0, 19)],
         kept: &[99],
         script: "
 submit 0 1704186000 alice@alfa.example anna@alfa.example to-anna -> accepted 0/0
@@ -178,6 +179,44 @@ mailbox alice@alfa.example -> acceptance 0/0, warning 0/0 bob@beta.example, 2 it
     },
 ];
 
+static FOURTH: [Case; 2] = [
+    Case {
+        why: "a read that fails as an item is shown makes its provider down, with no entry interrupted",
+        failing: &[(0, 23)],
+        kept: &[],
+        script: "
+submit 0 1704186000 alice@alfa.example anna@alfa.example to-anna -> accepted 0/0
+round 1704186001 -> 0 sent 0 1, | 1
+round 1704186002 -> 0 took 0/0, decided 0/0 anna@alfa.example delivered, sent 0 3, | 1
+show anna@alfa.example 0 -> disk-fault
+show anna@alfa.example 0 -> down
+book alice@alfa.example -> down
+entries 0 -> 4
+restart 0 -> 4
+show anna@alfa.example 0 -> X-Trasporto: posta-certificata
+show alice@alfa.example 0 -> X-Ricevuta: accettazione
+book alice@alfa.example -> 0/0 anna@alfa.example primary 1704186000 - - - open, 1 rows
+entries 0 -> 4
+",
+    },
+    Case {
+        why: "a read that fails for a letter ends a turn: all is handled, nothing put, and no entry interrupted",
+        failing: &[(0, 21)],
+        kept: &[],
+        script: "
+submit 0 1704186000 alice@alfa.example anna@alfa.example to-anna -> accepted 0/0
+round 1704186001 -> 0 sent 0 1, | 1
+round 1704186002 -> 0 took 0/0, decided 0/0 anna@alfa.example delivered, ended disk-fault | 1
+round 1704186003 -> 0 ended down | 1
+entries 0 -> 4
+crash 0 -> crashed
+restart 0 -> 4
+round 1704186004 -> 0 sent 0 2, | 1
+round 1704186005 -> 0 learned 0/0 anna@alfa.example delivered, repeat envelope 0/0 0, sent 0 3, | 1
+",
+    },
+];
+
 /// The tables, by functions without a clause: the proof of the test is spared their texts.
 fn first() -> &'static [Case] {
     &FIRST
@@ -191,9 +230,13 @@ fn third() -> &'static [Case] {
     &THIRD
 }
 
+fn fourth() -> &'static [Case] {
+    &FOURTH
+}
+
 #[test]
 fn a_provider_that_is_down_is_restarted_as_it_was(rt: HostRuntime) -> Result<(), Fail> {
-    for cases in [first(), second(), third()] {
+    for cases in [first(), second(), third(), fourth()] {
         let wrong = first_wrong_of(&rt, rt.alloc(), cases)?;
         assert!(rt; wrong.is_none(), "{wrong:?}");
     }

@@ -38,8 +38,8 @@ impl<X: Threads + Sync> Drop for Net<'_, X> {
     }
 }
 
-/// How a script was played: why its network didn't begin, the first line that isn't answered as it says, with what came,
-/// and the depot, which has all disks again.
+/// How a script was played: why its network didn't begin, the first line that isn't answered as it says, with what
+/// came, and the depot, which has all disks again.
 pub(crate) struct Outcome {
     fault: Option<StartFault>,
     wrong: Option<String>,
@@ -183,8 +183,8 @@ fn verb_of(word: &str) -> Verb {
     found
 }
 
-/// A line of a script is `CALL -> ANSWER`, or empty. Of a network on threads no trait's method can be asked, so scripts are
-/// gone over here.
+/// A line of a script is `CALL -> ANSWER`, or empty. Of a network on threads no trait's method can be asked, so scripts
+/// are gone over here.
 impl<X: Threads + Sync> Net<'_, X> {
     /// The first line of a script that isn't answered as it says, and what came.
     fn first_wrong(&mut self, script: &str) -> Result<Option<String>, Fail> {
@@ -373,7 +373,7 @@ impl<X: Threads + Sync> Net<'_, X> {
     }
 
     /// `show ACCOUNT PLACE`
-    fn show(&self, line: &str) -> Result<Vec<u8>, Fail> {
+    fn show(&mut self, line: &str) -> Result<Vec<u8>, Fail> {
         let place = small(line, 2)?;
         let account = account_at(self.alloc, line, 1)?;
         let answer = self.network.show(self.alloc, &account, place);

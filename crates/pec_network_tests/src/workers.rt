@@ -101,7 +101,8 @@ fn told<X: Threads + Sync, G: Gate + Sync>(
     Some(turns.len())
 }
 
-/// A frame is put only where there was room on its link as the round began, though the other worker takes all that waited.
+/// A frame is put only where there was room on its link as the round began, though the other worker takes all that
+/// waited.
 #[test]
 fn a_put_waits_for_no_take(rt: HostRuntime) -> Result<(), Fail> {
     let wrong = wrong_on_a_full_link(&rt, rt.alloc())?;

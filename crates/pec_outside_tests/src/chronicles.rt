@@ -2,10 +2,10 @@
 ghost use Rattle.pec_records.specs.Entry.{IsShort, IsWithinLimits};
 
 use crate::texts::calls;
-use pec_chronicle::{AppendFault, Chronicle, CreateFault, OpenFault, Unopened};
+use pec_chronicle::{AppendFault, Chronicle, CreateFault, OpenFault, Opening};
 use pec_outside::{Disk, MemDepot, MemDisk};
 use pec_records::Entry;
-use pec_types::{Address, Moment, Text8};
+use pec_types::{Address, Moment, Place, Text8};
 use std::alloc::Global;
 
 /// The number of a call of the disk that isn't made.
@@ -68,7 +68,8 @@ fn has_entries_after(alloc: Global, cut: &Cut) -> bool {
     leaves(alloc, cut, 0, cut.without) && leaves(alloc, cut, NEVER, cut.with)
 }
 
-/// Whether so many entries are there after the append of a row, a crash that keeps so many pending bytes, and a restart.
+/// Whether so many entries are there after the append of a row, a crash that keeps so many pending bytes, and a
+/// restart.
 fn leaves(alloc: Global, cut: &Cut, kept: u64, entries: u64) -> bool {
     match made(alloc, cut.call) {
         Ok(mut chronicle) => {
@@ -84,8 +85,8 @@ fn leaves(alloc: Global, cut: &Cut, kept: u64, entries: u64) -> bool {
 
 fn are_left(alloc: Global, chronicle: Chronicle<MemDisk>, kept: u64, entries: u64) -> bool {
     let mut depot = MemDepot::new(alloc, Vec::new(alloc), calls(alloc, &[kept]));
-    match chronicle.crash(&mut depot, 0).restart(alloc) {
-        Ok((chronicle, _, _, _)) => chronicle.entries() == entries,
+    match restarted(alloc, chronicle.crash(&mut depot, 0)) {
+        Ok(found) => found == entries,
         Err(_) => false,
     }
 }
@@ -109,8 +110,8 @@ fn is_made(alloc: Global, call: u64) -> bool {
     made(alloc, call).is_ok()
 }
 
-// Two entries stand after calls 0 to 10. Opened again they take a sync, the size, the header and three gates, and a read
-// each: calls 11 to 18.
+// Two entries stand after calls 0 to 10. Opened again they take a sync, the size, the header and three gates, and a
+// read each: calls 11 to 18.
 #[test]
 fn a_fault_of_the_disk_opens_no_entries(rt: HostRuntime) {
     for call in 11..19 {
@@ -147,20 +148,36 @@ fn opened_again(alloc: Global, call: u64) -> Result<u64, Option<OpenFault>> {
     }
 }
 
-/// Over a restart that fails the entries stay, down.
+/// How many entries a restart finds. Where it fails it leaves the entries, down.
 fn restarted(alloc: Global, chronicle: Chronicle<MemDisk>) -> Result<u64, Option<OpenFault>> {
     match chronicle.restart(alloc) {
-        Ok((chronicle, _, _, _)) => Ok(chronicle.entries()),
-        Err((fault, chronicle)) => Err(if is_left_down(&chronicle) {
-            Some(fault)
-        } else {
-            None
-        }),
+        Ok((mut opening, past)) => match all_read(alloc, &mut opening) {
+            (entries, None) => Ok(entries),
+            (_, Some(fault)) => Err(left_down(fault, &opening.back_to(past))),
+        },
+        Err((fault, chronicle)) => Err(left_down(fault, &chronicle)),
     }
 }
 
-fn is_left_down(chronicle: &Chronicle<MemDisk>) -> bool {
-    chronicle.is_down() && chronicle.entries() == 2
+/// A fault that left the entries down.
+fn left_down(fault: OpenFault, chronicle: &Chronicle<MemDisk>) -> Option<OpenFault> {
+    if chronicle.is_down() {
+        Some(fault)
+    } else {
+        None
+    }
+}
+
+/// How many entries are read, up to a fault, and no more than nine.
+fn all_read(alloc: Global, opening: &mut Opening<MemDisk>) -> (u64, Option<OpenFault>) {
+    for entries in 0..9 {
+        match opening.next(alloc) {
+            Ok(Some(_)) => (),
+            Ok(None) => return (entries, None),
+            Err(fault) => return (entries, Some(fault)),
+        }
+    }
+    (9, None)
 }
 
 /// Bytes over which no entries are opened.
@@ -168,7 +185,7 @@ struct File {
     bytes: &'static [u8],
     fault: OpenFault,
     /// How many entries were read before the fault.
-    entries: usize,
+    entries: u64,
 }
 
 static FILES: [File; 5] = [
@@ -209,14 +226,10 @@ fn bytes_that_are_no_entries_are_refused(rt: HostRuntime) {
 
 /// Whether no entries are opened over these bytes, for the fault and behind the entries of the row.
 fn is_refused(alloc: Global, file: &File) -> bool {
-    match Chronicle::reopen(alloc, disk_of(alloc, file.bytes)) {
-        Ok(_) => false,
-        Err(unopened) => is_told(&unopened, file),
+    match Chronicle::open(alloc, disk_of(alloc, file.bytes)) {
+        Ok(mut opening) => all_read(alloc, &mut opening) == (file.entries, Some(file.fault)),
+        Err((fault, _)) => fault == file.fault && file.entries == 0,
     }
-}
-
-fn is_told(unopened: &Unopened<MemDisk>, file: &File) -> bool {
-    unopened.fault == file.fault && unopened.entries.len() == file.entries
 }
 
 /// A disk of these bytes; an empty one where memory is wanting.
@@ -227,41 +240,31 @@ fn disk_of(alloc: Global, bytes: &[u8]) -> MemDisk {
 }
 
 #[test]
-fn an_entry_lends_its_bytes_and_its_message(rt: HostRuntime) {
-    assert!(rt; lends_an_acceptance(rt.alloc()));
+fn an_entry_is_read_at_its_place(rt: HostRuntime) {
+    assert!(rt; reads_an_acceptance(rt.alloc()));
 }
 
-fn lends_an_acceptance(alloc: Global) -> bool {
+// The Start has 37 bytes behind a header of 8 and its framing of 5, the acceptance 36.
+fn reads_an_acceptance(alloc: Global) -> bool {
     match made(alloc, NEVER) {
         Ok(mut chronicle) => {
-            has_appended_acceptance(alloc, &mut chronicle) && has_an_acceptance(&chronicle)
+            has_appended_acceptance(alloc, &mut chronicle)
+                && chronicle.end() == 91
+                && !chronicle.is_down()
+                && reads_ciao(alloc, &mut chronicle)
         }
         Err(_) => false,
     }
 }
 
-fn has_an_acceptance(chronicle: &Chronicle<MemDisk>) -> bool {
-    chronicle.entries() == 2
-        && chronicle.end() == 91
-        && !chronicle.is_down()
-        && is_lent(chronicle.body(1), b"ciao")
-        && chronicle.body(0).is_none()
-        && size(chronicle.bytes(0)) == 37
-        && chronicle.bytes(2).is_none()
-}
-
-fn is_lent(found: Option<&[u8]>, wanted: &[u8]) -> bool {
-    match found {
-        Some(bytes) => bytes == wanted,
-        None => false,
+fn reads_ciao(alloc: Global, chronicle: &mut Chronicle<MemDisk>) -> bool {
+    if chronicle.is_down() {
+        return false;
     }
-}
-
-/// How many bytes were found; 0 where none were.
-fn size(found: Option<&[u8]>) -> usize {
-    match found {
-        Some(bytes) => bytes.len(),
-        None => 0,
+    let place = Place { at: 55, length: 36 };
+    match chronicle.read(alloc, place) {
+        Ok(Entry::Accepted { message, .. }) => message.bytes() == b"ciao".as_slice(),
+        _ => false,
     }
 }
 
@@ -325,13 +328,7 @@ fn is_appended<D: Disk>(
         return false;
     }
     match chronicle.reserve(alloc, entry) {
-        Ok(encoded) => {
-            let place = chronicle.next_place(&encoded);
-            match chronicle.append(encoded) {
-                Ok(there) => there == place && fault.is_none(),
-                Err(found) => Some(found) == fault,
-            }
-        }
+        Ok(encoded) => chronicle.append(encoded).err() == fault,
         Err(_) => false,
     }
 }

@@ -99,8 +99,8 @@ fn fails_at<D: Disk>(disk: &mut D, number: u64) -> bool {
         && disk.read_at(0, &mut room).is_err() == (number == 3)
 }
 
-// `abcdef` is durable. Then XY is written at 1, a write at 4 fails, and Z is written at 6: pending are the places 1, 2, 4
-// and 6.
+// `abcdef` is durable. Then XY is written at 1, a write at 4 fails, and Z is written at 6: pending are the places 1, 2,
+// 4 and 6.
 static CRASHES: &[(u64, &[u8])] = &[
     (0, b"a\xff\xffd\xfff\xff"),
     (1, b"aX\xffd\xfff\xff"),

@@ -1,5 +1,5 @@
-//! Tests of `pec_types`, `pec_index`, `pec_link`, `pec_outside`, `pec_journal`, `pec_files`, `pec_chronicle` and `pec_http`
-//! over their public calls.
+//! Tests of `pec_types`, `pec_index`, `pec_link`, `pec_outside`, `pec_journal`, `pec_files`, `pec_chronicle` and
+//! `pec_http` over their public calls.
 #![tactic(auto)]
 
 #[cfg(test)]

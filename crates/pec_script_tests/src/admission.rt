@@ -301,7 +301,8 @@ fn answer_in<J: Judge>(
     }
 }
 
-/// A message, whose lines end with `|` in the row. Where memory is wanting it has none, and what comes isn't what has to.
+/// A message, whose lines end with `|` in the row. Where memory is wanting it has none, and what comes isn't what has
+/// to.
 fn lines_of(alloc: Global, text: &str) -> String {
     match text.replace(alloc, "|", "\n") {
         Ok(text) => text,

@@ -209,6 +209,11 @@ static TURNS: &[Row] = &[
         text: "beta fault disk\nround\n",
     },
     Row {
+        printed: Printed::Turn(0, Some(Fault::Changed(18_446_744_073_709_551_615))),
+        form: None,
+        text: "beta changed 18446744073709551615\nround\n",
+    },
+    Row {
         printed: Printed::Turn(2, Some(Fault::NoMemory)),
         form: None,
         text: "beta sent alfa 2\nround\n",
@@ -253,9 +258,19 @@ static REFUSALS: &[Row] = &[
         text: "journal-full\n",
     },
     Row {
+        printed: Printed::Refusal(Fault::Changed(18_446_744_073_709_551_615)),
+        form: None,
+        text: "changed 18446744073709551615\n",
+    },
+    Row {
         printed: Printed::Refusal(Fault::NoMemory),
         form: None,
         text: "",
+    },
+    Row {
+        printed: Printed::Refusal(Fault::Changed(0)),
+        form: None,
+        text: "changed 0\n",
     },
     Row {
         printed: Printed::ClockBack(4_102_444_799),

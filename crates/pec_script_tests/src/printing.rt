@@ -26,6 +26,7 @@ pub enum Fault {
     NoItem,
     JournalFull,
     NoMemory,
+    Changed(u64),
 }
 
 /// What is printed.
@@ -124,6 +125,7 @@ fn fault_of(fault: Fault) -> ProviderFault {
         Fault::NoItem => ProviderFault::NoItem,
         Fault::JournalFull => ProviderFault::JournalFull,
         Fault::NoMemory => ProviderFault::NoMemory,
+        Fault::Changed(entry) => ProviderFault::Changed(entry),
     }
 }
 

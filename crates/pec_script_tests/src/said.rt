@@ -1,5 +1,5 @@
-//! What a line says, in words of the tests' own. A text for which memory is wanting lacks a piece, so that it isn't what
-//! has to come.
+//! What a line says, in words of the tests' own. A text for which memory is wanting lacks a piece, so that it isn't
+//! what has to come.
 use crate::values::directory;
 use pec_directory::Directory;
 use pec_script::{Command, LineFault, refused_text};

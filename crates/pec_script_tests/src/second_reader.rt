@@ -328,19 +328,8 @@ fn submitted(alloc: Global, directory: &Directory, line: &[u8]) -> Option<Submit
     Some(Submitted::NotAccepted(id, cause))
 }
 
-static CAUSES: &[Cause] = &[
-    Cause::Head,
-    Cause::From,
-    Cause::To,
-    Cause::ReversePath,
-    Cause::ForwardPath,
-    Cause::Bcc,
-    Cause::Size,
-    Cause::Virus,
-];
-
 fn cause(word: &[u8]) -> Option<Cause> {
-    for cause in CAUSES {
+    for cause in Cause::all() {
         if cause.word() == word {
             return Some(*cause);
         }

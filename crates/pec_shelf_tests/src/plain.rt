@@ -1,5 +1,5 @@
-//! A second shelf, of a provider of the two providers' directory: a plain list of what happened, and loops over it. It knows
-//! no clock calls, no refused messages and no anomalies.
+//! A second shelf, of a provider of the two providers' directory: a plain list of what happened, and loops over it. It
+//! knows no clock calls, no refused messages and no anomalies.
 
 use crate::lines::Log;
 use crate::messages::{goes_to, home, is_account_of, is_named};

@@ -5,7 +5,8 @@ use crate::playing::Desk;
 use std::alloc::Global;
 use std::test::Fail;
 
-/// Runs, each from a line `= PROVIDER WHAT IT IS ABOUT` on: steps behind `> `, each with the lines that have to come of it.
+/// Runs, each from a line `= PROVIDER WHAT IT IS ABOUT` on: steps behind `> `, each with the lines that have to come of
+/// it.
 const RUNS: &str = "\
 = 0 classes are by the head, in its order
 > start 0 0 two

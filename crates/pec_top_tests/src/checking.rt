@@ -8,7 +8,8 @@ use crate::running::{
 use pec_top::Status;
 use pec_trial::alfa;
 
-/// A directory and the lines behind it, in which `{..}` stands for the base64 of a message; what is written, and the status.
+/// A directory and the lines behind it, in which `{..}` stands for the base64 of a message; what is written, and the
+/// status.
 type Dossier = (Directory, &'static str, &'static str, Status);
 
 static DOSSIERS: [Dossier; 5] = [

@@ -7,7 +7,8 @@ use crate::running::{
 use pec_top::Status;
 use pec_trial::{alfa, two};
 
-/// Whether the last lines write these books, where each piece of the script is run over the disks that the one before left.
+/// Whether the last lines write these books, where each piece of the script is run over the disks that the one before
+/// left.
 fn comes_cut_up(rt: &impl System, lines: &[&str], books: &[u8]) -> bool {
     let mut depot = depot_failing(rt.alloc(), &[]);
     let mut form = "run";
@@ -70,8 +71,9 @@ fn is_the_same_cut_up(rt: &impl System) -> bool {
     comes_at_once(rt, settled(), books.as_bytes()) && comes_cut_up(rt, settled(), books.as_bytes())
 }
 
-// A journal is made by three calls of its disk, and an entry is appended by four. So those of a provider's first four
-// entries are 3 to 6 (its Start), 7 to 10, 11 to 14 and 15 to 18.
+// A journal is made by three calls of its disk, and an entry is appended by four. So those of a provider's first two
+// entries are 3 to 6 (its Start) and 7 to 10. The accepted one is read by call 11, for its envelope, and the next two
+// are appended by 12 to 15 and 16 to 19.
 
 const FAULTED: &str =
     "submit alfa 1704186000 alice@alfa.example anna@alfa.example {M1}\nround 1704186001\nround 1704186002\n\
@@ -116,19 +118,19 @@ static FIRST: [Case; 3] = [
     Case {
         why: "where the write of a decision fails it isn't in the journal, and is made again",
         directory: Directory::Alfa,
-        failing: &[(0, 15)],
+        failing: &[(0, 16)],
         runs: &DECIDED_AGAIN_RUN,
     },
     Case {
         why: "and where the sync behind it fails",
         directory: Directory::Alfa,
-        failing: &[(0, 16)],
+        failing: &[(0, 17)],
         runs: &DECIDED_AGAIN_RUN,
     },
     Case {
         why: "and where the write of its gate fails",
         directory: Directory::Alfa,
-        failing: &[(0, 17)],
+        failing: &[(0, 18)],
         runs: &DECIDED_AGAIN_RUN,
     },
 ];
@@ -137,7 +139,7 @@ static SECOND: [Case; 3] = [
     Case {
         why: "where the last sync fails the decision is in the journal, and isn't made again",
         directory: Directory::Alfa,
-        failing: &[(0, 18)],
+        failing: &[(0, 19)],
         runs: &DECIDED_ONCE_RUN,
     },
     Case {

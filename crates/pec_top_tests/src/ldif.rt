@@ -29,9 +29,9 @@ pecQuota: 100
 pecKey: chiave-anna
 ";
 
-/// The directory of alfa and beta as a server of a registry hands it out. Lines end at `|`, with CRLF. There are comments,
-/// entries that are neither provider nor account, attributes in any order, with capitals, in base64, folded, and those
-/// of the server itself.
+/// The directory of alfa and beta as a server of a registry hands it out. Lines end at `|`, with CRLF. There are
+/// comments, entries that are neither provider nor account, attributes in any order, with capitals, in base64, folded,
+/// and those of the server itself.
 const EXPORT: &str = "# pec, example|# export of the registry||version: 1|\
 dn: dc=pec,dc=example|objectClass: top|objectClass: domain|dc: pec||\
 dn: cn=0,dc=pec,dc=example|cn: 0|pecZone: CET-1CEST,M3.5.0,M10.5.0/3|objectClass: top|OBJECTCLASS: pecProvider|\

@@ -1,7 +1,8 @@
-//! Loads: what the form `load N` writes, and what keeps it from that. The numbers were counted by hand. Of each ten messages
-//! one is for nobody. At alfa a message is an entry when it is accepted, one when beta takes charge, and one when its outcome
-//! is known, and each batch adds a clock call; at beta it is taken, decided and acknowledged; each journal has its start
-//! beside. The messages of the last batch have a notice each, for nothing is known of them when the limit passes.
+//! Loads: what the form `load N` writes, and what keeps it from that. The numbers were counted by hand. Of each ten
+//! messages one is for nobody. At alfa a message is an entry when it is accepted, one when beta takes charge, and one
+//! when its outcome is known, and each batch adds a clock call; at beta it is taken, decided and acknowledged; each
+//! journal has its start beside. The messages of the last batch have a notice each, for nothing is known of them when
+//! the limit passes.
 
 use crate::running::{Given, System, depot_failing, ran_afresh, ran_over};
 use pec_top::Status;
@@ -48,8 +49,8 @@ entries alfa 5
 entries beta 1
 ";
 
-/// A call of alfa's disk that fails, and what a load of twenty comes to then: alfa is down from there on. The journal is made
-/// by three calls, and an entry is appended by four.
+/// A call of alfa's disk that fails, and what a load of twenty comes to then: alfa is down from there on. The journal
+/// is made by three calls, and an entry is appended by four.
 type Fault = (u64, &'static str);
 
 static FAULTS: [Fault; 2] = [(7, NONE_ACCEPTED), (7 + 4 * 4, FOUR_ACCEPTED)];

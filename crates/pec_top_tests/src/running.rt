@@ -1,5 +1,5 @@
-//! Cases: runs of the program, one after another over the disks of one depot, and what each has to write. Where memory is
-//! wanting a text lacks a piece, and what comes isn't what has to.
+//! Cases: runs of the program, one after another over the disks of one depot, and what each has to write. Where memory
+//! is wanting a text lacks a piece, and what comes isn't what has to.
 
 use crate::directories::{Directory, message};
 use base64::engine::general_purpose::STANDARD;
@@ -123,9 +123,9 @@ impl<'a> Given<'a> {
 }
 
 /// Runs the program in this form, over a depot, on a script behind a directory.
-pub(crate) fn played(
+pub(crate) fn played<P: Depot>(
     rt: &impl System,
-    depot: &mut MemDepot,
+    depot: &mut P,
     directory: &str,
     form: &str,
     script: &str,
@@ -141,7 +141,7 @@ pub(crate) fn played_afresh(rt: &impl System, directory: &str, script: &str) -> 
 }
 
 /// Runs the program over a depot, without screens and connections.
-pub(crate) fn ran_over(rt: &impl System, depot: &mut MemDepot, given: &Given<'_>) -> Ran {
+pub(crate) fn ran_over<P: Depot>(rt: &impl System, depot: &mut P, given: &Given<'_>) -> Ran {
     ran_under(rt, depot, given, Vec::new(rt.alloc()))
 }
 
@@ -152,9 +152,9 @@ pub(crate) fn ran_afresh(rt: &impl System, given: &Given<'_>) -> Ran {
 }
 
 /// Runs the program over a depot, with screens, a list for each provider.
-pub(crate) fn ran_under(
+pub(crate) fn ran_under<P: Depot>(
     rt: &impl System,
-    depot: &mut MemDepot,
+    depot: &mut P,
     given: &Given<'_>,
     screens: Vec<Screens>,
 ) -> Ran {
@@ -164,9 +164,9 @@ pub(crate) fn ran_under(
 }
 
 /// Runs the program over a depot and at a door.
-pub(crate) fn ran_at(
+pub(crate) fn ran_at<P: Depot>(
     rt: &impl System,
-    depot: &mut MemDepot,
+    depot: &mut P,
     door: &mut MemDoor,
     given: &Given<'_>,
     screens: Vec<Screens>,
@@ -180,9 +180,9 @@ pub(crate) fn ran_at(
     }
 }
 
-fn ran_by(
+fn ran_by<P: Depot>(
     rt: &impl System,
-    depot: &mut MemDepot,
+    depot: &mut P,
     door: &mut MemDoor,
     mut ticks: MemTicks,
     given: &Given<'_>,

@@ -8,8 +8,8 @@ use pec_trial::two;
 use pec_types::Text8;
 use std::alloc::{AllocError, Global};
 
-/// Which of the first two providers have a screen of the pattern, the others' lists being empty; how many lists are handed
-/// in; the script, and what it has to write.
+/// Which of the first two providers have a screen of the pattern, the others' lists being empty; how many lists are
+/// handed in; the script, and what it has to write.
 type Row = (&'static [usize], usize, &'static str, &'static str);
 
 const FROM_ALICE: &str = "submit alfa 1704186000 alice@alfa.example bob@beta.example \

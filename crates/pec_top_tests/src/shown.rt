@@ -6,7 +6,8 @@ use crate::running::{System, joined, played_afresh, replaced, with_words};
 use pec_trial::two;
 use std::alloc::Global;
 
-/// A script whose last line shows an item, the item's seal line, what letter it is, and the words that stand in its text.
+/// A script whose last line shows an item, the item's seal line, what letter it is, and the words that stand in its
+/// text.
 #[derive(Clone, Copy)]
 struct Item {
     why: &'static str,

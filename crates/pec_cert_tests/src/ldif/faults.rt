@@ -174,7 +174,8 @@ fn a_record_begins_with_its_name_and_says_no_change(rt: HostRuntime) {
     assert!(rt; first_wrong(rt.alloc(), &RECORDS).is_none());
 }
 
-/// Two faults: those of an earlier record come first, then those of lines, then `NoDn`, `Change` and `Orphan`, and those of the table last.
+/// Two faults: those of an earlier record come first, then those of lines, then `NoDn`, `Change` and `Orphan`, and
+/// those of the table last.
 static PAIRS: [Row; 21] = [
     // Syntax, BadBase64
     ("version: 1\ndn: x\nbad\nb:: Y\n", Some(Ldif(Syntax(17)))),

@@ -12,7 +12,7 @@ use pec_trial::{
     Submission, account_at, add, add_number, moment_of, number, small, submission_of, told,
     told_all, told_item, told_list, told_word, word,
 };
-use pec_types::{Frame, NoMemory, Steps};
+use pec_types::{Frame, Steps};
 use std::alloc::Global;
 use std::marker::Model;
 use std::test::Fail;
@@ -270,15 +270,23 @@ impl Desk {
         told(self.alloc, answer)
     }
 
-    /// `put TO ROOM`
+    /// `put TO ROOM`: what is put, or why nothing is.
     fn put_due(&mut self, line: &str) -> Result<Vec<u8>, Fail> {
         let to = small(line, 2)?;
         let room = number(line, 3)? as usize;
-        self.put = self.due(to, room).unwrap_or(Vec::new(self.alloc));
-        told_list(self.alloc, &self.put, b"frames")
+        match self.due(to, room) {
+            Ok(frames) => {
+                self.put = frames;
+                told_list(self.alloc, &self.put, b"frames")
+            }
+            Err(fault) => {
+                self.put = Vec::new(self.alloc);
+                told_all::<Frame>(self.alloc, Err(fault), b"frames")
+            }
+        }
     }
 
-    fn due(&self, to: u32, room: usize) -> Result<Vec<Frame>, NoMemory> {
+    fn due(&mut self, to: u32, room: usize) -> Result<Vec<Frame>, ProviderFault> {
         let home = &self.home;
         let house = House {
             directory: &home.directory,
@@ -321,7 +329,7 @@ impl Desk {
     }
 
     /// `item ACCOUNT PLACE`
-    fn item(&self, line: &str) -> Result<Vec<u8>, Fail> {
+    fn item(&mut self, line: &str) -> Result<Vec<u8>, Fail> {
         let place = small(line, 3)?;
         let account = account_at(self.alloc, line, 2)?;
         let home = &self.home;

@@ -10,8 +10,8 @@ use pec_types::Frame;
 use std::alloc::Global;
 use std::test::Fail;
 
-/// The providers of the directory of the tests, and a home from whose seals a forger takes. One that isn't made or opened
-/// again is gone.
+/// The providers of the directory of the tests, and a home from whose seals a forger takes. One that isn't made or
+/// opened again is gone.
 pub(crate) struct World {
     alloc: Global,
     forger: Option<Home>,

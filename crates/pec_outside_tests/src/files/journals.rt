@@ -254,7 +254,8 @@ fn a_read_that_fails_leaves_the_journal_as_it_was(rt: HostRuntime) {
     }
 }
 
-/// Whether the entry that this call reads isn't read where it fails, but all others are, and one is appended behind them.
+/// Whether the entry that this call reads isn't read where it fails, but all others are, and one is appended behind
+/// them.
 fn fails_alone(alloc: Global, failing: u64) -> bool {
     match three(alloc, &[failing]) {
         Some(mut journal) => {

@@ -8,8 +8,8 @@ use std::alloc::Global;
 /// `anna@alfa.example`.
 type Row = (&'static str, (u16, &'static str));
 
-/// Short words, and what they stand for: the end of a line, two targets with what stands round them, a key and a path that
-/// are right, each a line, and the length of a message, which the request ends with.
+/// Short words, and what they stand for: the end of a line, two targets with what stands round them, a key and a path
+/// that are right, each a line, and the length of a message, which the request ends with.
 static WORDS: &[(&str, &str)] = &[
     ("|", "\r\n"),
     ("{book}", "/mail/anna@alfa.example/book HTTP/1.1"),

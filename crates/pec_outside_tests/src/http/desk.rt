@@ -36,6 +36,8 @@ pub enum Mood {
     JournalFull,
     DiskFault,
     NoMemory,
+    /// The entry of an item isn't what it was; a submission finds the desk down.
+    Changed,
 }
 
 /// It keeps what was submitted last: how many addresses the path had, and the message.
@@ -83,7 +85,7 @@ impl Desk for OneAccountDesk {
       submit = λ desk address path message said after. ⊤;
       book = λ desk address said. ⊤;
       items = λ desk address said. ⊤;
-      item = λ desk address place said. ⊤;
+      item = λ desk address place said after. ⊤;
     } };
 
     fn pass(&self, address: &Address, key: &[u8]) -> Pass {
@@ -114,7 +116,7 @@ impl Desk for OneAccountDesk {
         match self.mood {
             Mood::Accepts => Ok(Submitted::Accepted(ID)),
             Mood::Declines => Ok(Submitted::NotAccepted(ID, Cause::ForwardPath)),
-            Mood::Down => Err(ProviderFault::Down),
+            Mood::Down | Mood::Changed => Err(ProviderFault::Down),
             Mood::ClockBack => Err(clock_back()),
             Mood::Full => Err(ProviderFault::Full),
             Mood::JournalFull => Err(ProviderFault::JournalFull),
@@ -136,7 +138,7 @@ impl Desk for OneAccountDesk {
 
     /// There is one item, at place 7.
     fn item(
-        &self,
+        &mut self,
         alloc: Global,
         _address: &Address,
         place: u32,
@@ -144,10 +146,18 @@ impl Desk for OneAccountDesk {
         if place != 7 {
             return Err(ProviderFault::NoItem);
         }
-        match shown(alloc, self.mood, b"From: a@b\r\n\r\nSalve") {
-            Ok(bytes) => Ok(bytes),
-            Err(ProviderFault::Down) => Err(ProviderFault::Down),
-            Err(_) => Err(ProviderFault::NoMemory),
+        match self.mood {
+            Mood::Down => Err(ProviderFault::Down),
+            Mood::NoMemory => Err(ProviderFault::NoMemory),
+            Mood::Changed => Err(ProviderFault::Changed(4)),
+            Mood::DiskFault => {
+                self.faults = self.faults.saturating_add(1);
+                Err(ProviderFault::DiskFault)
+            }
+            _ => {
+                let bytes = Vec::from_slice(alloc, b"From: a@b\r\n\r\nSalve")?;
+                Ok(bytes)
+            }
         }
     }
 }

@@ -75,6 +75,16 @@ static ITEMS: &[Told] = &[
         wanted: (503, "down\n"),
     },
     Told {
+        mood: Mood::DiskFault,
+        kind: TEXT,
+        wanted: (503, "fault disk\n"),
+    },
+    Told {
+        mood: Mood::Changed,
+        kind: TEXT,
+        wanted: (503, "changed 4\n"),
+    },
+    Told {
         mood: Mood::NoMemory,
         kind: TEXT,
         wanted: (500, "no-memory\n"),

@@ -1,5 +1,5 @@
-//! A message within alfa to its end, where each call of alfa's disk fails in turn. It starts again then, in the same run or
-//! in another one over its disk.
+//! A message within alfa to its end, where each call of alfa's disk fails in turn. It starts again then, in the same
+//! run or in another one over its disk.
 
 use crate::running::{Ran, System, depot_failing, joined, played};
 use pec_outside::{Depot, MemDepot};
@@ -7,15 +7,15 @@ use pec_top::Status;
 use pec_trial::alfa;
 
 /// From alice to anna, to its end.
-const FIRST: &str = "submit alfa 1704186000 alice@alfa.example anna@alfa.example {M1}\n\
+pub(crate) const FIRST: &str = "submit alfa 1704186000 alice@alfa.example anna@alfa.example {M1}\n\
 round 1704186001\nround 1704186002\nround 1704186003\nround 1704186004\nround 1704186005\n\
 book alice@alfa.example\nmailbox alice@alfa.example\nmailbox anna@alfa.example\n";
 
-const AGAIN: &str = "restart alfa\n\
+pub(crate) const AGAIN: &str = "restart alfa\n\
 round 1704186006\nround 1704186007\nround 1704186008\nround 1704186009\nround 1704186010\nround 1704186011\n\
 round 1704186012\nround 1704186013\nmailbox alice@alfa.example\nmailbox anna@alfa.example\n";
 
-const DELIVERED: &[u8] = b"0 acceptance pec.0000000@alfa.example -\n\
+pub(crate) const DELIVERED: &[u8] = b"0 acceptance pec.0000000@alfa.example -\n\
 1 delivery pec.0000000@alfa.example anna@alfa.example\nmailbox 2\n\
 0 envelope pec.0000000@alfa.example -\nmailbox 1\n";
 
@@ -28,8 +28,9 @@ restarted 1\nround\nround\nround\nround\nround\nround\nround\nround\nmailbox 0\n
 const NOTHING_RESUMED: &[u8] =
     b"up\nround\nround\nround\nround\nround\nround\nround\nround\nmailbox 0\nmailbox 0\n";
 
-/// Alfa's journal has seven entries then. It is made by three calls of its disk, and an entry is appended by four.
-const CALLS: u64 = 31;
+/// Alfa's journal has seven entries then. It is made by three calls of its disk, an entry is appended by four, and
+/// eight letters are put, for each of which an entry is read.
+const CALLS: u64 = 39;
 
 /// It is opened by a sync, its size, its header, eight gates and seven entries.
 const OPENING_CALLS: u64 = 18;
@@ -49,7 +50,12 @@ fn calls_made(rt: &impl System) -> Option<(u64, u64)> {
 }
 
 /// How many calls alfa's disk had behind a run that came to its end.
-fn calls_behind(rt: &impl System, depot: &mut MemDepot, form: &str, script: &str) -> Option<u64> {
+pub(crate) fn calls_behind(
+    rt: &impl System,
+    depot: &mut MemDepot,
+    form: &str,
+    script: &str,
+) -> Option<u64> {
     if played(rt, depot, alfa(), form, script).status != Status::Done {
         return None;
     }

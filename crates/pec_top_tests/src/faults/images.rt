@@ -26,8 +26,8 @@ const DELIVERED: &[u8] = b"round\n0 acceptance pec.0000000@alfa.example -\n\
 
 const NOTHING: &[u8] = b"round\nmailbox 0\n";
 
-/// Where the gate behind alfa's first entry stands: the header of 8 bytes, that entry's own gate, its length, and its 37
-/// bytes. It is open, 1, where Accepted follows.
+/// Where the gate behind alfa's first entry stands: the header of 8 bytes, that entry's own gate, its length, and its
+/// 37 bytes. It is open, 1, where Accepted follows.
 const GATE: u64 = 50;
 
 /// Both disks behind a command.
@@ -42,8 +42,12 @@ impl Drop for Disks {
     }
 }
 
-/// How many pairs of images were resumed, over all commands.
-const PAIRS: u64 = 124;
+/// How many pairs of images were resumed, over all commands: two for each number of calls of alfa's disk within the
+/// command, with two for each of beta's. An entry is appended by four calls, and a letter that is put takes one that
+/// reads. The submission is an entry of alfa. In the first round alfa puts a letter; in the second too, and beta has
+/// two entries and puts two; in the third alfa has two entries and puts one, and beta puts two; in the fourth alfa puts
+/// one, and beta has an entry.
+const PAIRS: u64 = 284;
 
 #[test]
 fn every_image_within_a_command_is_resumed(rt: HostRuntime) {

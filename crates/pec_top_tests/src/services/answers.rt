@@ -1,13 +1,13 @@
 //! Answers of HTTP, written out by hand, and whether a service came to them.
 
-use super::serving::{Service, served};
+use super::serving::{Came, Service, served};
 use crate::running::{System, joined, written_out};
 use pec_outside::MemDoor;
 use pec_top::Status;
 use std::alloc::Global;
 
-/// What is written to a connection: the status with its phrase, and the body, a text; where there is no status, nothing.
-/// Whether the connection has faults: then a front of it is written.
+/// What is written to a connection: the status with its phrase, and the body, a text; where there is no status,
+/// nothing. Whether the connection has faults: then a front of it is written.
 pub(crate) type Answer = (&'static str, &'static str, bool);
 
 /// Whether a service ends so, with these lines written and these answers in order.
@@ -18,8 +18,18 @@ pub(crate) fn comes(
     answers: &[Answer],
     status: Status,
 ) -> bool {
-    let came = served(rt, service);
-    came.ran.writes(rt.alloc(), lines, status) && are_replied(rt.alloc(), &came.door, answers)
+    come(rt.alloc(), &served(rt, service), lines, answers, status)
+}
+
+/// Whether what came of a service is that.
+pub(crate) fn come(
+    alloc: Global,
+    came: &Came,
+    lines: &str,
+    answers: &[Answer],
+    status: Status,
+) -> bool {
+    came.ran.writes(alloc, lines, status) && are_replied(alloc, &came.door, answers)
 }
 
 /// Whether these are the replies, in order, and no others.
