@@ -66,8 +66,9 @@ class Network:
         self.decided = [[] for _ in self.numbers]
         self.items = {one.address: [] for house in directory.houses for one in house.accounts}
         self.view = {}
-        # writes of each journal are counted, and these fail, by provider and number; so many did
+        # writes and reads of each journal are counted, and these fail, by provider and number; so many did
         self.writes, self.failing, self.faults = [0] * count, (), 0
+        self.reads, self.unread, self.misses = [0] * count, (), 0
 
     # What is read of the map.
 
@@ -133,6 +134,18 @@ class Network:
                 raise Refused("fault disk")
         self.journals[provider].append(bytes([tag]) + moment(at) + fields)
         self.last[provider] = at
+
+    def read(self, provider):
+        """An entry of the journal is read. Where that fails the provider is down, and nothing else changes."""
+        self.reads[provider] += 1
+        if (provider, self.reads[provider]) in self.unread:
+            self.misses += 1
+            self.down[provider] = True
+            raise Refused("fault disk")
+
+    def opening(self, provider):
+        """How many reads open a journal: its header, each gate and each entry."""
+        return 2 + 2 * len(self.journals[provider])
 
     def place(self, address, kind, identity=None, recipient=None, text=None):
         self.items[address].append(Item(kind, identity, recipient, text))
@@ -231,6 +244,8 @@ class Network:
     def restart(self, provider):
         if not self.down[provider]:
             raise Refused("up")
+        for _ in range(self.opening(provider)):
+            self.read(provider)
         self.down[provider] = False
         return [f"restarted {len(self.journals[provider])}"]
 
@@ -274,6 +289,7 @@ class Network:
         self.own_provider(address)
         if place >= len(self.items[address]):
             raise Refused("no-item")
+        self.read(self.directory.home(address))
         return [letters.base64.b64encode(self.items[address][place].text).decode()]
 
     # A round.
@@ -298,17 +314,23 @@ class Network:
                     lines.append(self.arrive(provider, at, frame, owed))
             for line in self.decide(provider, at):
                 lines.append(line)
+            put = {peer: self.composed(provider, peer, owed[peer], waiting) for peer in self.numbers}
         except Refused as why:
             # the frame in hand is gone, later ones stay, and nothing is put
             return lines + [str(why)]
-        for peer in self.numbers:
-            letters_due = owed[peer] + self.due(provider, peer)
-            # frames that this turn took of its own link don't make room in this round
-            cut = letters_due[: LINK - len(waiting[provider, peer])]
-            self.links[provider, peer] += cut
-            if cut:
-                lines.append(f"sent {self.name(peer)} {len(cut)}")
+        for peer, frames in put.items():
+            self.links[provider, peer] += frames
+            if frames:
+                lines.append(f"sent {self.name(peer)} {len(frames)}")
         return lines
+
+    def composed(self, provider, peer, answers, waiting):
+        """The frames that are put on a link, each of which takes an entry that is read."""
+        # frames that this turn took of its own link don't make room in this round
+        frames = (answers + self.due(provider, peer))[: LINK - len(waiting[provider, peer])]
+        for _ in frames:
+            self.read(provider)
+        return frames
 
     def arrive(self, provider, at, frame, owed):
         read = letters.read_frame(frame)

@@ -19,7 +19,7 @@ use pec_provider::{
 use pec_screen::NoScreens;
 use pec_seal::{HmacSealer, Sealer};
 use pec_trade::sealer_of;
-use pec_types::{Address, BookLine, Frame, ItemLine, Moment, NoMemory, Steps};
+use pec_types::{Address, BookLine, Frame, ItemLine, Moment, Steps};
 use std::alloc::Global;
 use std::marker::Model;
 
@@ -208,7 +208,7 @@ impl Desk {
         self.provider.decide_next(self.alloc, &house, moment)
     }
 
-    pub fn put_due(&self, to: u32, room: usize) -> Result<Vec<Frame>, NoMemory> {
+    pub fn put_due(&mut self, to: u32, room: usize) -> Result<Vec<Frame>, ProviderFault> {
         let home = &self.home;
         let house = House {
             directory: &home.directory,
@@ -242,7 +242,7 @@ impl Desk {
         self.provider.mailbox(self.alloc, &house, account)
     }
 
-    pub fn item(&self, account: &Address, place: u32) -> Result<Vec<u8>, ProviderFault> {
+    pub fn item(&mut self, account: &Address, place: u32) -> Result<Vec<u8>, ProviderFault> {
         let home = &self.home;
         let house = House {
             directory: &home.directory,
@@ -444,7 +444,7 @@ impl Net {
         self.network.mailbox(self.alloc, account)
     }
 
-    pub fn show(&self, account: &Address, place: u32) -> Result<Vec<u8>, ProviderFault> {
+    pub fn show(&mut self, account: &Address, place: u32) -> Result<Vec<u8>, ProviderFault> {
         self.network.show(self.alloc, account, place)
     }
 

@@ -52,7 +52,7 @@ class Turn:
     def ended(self):
         """The word with which it ended early."""
         last = self.events[-1].key if self.events else ""
-        return last if last in ("down", "clock-back", "journal-full", "fault") else ""
+        return last if last in ("down", "clock-back", "journal-full", "fault", "changed") else ""
 
 
 @dataclass
@@ -201,7 +201,7 @@ def tell_frames(blocks):
             continue
         for name in set(waiting) | set(block.turns):
             turn = block.turn(name)
-            if between["repeated"] or between["injected"] or turn.ended() in ("journal-full", "fault"):
+            if between["repeated"] or between["injected"] or turn.ended() in ("journal-full", "fault", "changed"):
                 blurred.add(name)
             fate = fate_of(turn, None if name in blurred else waiting[name], between["lost"])
             for one in sent_in(before):

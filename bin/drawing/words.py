@@ -1,5 +1,5 @@
-"""The lines that a run can write. Their forms stand in bin/help, each with its meaning; here stand what a word in
-capitals of a form stands for, and the mark that a picture has for a line."""
+"""The lines that a run can write. Their forms stand in bin/help, each with its meaning, and the words of causes; here
+stand what another word in capitals of a form stands for, and the mark that a picture has for a line."""
 
 import os
 import re
@@ -9,17 +9,21 @@ HELP = os.path.join(os.path.dirname(os.path.dirname(os.path.realpath(__file__)))
 NUMBER = "(?:0|[1-9][0-9]*)"
 PROVIDER = "[a-z0-9-]{1,32}"
 DIGEST = "[0-9a-f]{64}"
-# The words of causes, and what each means.
-CAUSES = {
-    "head": "its head is wrong",
-    "from": "its sender is wrong",
-    "to": "its recipients are wrong",
-    "reverse-path": "another account handed it in",
-    "forward-path": "its path has other recipients than its head",
-    "bcc": "it has a blind copy",
-    "size": "it is too long",
-    "virus": "it has a virus",
-}
+
+
+def parts():
+    """What bin/help says of lines: their forms, and what words in capitals stand for."""
+    with open(HELP, encoding="ascii") as file:
+        return file.read().split("that a picture of bin/draw has at its foot:\n\n")[1].split("\n\n")[:2]
+
+
+def causes():
+    """The words of causes, and what each means."""
+    found = re.search(r"^    CAUSE  +(.*(?:\n {8}.*)*)", parts()[1], re.MULTILINE)
+    return dict(re.findall(r"([a-z-]+) \(([^)]*)\)", " ".join(found[1].split())))
+
+
+CAUSES = causes()
 VALUES = {
     "ID": r"pec\.[0-9]{7}@[a-z0-9.-]+",
     "RECIPIENT": "[!-?A-~]+@[a-z0-9.-]+",
@@ -62,6 +66,7 @@ MARKS = {
     "clock-back": ("bars", RED, "a moment before the last one"),
     "journal-full": ("bars", RED, "a journal has no room"),
     "fault": ("cross", RED, "a disk failed"),
+    "changed": ("cross", RED, "a disk gave back another entry"),
     "lost": ("cross", RED, "a frame is lost"),
     "repeated": ("again", ORANGE, "a frame is repeated"),
     "swapped": ("again", ORANGE, "two frames change places"),
@@ -118,12 +123,6 @@ class Form:
             return re.escape(word)
         pattern = VALUES.get(word, NUMBER)
         return f"(?:{pattern}{absent})" if word in ("ID", "RECIPIENT") else pattern
-
-
-def parts():
-    """What bin/help says of lines: their forms, and what words in capitals stand for."""
-    with open(HELP, encoding="ascii") as file:
-        return file.read().split("that a picture of bin/draw has at its foot:\n\n")[1].split("\n\n")[:2]
 
 
 def forms():
