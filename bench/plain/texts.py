@@ -141,7 +141,7 @@ def facts(fields):
 
 # What the program's screens look for.
 VIRUS = b"PEC-VIRUS-DI-PROVA"
-CAUSES = ["head", "from", "to", "reverse-path", "forward-path", "bcc", "size", "virus"]
+CAUSES = ["head", "from", "to", "reverse-path", "forward-path", "bcc", "size", "virus", "too-many"]
 
 
 def refused(message, account, path, limit):
@@ -163,6 +163,8 @@ def refused(message, account, path, limit):
         return "forward-path"
     if any(values(fields, b"Bcc")):
         return "bcc"
+    if len(set(to + copies)) > 500:
+        return "too-many"
     if len(message) * len(set(to + copies)) > limit:
         return "size"
     return "virus" if VIRUS in message else None

@@ -101,6 +101,19 @@ module _ (ties : Ties) where
         in lt-ltb case.limit (length case.message * length facts.recipients) (rw same at h.over),
   )
 
+  many_row : (head : Fields) (facts : Option Facts) → facts_of head ≡ facts → Decides (exceeds facts) (HasTooMany head)
+  many_row head None e = (λ t. absurd cc, λ h. absurd (no_some (facts_of head) h.facts e ((ties.facts head (Some h.facts)).1 h.facts_are)))
+  many_row head (Some facts) e = (
+    λ t. record {
+      facts = facts;
+      facts_are = (ties.facts head (Some facts)).0 e;
+      over = ltb-true most_recipients (length facts.recipients) t;
+    },
+    λ h.
+        let same : h.facts ≡ facts = some_is h.facts facts (sym ((ties.facts head (Some h.facts)).1 h.facts_are) ∙ e)
+        in lt-ltb most_recipients (length facts.recipients) (rw same at h.over),
+  )
+
   pub each_row : (case : Case) (cause : Cause) → Decides (applies case cause) (Applies case cause)
   each_row case Head = head_row case (head_in case.message) refl
   each_row case From = with_head ties case.message lacks_from _ (λ head. from_row head (sender_of head) refl) (head_in case.message) refl
@@ -110,6 +123,7 @@ module _ (ties : Ties) where
   each_row case ForwardPath =
       with_head ties case.message (has_other_path case) _ (λ head. path_row case.path head (recipients_in head) refl) (head_in case.message) refl
   each_row case Bcc = with_head ties case.message has_blind_copies _ (λ head. (λ t. t, λ h. h)) (head_in case.message) refl
+  each_row case TooMany = with_head ties case.message has_too_many _ (λ head. many_row head (facts_of head) refl) (head_in case.message) refl
   each_row case Size = with_head ties case.message (is_too_large case) _ (λ head. size_row case head (facts_of head) refl) (head_in case.message) refl
   each_row case Virus = (λ t. t, λ h. h)
 

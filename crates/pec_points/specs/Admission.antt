@@ -6,7 +6,7 @@ use Rattle.std.specs.List.{list_any}
 use Rattle.pec_types.specs.Tables.{IsFirst, NoneApplies}
 use Rattle.pec_types.specs.declared.messages.Facts.{Facts}
 use Rattle.pec_types.specs.declared.messages.Cause.{Cause}
-use Rattle.pec_types.specs.declared.messages.Cause.TheVariants.{Head, From, To, ReversePath, ForwardPath, Bcc, Size, Virus}
+use Rattle.pec_types.specs.declared.messages.Cause.TheVariants.{Head, From, To, ReversePath, ForwardPath, Bcc, Size, TooMany, Virus}
 use Rattle.pec_heads.specs.Heads.{NamedValue, IsHead, HasHeadFault, values_of, joined_values}
 use Rattle.pec_heads.specs.Lists.{IsList, HasList, is_all_blank}
 use Rattle.pec_heads.specs.FactsOfHeads.{AreCopies, IsFacts, has_address}
@@ -56,9 +56,19 @@ pub record IsTooLarge (limit : ℕ) (message : Bytes) (head : Fields) : Type 0 w
 
 -- ---- the table
 
+-- how many recipients a message may have
+abbrev pub most_recipients : ℕ
+most_recipients = 500
+
+-- The facts of the head tell more.
+pub record HasTooMany (head : Fields) : Type 0 where
+  pub facts : Facts
+  pub facts_are : IsFacts head facts
+  pub over : most_recipients < length facts.recipients
+
 -- The rows before that of the screens in their order, each named by its cause.
 abbrev pub earlier_rows : List Cause
-earlier_rows = Head ∷ From ∷ To ∷ ReversePath ∷ ForwardPath ∷ Bcc ∷ Size ∷ []
+earlier_rows = Head ∷ From ∷ To ∷ ReversePath ∷ ForwardPath ∷ Bcc ∷ TooMany ∷ Size ∷ []
 
 -- All rows in their order.
 abbrev pub rows : List Cause
@@ -72,6 +82,7 @@ Applies case To = WithHead case.message (λ head. HasList (joined_values (codes 
 Applies case ReversePath = WithHead case.message (λ head. IsFrom head case.sender → ⊥)
 Applies case ForwardPath = WithHead case.message (λ head. IsForwardPath case.path head → ⊥)
 Applies case Bcc = WithHead case.message (λ head. has_blind_copies head ≡ true)
+Applies case TooMany = WithHead case.message HasTooMany
 Applies case Size = WithHead case.message (λ head. IsTooLarge case.limit case.message head)
 Applies case Virus = case.found ≡ true
 

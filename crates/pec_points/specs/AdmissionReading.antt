@@ -67,6 +67,14 @@ is_too_large case head = outgrows case (facts_of head)
 unfoldable pub head_in : Bytes → Option Fields
 head_in message = option_map (λ read. read.0) (result_ok (read_of message))
 
+-- the facts tell more recipients than a message may have
+abbrev pub exceeds : Option Facts → Bool
+exceeds None = false
+exceeds (Some facts) = nat_lt most_recipients (length facts.recipients)
+
+abbrev pub has_too_many : Fields → Bool
+has_too_many head = exceeds (facts_of head)
+
 abbrev pub in_head : (Fields → Bool) → Option Fields → Bool
 in_head test None = false
 in_head test (Some head) = test head
@@ -79,6 +87,7 @@ applies_with case head To = in_head lacks_to head
 applies_with case head ReversePath = in_head (has_other_sender case) head
 applies_with case head ForwardPath = in_head (has_other_path case) head
 applies_with case head Bcc = in_head has_blind_copies head
+applies_with case head TooMany = in_head has_too_many head
 applies_with case head Size = in_head (is_too_large case) head
 applies_with case head Virus = case.found
 
@@ -106,7 +115,8 @@ abbrev pub admission_by : ℕ → Path → ℕ → Fields → Facts → Admissio
 admission_by limit path bytes head facts = admitted (
     if not (is_path_of path facts.recipients) then Some ForwardPath else (
     if has_blind_copies head then Some Bcc else (
-    if nat_lt limit (bytes * length facts.recipients) then Some Size else None))) (Some facts)
+    if nat_lt most_recipients (length facts.recipients) then Some TooMany else (
+    if nat_lt limit (bytes * length facts.recipients) then Some Size else None)))) (Some facts)
 
 -- The answer of the rows before that of the screens, and what the screens then say.
 abbrev pub screened : Bool → Admission → Admission

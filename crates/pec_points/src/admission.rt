@@ -190,6 +190,9 @@ fn admit_head(
     Ok(admission)
 }
 
+/// How many recipients a message may have.
+const MOST_RECIPIENTS: usize = 500;
+
 /// The admission of a message of so many bytes with this head and these facts of it, by its recipients and its size.
 fn admit_facts(
     alloc: Global,
@@ -207,6 +210,9 @@ fn admit_facts(
     }
     if has_blind_copies(head) {
         return Ok(Admission::Not(Cause::Bcc));
+    }
+    if recipients.len() > MOST_RECIPIENTS {
+        return Ok(Admission::Not(Cause::TooMany));
     }
     if is_over(limit, bytes, recipients.len()) {
         return Ok(Admission::Not(Cause::Size));

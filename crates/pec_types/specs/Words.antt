@@ -47,12 +47,13 @@ cause_word causes.ForwardPath = codes "forward-path"
 cause_word causes.Bcc = codes "bcc"
 cause_word causes.Size = codes "size"
 cause_word causes.Virus = codes "virus"
+cause_word causes.TooMany = codes "too-many"
 
 -- All causes, each once, in the order of their numbers. A new one comes last: journals keep the numbers.
 abbrev pub all_causes : List Cause
 all_causes =
     causes.Head ∷ causes.From ∷ causes.To ∷ causes.ReversePath ∷ causes.ForwardPath ∷ causes.Bcc ∷ causes.Size
-    ∷ causes.Virus ∷ []
+    ∷ causes.Virus ∷ causes.TooMany ∷ []
 
 -- the number of a cause: its place among them, from 1
 abbrev pub cause_number : Cause → ℕ
@@ -64,6 +65,7 @@ cause_number causes.ForwardPath = 5
 cause_number causes.Bcc = 6
 cause_number causes.Size = 7
 cause_number causes.Virus = 8
+cause_number causes.TooMany = 9
 
 abbrev pub class_word : Class → Bytes
 class_word classes.Primary = codes "primary"

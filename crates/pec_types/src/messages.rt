@@ -81,6 +81,8 @@ pub enum Cause {
     Size,
     /// A screen found a virus.
     Virus,
+    /// The message has more recipients than a message may have.
+    TooMany,
 }
 
 /// One recipient of a message.

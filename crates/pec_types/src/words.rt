@@ -66,6 +66,7 @@ impl Cause {
             Cause::Bcc => b"bcc",
             Cause::Size => b"size",
             Cause::Virus => b"virus",
+            Cause::TooMany => b"too-many",
         }
     }
 
@@ -83,6 +84,7 @@ impl Cause {
             Cause::Bcc => 6,
             Cause::Size => 7,
             Cause::Virus => 8,
+            Cause::TooMany => 9,
         }
     }
 
@@ -94,7 +96,7 @@ impl Cause {
     }
 }
 
-const ALL_CAUSES: [Cause; 8] = [
+const ALL_CAUSES: [Cause; 9] = [
     Cause::Head,
     Cause::From,
     Cause::To,
@@ -103,6 +105,7 @@ const ALL_CAUSES: [Cause; 8] = [
     Cause::Bcc,
     Cause::Size,
     Cause::Virus,
+    Cause::TooMany,
 ];
 
 /// Each cause stands at its place among all of them. So what passes for all, by going through them, passes for each,
