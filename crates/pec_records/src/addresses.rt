@@ -9,7 +9,7 @@ ghost use Rattle.pec_records.specs.EntryReading.{address_at, addresses_at};
 
 use crate::fields::read_number_32;
 use pec_grammar::{Cursor, ReadError, Stop, exactly};
-use pec_types::{Address, Items, Stand, lower_addresses_pass};
+use pec_types::{Address, Items, NoMemory, Stand, lower_addresses_pass};
 use std::alloc::Global;
 
 /// Reads a count and so many addresses.
@@ -56,7 +56,10 @@ pub(crate) fn read_address(
     let (length, after_length) = address_length(at)?;
     let (bytes, after) = address_bytes(alloc, after_length, length)?;
     lower_addresses_pass();
-    Ok((Address::of_lower(bytes), after))
+    match Address::of_lower(alloc, bytes) {
+        Ok(address) => Ok((address, after)),
+        Err(NoMemory) => Err(ReadError::NoMemory),
+    }
 }
 
 /// Reads a length that an address can have, in two bytes.

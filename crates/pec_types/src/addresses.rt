@@ -16,6 +16,7 @@ use crate::scanning::{Stand, stop};
 use std::alloc::{AllocError, Global};
 use std::cmp::Ordering;
 use std::marker::Model;
+use std::sync::Arc;
 
 /// Why a text is no address, in the order in which the faults are looked for.
 #[derive(Clone, Copy, Debug, PartialEq, Eq)]
@@ -41,10 +42,10 @@ impl From<AllocError> for AddressFault {
     }
 }
 
-/// A mail address in lower case: contracts see its bytes.
+/// A mail address in lower case: contracts see its bytes, which stand once for it and for its copies.
 #[derive(Drop)]
 pub struct Address {
-    bytes: Vec<u8>,
+    bytes: Arc<Vec<u8>>,
 }
 
 /// The function that tells an address, or a text's fault, is one with the grammar: definitions above may take either.
@@ -66,9 +67,9 @@ pub fn an_address_has_its_bytes_alone()
 impl Model for Address {
     ghost Value = { List ℕ };
 
-    ghost view = { λ address. address.bytes.items };
+    ghost view = { λ address. address.bytes.value.items };
 
-    ghost invariant = { λ address. IsLowerAddress address.bytes.items };
+    ghost invariant = { λ address. IsLowerAddress address.bytes.value.items };
 }
 
 impl Address {
@@ -94,12 +95,15 @@ impl Address {
         }
     }
 
-    /// The address of bytes that are known to be one in lower case. It takes no memory.
-    pub fn of_lower(bytes: Vec<u8>) -> Address
+    /// The address of bytes that are known to be one in lower case.
+    pub fn of_lower(alloc: Global, bytes: Vec<u8>) -> Result<Address, NoMemory>
         requires { IsLowerAddress bytes.items }
-        ensures { result ≡ bytes.items }
+        ensures { IfOk result (λ address. address ≡ bytes.items) }
     {
-        Address { bytes }
+        match Arc::new(alloc, bytes) {
+            Ok(bytes) => Ok(Address { bytes }),
+            Err(_) => Err(NoMemory),
+        }
     }
 
     /// The bytes of the address. It takes no memory.
@@ -115,15 +119,18 @@ impl Address {
         ensures domain { HasDomain self.now result.now }
         ensures exact { result.now ≡ domain_of self.now }
     {
-        behind_sign(self.bytes.as_slice())
+        behind_sign(self.bytes())
     }
 
-    /// An equal address.
+    /// An equal address. It has its bytes together with this one, unless these have as many owners as can be counted.
     pub fn copy(&self, alloc: Global) -> Result<Address, NoMemory>
         ensures { IfOk result (λ address. address ≡ self.now) }
     {
+        if let Ok(bytes) = self.bytes.clone() {
+            return Ok(Address { bytes });
+        }
         let bytes = Vec::from_slice(alloc, self.bytes.as_slice())?;
-        Ok(Address { bytes })
+        Address::of_lower(alloc, bytes)
     }
 }
 
@@ -186,7 +193,10 @@ fn read_address(alloc: Global, text: &[u8]) -> Result<Address, AddressFault>
         return Err(AddressFault::BadDomain(sign + 1 + place));
     }
     let bytes = lowercase(alloc, text)?;
-    Ok(Address { bytes })
+    match Address::of_lower(alloc, bytes) {
+        Ok(address) => Ok(address),
+        Err(NoMemory) => Err(AddressFault::NoMemory),
+    }
 }
 
 #[tactic(auto, unfolding(crate::specs::AddressReading::domain_of))]

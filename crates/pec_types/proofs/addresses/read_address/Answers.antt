@@ -4,8 +4,8 @@ use Rattle.pec_types.proofs.AddressLaws.{read_through}
 use Rattle.pec_types.proofs.LowerCase.{kept_address}
 use Rattle.pec_types.proofs.addresses.read_address.Goals as goal
 
-pub invariant_of-result : goal.invariant_of-result
-invariant_of-result c =
+pub of_lower-requires : goal.of_lower-requires
+of_lower-requires c =
     kept_address _ _
     (read_through c.args.text.now c.in-Some.sign c.if-is_empty.ensures (omega arith) c.in-Some.ensures.sign
     c.in_default-stop.ensures.stop (rw take_rest at c.in_default-stop-2.ensures.stop))

@@ -6,6 +6,5 @@ use Rattle.pec_types.proofs.addresses.Address.domain.Goals as goal
 
 pub returns-clause-domain : goal.returns-clause-domain
 returns-clause-domain c =
-    let bytes : c.as_slice.result.now ≡ c.args.self.now = c.as_slice.ensures.value ∙ c.self.view_is in
-    let address : IsAddress c.args.self.now = subst IsAddress c.self.view_is c.self.invariant.address in
-    subst (λ domain. HasDomain c.args.self.now domain) (sym (c.behind_sign.ensures ∙ ap domain_of bytes)) (domain_is c.args.self.now address)
+    subst (λ domain. HasDomain c.args.self.now domain) (sym (c.behind_sign.ensures ∙ ap domain_of c.bytes.ensures.value))
+    (domain_is c.args.self.now c.bytes.ensures.is.address)
