@@ -1,15 +1,11 @@
--- Places in a list of numbers: one number more.
-use Rattle.std.proofs.Common.{◌≡◌, ℕ, suc, ◌+◌, ◌<◌, ◌≤◌, ◌==◌, nat_eq, Bool, true, false, cond, List, [], ◌∷◌, ◌++◌, ◌⊎◌, inl, inr, length, map, take, get_or, refl, sym, ap, subst, ◌∙◌, arith, Option, Some, None, slice_get, length-append, Result, Ok, Err, IsOk, OnOk}
-use Rattle.std.specs.Option.{option_map, option_or}
+-- Places in a list of numbers: one number more, and what stands beside each.
+use Rattle.std.proofs.Common.{◌≡◌, ℕ, zero, suc, ◌<◌, ◌==◌, nat_eq, Bool, true, false, cond, List, [], ◌∷◌, ◌++◌, length, take, get_or, refl, sym, ap, ◌∙◌, arith, Option, Some, None, slice_index, Result, Ok, Err, IsOk, OnOk}
 use Rattle.std.specs.HashMap.{HashMap, Updates, get}
+use Rattle.std.specs.Option.{IfSome, option_map, option_or}
 use Rattle.std.proofs.lemmas.Bool.{false≢true}
 use Rattle.std.proofs.lemmas.Bool.Decides.{nat_tests}
-use Rattle.std.proofs.lemmas.List.{length-map, map-append, take-append-le, get_or_append_left}
-use Rattle.std.proofs.lemmas.Option.{get_or_from_slice_get, slice_get-get_or, slice_get_within}
-use Rattle.std.proofs.Math.Seq.{get_or-append_seam, take-length}
-use Rattle.pec_places.specs.Places.{AreLast, AreLinked, last_place, numbers_of}
-use Rattle.pec_places.specs.declared.places.Link.{Link}
-use mathlib.Core.Logic.{⊎_elim}
+use Rattle.std.proofs.lemmas.List.{append_assoc}
+use Rattle.pec_places.specs.Places.{AreLast, last_place, links_behind, links_of}
 
 further : (x n k : ℕ) (same : Bool) (o : Option ℕ)
     → option_or (option_map suc (cond same (Some k) o)) (cond (n == x) (Some 0) None)
@@ -24,48 +20,69 @@ last_more n (x ∷ ms) m = rw (last_more n ms m) (further x n (length ms) (n == 
 either_way : (a b : ℕ) → (a == b) ≡ (b == a)
 either_way a b = grind (arith, nat_tests)
 
--- the map, with one number more
-pub lasts_more : {S : Type 0} (old new : HashMap ℕ ℕ S) (numbers : List ℕ) (number : ℕ) → AreLast old numbers → Updates nat_eq old new number (Some (length numbers))
-    → AreLast new (numbers ++ number ∷ [])
-lasts_more old new numbers number are updates = λ n.
-    updates.0 n ∙ ap (λ b. cond b (Some (length numbers)) (get nat_eq old n)) (either_way number n)
+-- the last places, with one number more
+pub lasts_more : {S : Type 0} (old new : HashMap ℕ ℕ S) (numbers : List ℕ) (number place : ℕ) → AreLast old numbers → place ≡ length numbers
+    → Updates nat_eq old new number (Some place) → AreLast new (numbers ++ number ∷ [])
+lasts_more old new numbers number place are long updates = λ n.
+    updates.0 n ∙ ap (λ k. cond (number == n) (Some k) (get nat_eq old n)) long
+    ∙ ap (λ b. cond b (Some (length numbers)) (get nat_eq old n)) (either_way number n)
     ∙ ap (cond (n == number) (Some (length numbers))) (are n) ∙ sym (last_more n numbers number)
 
-less_or_same : (n k : ℕ) → n < k + 1 → (n < k) ⊎ (n ≡ k)
-less_or_same n k l = grind arith
-
--- what stands in a list with one item more
-got_more : {X : Type 0} (xs : List X) (x y : X) (n : ℕ) → slice_get (xs ++ x ∷ []) n ≡ Some y
-    → ((n < length xs) × (slice_get xs n ≡ Some y)) ⊎ ((n ≡ length xs) × (y ≡ x))
-got_more xs x y n e =
-    let within : n < length (xs ++ x ∷ []) = slice_get_within (xs ++ x ∷ []) n y e in
-    let short : n < length xs + 1 = omega (arith, within, length-append xs (x ∷ [])) in
-    let is : get_or (xs ++ x ∷ []) n x ≡ y = get_or_from_slice_get (xs ++ x ∷ []) n y x e in
-    ⊎_elim
-    (λ l. inl (l, slice_get-get_or xs n x l ∙ ap Some (sym (get_or_append_left xs (x ∷ []) x n l) ∙ is)))
-    (λ same. inr (same, sym is ∙ ap (λ k. get_or (xs ++ x ∷ []) k x) same ∙ get_or-append_seam xs x [] x))
-    (less_or_same n (length xs) short)
-
-whole : (ns : List ℕ) (k : ℕ) → k ≡ length ns → take k ns ≡ ns
-whole ns k e = ap (λ j. take j ns) e ∙ take-length ns
-
--- the numbers in front of a place, with one more behind them
-front : (links : List Link) (link : Link) (place : ℕ) → place ≤ length links → take place (numbers_of (links ++ link ∷ [])) ≡ take place (numbers_of links)
-front links link place l =
-    ap (take place) (map-append (λ (x : Link). x.number) links (link ∷ []))
-    ∙ take-append-le place (numbers_of links) (link.number ∷ []) (omega (arith, l, length-map links (λ (x : Link). x.number)))
+links_grow : (front ns : List ℕ) (n : ℕ) → links_behind front (ns ++ n ∷ []) ≡ links_behind front ns ++ last_place n (front ++ ns) ∷ []
+links_grow front [] n = ap (λ xs. last_place n xs ∷ []) (sym (behind_nothing front))
+  where
+    behind_nothing : (xs : List ℕ) → xs ++ [] ≡ xs
+    behind_nothing [] = refl
+    behind_nothing (x ∷ xs) = ap (λ ys. x ∷ ys) (behind_nothing xs)
+links_grow front (m ∷ ns) n =
+    ap (λ xs. last_place m front ∷ xs)
+    (links_grow (front ++ m ∷ []) ns n ∙ ap (λ xs. links_behind (front ++ m ∷ []) ns ++ last_place n xs ∷ []) (append_assoc front (m ∷ []) ns))
 
 -- the links, with one number more
-pub links_more : (links : List Link) (link : Link) → AreLinked links → link.before ≡ last_place link.number (numbers_of links) → AreLinked (links ++ link ∷ [])
-links_more links link are is = λ place found there.
-    ⊎_elim
-    (λ old. are place found old.1 ∙ ap (last_place found.number) (sym (front links link place (omega (arith, old.0)))))
-    (λ new.
-    ap (λ (x : Link). x.before) new.1 ∙ is ∙ ap (λ (x : Link). last_place x.number (numbers_of links)) (sym new.1)
-    ∙ ap (last_place found.number) (sym (front links link place (omega (arith, new.0)) ∙ whole (numbers_of links) place (new.0 ∙ sym (length-map links (λ (x : Link). x.number))))))
-    (got_more links link found place there)
+pub links_more : (ns : List ℕ) (n : ℕ) → links_of (ns ++ n ∷ []) ≡ links_of ns ++ last_place n ns ∷ []
+links_more ns n = links_grow [] ns n
+
+links_long : (front ns : List ℕ) → length (links_behind front ns) ≡ length ns
+links_long front [] = refl
+links_long front (n ∷ ns) = ap suc (links_long (front ++ n ∷ []) ns)
+
+-- a link for each number
+pub as_many_links : (ns : List ℕ) → length (links_of ns) ≡ length ns
+as_many_links ns = links_long [] ns
+
+link_behind : (front ns : List ℕ) (place : ℕ) (d : Option ℕ) → place < length ns
+    → get_or (links_behind front ns) place d ≡ last_place (slice_index ns place) (front ++ take place ns)
+link_behind front [] place d l = absurd (omega arith)
+link_behind front (n ∷ ns) zero d l = ap (last_place n) (sym (behind_nothing front))
+  where
+    behind_nothing : (xs : List ℕ) → xs ++ [] ≡ xs
+    behind_nothing [] = refl
+    behind_nothing (x ∷ xs) = ap (λ ys. x ∷ ys) (behind_nothing xs)
+link_behind front (n ∷ ns) (suc place) d l =
+    link_behind (front ++ n ∷ []) ns place d (omega (arith, l))
+    ∙ ap (last_place (slice_index ns place)) (append_assoc front (n ∷ []) (take place ns))
+
+-- what stands beside a number
+pub link_at : (ns : List ℕ) (place : ℕ) (d : Option ℕ) → place < length ns → get_or (links_of ns) place d ≡ last_place (slice_index ns place) (take place ns)
+link_at ns place d l = link_behind [] ns place d l
+
+-- a place at which a number stands is one of the list
+pub last_within : (n : ℕ) (ns : List ℕ) → IfSome (last_place n ns) (λ place. place < length ns)
+last_within n [] = record {}
+last_within n (m ∷ ns) = by (last_place n ns) (n == m) (last_within n ns)
+  where
+    by : (found : Option ℕ) (same : Bool) → IfSome found (λ place. place < length ns)
+        → IfSome (option_or (option_map suc found) (cond same (Some 0) None)) (λ place. place < suc (length ns))
+    by (Some place) same within = omega (arith, within)
+    by None true within = omega arith
+    by None false within = record {}
 
 -- what is so where it succeeded, where it did
 pub on_ok : {T E : Type 0} (r : Result T E) (P : Type 0) → IsOk r → OnOk r P → P
 on_ok (Ok x) P ok p = p
 on_ok (Err e) P ok p = absurd (false≢true ok)
+
+-- what is below a length is below what the length is at most
+pub some_below : (found : Option ℕ) (long most : ℕ) → IfSome found (λ place. place < long) → long < suc most → IfSome found (λ place. place < most)
+some_below (Some place) long most within l = omega (arith, within, l)
+some_below None long most within l = record {}

@@ -2,8 +2,9 @@
 //! knows no mail, and stands on nothing.
 #![tactic(auto)]
 
-mod places;
+mod groups;
+mod links;
 mod tables;
 
-pub use places::Places;
+pub use groups::{Grouped, InGroup};
 pub use tables::{Numbered, Sought, Table};

@@ -1,9 +1,11 @@
-ghost use Rattle.std.specs.Prelude.{◌≡◌, ℕ, Bool, true, ◌+◌, ◌<◌, ◌≤◌, [], ◌∷◌, ◌++◌, length, max, find, slice_get, option_map, OnOk, Some, if◌then◌else◌};
+ghost use Rattle.std.specs.Prelude.{◌≡◌, ℕ, Bool, true, ◌+◌, ◌<◌, ◌≤◌, [], ◌∷◌, ◌++◌, length, map, max, find, slice_get, slice_index, take, option_map, OnOk, Some, if◌then◌else◌};
 ghost use Rattle.std.specs.Option.{option_and_then};
+ghost use Rattle.pec_places.specs.Places.{last_place};
 ghost use Rattle.pec_places.specs.Rows.{Rows};
 
-use crate::places::Places;
+use crate::links::Link;
 use std::alloc::{AllocError, Global};
+use std::collections::HashMap;
 use std::marker::Model;
 
 /// A row, with a number that tells it from most rows about something else.
@@ -36,20 +38,28 @@ pub trait Sought<R: Numbered> {
 #[derive(Drop)]
 pub struct Table<R: Numbered> {
     rows: Vec<R>,
-    places: Places,
+    /// For each row, the place before it at which a row has the same number.
+    links: Vec<Link>,
+    last: HashMap<u64, usize>,
+    room: usize,
 }
 
 impl<R: Numbered> Model for Table<R> {
     ghost use Rattle.std.specs.Prelude.{◌≡◌, ◌+◌, ◌≤◌, map, vec_capacity, vec_len};
+    ghost use Rattle.std.specs.HashMap.{spare};
+    ghost use Rattle.pec_places.specs.Places.{AreLast, links_of};
     ghost use Rattle.pec_places.specs.Rows.{Rows};
 
     ghost Value = { Rows R };
 
-    ghost view = { λ table. record { rows = table.rows.items; room = table.places.room } };
+    ghost view = { λ table. record { rows = table.rows.items; room = table.room } };
 
     ghost invariant = { λ table. record {
-      list : vec_len table.rows + table.places.room ≤ vec_capacity table.rows;
-      numbers : table.places.numbers ≡ map R.number_of table.rows.items;
+      list : vec_len table.rows + table.room ≤ vec_capacity table.rows;
+      beside : vec_len table.links + table.room ≤ vec_capacity table.links;
+      mapped : table.room ≤ spare table.last;
+      linked : table.links.items ≡ links_of (map R.number_of table.rows.items);
+      last : AreLast table.last (map R.number_of table.rows.items);
     } };
 }
 
@@ -60,7 +70,9 @@ impl<R: Numbered + Drop> Table<R> {
     {
         Table {
             rows: Vec::new(alloc),
-            places: Places::new(alloc),
+            links: Vec::new(alloc),
+            last: HashMap::new(alloc),
+            room: 0,
         }
     }
 
@@ -71,8 +83,13 @@ impl<R: Numbered + Drop> Table<R> {
         ensures most { self.new.room ≤ max self.old.room more }
         ensures rows { self.new.rows ≡ self.old.rows }
     {
+        if more <= self.room {
+            return Ok(());
+        }
         self.rows.reserve(more)?;
-        self.places.reserve(more)?;
+        self.links.reserve(more)?;
+        self.last.reserve(more)?;
+        self.room = more;
         Ok(())
     }
 
@@ -82,8 +99,13 @@ impl<R: Numbered + Drop> Table<R> {
         ensures rows { self.new.rows ≡ self.old.rows ++ row ∷ [] }
         ensures room { self.new.room + 1 ≡ self.old.room }
     {
-        self.places.push(row.number());
+        let number = row.number();
+        let place = self.rows.as_slice().len();
+        let before = self.last(number);
+        self.links.push_reserved(Link::to(before));
+        let _ = self.last.insert(number, place);
         self.rows.push_reserved(row);
+        self.room -= 1;
     }
 
     /// Adds rows for which there is room. It takes no memory.
@@ -109,12 +131,28 @@ impl<R: Numbered + Drop> Table<R> {
         ensures { option_map (λ row. row.now) result ≡ find (S.finds key.now) self.now.rows }
     {
         let mut found = None;
-        let mut next = self.places.last(key.number());
+        let mut next = self.last(key.number());
         while let Some(place) = next {
             found = first(key.finds(&self.rows[place]), place, found);
-            next = self.places.before(place);
+            next = self.before(place);
         }
         self.at(found)
+    }
+
+    /// The last place at which a row has a number.
+    fn last(&self, number: u64) -> Option<usize>
+        ensures { result ≡ last_place number (map R.number_of self.now.rows) }
+    {
+        self.last.get(&number).copied()
+    }
+
+    /// The place before this one at which a row has the same number.
+    fn before(&self, place: usize) -> Option<usize>
+        requires { place < length self.now.rows }
+        ensures { result ≡ last_place (slice_index (map R.number_of self.now.rows) place)
+            (take place (map R.number_of self.now.rows)) }
+    {
+        self.links[place].place()
     }
 
     /// The row at a place, if there is one.

@@ -1,6 +1,5 @@
-use Rattle.std.proofs.Common.{◌≡◌, ℕ, suc, ◌<◌, ◌==◌, Bool, true, cond, List, length, map, take, get_or, find, refl, sym, ap, subst, ◌∙◌, arith, Option, Some, None, slice_get, slice_index}
+use Rattle.std.proofs.Common.{◌≡◌, ℕ, ◌<◌, Bool, cond, length, map, take, get_or, find, sym, ap, subst, ◌∙◌, arith, Option, Some, slice_get}
 use Rattle.std.specs.Option.{option_and_then, option_or}
-use Rattle.std.proofs.lemmas.List.{length-map}
 use Rattle.pec_places.specs.Places.{last_place}
 use Rattle.pec_places.specs.Rows.{Rows}
 use Rattle.pec_places.proofs.TableLemmas.{begun, left, step}
@@ -12,9 +11,8 @@ loop-next-init g c =
     let passes = g.S.Sought.finds c.args.key.now in
     let number = g.R.Numbered.number_of in
     let sought = g.S.Sought.sought c.args.key.now in
-    let numbers : c.self.inside.places.numbers ≡ map number rows = c.self.invariant.numbers ∙ ap (λ (v : Rows g.row.R.Denot). map number v.rows) c.self.view_is in
     let next : c.last-next.result ≡ last_place sought (map number rows) =
-    c.last-next.ensures ∙ ap (λ n. last_place n c.self.inside.places.numbers) c.number.ensures ∙ ap (last_place sought) numbers in
+    c.last-next.ensures ∙ ap (λ n. last_place n (map number rows)) c.number.ensures in
     let so = begun number passes sought (λ row yes. g.met.S.Sought.agrees c.args.key.now row yes) rows c.last-next.result next in
     record { found = so.0; at = so.1 }
 
@@ -23,14 +21,7 @@ index-requires g c =
     omega (arith, (c.loop-next.invariant.at c.in-Some.place c.in-Some.is).0, c.self.inside.rows.ok.0, ap (λ (v : Rows g.row.R.Denot). length v.rows) c.self.view_is)
 
 pub before-next-requires : goal.before-next-requires
-before-next-requires g c =
-    omega (
-      arith,
-      (c.loop-next.invariant.at c.in-Some.place c.in-Some.is).0,
-      ap (λ (v : Rows g.row.R.Denot). length v.rows) c.self.view_is,
-      ap (λ (ns : List ℕ). length ns) c.self.invariant.numbers,
-      length-map c.self.inside.rows.items g.R.Numbered.number_of,
-    )
+before-next-requires g c = (c.loop-next.invariant.at c.in-Some.place c.in-Some.is).0
 
 pub loop-next-smaller : goal.loop-next-smaller
 loop-next-smaller g c =
@@ -39,12 +30,11 @@ loop-next-smaller g c =
     let number = g.R.Numbered.number_of in
     let sought = g.S.Sought.sought c.args.key.now in
     let place = c.in-Some.place in
-    let numbers : c.self.inside.places.numbers ≡ map number rows = c.self.invariant.numbers ∙ ap (λ (v : Rows g.row.R.Denot). map number v.rows) c.self.view_is in
     let goes = step number passes sought (λ row yes. g.met.S.Sought.agrees c.args.key.now row yes) rows place c.index.result.now c.loop-next.next c.loop-next.found
     c.first-found.result c.before-next.result c.in-Some.is c.loop-next.invariant.found c.loop-next.invariant.at
     (c.index.ensures ∙ ap (λ (v : Rows g.row.R.Denot). get_or v.rows place c.index.result.now) c.self.view_is)
     (c.first-found.ensures ∙ ap (λ (b : Bool). cond b (Some place) c.loop-next.found) c.finds.ensures)
-    (c.before-next.ensures ∙ ap (λ (ns : List ℕ). last_place (slice_index ns place) (take place ns)) numbers) in
+    c.before-next.ensures in
     subst (λ (n : Option ℕ). left c.before-next.result < left n) (sym c.in-Some.is) goes.less
 
 pub loop-next-preserved : goal.loop-next-preserved
@@ -54,12 +44,11 @@ loop-next-preserved g c =
     let number = g.R.Numbered.number_of in
     let sought = g.S.Sought.sought c.args.key.now in
     let place = c.in-Some.place in
-    let numbers : c.self.inside.places.numbers ≡ map number rows = c.self.invariant.numbers ∙ ap (λ (v : Rows g.row.R.Denot). map number v.rows) c.self.view_is in
     let goes = step number passes sought (λ row yes. g.met.S.Sought.agrees c.args.key.now row yes) rows place c.index.result.now c.loop-next.next c.loop-next.found
     c.first-found.result c.before-next.result c.in-Some.is c.loop-next.invariant.found c.loop-next.invariant.at
     (c.index.ensures ∙ ap (λ (v : Rows g.row.R.Denot). get_or v.rows place c.index.result.now) c.self.view_is)
     (c.first-found.ensures ∙ ap (λ (b : Bool). cond b (Some place) c.loop-next.found) c.finds.ensures)
-    (c.before-next.ensures ∙ ap (λ (ns : List ℕ). last_place (slice_index ns place) (take place ns)) numbers) in
+    c.before-next.ensures in
     record { found = goes.found; at = goes.at }
 
 pub returns : goal.returns
