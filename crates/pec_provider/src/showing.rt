@@ -28,7 +28,8 @@ use pec_types::{Address, BookLine, ItemLine, ProviderFault};
 use std::alloc::Global;
 
 /// What an account is shown. The first of these refusals that applies is answered: `NoAccount`, `Down`, `NoItem`,
-/// `NoMemory`.
+/// `NoMemory`. Where an entry has to be read, for an item, `NoMemory`, `DiskFault` and `Changed` come of the read and of
+/// what it gave, and behind the last two the provider is down.
 impl<D> Provider<D> {
     /// Its book: a line for each of its accepted messages and certified recipients, in order of number and recipients.
     pub fn book<S: Sealer>(

@@ -350,9 +350,3 @@ module _ {R : Type 0} (owner : R → Option Bytes) (counts : R → Bool) (accoun
       by (Some k) more r e =
           subst (λ (rows : List R). IsLast rows x) (append_assoc front (y.row ∷ []) (rows_in ys)) (more k r (first (suc k) e))
       by None more r e = by_test r (here == number_of_owned (owner y.row) 0) e
-
--- the numbers of accounts, with those of one row more
-pub owners_more : {R : Type 0} (owner : R → Option Bytes) (ranked : List (RankedRow R)) (row : RankedRow R)
-    → owners_in owner (ranked ++ row ∷ []) ≡ owners_in owner ranked ++ number_of_owned (owner row.row) 0 ∷ []
-owners_more owner [] row = refl
-owners_more owner (x ∷ xs) row = ap (λ (ns : List ℕ). number_of_owned (owner x.row) 0 ∷ ns) (owners_more owner xs row)

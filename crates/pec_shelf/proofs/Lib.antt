@@ -12,6 +12,7 @@ pub mod OwnLemmas
 pub mod PairLemmas
 pub mod PairingLemmas
 pub mod PassedLemmas
+pub mod SharingLemmas
 pub mod SizeLemmas
 pub mod StepLemmas
 pub mod StillLemmas

@@ -7,7 +7,7 @@ ghost use Rattle.pec_shelf.specs.Keys.{number_of_rank, number_of_owned};
 ghost use Rattle.pec_shelf.specs.KeyLaws.{of_owned};
 
 use crate::keys::number_of_rank;
-use pec_places::{Numbered, Places, Sought, Table};
+use pec_places::{Grouped, InGroup, Numbered, Sought};
 use pec_types::{Address, NoMemory};
 use std::alloc::Global;
 use std::marker::Model;
@@ -107,6 +107,15 @@ impl<R: Owned> Numbered for Ranked<R> {
     }
 }
 
+/// An account is told by the number of its first row.
+impl<R: Owned> InGroup for Ranked<R> {
+    ghost group_of = { λ (ranked : RankedRow R). number_of_owned (R.owner_of ranked.row) 0 };
+
+    fn group(&self) -> u64 {
+        number_of_owned(&self.row, 0)
+    }
+}
+
 /// The number of a row of this rank among those of its account; 0 where it is nobody's.
 fn number_of_owned<R: Owned>(row: &R, rank: u64) -> u64
     ensures { result ≡ number_of_owned (R.owner_of row.now) rank }
@@ -137,26 +146,20 @@ impl<R: Owned> Sought<Ranked<R>> for OfRank<'_> {
 /// Rows in order of adding, those of each account found by their rank.
 #[derive(Drop)]
 pub(crate) struct Drawers<R: Owned> {
-    table: Table<Ranked<R>>,
-    /// The numbers of the rows' accounts, so that an account's last row is found at once.
-    owners: Places,
+    /// A row's group is its account, so that an account's last row is found at once.
+    table: Grouped<Ranked<R>>,
 }
 
 impl<R: Owned> Model for Drawers<R> {
     ghost use Rattle.std.specs.Prelude.{◌≡◌, ◌≤◌, []};
     ghost use Rattle.pec_places.specs.Rows.{Rows};
     ghost use Rattle.pec_shelf.specs.Drawers.{AreRanked, rows_in};
-    ghost use Rattle.pec_shelf.specs.Keys.{owners_in};
 
     ghost Value = { Rows R };
 
     ghost view = { λ drawers. record { rows = rows_in drawers.table.rows; room = drawers.table.room } };
 
-    ghost invariant = { λ drawers. record {
-      ranked : AreRanked R.owner_of R.counts_in [] drawers.table.rows;
-      room : drawers.table.room ≤ drawers.owners.room;
-      owners : drawers.owners.numbers ≡ owners_in R.owner_of drawers.table.rows;
-    } };
+    ghost invariant = { λ drawers. AreRanked R.owner_of R.counts_in [] drawers.table.rows };
 }
 
 impl<R: Owned + Drop> Drawers<R> {
@@ -165,8 +168,7 @@ impl<R: Owned + Drop> Drawers<R> {
         ensures { result ≡ record { rows = []; room = 0 } }
     {
         Drawers {
-            table: Table::new(alloc),
-            owners: Places::new(alloc),
+            table: Grouped::new(alloc),
         }
     }
 
@@ -177,7 +179,6 @@ impl<R: Owned + Drop> Drawers<R> {
         ensures most { self.new.room ≤ max self.old.room more }
         ensures rows { self.new.rows ≡ self.old.rows }
     {
-        self.owners.reserve(more)?;
         self.table.reserve(more)?;
         Ok(())
     }
@@ -189,7 +190,6 @@ impl<R: Owned + Drop> Drawers<R> {
         ensures room { self.new.room + 1 ≡ self.old.room }
     {
         let at = self.rank_of(&row);
-        self.owners.push(number_of_owned(&row, 0));
         self.table.push(Ranked {
             row,
             place: at.place,
@@ -270,7 +270,7 @@ impl<R: Owned + Drop> Drawers<R> {
     fn last(&self, account: &Address) -> Option<Tally>
         ensures { IfSome result (IsTallyOf R.owner_of R.counts_in account.now self.now.rows) }
     {
-        let place = self.owners.last(number_of_rank(account, 0))?;
+        let place = self.table.last(number_of_rank(account, 0))?;
         let ranked = self.table.rows().get(place)?;
         if !ranked.is_of(account) {
             return None;

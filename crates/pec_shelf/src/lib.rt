@@ -29,6 +29,7 @@ mod ready;
 mod receipts;
 mod receptions;
 mod rows;
+mod sharing;
 mod shelf;
 mod sizes;
 mod still;

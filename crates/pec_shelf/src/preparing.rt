@@ -13,6 +13,7 @@ use crate::drafts::Draft;
 use crate::marking::ticked;
 use crate::ready::Ready;
 use crate::receptions::{acked, charged, decided, learned, took};
+use crate::sharing::shared;
 use crate::shelf::Shelf;
 use crate::submissions::{accepted, not_accepted};
 use pec_directory::Directory;
@@ -35,6 +36,7 @@ pub(crate) fn rows_of(
     match draft.entry() {
         Entry::Start { .. } => Ok(Ready::nothing(shelf.alloc)),
         Entry::Accepted { moment, sender, .. } => {
+            let sender = shared(directory, sender);
             accepted(shelf, directory, *moment, sender, draft.facts())
         }
         Entry::NotAccepted {
@@ -43,14 +45,20 @@ pub(crate) fn rows_of(
             cause,
             path,
             ..
-        } => not_accepted(shelf, *moment, sender, *cause, path.as_slice()),
+        } => not_accepted(
+            shelf,
+            *moment,
+            shared(directory, sender),
+            *cause,
+            path.as_slice(),
+        ),
         Entry::Took { moment, id, .. } => took(shelf, directory, *moment, *id, draft.named()),
         Entry::Decided {
             moment,
             id,
             recipient,
             decision,
-        } => decided(shelf, *moment, *id, recipient, *decision),
+        } => decided(shelf, *moment, *id, shared(directory, recipient), *decision),
         Entry::Charged { moment, id, by } => charged(shelf, *moment, *id, *by),
         Entry::Learned {
             moment,
@@ -59,8 +67,11 @@ pub(crate) fn rows_of(
             decision,
             decided,
             ..
-        } => learned(shelf, *moment, *id, recipient, *decision, *decided),
-        Entry::Acked { id, recipient, .. } => acked(shelf, *id, recipient),
+        } => {
+            let recipient = shared(directory, recipient);
+            learned(shelf, *moment, *id, recipient, *decision, *decided)
+        }
+        Entry::Acked { id, recipient, .. } => acked(shelf, *id, shared(directory, recipient)),
         Entry::Ticked { moment } => ticked(shelf, *moment, clock),
         Entry::Anomaly {
             moment,

@@ -9,6 +9,7 @@ ghost use Rattle.pec_shelf.specs.Seen.{certified_at};
 ghost use Rattle.pec_shelf.specs.Settled.{certified_among};
 
 use crate::certified::Certified;
+use crate::sharing::shared;
 use pec_directory::Directory;
 use pec_heads::{Head, ListFault};
 use pec_types::{Address, Facts, NoMemory, Recipient};
@@ -103,7 +104,7 @@ pub(crate) fn certified(
 ) -> Result<Vec<Certified>, NoMemory>
     ensures { IfOk result (λ certified. certified.items ≡ certified_among (providers_of directory.now) recipients.now) }
 {
-    let mut all = Vec::new(alloc);
+    let mut all = Vec::with_capacity(alloc, recipients.len())?;
     for recipient in recipients {
         push_certified(alloc, directory, &mut all, recipient)?;
     }
@@ -122,7 +123,7 @@ fn push_certified(
     let Some(home) = directory.home_of(&recipient.address) else {
         return Ok(());
     };
-    let address = recipient.address.copy(alloc)?;
+    let address = shared(directory, &recipient.address).copy(alloc)?;
     all.push(Certified {
         address,
         class: recipient.class,
@@ -152,9 +153,10 @@ pub(crate) fn at_home(
     let mut here = Vec::new(alloc);
     for address in addresses {
         if is_home(directory, provider, address) {
-            here.push(address.copy(alloc)?)?;
+            here.push(shared(directory, address).copy(alloc)?)?;
         }
     }
+    here.shrink_to_fit();
     Ok(here)
 }
 

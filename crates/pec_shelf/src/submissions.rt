@@ -14,6 +14,7 @@ use crate::reading::certified;
 use crate::ready::Ready;
 use crate::receipts::receipt;
 use crate::rows::MessageRow;
+use crate::sharing::facts_shared;
 use crate::shelf::Shelf;
 use pec_directory::Directory;
 use pec_types::{Address, Cause, Facts, Items, Kind, Moment, MsgId, NoMemory};
@@ -91,7 +92,7 @@ fn accepted_row(
     Ok(MessageRow {
         moment,
         sender,
-        facts: Some(facts.copy(shelf.alloc)?),
+        facts: Some(facts_shared(shelf.alloc, directory, facts)?),
         cause: None,
         path: Items::of(Vec::new(shelf.alloc)),
         entry: shelf.entries,

@@ -20,9 +20,8 @@ returns g c =
     ap (λ (rs : List (RankedRow g.row.R.Denot)). slice_get rs place) (sym c.rows.ensures)
     ∙ slice_get-get_or c.rows.result.now place found got.3.0 ∙ ap Some (sym got.1) in
     let there : last_place (number_of_rank account 0) (owners_in owner rows) ≡ Some place =
-    ap (λ (n : ℕ). last_place n (owners_in owner rows)) (sym c.number_of_rank.ensures)
-    ∙ ap (λ (ns : List ℕ). last_place c.number_of_rank.result ns) (sym c.self.invariant.owners) ∙ sym c.in_ok-place.ensures in
-    let last = last_is owner counts account [] rows place found c.self.invariant.ranked there at (sym c.if-not-is_of.ensures) in
+    ap (λ (n : ℕ). last_place n (owners_in owner rows)) (sym c.number_of_rank.ensures) ∙ sym c.in_ok-place.ensures in
+    let last = last_is owner counts account [] rows place found c.self.invariant there at (sym c.if-not-is_of.ensures) in
     record {
       rows_are = c.in_ok-rows.ensures.1 ∙ ap (λ (v : RankedRow g.row.R.Denot). v.rank + 1) c.ranked.view_is ∙ last.rank
           ∙ ap (λ (v : Rows g.row.R.Denot). length (own_rows owner account v.rows)) c.self.view_is;
