@@ -13,7 +13,8 @@ use Rattle.pec_runs.specs.Statuses as statuses
 use Rattle.pec_service.specs.Runs.{wanted_in}
 use Rattle.pec_top.specs.Blaming.{BlamesDevices, BlamesDisks}
 use Rattle.pec_top.specs.Shown.{end_shown, result_shown, stop_shown}
-use Rattle.pec_top.specs.Tasks.{Checks, Exports, NoForm, Plays, loads_or, plays_or, serves_or, task_in}
+use Rattle.pec_top.specs.Entries.{asks_entries}
+use Rattle.pec_top.specs.Tasks.{Checks, Entries, Exports, NoForm, Plays, Task, loads_or, plays_or, serves_or, task_in}
 use Rattle.pec_top.specs.declared.ending.End.{End}
 use Rattle.pec_top.specs.declared.ending.End.TheVariants as ends
 use Rattle.pec_top.specs.declared.ending.Stop.{Stop}
@@ -92,6 +93,10 @@ usage_undone P (Err stop) is ok = cc
 
 -- ---- tasks
 
+past : (counts : Bool) (task other : Task) → (task ≡ Entries → ⊥) → task ≡ (if counts then Entries else other) → task ≡ other
+past true task other not e = absurd (not e)
+past false task other not e = e
+
 plays_form : (ldif check : Bool) (loads wanted : Option ℕ) (found : Option Form) (form : Form)
     → Plays form
     ≡ (if ldif then Exports
@@ -107,7 +112,8 @@ plays_form false false None None None form e = cc
 -- words that ask to play say the form
 pub form_played : (words : List Bytes) (form : Form) → Plays form ≡ task_in words → form_in words ≡ Some form
 form_played words form e =
-    plays_form (asks_ldif words) (asks_check words) (loads_in words) (wanted_in words) (form_in words) form e
+    plays_form (asks_ldif words) (asks_check words) (loads_in words) (wanted_in words) (form_in words) form
+    (past (asks_entries words) (Plays form) _ (λ e. cc) e)
 
 lacks_form : (ldif check : Bool) (loads wanted : Option ℕ) (found : Option Form)
     → NoForm
@@ -124,4 +130,5 @@ lacks_form false false None None None e = refl
 -- words that ask for nothing are no form
 pub form_none : (words : List Bytes) → NoForm ≡ task_in words → form_in words ≡ None
 form_none words e =
-    lacks_form (asks_ldif words) (asks_check words) (loads_in words) (wanted_in words) (form_in words) e
+    lacks_form (asks_ldif words) (asks_check words) (loads_in words) (wanted_in words) (form_in words)
+    (past (asks_entries words) NoForm _ (λ e. cc) e)

@@ -4,7 +4,6 @@ use Rattle.pec_types.specs.Bytes.{Bytes}
 use Rattle.pec_directory.specs.Directory.{Provider, providers_of}
 use Rattle.pec_input.specs.Directory.{Refusal, directory_in}
 use Rattle.pec_input.specs.Faults.{refused_directory_text}
-use Rattle.pec_input.specs.Finding.{IsAtEnd}
 use Rattle.pec_input.specs.Opening.{parts_left}
 use Rattle.pec_input.specs.Parts.{Parts}
 use Rattle.pec_input.specs.declared.opening.TheConstants.{LONGEST_DIRECTORY}
@@ -17,6 +16,7 @@ use Rattle.pec_runs.specs.Statuses.{status_of}
 use Rattle.pec_service.specs.Runs as services
 use Rattle.pec_top.specs.Running.{parts_behind}
 use Rattle.pec_top.specs.Shown.{end_shown}
+use Rattle.pec_top.specs.Whole.{IsWholeTaken}
 use Rattle.pec_top.specs.declared.ending.End.{End}
 use Rattle.pec_top.specs.declared.ending.End.TheVariants as ends
 use Rattle.pec_top.specs.declared.input.Input.{Input}
@@ -57,14 +57,6 @@ pub record IsWholeOver (unread : Option Bytes) (text : Bytes) (last : End) : Typ
   pub stage : services.stage_of false bytes ≡ services.Over end
   pub text_is : (providers : List Provider) → text ≡ end_text providers end
   pub shown : end_shown last ≡ status_of end
-
--- The directory was taken, and nothing is left.
-pub record IsWholeTaken (unread left : Option Bytes) (providers : List Provider) : Type 0 where
-  pub bytes : Bytes
-  pub short : length bytes ≤ LONGEST_DIRECTORY
-  pub reads : directory_in bytes ≡ Ok providers
-  pub input : IfSome unread (λ all. bytes ≡ all)
-  pub at_end : IsAtEnd left
 
 abbrev pub IsWholeRead : Option Bytes → Option Bytes → Input → Type 0
 IsWholeRead unread left (input.Opens directory) = IsWholeTaken unread left (providers_of directory)

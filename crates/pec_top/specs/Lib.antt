@@ -1,6 +1,7 @@
 pub mod Blaming
 pub mod Calling
 pub mod Checking
+pub mod Entries
 pub mod Hosting
 pub mod Inputs
 pub mod LoopLaws
@@ -12,3 +13,4 @@ pub mod Opened
 pub mod Surveys
 pub mod Tasks
 pub mod Saying
+pub mod Whole

@@ -95,6 +95,7 @@ task_shown (asked.Serve wanted) = tasks.Serves wanted
 task_shown asked.Export = tasks.Exports
 task_shown asked.Check = tasks.Checks
 task_shown (asked.Load count) = tasks.Loads count
+task_shown asked.Entries = tasks.Entries
 task_shown asked.NoForm = tasks.NoForm
 
 -- no more messages are asked for than a load has

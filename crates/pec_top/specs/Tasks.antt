@@ -9,13 +9,14 @@ use Rattle.pec_input.specs.Finding.{IsAtEnd}
 use Rattle.pec_ldif.specs.Writing.{ldif_text}
 use Rattle.pec_load_runs.specs.Loading.{LoadRan, loads_in}
 use Rattle.pec_outside.specs.Doors.{Reply}
-use Rattle.pec_runs.specs.Openings.{Form, form_in}
+use Rattle.pec_runs.specs.Openings.{Form, disks_at, form_in}
 use Rattle.pec_runs.specs.Statuses.{Status}
 use Rattle.pec_runs.specs.Statuses as statuses
 use Rattle.pec_runs.specs.Through.{RanThrough}
 use Rattle.pec_screen.specs.Screened.{Finds}
 use Rattle.pec_service.specs.Runs.{AllCounts, Outside, wanted_in}
 use Rattle.pec_service.specs.Through.{ServiceRanThrough}
+use Rattle.pec_top.specs.Entries.{AreTold, asks_entries}
 use Rattle.pec_top.specs.Hosting.{counts_of}
 use Rattle.pec_top.specs.Running.{AreHomeAgain}
 
@@ -28,6 +29,7 @@ pub data Task : Type 0 where
   Exports : Task  -- to write its directory as LDIF
   Checks : Task  -- to check a dossier of saved letters
   Loads : (count : ℕ) → Task  -- to play a load of so many messages
+  Entries : Task  -- to tell how many entries each journal has
   NoForm : Task  -- the words are none of the program's forms
 
 abbrev pub plays_or : Option Form → Task → Task
@@ -45,9 +47,10 @@ loads_or None other = other
 -- What the words ask for. No words ask for two things, so the order says nothing.
 abbrev pub task_in : List Bytes → Task
 task_in words =
-    if asks_ldif words then Exports
+    if asks_entries words then Entries
+    else (if asks_ldif words then Exports
     else (if asks_check words then Checks
-    else loads_or (loads_in words) (serves_or (wanted_in words) (plays_or (form_in words) NoForm)))
+    else loads_or (loads_in words) (serves_or (wanted_in words) (plays_or (form_in words) NoForm))))
 
 -- words that are no form read no input, and a load reads what it makes
 abbrev pub reads_input : Task → Bool
@@ -60,6 +63,7 @@ abbrev pub asks_disks : Task → Bool
 asks_disks (Plays form) = true
 asks_disks (Serves wanted) = true
 asks_disks (Loads count) = true
+asks_disks Entries = true
 asks_disks _ = false
 
 -- only a run that serves asks clock and door
@@ -127,6 +131,7 @@ module _ {D : Type 0} (tells : Type 0) (sight : D → Sight) (words : List Bytes
   IsRun Exports = HasExported
   IsRun Checks = HasChecked
   IsRun (Loads count) = HasLoaded count
+  IsRun Entries = status ≡ statuses.Done → AreTold old.unread new.unread old.held new.held (disks_at tells sight old.home)
   IsRun NoForm = HasPlayed
 
 -- A run of the program on these words. `tells`: the depot tells its disks; `reads`: these tell what they hold.

@@ -5,6 +5,7 @@ ghost use Rattle.pec_dossier.specs.Exports.{asks_ldif};
 ghost use Rattle.pec_load_runs.specs.Loading.{loads_in, number_loaded};
 ghost use Rattle.pec_runs.specs.Openings.{form_in};
 ghost use Rattle.pec_service.specs.Runs.{number_wanted, wanted_in};
+ghost use Rattle.pec_top.specs.Entries.{asks_entries};
 ghost use Rattle.pec_top.specs.Shown.{AsksFew, form_named, form_shown, task_shown, way_of};
 ghost use Rattle.pec_top.specs.Tasks.{task_in};
 
@@ -28,6 +29,8 @@ pub(crate) enum Task {
     Check,
     /// To play a load of so many messages.
     Load(u64),
+    /// To tell how many entries each journal has.
+    Entries,
     /// The words are none of the program's forms.
     NoForm,
 }
@@ -37,6 +40,9 @@ impl Task {
         ensures shown { task_shown result ≡ task_in (map string_bytes words.now) }
         ensures few { AsksFew result }
     {
+        if asks_entries(words) {
+            return Task::Entries;
+        }
         if asks_ldif(words) {
             return Task::Export;
         }
@@ -143,6 +149,16 @@ fn loaded_of(word: &str, number: &[u8]) -> Option<u64>
         return None;
     }
     Some(number)
+}
+
+/// Whether the words ask how many entries the journals have: `entries`.
+fn asks_entries(words: &[String]) -> bool
+    ensures { result ≡ asks_entries (map string_bytes words.now) }
+{
+    match words {
+        [word] => word.as_str() == "entries",
+        _ => false,
+    }
 }
 
 /// How many connections the words ask for, where they are `serve N`.

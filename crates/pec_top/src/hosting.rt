@@ -4,7 +4,7 @@ ghost use Rattle.pec_directory.specs.Directory.{providers_of};
 ghost use Rattle.pec_input.specs.Finding.{IsAtEnd};
 ghost use Rattle.pec_screen.specs.Screened.{finds_in};
 ghost use Rattle.pec_top.specs.Hosting.{CountsGo, HasServedOver, counts_of, ended_as};
-ghost use Rattle.pec_top.specs.Inputs.{IsWholeTaken};
+ghost use Rattle.pec_top.specs.Whole.{IsWholeTaken};
 ghost use Rattle.pec_top.specs.Running.{AreHomeAgain};
 ghost use Rattle.pec_top.specs.Shown.{result_shown};
 

@@ -5,6 +5,7 @@
 mod calling;
 mod checking;
 mod ending;
+mod entries;
 mod exporting;
 mod forms;
 mod hosting;

@@ -190,7 +190,7 @@ fn add_count(page: Page, word: &[u8], count: u64) -> Result<Page, NoMemory>
 }
 
 /// `entries NAME N`
-fn add_entries(page: Page, name: &[u8], count: u64) -> Result<Page, NoMemory>
+pub(crate) fn add_entries(page: Page, name: &[u8], count: u64) -> Result<Page, NoMemory>
     ensures { IfOk result (λ new. new.text.items
         ≡ line_after page.text.items (codes "entries" ∷ name.now ∷ decimal count ∷ [])) }
 {

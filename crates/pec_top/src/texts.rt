@@ -82,7 +82,7 @@ fn add_reason(alloc: Global, page: Page, why: NotFit) -> Result<Page, NoMemory>
 
 /// The name of the provider of a number; nothing where there is no such provider.
 #[tactic(auto, unfolding(pec_script::specs::Texts::name_of))]
-fn name_of(directory: &Directory, number: u32) -> &[u8]
+pub(crate) fn name_of(directory: &Directory, number: u32) -> &[u8]
     ensures { result.now ≡ name_of (providers_of directory.now) number }
 {
     match directory.provider(number) {

@@ -5,6 +5,7 @@ ghost use Rattle.pec_top.specs.Tasks.{LeavesAlone, ProgramRan, task_in, view_of}
 
 use crate::checking::check_form;
 use crate::ending::End;
+use crate::entries::entries_form;
 use crate::exporting::export_form;
 use crate::forms::Task;
 use crate::hosting::serve_form;
@@ -79,6 +80,7 @@ pub fn run_pec<X: Threads + Sync, S: Source, W: Sink, P: Depot, T: Ticks, R: Doo
             let mut screens = screens;
             status_of(load_form(rt, alloc, count, out, depot, screens.as_mut_slice()))
         }
+        Task::Entries => status_of(entries_form(alloc, input, out, depot)),
         Task::NoForm => status_of(write_last(out, b"usage\n", End::Usage)),
     }
 }

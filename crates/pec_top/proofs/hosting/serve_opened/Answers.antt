@@ -14,7 +14,7 @@ use Rattle.pec_service.specs.Runs.{Asked, Blames, Course, IsChosen, Outside, Tel
 use Rattle.pec_service.specs.Services.{IsService, service_text}
 use Rattle.pec_serving.specs.Playing.{state_of}
 use Rattle.pec_top.specs.Hosting.{counts_of, ended_as}
-use Rattle.pec_top.specs.Inputs.{IsWholeTaken}
+use Rattle.pec_top.specs.Whole.{IsWholeTaken}
 use Rattle.pec_top.specs.Scripts.{AreKept}
 use Rattle.pec_top.specs.Shown.{result_shown}
 use Rattle.pec_top.proofs.CountLemmas.{closed_so, counts_later}

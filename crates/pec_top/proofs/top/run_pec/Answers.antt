@@ -236,3 +236,19 @@ returns-in-NoForm-clause-alone g c = rw (← c.in-NoForm.ensures.shown) (record 
   undisturbed = λ other. refl;
   apart = λ other. (refl, refl);
 })
+
+pub returns-in-Entries-clause-ran : goal.returns-in-Entries-clause-ran
+returns-in-Entries-clause-ran g c =
+    let of = c.entries_form.ensures in
+    let run = c.entries_form.result in
+    record {
+      is_run = rw (← c.in-Entries.ensures.shown)
+          (λ done. of.told (done_only run (sym c.status_of-in-Entries.ensures.shown ∙ done)));
+      all_read = λ done reads. (of.told (done_only run (sym c.status_of-in-Entries.ensures.shown ∙ done))).taken.at_end;
+      closed = refl;
+      home = of.home;
+    }
+
+pub returns-in-Entries-clause-alone : goal.returns-in-Entries-clause-alone
+returns-in-Entries-clause-alone g c = rw (← c.in-Entries.ensures.shown)
+    (record { unread = λ other. cc; undisturbed = λ other. cc; apart = λ other. (refl, refl) })
