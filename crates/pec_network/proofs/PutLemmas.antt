@@ -140,6 +140,8 @@ module _ {D : Type 0} (Tells : Type 0) (sight : D → Sight) (count : D → ℕ)
   put_fails X number now new out faults.Full so_far reads refused other Stood due = absurd refused
   put_fails X number now new out faults.NoItem so_far reads refused other Stood due = absurd refused
   put_fails X number now new out faults.JournalFull so_far reads refused other Stood due = absurd refused
+  put_fails X number now new out faults.OldJournal so_far reads refused other Stood due = absurd refused
+  put_fails X number now new out faults.NoNeed so_far reads refused other Stood due = absurd refused
 
   -- an entry that isn't what a letter is composed of is told of no journals that are Fit
   pub unchanged_so : (number : ℕ) (now : ProviderState D) (out : List (List Bytes)) (fault : ProviderFault)

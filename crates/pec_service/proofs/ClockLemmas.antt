@@ -45,7 +45,7 @@ module _ (trade : Trade) (providers : List Provider) (tells : Type 0) {D : Type 
     unplayed = front.unplayed;
     left_is = front.left_is;
     plays = ap (λ (l : List Command). command ∷ l) front.plays;
-    are = (is, front.are);
+    are = (is.0, front.are);
     behind = front.behind;
     text = ap (λ (t : Bytes). answer_text providers (played trade luck here.sites command).answer ++ t) front.text;
   }
@@ -143,8 +143,8 @@ module _ (trade : Trade) (providers : List Provider) (tells : Type 0) {D : Type 
         → IsTrade trade → Sound trade at.sites → Sound trade behind.sites
     step_sound at behind act luck command same is may told is_trade sound =
         let call = subst (λ (a : Act). IsStep trade tells at a luck behind) same is
-        in subst (λ (s : List Site). Sound trade s) (sym call.state)
-        (stays is_trade luck at.sites command sound (may luck at.sites (call.kept told)))
+        in subst (λ (s : List Site). Sound trade s) (sym call.0.state)
+        (stays is_trade luck at.sites command sound (may luck at.sites (call.0.kept told)))
 
     keep_sound : (at : steps.State D) (some : List (Step D)) (left : List Act) (commands : List Command)
         → acts_of some ++ left ≡ map Plays commands → AreSteps trade tells at some → AllMayCome trade commands

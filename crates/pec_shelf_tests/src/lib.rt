@@ -15,6 +15,7 @@ mod messages;
 mod plain;
 #[cfg(test)]
 mod plain_answers;
+mod plain_boxes;
 #[cfg(test)]
 mod playing;
 #[cfg(test)]

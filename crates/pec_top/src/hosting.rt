@@ -2,7 +2,6 @@ ghost use Rattle.std.specs.Prelude.{◌≡◌, ℕ, Ok, Option, map};
 ghost use Rattle.pec_types.specs.Bytes.{Bytes};
 ghost use Rattle.pec_directory.specs.Directory.{providers_of};
 ghost use Rattle.pec_input.specs.Finding.{IsAtEnd};
-ghost use Rattle.pec_screen.specs.Screened.{finds_in};
 ghost use Rattle.pec_top.specs.Hosting.{CountsGo, HasServedOver, counts_of, ended_as};
 ghost use Rattle.pec_top.specs.Inputs.{IsWholeTaken};
 ghost use Rattle.pec_top.specs.Running.{AreHomeAgain};
@@ -42,7 +41,7 @@ pub(crate) fn serve_form<
     screens: Vec<J>,
 ) -> Result<End, Stop>
     ensures served { HasServedOver (P.tells × P.D.tells) P.D.sight
-        (record { wanted = wanted; finds = finds_in (map J.patterns screens.items) })
+        (record { wanted = wanted; screens = map J.patterns screens.items })
         (result_shown result) (S.left input.old) (W.held out.old) (W.held out.new)
         (P.home depot.old) (P.home depot.new)
         (record { moments = T.coming ticks.old; requests = R.requests door.old; replies = R.replies door.old })
@@ -81,7 +80,7 @@ fn serve_opened<X: Threads + Sync, W: Sink, P: Depot, T: Ticks, R: Door, J: Judg
 ) -> Result<End, Stop>
     ensures served { (unread left : Option Bytes) → IsWholeTaken unread left (providers_of directory)
         → HasServedOver (P.tells × P.D.tells) P.D.sight
-        (record { wanted = wanted; finds = finds_in (map J.patterns screens.items) })
+        (record { wanted = wanted; screens = map J.patterns screens.items })
         (result_shown result) unread (W.held out.old) (W.held out.new)
         (P.home depot.old) (P.home depot.new)
         (record { moments = T.coming ticks.old; requests = R.requests door.old; replies = R.replies door.old })
@@ -93,12 +92,10 @@ fn serve_opened<X: Threads + Sync, W: Sink, P: Depot, T: Ticks, R: Door, J: Judg
     ensures home { P.tells → AreHomeAgain (P.home depot.old) (P.home depot.new) }
     ensures out { R.out door.new ≡ R.out door.old }
 {
-    match open(alloc, Journals::Chosen, directory, depot) {
+    match open(alloc, Journals::Chosen, directory, screens, depot) {
         Ok(network) => {
             a_network_is_whole(&network);
-            let (network, ending) = serve(
-                rt, alloc, network, depot, screens, ticks, door, out, wanted,
-            );
+            let (network, ending) = serve(rt, alloc, network, depot, ticks, door, out, wanted);
             a_network_is_whole(&network);
             network.close(depot);
             ended(ending)

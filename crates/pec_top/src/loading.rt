@@ -6,7 +6,6 @@ ghost use Rattle.pec_load_runs.specs.Loading.{LoadRan, LoadTells, state_text, su
 ghost use Rattle.pec_ledger.specs.Network.{Site};
 ghost use Rattle.pec_ledger.specs.Trade.{Trade};
 ghost use Rattle.pec_runs.specs.Statuses as statuses;
-ghost use Rattle.pec_screen.specs.Screened.{finds_in};
 ghost use Rattle.pec_script.specs.Pages.{line_after};
 ghost use Rattle.pec_top.specs.Reporting.{IsTold};
 ghost use Rattle.pec_top.specs.Running.{AreHomeAgain};
@@ -37,11 +36,11 @@ pub(crate) fn load_form<X: Threads + Sync, W: Sink, P: Depot, J: Judge>(
     count: u64,
     out: &mut W,
     depot: &mut P,
-    screens: &mut [J],
+    screens: Vec<J>,
 ) -> Result<End, Stop>
     requires { count ≤ MOST_MESSAGES }
     // (the input isn't touched, so its count stands still)
-    ensures loaded { (input : ℕ) → LoadRan (P.tells × P.D.tells) P.D.sight count (finds_in (map J.patterns screens.old))
+    ensures loaded { (input : ℕ) → LoadRan (P.tells × P.D.tells) P.D.sight count (map J.patterns screens.items)
         (result_shown result) (W.held out.old) (W.held out.new) (P.home depot.old) (P.home depot.new)
         (record { source = input; sink = W.faults out.old; depot = P.faults depot.old; disks = P.last depot.old })
         (record { source = input; sink = W.faults out.new; depot = P.faults depot.new; disks = P.last depot.new }) }
@@ -51,6 +50,7 @@ pub(crate) fn load_form<X: Threads + Sync, W: Sink, P: Depot, J: Judge>(
     let input = input_text(alloc, count)?;
     let mut source = MemSource::new(alloc, input, PIECE, Vec::new(alloc));
     let mut lines = MemSink::new(alloc, Vec::new(alloc));
+    let spares = Vec::new(alloc);
     let mut report = Report::Asked;
     let run = run_form(
         rt,
@@ -60,6 +60,7 @@ pub(crate) fn load_form<X: Threads + Sync, W: Sink, P: Depot, J: Judge>(
         &mut lines,
         depot,
         screens,
+        spares,
         &mut report,
     );
     end_load(alloc, count, run, report, lines.bytes(), out)

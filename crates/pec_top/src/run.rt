@@ -5,11 +5,10 @@ ghost use Rattle.pec_outside.specs.Flow.{behind, followed_by, HasRisen, WrotePar
 ghost use Rattle.pec_directory.specs.Directory.{providers_of};
 ghost use Rattle.pec_input.specs.Finding.{IsAtEnd};
 ghost use Rattle.pec_runs.specs.Openings.{form_in};
-ghost use Rattle.pec_screen.specs.Screened.{finds_in};
 ghost use Rattle.pec_top.specs.Blaming.{BlamesDevices, DisksGo};
 ghost use Rattle.pec_top.specs.Inputs.{IsTaken};
 ghost use Rattle.pec_top.specs.Reporting.{RanReporting};
-ghost use Rattle.pec_top.specs.Running.{AreHomeAgain};
+ghost use Rattle.pec_top.specs.Running.{AreHomeAgain, asked_with};
 ghost use Rattle.pec_top.specs.Shown.{form_shown, result_shown};
 
 use crate::ending::{End, Stop};
@@ -34,12 +33,13 @@ pub(crate) fn run_form<X: Threads + Sync, S: Source, W: Sink, P: Depot, J: Judge
     input: &mut S,
     out: &mut W,
     depot: &mut P,
-    screens: &mut [J],
+    screens: Vec<J>,
+    spares: Vec<J::Spare>,
     report: &mut Report,
 ) -> Result<End, Stop>
     ensures ran { (words : List Bytes) → form_in words ≡ Some (form_shown form)
         → RanReporting (P.tells × P.D.tells) P.D.sight
-        (record { words = words; finds = finds_in (map J.patterns screens.old) }) (result_shown result) (S.left input.old)
+        (asked_with words (map J.patterns screens.items) (map J.spare_patterns spares.items)) (result_shown result) (S.left input.old)
         (W.held out.old) (W.held out.new) (P.home depot.old) (P.home depot.new) (P.last depot.old) (P.last depot.new)
         report.old report.new }
     ensures all_read { IfOk result (λ end. end ≡ End.Done → IsAtEnd (S.left input.new)) }
@@ -61,6 +61,7 @@ pub(crate) fn run_form<X: Threads + Sync, S: Source, W: Sink, P: Depot, J: Judge
                 out,
                 depot,
                 screens,
+                spares,
                 report,
             )
         }
@@ -78,13 +79,14 @@ fn run_opened<X: Threads + Sync, S: Source, W: Sink, P: Depot, J: Judge>(
     buffer: &mut Buffer,
     out: &mut W,
     depot: &mut P,
-    screens: &mut [J],
+    screens: Vec<J>,
+    spares: Vec<J::Spare>,
     report: &mut Report,
 ) -> Result<End, Stop>
     ensures ran { (words : List Bytes) (unread : Option Bytes) → form_in words ≡ Some (form_shown form)
         → IsTaken unread (behind buffer.old (S.left source.old)) (providers_of directory)
         → RanReporting (P.tells × P.D.tells) P.D.sight
-        (record { words = words; finds = finds_in (map J.patterns screens.old) }) (result_shown result) unread
+        (asked_with words (map J.patterns screens.items) (map J.spare_patterns spares.items)) (result_shown result) unread
         (W.held out.old) (W.held out.new) (P.home depot.old) (P.home depot.new) (P.last depot.old) (P.last depot.new)
         report.old report.new }
     ensures all_read { IfOk result (λ end. end ≡ End.Done → IsAtEnd (behind buffer.new (S.left source.new))) }
@@ -93,11 +95,21 @@ fn run_opened<X: Threads + Sync, S: Source, W: Sink, P: Depot, J: Judge>(
     ensures disks { DisksGo result (P.faults depot.old) (P.faults depot.new) (P.last depot.old) (P.last depot.new) }
     ensures home { P.tells → AreHomeAgain (P.home depot.old) (P.home depot.new) }
 {
-    match open(alloc, Journals::As(form), directory, depot) {
+    match open(alloc, Journals::As(form), directory, screens, depot) {
         Ok(network) => {
             let mut network = network;
+            let mut spares = spares;
             a_network_is_whole(&network);
-            let result = play_script(rt, alloc, &mut network, depot, screens, source, buffer, out);
+            let result = play_script(
+                rt,
+                alloc,
+                &mut network,
+                depot,
+                &mut spares,
+                source,
+                buffer,
+                out,
+            );
             *report = report.of(&network);
             a_network_is_whole(&network);
             network.close(depot);

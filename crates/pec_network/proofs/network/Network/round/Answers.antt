@@ -1,10 +1,10 @@
 use Rattle.pec_network.proofs.network.Network.round.Goals as goal
 
 pub returns-clause-plays : goal.returns-clause-plays
-returns-clause-plays g c = rw (← c.self.view_is) c.take_turns.ensures.plays
+returns-clause-plays g c = rw (← c.self.view_is, c.take_turns.ensures.screens) c.take_turns.ensures.plays
 
 pub returns-clause-stops : goal.returns-clause-stops
-returns-clause-stops g c = rw (← c.self.view_is) c.take_turns.ensures.stops
+returns-clause-stops g c = rw (← c.self.view_is, c.take_turns.ensures.screens) c.take_turns.ensures.stops
 
 pub returns-clause-carries : goal.returns-clause-carries
 returns-clause-carries g c = rw (← c.self.view_is) c.take_turns.ensures.carries
@@ -17,3 +17,15 @@ returns-clause-disk_fault g c = rw (← c.self.view_is) c.take_turns.ensures.dis
 
 pub returns-clause-later : goal.returns-clause-later
 returns-clause-later g c = rw (← c.self.view_is) c.take_turns.ensures.later
+
+pub returns-clause-screens : goal.returns-clause-screens
+returns-clause-screens g c = rw (← c.self.view_is) c.take_turns.ensures.screens
+
+pub returns-clause-looked : goal.returns-clause-looked
+returns-clause-looked g c = rw (← c.self.view_is) c.take_turns.ensures.looked
+
+pub take_turns-requires-clause-whole : goal.take_turns-requires-clause-whole
+take_turns-requires-clause-whole g c = c.self.invariant.0
+
+pub take_turns-requires-clause-judges : goal.take_turns-requires-clause-judges
+take_turns-requires-clause-judges g c = c.self.invariant.1
