@@ -7,5 +7,7 @@ pub use Rattle.pec_provider.specs.Looking.{Looks}
 pub use Rattle.pec_provider.specs.Playing.{luck_of}
 pub use Rattle.pec_provider.specs.Provider.{Desk, ProviderState, desk_of, site_of}
 pub use Rattle.pec_provider.specs.Summing.{Summary, total_of}
+pub use Rattle.pec_provider.specs.declared.swapping.SwapFault.{SwapFault}
+pub use Rattle.pec_provider.specs.declared.swapping.SwapFault.TheVariants as swaps
 pub use Rattle.pec_stock.specs.Opening.{IsUnfit}
 pub use Rattle.pec_stock.specs.Unchanged.{IsUnchanged}

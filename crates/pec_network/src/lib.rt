@@ -1,11 +1,13 @@
 //! The network: providers, the links between them, and rounds of turns.
 #![tactic(auto)]
 
+mod archiving;
 mod closing;
 mod commands;
 mod crashing;
 mod faults;
 mod gates;
+mod judging;
 mod keeping;
 pub mod laws;
 mod linking;
@@ -17,6 +19,7 @@ mod showing;
 mod starting;
 mod steps;
 mod summing;
+mod swapping;
 mod turns;
 mod working;
 
@@ -25,5 +28,5 @@ pub use gates::{FreeGate, Gate};
 pub use keeping::a_network_keeps_its_promises;
 pub use network::Network;
 pub use opening::Form;
-pub use pec_provider::Summary;
+pub use pec_provider::{Summary, SwapFault};
 pub use turns::{Taken, take_turn};

@@ -10,6 +10,7 @@ mod providers;
 mod refusals;
 mod rounds;
 mod stops;
+mod swapping;
 
 pub use laws::{
     what_a_line_says_can_be_played, what_carries_on_is_a_moment, what_is_kept_is_kept_on,

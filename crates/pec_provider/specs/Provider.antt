@@ -5,6 +5,7 @@ use Rattle.pec_types.specs.Bytes.{Bytes}
 use Rattle.pec_types.specs.declared.letters.Letter.{Letter}
 use Rattle.pec_directory.specs.Directory.{Kept}
 use Rattle.pec_records.specs.declared.entries.Entry.{Entry}
+use Rattle.pec_screen.specs.Verdicts.{Patterns}
 use Rattle.pec_ledger.specs.Network.{Site}
 use Rattle.pec_seal.specs.Seals.{Seals}
 use Rattle.pec_shelf.specs.Seen.{Seen}
@@ -47,10 +48,15 @@ desk_of provider = record {
   interrupted = provider.chronicle.interrupted;
 }
 
--- the provider among others, with the frames that wait for it
-abbrev pub site_of : Desk → List (List Bytes) → Site
-site_of desk waiting =
-    record { journal = desk.journal; up = desk.up; interrupted = desk.interrupted; waiting = waiting }
+-- the provider among others, with the patterns of its screens and the frames that wait for it
+abbrev pub site_of : Desk → List Patterns → List (List Bytes) → Site
+site_of desk screens waiting = record {
+  journal = desk.journal;
+  up = desk.up;
+  interrupted = desk.interrupted;
+  screens = screens;
+  waiting = waiting;
+}
 
 -- up, over these entries, and nothing is owed
 abbrev pub fresh : List Entry → Desk

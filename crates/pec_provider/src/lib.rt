@@ -4,13 +4,16 @@
 #![tactic(auto)]
 
 mod appending;
+mod archiving;
 mod commands;
 mod composing;
+mod deciding;
 mod laws;
 mod opening;
 mod provider;
 mod showing;
 mod summing;
+mod swapping;
 mod turns;
 
 pub use laws::{nothing_has_changed, what_follows_goes_on};
@@ -20,3 +23,4 @@ pub use pec_stock::ReopenFault;
 pub use pec_trade::{House, a_house_is_a_trade};
 pub use pec_types::{Event, Mark, ProviderFault, Submitted};
 pub use provider::Provider;
+pub use swapping::SwapFault;

@@ -14,6 +14,6 @@ mod receiving;
 mod sights;
 mod standing;
 
-pub use deciding::decide;
+pub use deciding::{decide, next};
 pub use received::Received;
 pub use receiving::receive;

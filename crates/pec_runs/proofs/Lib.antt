@@ -3,6 +3,7 @@ pub mod ClimbLemmas
 pub mod CutLemmas
 pub mod DeliveredLemmas
 pub mod GoingLemmas
+pub mod HandsLemmas
 pub mod HeadlineLemmas
 pub mod InputLemmas
 pub mod KeptLemmas

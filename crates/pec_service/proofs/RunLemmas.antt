@@ -148,7 +148,7 @@ module _ (asked : Asked) (status : Status) (unread before after : Option Bytes) 
           → (status ≡ statuses.NoMemory) ⊎ ((status ≡ statuses.Done)
           × (ran.happened.course.service.ending ≡ AllServed)
           × (after ≡ followed_by before (service_text (world ran.happened) ran.happened.setting.kept
-          (first_place (world ran.happened) ran.happened.course.opening.journals serves.counts here)
+          (first_place (world ran.happened) asked.screens ran.happened.course.opening.journals serves.counts here)
           ran.happened.course.service)))
           → (status ≡ statuses.NoMemory) ⊎ ServesAll asked status before after here ran.happened
       by_end serves (inl e) = inl e

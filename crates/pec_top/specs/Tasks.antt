@@ -13,7 +13,7 @@ use Rattle.pec_runs.specs.Openings.{Form, form_in}
 use Rattle.pec_runs.specs.Statuses.{Status}
 use Rattle.pec_runs.specs.Statuses as statuses
 use Rattle.pec_runs.specs.Through.{RanThrough}
-use Rattle.pec_screen.specs.Screened.{Finds}
+use Rattle.pec_screen.specs.Verdicts.{Patterns}
 use Rattle.pec_service.specs.Runs.{AllCounts, Outside, wanted_in}
 use Rattle.pec_service.specs.Through.{ServiceRanThrough}
 use Rattle.pec_top.specs.Hosting.{counts_of}
@@ -93,19 +93,19 @@ view_of unread source held sink home last depot moments clock requests replies o
   counts = counts_of source sink depot last clock door;
 }
 
-module _ {D : Type 0} (tells : Type 0) (sight : D → Sight) (words : List Bytes) (finds : Finds) (status : Status)
-    (old new : View D) where
+module _ {D : Type 0} (tells : Type 0) (sight : D → Sight) (words : List Bytes)
+    (screens : List (List Patterns)) (spares : List Patterns) (status : Status) (old new : View D) where
   -- A script was played; or the words have no form. It says of each moment of it what a crash may leave.
   abbrev pub HasPlayed : Type 0
   HasPlayed =
-      RanThrough tells sight (record { words = words; finds = finds }) status old.unread old.held new.held old.home new.home
-      old.counts.devices new.counts.devices
+      RanThrough tells sight (record { words = words; screens = screens; spares = spares }) status old.unread old.held
+      new.held old.home new.home old.counts.devices new.counts.devices
 
   -- Connections were served. It says of each moment of it what a crash may leave.
   abbrev pub HasServed : ℕ → Type 0
   HasServed wanted =
-      ServiceRanThrough tells sight (record { wanted = wanted; finds = finds }) status old.unread old.held new.held old.home
-      new.home old.outside new.outside old.counts new.counts
+      ServiceRanThrough tells sight (record { wanted = wanted; screens = screens }) status old.unread old.held new.held
+      old.home new.home old.outside new.outside old.counts new.counts
 
   -- The directory was written as LDIF.
   abbrev pub HasExported : Type 0
@@ -118,7 +118,7 @@ module _ {D : Type 0} (tells : Type 0) (sight : D → Sight) (words : List Bytes
   -- A load of so many messages was played.
   abbrev pub HasLoaded : ℕ → Type 0
   HasLoaded count =
-      LoadRan tells sight count finds status old.held new.held old.home new.home old.counts.devices new.counts.devices
+      LoadRan tells sight count screens status old.held new.held old.home new.home old.counts.devices new.counts.devices
 
   -- A run that does so.
   abbrev pub IsRun : Task → Type 0
@@ -129,11 +129,12 @@ module _ {D : Type 0} (tells : Type 0) (sight : D → Sight) (words : List Bytes
   IsRun (Loads count) = HasLoaded count
   IsRun NoForm = HasPlayed
 
--- A run of the program on these words. `tells`: the depot tells its disks; `reads`: these tell what they hold.
-pub record ProgramRan {D : Type 0} (tells reads : Type 0) (sight : D → Sight) (words : List Bytes) (finds : Finds)
-    (status : Status) (old new : View D) : Type 0 where
+-- A run of the program on these words, with screens and spares of these patterns. `tells`: the depot tells its disks;
+-- `reads`: these tell what they hold.
+pub record ProgramRan {D : Type 0} (tells reads : Type 0) (sight : D → Sight) (words : List Bytes)
+    (screens : List (List Patterns)) (spares : List Patterns) (status : Status) (old new : View D) : Type 0 where
   -- it is one of the kind that the words ask for
-  pub is_run : IsRun (tells × reads) sight words finds status old new (task_in words)
+  pub is_run : IsRun (tells × reads) sight words screens spares status old new (task_in words)
   -- at status 0 the input was read to its end, where it is read
   pub all_read : status ≡ statuses.Done → reads_input (task_in words) ≡ true → IsAtEnd new.unread
   -- each connection that was let in is closed

@@ -2,6 +2,8 @@
 #![tactic(auto)]
 
 #[cfg(test)]
+mod archives;
+#[cfg(test)]
 mod checking;
 #[cfg(test)]
 mod delivery;
@@ -13,6 +15,8 @@ mod disks;
 mod faults;
 #[cfg(test)]
 mod forgery;
+#[cfg(test)]
+mod incoming;
 #[cfg(test)]
 mod input;
 #[cfg(test)]
@@ -37,3 +41,5 @@ mod serving;
 mod shown;
 #[cfg(test)]
 mod three;
+#[cfg(test)]
+mod versions;

@@ -5,14 +5,16 @@ ghost use Rattle.pec_records.specs.Entry.{longest_message, most_addresses};
 
 use super::home::Home;
 use pec_outside::MemDisk;
-use pec_provider::{CreateFault, House, Provider, ProviderFault, ReopenFault, Submitted};
-use pec_screen::NoScreens;
+use pec_provider::{
+    CreateFault, Event, House, Provider, ProviderFault, ReopenFault, Submitted, SwapFault,
+};
+use pec_screen::PatternScreen;
 use pec_seal::{HmacSealer, Sealer};
 use pec_trial::{
     Submission, account_at, add, add_number, moment_of, number, small, submission_of, told,
     told_all, told_item, told_list, told_word, word,
 };
-use pec_types::{Frame, Steps};
+use pec_types::{Frame, Steps, Text8};
 use std::alloc::Global;
 use std::marker::Model;
 use std::test::Fail;
@@ -36,12 +38,13 @@ impl Who {
     }
 }
 
-/// One provider, and the frames that it put last.
+/// One provider with one screen, and the frames that it put last.
 pub(crate) struct Desk {
     alloc: Global,
     home: Home,
     me: u32,
     provider: Provider<MemDisk>,
+    screen: PatternScreen,
     put: Vec<Frame>,
 }
 
@@ -64,6 +67,7 @@ impl Drop for Desk {
             home: _,
             me: _,
             provider: _,
+            screen: _,
             put: _,
         } = self;
     }
@@ -89,6 +93,7 @@ impl Desk {
                 home,
                 me,
                 provider,
+                screen: PatternScreen::new(Vec::new(alloc)),
                 put: Vec::new(alloc),
             }),
             Err((fault, _)) => Err(fault),
@@ -114,6 +119,7 @@ impl Desk {
                 home,
                 me,
                 provider,
+                screen: PatternScreen::new(Vec::new(alloc)),
                 put: Vec::new(alloc),
             }),
             Err((fault, _)) => Err(fault),
@@ -127,6 +133,7 @@ impl Desk {
             home,
             me: _,
             provider,
+            screen: _,
             put: _,
         } = self;
         let (disk, interrupted) = provider.into_parts();
@@ -154,11 +161,17 @@ enum Verb {
     Book,
     Mailbox,
     Item,
+    Archive,
+    Upgrade,
+    Vault,
+    VaultItem,
+    Screen,
+    Looks,
     Figures,
     Unknown,
 }
 
-const VERBS: [(&str, Verb); 10] = [
+const VERBS: [(&str, Verb); 16] = [
     ("submit", Verb::Submit),
     ("tick", Verb::Tick),
     ("arrive", Verb::Arrive),
@@ -168,6 +181,12 @@ const VERBS: [(&str, Verb); 10] = [
     ("book", Verb::Book),
     ("mailbox", Verb::Mailbox),
     ("item", Verb::Item),
+    ("archive", Verb::Archive),
+    ("upgrade", Verb::Upgrade),
+    ("vault", Verb::Vault),
+    ("vault-item", Verb::VaultItem),
+    ("screen", Verb::Screen),
+    ("looks", Verb::Looks),
     ("figures", Verb::Figures),
 ];
 
@@ -195,6 +214,12 @@ impl Desk {
             Verb::Book => self.book(line),
             Verb::Mailbox => self.mailbox(line),
             Verb::Item => self.item(line),
+            Verb::Archive => self.archive(line),
+            Verb::Upgrade => self.upgrade(line),
+            Verb::Vault => self.vault(line),
+            Verb::VaultItem => self.vault_item(line),
+            Verb::Screen => self.screen(line),
+            Verb::Looks => self.looks(),
             Verb::Figures => self.figures(),
             Verb::Unknown => Err("no such verb".into()),
         }
@@ -217,7 +242,6 @@ impl Desk {
             sealer: &home.sealer,
             me: self.me,
         };
-        let mut none = NoScreens;
         self.provider.submit(
             self.alloc,
             &house,
@@ -225,7 +249,7 @@ impl Desk {
             &asked.sender,
             &asked.path,
             &asked.message,
-            &mut none,
+            &mut self.screen,
         )
     }
 
@@ -266,7 +290,9 @@ impl Desk {
             sealer: &home.sealer,
             me: self.me,
         };
-        let answer = self.provider.decide_next(self.alloc, &house, moment);
+        let answer = self
+            .provider
+            .decide_next(self.alloc, &house, moment, &mut self.screen);
         told(self.alloc, answer)
     }
 
@@ -342,6 +368,86 @@ impl Desk {
         told_item(self.alloc, answer)
     }
 
+    /// `archive MOMENT ACCOUNT PLACE`
+    fn archive(&mut self, line: &str) -> Result<Vec<u8>, Fail> {
+        let moment = moment_of(line, 2)?;
+        let account = account_at(self.alloc, line, 3)?;
+        let place = small(line, 4)?;
+        let home = &self.home;
+        let house = House {
+            directory: &home.directory,
+            sealer: &home.sealer,
+            me: self.me,
+        };
+        let answer = self
+            .provider
+            .archive(self.alloc, &house, moment, &account, place);
+        told_done(self.alloc, answer, b"archived")
+    }
+
+    /// `upgrade MOMENT`
+    fn upgrade(&mut self, line: &str) -> Result<Vec<u8>, Fail> {
+        let moment = moment_of(line, 2)?;
+        let home = &self.home;
+        let house = House {
+            directory: &home.directory,
+            sealer: &home.sealer,
+            me: self.me,
+        };
+        let answer = self.provider.upgrade(self.alloc, &house, moment);
+        told_done(self.alloc, answer, b"upgraded")
+    }
+
+    /// `vault ACCOUNT`
+    fn vault(&self, line: &str) -> Result<Vec<u8>, Fail> {
+        let account = account_at(self.alloc, line, 2)?;
+        let home = &self.home;
+        let house = House {
+            directory: &home.directory,
+            sealer: &home.sealer,
+            me: self.me,
+        };
+        let answer = self.provider.vault(self.alloc, &house, &account);
+        told_all(self.alloc, answer, b"items")
+    }
+
+    /// `vault-item ACCOUNT PLACE`
+    fn vault_item(&mut self, line: &str) -> Result<Vec<u8>, Fail> {
+        let place = small(line, 3)?;
+        let account = account_at(self.alloc, line, 2)?;
+        let home = &self.home;
+        let house = House {
+            directory: &home.directory,
+            sealer: &home.sealer,
+            me: self.me,
+        };
+        let answer = self
+            .provider
+            .vault_item(self.alloc, &house, &account, place);
+        told_item(self.alloc, answer)
+    }
+
+    /// `screen PLACE PATTERN`: a screen of that pattern takes the place of one.
+    fn screen(&mut self, line: &str) -> Result<Vec<u8>, Fail> {
+        let place = small(line, 2)? as usize;
+        let pattern = Vec::from_slice(self.alloc, word(line, 3).as_bytes())?;
+        let mut patterns = Vec::new(self.alloc);
+        patterns.push(Text8::of(pattern))?;
+        let spare = PatternScreen::new(patterns);
+        match self.provider.replace(&mut self.screen, place, spare) {
+            Ok(()) => told_word(self.alloc, b"screened"),
+            Err((_, SwapFault::Down)) => told_word(self.alloc, b"down"),
+            Err((_, SwapFault::NoSuchPlace)) => told_word(self.alloc, b"no-screen"),
+        }
+    }
+
+    /// `looks`: how often the screen has looked.
+    fn looks(&self) -> Result<Vec<u8>, Fail> {
+        let mut words = Vec::new(self.alloc);
+        add_number(self.alloc, &mut words, self.screen.seen())?;
+        Ok(words)
+    }
+
     /// `figures`: entries, the last moment, messages, the end of the journal, and whether the provider is down.
     fn figures(&self) -> Result<Vec<u8>, Fail> {
         let provider = &self.provider;
@@ -353,6 +459,18 @@ impl Desk {
         ];
         let words = figures_text(self.alloc, numbers, provider.is_down());
         told_word(self.alloc, &words)
+    }
+}
+
+/// What was done, as a word, or why it wasn't.
+fn told_done(
+    alloc: Global,
+    answer: Result<(), ProviderFault>,
+    done: &[u8],
+) -> Result<Vec<u8>, Fail> {
+    match answer {
+        Ok(()) => told_word(alloc, done),
+        Err(fault) => told::<Event>(alloc, Err(fault)),
     }
 }
 

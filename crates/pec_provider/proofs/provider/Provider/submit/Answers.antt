@@ -23,7 +23,7 @@ returns-in_err-entry-clause-plays g c =
     let desk = desk_of c.args.self.now in
     plays_handed (λ (told : Submitted). Submits told)
     (λ luck sites. played trade luck sites (Submit me c.args.moment c.args.sender.now c.args.path.now
-    c.args.message.now (finds (g.J.Judge.patterns c.args.screens.now) c.args.message.now))) trade me desk desk
+    c.args.message.now)) trade me (g.J.Judge.patterns c.args.screens.now) desk desk
     c.in_err-entry.field-0.0 c.from_residual.result c.from_residual.ensures.1 c.in_err-entry.ensures.admits refl
 
 pub returns-in_err-entry-clause-carries : goal.returns-in_err-entry-clause-carries
@@ -44,7 +44,7 @@ returns-in_err-append-clause-plays g c =
     let trade = world_at c.args.house.now in
     plays_torn (λ (told : Submitted). Submits told)
     (λ luck sites. played trade luck sites (Submit me c.args.moment c.args.sender.now c.args.path.now
-    c.args.message.now (finds (g.J.Judge.patterns c.args.screens.now) c.args.message.now))) trade me
+    c.args.message.now)) trade me (g.J.Judge.patterns c.args.screens.now)
     (desk_of c.args.self.now) (desk_of c.append.new.self) c.in_ok-entry.entry (Submits c.in_ok-entry.answer)
     (Vec Mark Global)
     c.in_err-append.field-0.0 c.from_residual-in_err-append.result c.from_residual-in_err-append.ensures.1
@@ -64,7 +64,7 @@ returns-clause-plays g c =
     let trade = world_at c.args.house.now in
     plays_done (λ (told : Submitted). Submits told)
     (λ luck sites. played trade luck sites (Submit me c.args.moment c.args.sender.now c.args.path.now
-    c.args.message.now (finds (g.J.Judge.patterns c.args.screens.now) c.args.message.now))) trade me
+    c.args.message.now)) trade me (g.J.Judge.patterns c.args.screens.now)
     (desk_of c.args.self.now) (desk_of c.append.new.self) c.in_ok-entry.entry (Submits c.in_ok-entry.answer)
     c.in_ok-entry.answer
     c.in_ok-entry.ensures.admits (c.in_ok-append.ensures.appends trade c.a_house_is_a_trade.ensures.of) refl
