@@ -1,2 +1,3 @@
+pub mod LogLemmas
 pub mod ReadBackLemmas
 pub mod WritingLemmas

@@ -1,1 +1,3 @@
+pub mod LogRows
+pub mod Reading
 pub mod Records

@@ -6,5 +6,6 @@ mod faults;
 mod home;
 mod journals;
 mod letters;
+mod logs;
 mod reception;
 mod world;

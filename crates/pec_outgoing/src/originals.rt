@@ -1,4 +1,5 @@
 ghost use Rattle.std.specs.Prelude.{◌≡◌, ℕ, List, if◌then◌else◌, Some, None, IfOk, IfSome, IsErrOf, option_map, slice_get};
+ghost use Rattle.std.specs.Option.{option_and_then};
 ghost use Rattle.std.specs.Result.{result_ok};
 ghost use Rattle.pec_types.specs.Bytes.{Bytes};
 ghost use Rattle.pec_directory.specs.Directory.{providers_of};
@@ -61,6 +62,35 @@ pub fn original_of<'a, S: Sealer>(
     let found = taken_original(&desk, id, entry)?;
     let Original { facts: _, bytes } = found;
     Ok(bytes)
+}
+
+/// The facts of the original of a message that was taken, of the envelope that an entry holds. `Changed` comes as
+/// `original_of` has it.
+pub fn facts_of<S: Sealer>(
+    alloc: Global,
+    house: &House<'_, S>,
+    shelf: &Shelf,
+    id: MsgId,
+    entry: &Entry,
+) -> Result<Facts, ComposeFault>
+    ensures holds { IfOk result (λ facts. option_and_then (world_at house.now).facts
+        (enveloped_in (world_at house.now) id entry.now) ≡ Some facts) }
+    ensures changed { IsErrOf result faults.Changed → (original : Bytes)
+        → enveloped_in (world_at house.now) id entry.now ≡ Some original → ⊥ }
+    // Of the entry that stands at the number of a row of its journal, they are those of the original that was taken.
+    ensures taken { IfOk result (λ facts. (me : ℕ) (journal : List SomeEntry) (row : TakenShown)
+        → slice_get journal row.entry ≡ Some entry.now
+        → option_and_then (world_at house.now).facts (original_taken (world_at house.now) me journal id row)
+        ≡ Some facts) }
+{
+    let desk = Desk {
+        alloc,
+        house,
+        shelf,
+    };
+    let found = taken_original(&desk, id, entry)?;
+    let Original { facts, bytes: _ } = found;
+    Ok(facts)
 }
 
 /// The original of an accepted message, of the entry by which it was accepted.

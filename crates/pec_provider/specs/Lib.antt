@@ -10,5 +10,6 @@ pub mod Provider
 pub mod Reading
 pub mod Summing
 pub mod Swapping
+pub mod Telling
 pub mod Ticking
 pub mod Working

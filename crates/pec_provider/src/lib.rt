@@ -14,13 +14,15 @@ mod provider;
 mod showing;
 mod summing;
 mod swapping;
+mod telling;
 mod turns;
 
 pub use laws::{nothing_has_changed, what_follows_goes_on};
 pub use pec_chronicle::CreateFault;
-pub use pec_shelf::Summary;
+pub use pec_shelf::{Summary, moment_of};
 pub use pec_stock::ReopenFault;
 pub use pec_trade::{House, a_house_is_a_trade};
 pub use pec_types::{Event, Mark, ProviderFault, Submitted};
 pub use provider::Provider;
 pub use swapping::SwapFault;
+pub use telling::a_provider_stands_still;

@@ -4,7 +4,8 @@ ghost use Rattle.std.specs.Prelude.{◌<◌, ◌≤◌, length};
 ghost use Rattle.pec_records.specs.Entry.{longest_message, most_addresses};
 
 use super::home::Home;
-use pec_outside::MemDisk;
+use pec_extract::{ExtractFault, Totals, write_provider};
+use pec_outside::{MemDisk, MemSink};
 use pec_provider::{
     CreateFault, Event, House, Provider, ProviderFault, ReopenFault, Submitted, SwapFault,
 };
@@ -168,10 +169,11 @@ enum Verb {
     Screen,
     Looks,
     Figures,
+    Log,
     Unknown,
 }
 
-const VERBS: [(&str, Verb); 16] = [
+const VERBS: [(&str, Verb); 17] = [
     ("submit", Verb::Submit),
     ("tick", Verb::Tick),
     ("arrive", Verb::Arrive),
@@ -188,6 +190,7 @@ const VERBS: [(&str, Verb); 16] = [
     ("screen", Verb::Screen),
     ("looks", Verb::Looks),
     ("figures", Verb::Figures),
+    ("log", Verb::Log),
 ];
 
 fn verb_of(word: &str) -> Verb {
@@ -221,6 +224,7 @@ impl Desk {
             Verb::Screen => self.screen(line),
             Verb::Looks => self.looks(),
             Verb::Figures => self.figures(),
+            Verb::Log => self.log(line),
             Verb::Unknown => Err("no such verb".into()),
         }
     }
@@ -460,6 +464,66 @@ impl Desk {
         let words = figures_text(self.alloc, numbers, provider.is_down());
         told_word(self.alloc, &words)
     }
+
+    /// `log FROM UPTO`: the rows of a range, with ` | ` behind each, and the four totals.
+    fn log(&mut self, line: &str) -> Result<Vec<u8>, Fail> {
+        let from = moment_of(line, 2)?;
+        let upto = moment_of(line, 3)?;
+        if self.provider.is_down() {
+            return told_word(self.alloc, b"down");
+        }
+        let home = &self.home;
+        let house = House {
+            directory: &home.directory,
+            sealer: &home.sealer,
+            me: self.me,
+        };
+        let mut out = MemSink::new(self.alloc, Vec::new(self.alloc));
+        let answer = write_provider(self.alloc, &house, &mut self.provider, from, upto, &mut out);
+        let mut words = rows_text(self.alloc, out.bytes())?;
+        told_log(self.alloc, &mut words, answer)?;
+        Ok(words)
+    }
+}
+
+/// Rows as one line: ` | ` in the place of each line feed.
+fn rows_text(alloc: Global, rows: &[u8]) -> Result<Vec<u8>, Fail> {
+    let mut text = Vec::new(alloc);
+    for byte in rows {
+        if *byte == b'\n' {
+            text.extend_from_slice(b" |")?;
+        } else {
+            text.push(*byte)?;
+        }
+    }
+    Ok(text)
+}
+
+/// The totals of an extract behind its rows, or why it ended.
+fn told_log(
+    alloc: Global,
+    words: &mut Vec<u8>,
+    answer: Result<Totals, ExtractFault>,
+) -> Result<(), Fail> {
+    match answer {
+        Ok(totals) => {
+            for number in [
+                totals.accepted,
+                totals.delivered,
+                totals.refused,
+                totals.pending,
+            ] {
+                add_number(alloc, words, number)?;
+            }
+        }
+        Err(ExtractFault::DiskFault) => add(words, b"disk-fault")?,
+        Err(ExtractFault::Changed(number)) => {
+            add(words, b"changed")?;
+            add_number(alloc, words, number)?;
+        }
+        Err(_) => add(words, b"no more")?,
+    }
+    Ok(())
 }
 
 /// What was done, as a word, or why it wasn't.
