@@ -1,7 +1,0 @@
-pub mod Checks
-pub mod Conflicts
-pub mod Exports
-pub mod Lines
-pub mod Reading
-pub mod Tallies
-pub mod Texts

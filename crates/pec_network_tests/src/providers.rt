@@ -1,9 +1,0 @@
-//! One provider, or two of which what one puts is handed to the other, without a network.
-mod delivery;
-mod desk;
-mod faults;
-mod home;
-mod journals;
-mod letters;
-mod reception;
-mod world;

@@ -1,4 +1,0 @@
-pub mod Occurrence
-pub mod Verdicts
-pub mod VerdictReading
-pub mod Screened
