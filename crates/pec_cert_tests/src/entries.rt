@@ -31,7 +31,13 @@ fn entry_of(alloc: Global, tag: usize) -> Option<Entry>
         6 => learned(alloc, moment),
         7 => acked(alloc, moment),
         8 => Some(Entry::Ticked { moment }),
-        _ => Some(anomaly(alloc, moment)),
+        9 => Some(anomaly(alloc, moment)),
+        10 => Some(Entry::StartTwo {
+            provider: 7,
+            digest: DIGEST,
+        }),
+        11 => Some(Entry::Upgraded { moment }),
+        _ => archived(alloc, moment),
     }
 }
 
@@ -156,6 +162,19 @@ fn anomaly(alloc: Global, moment: Moment) -> Entry
         moment,
         accounts: Items::of(Vec::new(alloc)),
         message: text8(alloc, &[0, 255]),
+    }
+}
+
+fn archived(alloc: Global, moment: Moment) -> Option<Entry>
+    ensures { IfSome result HasCounts }
+{
+    match address(alloc, b"anna@alfa.example") {
+        Some(account) => Some(Entry::Archived {
+            moment,
+            account,
+            place: 0,
+        }),
+        None => None,
     }
 }
 

@@ -7,7 +7,7 @@ use pec_types::Address;
 use std::alloc::Global;
 
 // Each kind of entry, by its tag: its bytes written out by hand, field by field, and what they say.
-static ENTRIES: [(&str, &str); 10] = [
+static ENTRIES: [(&str, &str); 13] = [
     (
         "00 00000007 000102030405060708090a0b0c0d0e0f101112131415161718191a1b1c1d1e1f",
         "start 7 000102030405060708090a0b0c0d0e0f101112131415161718191a1b1c1d1e1f",
@@ -44,6 +44,15 @@ static ENTRIES: [(&str, &str); 10] = [
     (
         "09 000000006593d090 00000000 00000002 00ff",
         "anomaly 1704186000 00ff",
+    ),
+    (
+        "0a 00000007 000102030405060708090a0b0c0d0e0f101112131415161718191a1b1c1d1e1f",
+        "start two 7 000102030405060708090a0b0c0d0e0f101112131415161718191a1b1c1d1e1f",
+    ),
+    ("0b 000000006593d090", "upgraded 1704186000"),
+    (
+        "0c 000000006593d090 0011 616e6e6140616c66612e6578616d706c65 00000000",
+        "archived 1704186000 anna@alfa.example 0",
     ),
 ];
 
@@ -100,14 +109,17 @@ fn has_no_front(alloc: Global, bytes: &[u8]) -> bool {
 }
 
 // Bytes that are no entry, and the place of the first with which no entry goes on.
-static FAULTS: [(&str, usize); 33] = [
-    ("0a", 0), // there are ten tags, from 0
+static FAULTS: [(&str, usize); 36] = [
+    ("0d", 0), // there are thirteen tags, from 0
     ("ff", 0),
     ("08 000000006593d090 00", 9), // bytes behind the end
     (
         "00 00000007 000102030405060708090a0b0c0d0e0f101112131415161718191a1b1c1d1e1f 20",
         37,
     ),
+    ("0b 000000006593d090 00", 9),
+    ("0c 000000006593d090 0003 614062 ffffffff 00", 18), // a place is any number of four bytes
+    ("0c 000000006593d090 0003 614042 00000000", 13), // a capital
     ("08 00000000f4865700", 7), // 4,102,444,800 seconds are no moment
     ("08 00000000f4865800", 7),
     ("08 00000000f5000000", 5),

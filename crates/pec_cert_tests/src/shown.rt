@@ -13,7 +13,9 @@ pub(crate) fn shown(alloc: Global, entry: &Entry) -> Vec<u8> {
 
 fn put_entry(alloc: Global, text: &mut Vec<u8>, entry: &Entry) {
     match entry {
-        Entry::Start { provider, digest } => put_start(alloc, text, *provider, digest),
+        Entry::Start { provider, digest } => {
+            put_origin(alloc, text, b"start ", *provider, digest)
+        }
         Entry::Accepted {
             moment,
             sender,
@@ -72,11 +74,21 @@ fn put_entry(alloc: Global, text: &mut Vec<u8>, entry: &Entry) {
             accounts,
             message,
         } => put_anomaly(alloc, text, *moment, accounts.as_slice(), message.bytes()),
+        Entry::StartTwo { provider, digest } => {
+            put_origin(alloc, text, b"start two ", *provider, digest)
+        }
+        Entry::Upgraded { moment } => put_moment(alloc, text, b"upgraded ", *moment),
+        Entry::Archived {
+            moment,
+            account,
+            place,
+        } => put_archived(alloc, text, *moment, account, *place),
     }
 }
 
-fn put_start(alloc: Global, text: &mut Vec<u8>, provider: u32, digest: &[u8]) {
-    put(text, b"start ");
+/// A word, with the blank behind it, and what a journal begins with.
+fn put_origin(alloc: Global, text: &mut Vec<u8>, word: &[u8], provider: u32, digest: &[u8]) {
+    put(text, word);
     put_number(alloc, text, u64::from(provider));
     put(text, b" ");
     put_digits(alloc, text, digest);
@@ -130,6 +142,13 @@ fn put_charged(alloc: Global, text: &mut Vec<u8>, moment: Moment, id: MsgId, by:
 fn put_acked(alloc: Global, text: &mut Vec<u8>, moment: Moment, id: MsgId, recipient: &Address) {
     put_about(alloc, text, b"acked ", moment, id);
     put_address(text, recipient);
+}
+
+fn put_archived(alloc: Global, text: &mut Vec<u8>, moment: Moment, account: &Address, place: u32) {
+    put_moment(alloc, text, b"archived ", moment);
+    put(text, b" ");
+    put_address(text, account);
+    put_number(alloc, text, u64::from(place));
 }
 
 fn put_anomaly(

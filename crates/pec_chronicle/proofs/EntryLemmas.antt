@@ -30,3 +30,6 @@ counts_within (entries.Learned moment id recipient decision decided message) wit
 counts_within (entries.Acked moment id recipient) within = tt
 counts_within (entries.Ticked moment) within = tt
 counts_within (entries.Anomaly moment accounts message) within = (omega (arith, within.0), omega (arith, within.1))
+counts_within (entries.StartTwo provider digest) within = tt
+counts_within (entries.Upgraded moment) within = tt
+counts_within (entries.Archived moment account place) within = tt

@@ -36,6 +36,8 @@ IsWithinLimit _ = ⊤
 abbrev pub IsSubmitFault : ProviderFault → Type 0
 IsSubmitFault faults.NoAccount = ⊥
 IsSubmitFault faults.NoItem = ⊥
+IsSubmitFault faults.OldJournal = ⊥
+IsSubmitFault faults.NoNeed = ⊥
 IsSubmitFault _ = ⊤
 
 -- Those of a book and of a mailbox.

@@ -43,7 +43,7 @@ stop_reply stops.TooLarge = plain statuses.PayloadTooLarge (codes "too-large")
 stop_reply stops.CutBody = plain statuses.BadRequest (codes "bad-request")
 stop_reply _ = memory_reply
 
--- Rows 12 to 16: what the desk refuses.
+-- Rows 12 to 16: what the desk refuses. No desk speaks of a journal's version.
 abbrev pub fault_reply : ProviderFault → Reply
 fault_reply faults.Down = plain statuses.ServiceUnavailable (codes "down")
 fault_reply faults.NoItem = plain statuses.NotFound (codes "not-found")
@@ -51,6 +51,8 @@ fault_reply faults.NoAccount = plain statuses.NotFound (codes "not-found")
 fault_reply (faults.ClockBack last) = plain statuses.Conflict (codes "clock-back " ++ decimal last)
 fault_reply faults.Full = plain statuses.InsufficientStorage (codes "full")
 fault_reply faults.JournalFull = plain statuses.InsufficientStorage (codes "journal-full")
+fault_reply faults.OldJournal = plain statuses.Conflict (codes "old-journal")
+fault_reply faults.NoNeed = plain statuses.Conflict (codes "no-need")
 fault_reply faults.DiskFault = plain statuses.ServiceUnavailable (codes "fault disk")
 fault_reply faults.NoMemory = memory_reply
 fault_reply (faults.Changed entry) = plain statuses.ServiceUnavailable (codes "changed " ++ decimal entry)

@@ -193,6 +193,8 @@ pub(crate) fn put_fault(body: &mut Vec<u8>, fault: ProviderFault) -> Status
         ProviderFault::JournalFull => word(body, Status::InsufficientStorage, b"journal-full\n"),
         ProviderFault::DiskFault => word(body, Status::ServiceUnavailable, b"fault disk\n"),
         ProviderFault::NoMemory => word(body, Status::InternalServerError, b"no-memory\n"),
+        ProviderFault::OldJournal => word(body, Status::Conflict, b"old-journal\n"),
+        ProviderFault::NoNeed => word(body, Status::Conflict, b"no-need\n"),
         ProviderFault::ClockBack(last) => put_clock(body, last),
         ProviderFault::Changed(entry) => put_changed(body, entry),
     }

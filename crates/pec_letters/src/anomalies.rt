@@ -101,8 +101,9 @@ fn contents_of<'a>(text: &'a [u8], message: &'a [u8]) -> Contents<'a>
     }
 }
 
-/// `ano.NUMBER@DOMAIN`.
-fn anomaly_name(alloc: Global, domain: &[u8], number: u64) -> Result<Vec<u8>, AllocError>
+/// `ano.NUMBER@DOMAIN`, the name of an anomaly, from the first domain of its provider and the number of its entry. This
+/// project's profile.
+pub fn anomaly_name(alloc: Global, domain: &[u8], number: u64) -> Result<Vec<u8>, AllocError>
     ensures { IfOk result (λ text. text.items ≡ anomaly_name domain.now number) }
 {
     let digits = number.to_string(alloc)?;

@@ -8,7 +8,7 @@ mod envelopes;
 mod laws;
 mod reading;
 
-pub use anomalies::compose_anomaly;
+pub use anomalies::{anomaly_name, compose_anomaly};
 pub use envelopes::compose_envelope;
 pub use laws::{
     a_message_has_one_anomaly, a_message_has_one_envelope, a_text_is_one_envelope,

@@ -12,6 +12,7 @@ pub(crate) enum Form {
     Charge,
     Delivery,
     Error,
+    VirusNotice,
     Delay,
     Acknowledgement,
 }
@@ -32,6 +33,7 @@ impl Form {
             Form::Charge => charge(),
             Form::Delivery => delivery(),
             Form::Error => error(),
+            Form::VirusNotice => virus_notice(),
             Form::Delay => delay(),
             Form::Acknowledgement => acknowledgement(),
         }
@@ -57,6 +59,10 @@ fn delivery() -> &'static str {
 
 fn error() -> &'static str {
     ERROR
+}
+
+fn virus_notice() -> &'static str {
+    VIRUS_NOTICE
 }
 
 fn delay() -> &'static str {
@@ -381,6 +387,55 @@ Content-Disposition: attachment; filename="daticert.xml"
 <msgid>&lt;c1@client.example&gt;</msgid>
 <consegna>RECIPIENT</consegna>
 <errore-esteso>%2</errore-esteso>
+</dati>
+</postacert>
+
+--=_pec_0--
+"#;
+
+/// By `beta`, of the first recipient.
+const VIRUS_NOTICE: &str = r#"X-Ricevuta: rilevazione-virus
+Message-ID: <vir.0.0001234.0@beta.example>
+X-Riferimento-Message-ID: <pec.0001234@alfa.example>
+Date: Tue, 02 Jan 2024 10:01:00 +0100
+From: posta-certificata@beta.example
+To: ricevute@alfa.example
+Subject: PROBLEMA DI SICUREZZA: Prova & "saluti"
+MIME-Version: 1.0
+Content-Type: multipart/mixed; boundary="=_pec_0"
+
+--=_pec_0
+Content-Type: text/plain; charset=us-ascii
+
+Giorno 02/01/2024 ore 10:01:00 (+0100)
+Mittente: alice@alfa.example
+Oggetto: Prova & "saluti"
+Identificativo: pec.0001234@alfa.example
+Il messaggio per RECIPIENT contiene un virus.
+--=_pec_0
+Content-Type: application/xml; name="daticert.xml"
+Content-Disposition: attachment; filename="daticert.xml"
+
+<?xml version="1.0" encoding="UTF-8"?>
+<postacert tipo="rilevazione-virus" errore="virus">
+<intestazione>
+<mittente>alice@alfa.example</mittente>
+<destinatari tipo="certificato">bob@beta.example</destinatari>
+<destinatari tipo="esterno">x@y.example</destinatari>
+<destinatari tipo="certificato">carl@beta.example</destinatari>
+<risposte>alice@alfa.example</risposte>
+<oggetto>Prova &amp; &quot;saluti&quot;</oggetto>
+</intestazione>
+<dati>
+<gestore-emittente>beta</gestore-emittente>
+<data zona="+0100">
+<giorno>02/01/2024</giorno>
+<ora>10:01:00</ora>
+</data>
+<identificativo>pec.0001234@alfa.example</identificativo>
+<msgid>&lt;c1@client.example&gt;</msgid>
+<consegna>RECIPIENT</consegna>
+<errore-esteso>virus</errore-esteso>
 </dati>
 </postacert>
 

@@ -18,7 +18,7 @@ const VIRUS: &str = "X-VerificaSicurezza: errore\n";
 /// A kind, who composes it, whom it names, what it is composed as, and the words in that text.
 type Row = (Kind, u32, &'static str, Form, [&'static str; 3]);
 
-static ROWS: [Row; 18] = [
+static ROWS: [Row; 19] = [
     (Kind::Acceptance, 0, "", Form::Acceptance, ["", "", ""]),
     (
         Kind::NonAcceptance(Cause::Head),
@@ -105,6 +105,7 @@ static ROWS: [Row; 18] = [
         Form::Error,
         ["virus", "virus", VIRUS],
     ),
+    (Kind::VirusFound, 1, BOB, Form::VirusNotice, ["", "", ""]),
     (
         Kind::Warning,
         0,
@@ -276,13 +277,15 @@ type Gift = (Kind, u32, &'static str);
 
 /// What may not be given: kinds with and without a recipient, an external and a strange recipient, a provider that
 /// isn't there, and another provider than the message's.
-static NOT_GIVEN: [Gift; 8] = [
+static NOT_GIVEN: [Gift; 10] = [
     (Kind::Acceptance, 0, BOB),
     (Kind::Charge, 1, BOB),
     (Kind::Delivery, 1, ""),
     (Kind::Delivery, 1, "x@y.example"),
     (Kind::Delivery, 1, "alice@alfa.example"),
     (Kind::Delivery, 3, BOB),
+    (Kind::VirusFound, 1, ""),
+    (Kind::VirusFound, 1, "x@y.example"),
     (Kind::Acceptance, 1, ""),
     (Kind::Notice, 1, BOB),
 ];

@@ -199,19 +199,19 @@ static FILES: [File; 5] = [
         fault: OpenFault::NotAJournal(8),
         entries: 0,
     },
-    // no entry has the tag 10
+    // no entry has the tag 13
     File {
-        bytes: b"PECJRN1\n\x01\0\0\0\x01\x0a\0",
+        bytes: b"PECJRN1\n\x01\0\0\0\x01\x0d\0",
         fault: OpenFault::BadEntry(0),
         entries: 0,
     },
     File {
-        bytes: b"PECJRN1\n\x01\0\0\0\x09\x08\0\0\0\0\0\0\0\x05\x01\0\0\0\x01\x0a\0",
+        bytes: b"PECJRN1\n\x01\0\0\0\x09\x08\0\0\0\0\0\0\0\x05\x01\0\0\0\x01\x0d\0",
         fault: OpenFault::BadEntry(1),
         entries: 1,
     },
     File {
-        bytes: b"PECJRN1\n\x01\0\0\0\x09\x08\0\0\0\0\0\0\0\x05\x01\0\0\0\0\x01\0\0\0\x01\x0a\0",
+        bytes: b"PECJRN1\n\x01\0\0\0\x09\x08\0\0\0\0\0\0\0\x05\x01\0\0\0\0\x01\0\0\0\x01\x0d\0",
         fault: OpenFault::BadEntry(1),
         entries: 1,
     },

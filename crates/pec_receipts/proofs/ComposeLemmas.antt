@@ -33,6 +33,7 @@ row_words places kinds.Delivery = tt
 row_words places (kinds.DeliveryError refusals.NoMailbox) = refl
 row_words places (kinds.DeliveryError refusals.MailboxFull) = refl
 row_words places (kinds.DeliveryError refusals.Virus) = refl
+row_words places kinds.VirusFound = refl
 row_words places kinds.Warning = refl
 row_words places kinds.Notice = refl
 row_words places kinds.LateNotice = refl

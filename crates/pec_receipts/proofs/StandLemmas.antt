@@ -59,6 +59,7 @@ row_stands (kinds.NonAcceptance cause) = record { tag = refl; tag_short = omega 
 row_stands kinds.Charge = record { tag = refl; tag_short = omega arith; prefix = refl; prefix_short = omega arith }
 row_stands kinds.Delivery = record { tag = refl; tag_short = omega arith; prefix = refl; prefix_short = omega arith }
 row_stands (kinds.DeliveryError refusal) = record { tag = refl; tag_short = omega arith; prefix = refl; prefix_short = omega arith }
+row_stands kinds.VirusFound = record { tag = refl; tag_short = omega arith; prefix = refl; prefix_short = omega arith }
 row_stands kinds.Warning = record { tag = refl; tag_short = omega arith; prefix = refl; prefix_short = omega arith }
 row_stands kinds.Notice = record { tag = refl; tag_short = omega arith; prefix = refl; prefix_short = omega arith }
 row_stands kinds.LateNotice = record { tag = refl; tag_short = omega arith; prefix = refl; prefix_short = omega arith }
@@ -76,6 +77,7 @@ word_stands (kinds.NonAcceptance cause) = record { line = record { printable = r
 word_stands kinds.Charge = record { line = record { printable = refl; short = omega arith }; whole = refl }
 word_stands kinds.Delivery = record { line = record { printable = refl; short = omega arith }; whole = refl }
 word_stands (kinds.DeliveryError refusal) = record { line = record { printable = refl; short = omega arith }; whole = refl }
+word_stands kinds.VirusFound = record { line = record { printable = refl; short = omega arith }; whole = refl }
 word_stands kinds.Warning = record { line = record { printable = refl; short = omega arith }; whole = refl }
 word_stands kinds.Notice = record { line = record { printable = refl; short = omega arith }; whole = refl }
 word_stands kinds.LateNotice = record { line = record { printable = refl; short = omega arith }; whole = refl }

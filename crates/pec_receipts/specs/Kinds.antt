@@ -20,7 +20,7 @@ use Rattle.pec_receipts.specs.declared.kinds.Addressee.TheVariants as to
 
 -- What a receipt certifies and says: the word of `X-Ricevuta`, kind and error of the certification text, whether the head says that a
 -- virus was found, whether the wish is certified, whether the message itself may stand in it, what the error is in words, the phrase
--- for people up to whom it names, and whether that goes on with those words.
+-- for people up to whom it names, how it goes on behind that, and whether those words follow.
 pub record Said : Type 0 where
   pub word : Bytes
   pub kind : CertKind
@@ -30,10 +30,11 @@ pub record Said : Type 0 where
   pub delivers : Bool
   pub detail : Option Bytes
   pub phrase : Bytes
+  pub behind : Bytes
   pub explains : Bool
 
 -- A row of the table: the tag of the name, the prefix of the subject, what the receipt is about beside the message, who gets it, whether
--- another provider than the message's may compose it, and what it certifies; an acknowledgement certifies nothing.
+-- a reader takes it of another provider than the message's too, and what it certifies; an acknowledgement certifies nothing.
 pub record Row : Type 0 where
   pub tag : Bytes
   pub prefix : Bytes
@@ -71,6 +72,7 @@ all_well word kind wish delivers phrase = record {
   delivers = delivers;
   detail = None;
   phrase = phrase;
+  behind = [];
   explains = false;
 }
 
@@ -85,6 +87,7 @@ refused word kind error detail phrase = record {
   delivers = false;
   detail = Some detail;
   phrase = phrase;
+  behind = [];
   explains = true;
 }
 
@@ -99,6 +102,23 @@ delayed detail phrase = record {
   delivers = false;
   detail = Some detail;
   phrase = phrase;
+  behind = [];
+  explains = false;
+}
+
+-- A screen of the recipient's provider found a rule: the sender's provider is told, and the sender by that one alone. So the head has no
+-- mark of a virus, which is for people, and the message itself isn't sent back.
+abbrev pub virus_found : Said
+virus_found = record {
+  word = codes "rilevazione-virus";
+  kind = certs.VirusDetection;
+  error = errors.Virus;
+  flagged = false;
+  wish = false;
+  delivers = false;
+  detail = Some (refusal_word refusals.Virus);
+  phrase = codes "Il messaggio per ";
+  behind = codes " contiene un virus";
   explains = false;
 }
 
@@ -142,6 +162,14 @@ row_of (kinds.DeliveryError refusal) =
     to_sender (codes "err") (codes "AVVISO DI MANCATA CONSEGNA: ") about.Recipient true
     (refused (codes "errore-consegna") certs.DeliveryError (refusal_error refusal) (refusal_word refusal)
     (codes "Il messaggio non e' stato consegnato a "))
+row_of kinds.VirusFound = record {
+  tag = codes "vir";
+  prefix = codes "PROBLEMA DI SICUREZZA: ";
+  about = about.Recipient;
+  to = to.MessageProvider;
+  elsewhere = true;
+  said = Some virus_found;
+}
 row_of kinds.Warning =
     to_sender (codes "pre") delay_prefix about.Recipient false
     (delayed (codes "12 ore") (codes "Entro 12 ore non vi e' notizia di consegna a "))
@@ -164,8 +192,8 @@ row_of kinds.Ack = record {
 abbrev pub other_kinds : List Kind
 other_kinds =
     kinds.Acceptance ∷ kinds.Charge ∷ kinds.Delivery ∷ kinds.DeliveryError refusals.NoMailbox
-    ∷ kinds.DeliveryError refusals.MailboxFull ∷ kinds.DeliveryError refusals.Virus ∷ kinds.Warning ∷ kinds.Notice
-    ∷ kinds.LateNotice ∷ kinds.Ack ∷ []
+    ∷ kinds.DeliveryError refusals.MailboxFull ∷ kinds.DeliveryError refusals.Virus ∷ kinds.VirusFound ∷ kinds.Warning
+    ∷ kinds.Notice ∷ kinds.LateNotice ∷ kinds.Ack ∷ []
 
 -- All kinds, each once.
 abbrev pub all_kinds : List Kind

@@ -145,7 +145,7 @@ explained true (Some detail) = codes ": " ++ detail
 -- The phrase for people.
 unfoldable pub phrase_of : Bytes → Receipt → Row → Said → Bytes
 phrase_of issuer r row said =
-    concat (said.phrase ∷ named_by issuer r row.about ∷ explained said.explains said.detail ∷ codes "." ∷ [])
+    concat (said.phrase ∷ named_by issuer r row.about ∷ said.behind ∷ explained said.explains said.detail ∷ codes "." ∷ [])
 
 -- the class of the recipient that a receipt names
 abbrev pub class_of : Receipt → Option Class

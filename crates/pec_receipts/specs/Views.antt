@@ -18,6 +18,7 @@ said_shown said = record {
   delivers = said.delivers;
   detail = option_map (λ text. text.now) said.detail;
   phrase = said.phrase.now;
+  behind = said.behind.now;
   explains = said.explains;
 }
 

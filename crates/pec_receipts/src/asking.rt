@@ -17,13 +17,14 @@ use pec_letter_parts::{Letter, Marking};
 use pec_types::{Address, Cause, Kind, MsgId, Refusal, Text, Wish};
 
 /// The kinds without a cause.
-const OTHER_KINDS: [Kind; 10] = [
+const OTHER_KINDS: [Kind; 11] = [
     Kind::Acceptance,
     Kind::Charge,
     Kind::Delivery,
     Kind::DeliveryError(Refusal::NoMailbox),
     Kind::DeliveryError(Refusal::MailboxFull),
     Kind::DeliveryError(Refusal::Virus),
+    Kind::VirusFound,
     Kind::Warning,
     Kind::Notice,
     Kind::LateNotice,

@@ -1,5 +1,5 @@
 ghost use Rattle.std.specs.Prelude.{◌≡◌};
-ghost use Rattle.pec_receipts.specs.Kinds.{all_well, cause_error, delayed, is_virus, refusal_error, refused, row_of, to_sender};
+ghost use Rattle.pec_receipts.specs.Kinds.{all_well, cause_error, delayed, is_virus, refusal_error, refused, row_of, to_sender, virus_found};
 ghost use Rattle.pec_receipts.specs.Views.{row_shown, said_shown};
 
 use pec_cert::{CertError, CertKind};
@@ -40,7 +40,9 @@ pub(crate) struct Said {
     pub(crate) detail: Option<&'static [u8]>,
     /// The phrase for people up to whom it names.
     pub(crate) phrase: &'static [u8],
-    /// Whether the phrase goes on with the error.
+    /// How it goes on behind that.
+    pub(crate) behind: &'static [u8],
+    /// Whether the error in words follows.
     pub(crate) explains: bool,
 }
 
@@ -51,7 +53,7 @@ pub(crate) struct Row {
     pub(crate) prefix: &'static [u8],
     pub(crate) about: About,
     pub(crate) to: Addressee,
-    /// Whether another provider than the message's may compose it.
+    /// Whether a reader takes it of another provider than the message's too.
     pub(crate) elsewhere: bool,
     /// Nothing for an acknowledgement.
     pub(crate) said: Option<Said>,
@@ -134,6 +136,14 @@ pub(crate) fn row_of(kind: Kind) -> Row
                 said,
             )
         }
+        Kind::VirusFound => Row {
+            tag: b"vir",
+            prefix: b"PROBLEMA DI SICUREZZA: ",
+            about: About::Recipient,
+            to: Addressee::MessageProvider,
+            elsewhere: true,
+            said: Some(virus_found()),
+        },
         Kind::Warning => {
             let said = delayed(b"12 ore", b"Entro 12 ore non vi e' notizia di consegna a ");
             to_sender(b"pre", DELAYED, About::Recipient, false, said)
@@ -199,6 +209,7 @@ fn all_well(
         delivers,
         detail: None,
         phrase,
+        behind: b"",
         explains: false,
     }
 }
@@ -222,6 +233,7 @@ fn refused(
         delivers: false,
         detail: Some(detail),
         phrase,
+        behind: b"",
         explains: true,
     }
 }
@@ -239,6 +251,25 @@ fn delayed(detail: &'static [u8], phrase: &'static [u8]) -> Said
         delivers: false,
         detail: Some(detail),
         phrase,
+        behind: b"",
+        explains: false,
+    }
+}
+
+/// A screen of the recipient's provider found a rule.
+fn virus_found() -> Said
+    ensures { said_shown result ≡ virus_found }
+{
+    Said {
+        word: b"rilevazione-virus",
+        kind: CertKind::VirusDetection,
+        error: CertError::Virus,
+        flagged: false,
+        wish: false,
+        delivers: false,
+        detail: Some(Refusal::Virus.word()),
+        phrase: b"Il messaggio per ",
+        behind: b" contiene un virus",
         explains: false,
     }
 }

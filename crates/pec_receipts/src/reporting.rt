@@ -162,7 +162,7 @@ pub(crate) fn phrase(
 {
     let named = named(issuer, receipt, row.about);
     let explained = explained(alloc, said.explains, said.detail)?;
-    let text = sentence(alloc, said.phrase, named, explained.as_slice())?;
+    let text = sentence(alloc, said.phrase, named, said.behind, explained.as_slice())?;
     Ok(text)
 }
 
@@ -170,11 +170,12 @@ fn sentence(
     alloc: Global,
     phrase: &[u8],
     named: &[u8],
+    behind: &[u8],
     explained: &[u8],
 ) -> Result<Vec<u8>, AllocError>
-    ensures { IfOk result (λ text. text.items ≡ concat (phrase.now ∷ named.now ∷ explained.now ∷ codes "." ∷ [])) }
+    ensures { IfOk result (λ text. text.items ≡ concat (phrase.now ∷ named.now ∷ behind.now ∷ explained.now ∷ codes "." ∷ [])) }
 {
-    let pieces: [&[u8]; 4] = [phrase, named, explained, b"."];
+    let pieces: [&[u8]; 5] = [phrase, named, behind, explained, b"."];
     let text = joined(alloc, &pieces)?;
     Ok(text)
 }

@@ -12,7 +12,7 @@ use Rattle.pec_grammar.proofs.Parts.{Lawful}
 use Rattle.pec_grammar.proofs.Sequences.{both_lawful, same_lawful}
 use Rattle.pec_grammar.proofs.DependentLaws.{keyed_lawful, raw_lawful, variant_lawful}
 use Rattle.pec_records.specs.Entry.{entry_text, CanBeWritten}
-use Rattle.pec_records.specs.EntryReading.{start_from, start_at, accepted_from, accepted_at, not_accepted_from, not_accepted_at, took_from, took_at, decided_from, decided_at, charged_from, charged_at, learned_from, learned_at, acked_from, acked_at, ticked_from, ticked_at, anomaly_from, anomaly_at, fields_at, entry_at}
+use Rattle.pec_records.specs.EntryReading.{start_from, start_at, accepted_from, accepted_at, not_accepted_from, not_accepted_at, took_from, took_at, decided_from, decided_at, charged_from, charged_at, learned_from, learned_at, acked_from, acked_at, ticked_from, ticked_at, anomaly_from, anomaly_at, origin_at, start_two_from, start_two_at, upgraded_from, upgraded_at, archived_from, archived_at, fields_at, entry_at}
 use Rattle.pec_records.specs.declared.entries.Entry.{Entry}
 use Rattle.pec_records.specs.declared.entries.Entry.TheVariants as entries
 use Rattle.pec_records.specs.declared.tags.Tag.{Tag}
@@ -64,6 +64,18 @@ abbrev anomaly_fields : Entry → ℕ × (List (List ℕ) × List ℕ)
 anomaly_fields (entries.Anomaly moment accounts message) = (moment, (accounts, message))
 anomaly_fields other = (0, ([], []))
 
+abbrev start_two_fields : Entry → ℕ × List ℕ
+start_two_fields (entries.StartTwo provider digest) = (provider, digest)
+start_two_fields other = (0, [])
+
+abbrev upgraded_fields : Entry → ℕ
+upgraded_fields (entries.Upgraded moment) = moment
+upgraded_fields other = 0
+
+abbrev archived_fields : Entry → ℕ × (List ℕ × ℕ)
+archived_fields (entries.Archived moment account place) = (moment, (account, place))
+archived_fields other = (0, ([], 0))
+
 -- The grammar of each kind of entry, behind its tag.
 
 abbrev fields : Tag → Grammar Entry
@@ -77,6 +89,9 @@ fields tags.Learned = variant (both moment (both id (both address (both decision
 fields tags.Acked = variant (both moment (both id address)) acked_from acked_fields
 fields tags.Ticked = variant moment ticked_from ticked_fields
 fields tags.Anomaly = variant (both moment (both addresses bytes)) anomaly_from anomaly_fields
+fields tags.StartTwo = variant (both word (raw 32)) start_two_from start_two_fields
+fields tags.Upgraded = variant moment upgraded_from upgraded_fields
+fields tags.Archived = variant (both moment (both address word)) archived_from archived_fields
 
 abbrev tag_of : Entry → Tag
 tag_of (entries.Start _ _) = tags.Start
@@ -89,9 +104,12 @@ tag_of (entries.Learned _ _ _ _ _ _) = tags.Learned
 tag_of (entries.Acked _ _ _) = tags.Acked
 tag_of (entries.Ticked _) = tags.Ticked
 tag_of (entries.Anomaly _ _ _) = tags.Anomaly
+tag_of (entries.StartTwo _ _) = tags.StartTwo
+tag_of (entries.Upgraded _) = tags.Upgraded
+tag_of (entries.Archived _ _ _) = tags.Archived
 
 fields_read : (t : Tag) (at : Cursor) → fields_at t at ≡ (fields t).read at
-unfolding start_at accepted_at not_accepted_at took_at decided_at charged_at learned_at acked_at ticked_at anomaly_at
+unfolding origin_at start_at accepted_at not_accepted_at took_at decided_at charged_at learned_at acked_at ticked_at anomaly_at start_two_at upgraded_at archived_at
 fields_read tags.Start at = refl
 fields_read tags.Accepted at = refl
 fields_read tags.NotAccepted at = refl
@@ -102,6 +120,9 @@ fields_read tags.Learned at = refl
 fields_read tags.Acked at = refl
 fields_read tags.Ticked at = refl
 fields_read tags.Anomaly at = refl
+fields_read tags.StartTwo at = refl
+fields_read tags.Upgraded at = refl
+fields_read tags.Archived at = refl
 
 has_key : (t : Tag) (e : Entry) → (fields t).Fits e → tag_of e ≡ t
 has_key tags.Start e fits = ap tag_of fits.2
@@ -114,6 +135,9 @@ has_key tags.Learned e fits = ap tag_of fits.2
 has_key tags.Acked e fits = ap tag_of fits.2
 has_key tags.Ticked e fits = ap tag_of fits.2
 has_key tags.Anomaly e fits = ap tag_of fits.2
+has_key tags.StartTwo e fits = ap tag_of fits.2
+has_key tags.Upgraded e fits = ap tag_of fits.2
+has_key tags.Archived e fits = ap tag_of fits.2
 
 can_be_written : (t : Tag) (e : Entry) → (fields t).Fits e → CanBeWritten e
 can_be_written tags.Start e fits = subst CanBeWritten (sym fits.2) fits.1
@@ -126,6 +150,9 @@ can_be_written tags.Learned e fits = subst CanBeWritten (sym fits.2) (fits.1.0, 
 can_be_written tags.Acked e fits = subst CanBeWritten (sym fits.2) fits.1
 can_be_written tags.Ticked e fits = subst CanBeWritten (sym fits.2) fits.1
 can_be_written tags.Anomaly e fits = subst CanBeWritten (sym fits.2) fits.1
+can_be_written tags.StartTwo e fits = subst CanBeWritten (sym fits.2) fits.1
+can_be_written tags.Upgraded e fits = subst CanBeWritten (sym fits.2) fits.1
+can_be_written tags.Archived e fits = subst CanBeWritten (sym fits.2) fits.1
 
 fits_fields : (e : Entry) → CanBeWritten e → (fields (tag_of e)).Fits e
 fits_fields (entries.Start provider digest) can = ((provider, digest), can, refl)
@@ -139,6 +166,9 @@ fits_fields (entries.Learned moment id recipient decision decided message) can =
 fits_fields (entries.Acked moment id recipient) can = ((moment, (id, recipient)), can, refl)
 fits_fields (entries.Ticked moment) can = (moment, can, refl)
 fits_fields (entries.Anomaly moment accounts message) can = ((moment, (accounts, message)), can, refl)
+fits_fields (entries.StartTwo provider digest) can = ((provider, digest), can, refl)
+fits_fields (entries.Upgraded moment) can = (moment, can, refl)
+fits_fields (entries.Archived moment account place) can = ((moment, (account, place)), can, refl)
 
 spells_entry : (e : Entry) → entry_text e ≡ (keyed tag tag_of fields).spell e
 spells_entry (entries.Start _ _) = refl
@@ -151,6 +181,9 @@ spells_entry (entries.Learned _ _ _ _ _ _) = refl
 spells_entry (entries.Acked _ _ _) = refl
 spells_entry (entries.Ticked _) = refl
 spells_entry (entries.Anomaly _ _ _) = refl
+spells_entry (entries.StartTwo _ _) = refl
+spells_entry (entries.Upgraded _) = refl
+spells_entry (entries.Archived _ _ _) = refl
 
 -- Entries.
 
@@ -197,6 +230,13 @@ fields_lawful law places tags.Ticked = variant_lawful moment ticked_from ticked_
 fields_lawful law places tags.Anomaly =
     variant_lawful (both moment (both addresses bytes)) anomaly_from anomaly_fields (λ x. refl)
     (both_lawful moment (both addresses bytes) moment_lawful (both_lawful addresses bytes (addresses_lawful law) bytes_lawful))
+fields_lawful law places tags.StartTwo =
+    variant_lawful (both word (raw 32)) start_two_from start_two_fields (λ x. refl)
+    (both_lawful word (raw 32) word_lawful (raw_lawful 32))
+fields_lawful law places tags.Upgraded = variant_lawful moment upgraded_from upgraded_fields (λ x. refl) moment_lawful
+fields_lawful law places tags.Archived =
+    variant_lawful (both moment (both address word)) archived_from archived_fields (λ x. refl)
+    (both_lawful moment (both address word) moment_lawful (both_lawful address word (address_lawful law) word_lawful))
 
 pub entry_lawful : LowerAddressesPass → HavePlaces → Lawful entry
 unfolding entry_at

@@ -176,6 +176,9 @@ tag_field tags.Learned = 6 ∷ []
 tag_field tags.Acked = 7 ∷ []
 tag_field tags.Ticked = 8 ∷ []
 tag_field tags.Anomaly = 9 ∷ []
+tag_field tags.StartTwo = 10 ∷ []
+tag_field tags.Upgraded = 11 ∷ []
+tag_field tags.Archived = 12 ∷ []
 
 abbrev pub tag : Grammar Tag
 tag = record { Fits = λ t. Unit {0}; spell = tag_field; read = choice_at tag_table }
@@ -191,11 +194,15 @@ has_tag tags.Learned = inr (inr (inr (inr (inr (inr (inl refl))))))
 has_tag tags.Acked = inr (inr (inr (inr (inr (inr (inr (inl refl)))))))
 has_tag tags.Ticked = inr (inr (inr (inr (inr (inr (inr (inr (inl refl))))))))
 has_tag tags.Anomaly = inr (inr (inr (inr (inr (inr (inr (inr (inr (inl refl)))))))))
+has_tag tags.StartTwo = inr (inr (inr (inr (inr (inr (inr (inr (inr (inr (inl refl))))))))))
+has_tag tags.Upgraded = inr (inr (inr (inr (inr (inr (inr (inr (inr (inr (inr (inl refl)))))))))))
+has_tag tags.Archived = inr (inr (inr (inr (inr (inr (inr (inr (inr (inr (inr (inr (inl refl))))))))))))
 
 pub tag_lawful : Lawful tag
 tag_lawful =
     same_lawful (choice tag_field tag_table) tag (λ t fits. tt) (λ t fits. has_tag t) (λ t fits. refl) (λ at. refl)
     (choice_lawful tag_field (0 ∷ [], tags.Start)
     ((1 ∷ [], tags.Accepted) ∷ (2 ∷ [], tags.NotAccepted) ∷ (3 ∷ [], tags.Took) ∷ (4 ∷ [], tags.Decided) ∷ (5 ∷ [], tags.Charged)
-    ∷ (6 ∷ [], tags.Learned) ∷ (7 ∷ [], tags.Acked) ∷ (8 ∷ [], tags.Ticked) ∷ (9 ∷ [], tags.Anomaly) ∷ [])
-    (refl, (refl, (refl, (refl, (refl, (refl, (refl, (refl, (refl, (refl, tt)))))))))) refl)
+    ∷ (6 ∷ [], tags.Learned) ∷ (7 ∷ [], tags.Acked) ∷ (8 ∷ [], tags.Ticked) ∷ (9 ∷ [], tags.Anomaly)
+    ∷ (10 ∷ [], tags.StartTwo) ∷ (11 ∷ [], tags.Upgraded) ∷ (12 ∷ [], tags.Archived) ∷ [])
+    (refl, (refl, (refl, (refl, (refl, (refl, (refl, (refl, (refl, (refl, (refl, (refl, (refl, tt))))))))))))) refl)

@@ -111,6 +111,16 @@ text_short (entries.Anomaly moment accounts message) can short =
     let h = dated_short 9 moment (addresses_field accounts ++ bytes_field message) (4 + 256 * 10000 + (4 + longest_message))
     (both_short (addresses_field accounts) (bytes_field message) (4 + 256 * 10000) (4 + longest_message) (addresses_short accounts 10000 can.1.0 short.0) (bytes_short message short.1)) in
     omega (arith, h)
+text_short (entries.StartTwo provider digest) can short =
+    let h = both_short (number_32 provider) digest 4 32 (number_32_short provider) (omega (arith, can.1)) in
+    omega (arith, h)
+text_short (entries.Upgraded moment) can short =
+    let h = number_64_short moment in
+    omega (arith, h)
+text_short (entries.Archived moment account place) can short =
+    let h = dated_short 12 moment (address_field account ++ number_32 place) (256 + 4)
+    (both_short (address_field account) (number_32 place) 256 4 (address_short account can.1.0) (number_32_short place)) in
+    omega (arith, h)
 
 pub short_entry : (e : Entry) (text : List ℕ) → IsEntry e text → IsWithinLimits e → length text ≤ longest_entry
 short_entry e text is short = subst (λ t. length t ≤ longest_entry) (sym is.1) (text_short e is.0 short)

@@ -75,6 +75,10 @@ entry_text (entries.Acked moment id recipient) = 7 ∷ number_64 moment ++ (id_f
 entry_text (entries.Ticked moment) = 8 ∷ number_64 moment
 entry_text (entries.Anomaly moment accounts message) =
     9 ∷ number_64 moment ++ (addresses_field accounts ++ bytes_field message)
+entry_text (entries.StartTwo provider digest) = 10 ∷ number_32 provider ++ digest
+entry_text (entries.Upgraded moment) = 11 ∷ number_64 moment
+entry_text (entries.Archived moment account place) =
+    12 ∷ number_64 moment ++ (address_field account ++ number_32 place)
 
 -- What can be written: numbers that fit, moments below the end of time, addresses in lower case, and lists and bytes
 -- that can be counted.
@@ -105,6 +109,9 @@ CanBeWritten (entries.Acked moment id recipient) = IsMoment moment × (IsId id �
 CanBeWritten (entries.Ticked moment) = IsMoment moment
 CanBeWritten (entries.Anomaly moment accounts message) =
     IsMoment moment × (AreAddresses accounts × CanBeCounted message)
+CanBeWritten (entries.StartTwo provider digest) = (provider < 2 ^ 32) × (length digest ≡ 32)
+CanBeWritten (entries.Upgraded moment) = IsMoment moment
+CanBeWritten (entries.Archived moment account place) = IsMoment moment × (IsLowerAddress account × (place < 2 ^ 32))
 
 -- these bytes are the text of the entry
 abbrev pub IsEntry : Entry → Bytes → Type 0
@@ -128,6 +135,9 @@ HasCounts (entries.Learned moment id recipient decision decided message) = CanBe
 HasCounts (entries.Acked moment id recipient) = Unit {0}
 HasCounts (entries.Ticked moment) = Unit {0}
 HasCounts (entries.Anomaly moment accounts message) = CanBeCounted accounts × CanBeCounted message
+HasCounts (entries.StartTwo provider digest) = Unit {0}
+HasCounts (entries.Upgraded moment) = Unit {0}
+HasCounts (entries.Archived moment account place) = Unit {0}
 
 -- The limits of the program.
 
@@ -159,3 +169,6 @@ IsWithinLimits (entries.Learned moment id recipient decision decided message) = 
 IsWithinLimits (entries.Acked moment id recipient) = Unit {0}
 IsWithinLimits (entries.Ticked moment) = Unit {0}
 IsWithinLimits (entries.Anomaly moment accounts message) = (length accounts ≤ most_accounts) × IsShort message
+IsWithinLimits (entries.StartTwo provider digest) = Unit {0}
+IsWithinLimits (entries.Upgraded moment) = Unit {0}
+IsWithinLimits (entries.Archived moment account place) = Unit {0}

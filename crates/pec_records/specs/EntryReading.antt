@@ -98,15 +98,20 @@ abbrev pub tag_table : List (Bytes × Tag)
 tag_table =
     (0 ∷ [], tags.Start) ∷ (1 ∷ [], tags.Accepted) ∷ (2 ∷ [], tags.NotAccepted) ∷ (3 ∷ [], tags.Took)
     ∷ (4 ∷ [], tags.Decided) ∷ (5 ∷ [], tags.Charged) ∷ (6 ∷ [], tags.Learned) ∷ (7 ∷ [], tags.Acked)
-    ∷ (8 ∷ [], tags.Ticked) ∷ (9 ∷ [], tags.Anomaly) ∷ []
+    ∷ (8 ∷ [], tags.Ticked) ∷ (9 ∷ [], tags.Anomaly) ∷ (10 ∷ [], tags.StartTwo) ∷ (11 ∷ [], tags.Upgraded)
+    ∷ (12 ∷ [], tags.Archived) ∷ []
 
 -- The fields behind each tag.
+
+-- what a journal begins with: the number of its provider, and the digest of a directory
+unfoldable pub origin_at : Cursor → Read (ℕ × Bytes)
+origin_at = both_at number_32_at (raw_at 32)
 
 abbrev pub start_from : ℕ × Bytes → Entry
 start_from p = entries.Start p.0 p.1
 
 unfoldable pub start_at : Cursor → Read Entry
-start_at = seen_at start_from (both_at number_32_at (raw_at 32))
+start_at = seen_at start_from origin_at
 
 abbrev pub accepted_from : ℕ × (Bytes × Bytes) → Entry
 accepted_from p = entries.Accepted p.0 p.1.0 p.1.1
@@ -166,6 +171,24 @@ anomaly_from p = entries.Anomaly p.0 p.1.0 p.1.1
 unfoldable pub anomaly_at : Cursor → Read Entry
 anomaly_at = seen_at anomaly_from (both_at moment_at (both_at addresses_at bytes_at))
 
+abbrev pub start_two_from : ℕ × Bytes → Entry
+start_two_from p = entries.StartTwo p.0 p.1
+
+unfoldable pub start_two_at : Cursor → Read Entry
+start_two_at = seen_at start_two_from origin_at
+
+abbrev pub upgraded_from : ℕ → Entry
+upgraded_from moment = entries.Upgraded moment
+
+unfoldable pub upgraded_at : Cursor → Read Entry
+upgraded_at = seen_at upgraded_from moment_at
+
+abbrev pub archived_from : ℕ × (Bytes × ℕ) → Entry
+archived_from p = entries.Archived p.0 p.1.0 p.1.1
+
+unfoldable pub archived_at : Cursor → Read Entry
+archived_at = seen_at archived_from (both_at moment_at (both_at address_at number_32_at))
+
 abbrev pub fields_at : Tag → Cursor → Read Entry
 fields_at tags.Start = start_at
 fields_at tags.Accepted = accepted_at
@@ -177,6 +200,9 @@ fields_at tags.Learned = learned_at
 fields_at tags.Acked = acked_at
 fields_at tags.Ticked = ticked_at
 fields_at tags.Anomaly = anomaly_at
+fields_at tags.StartTwo = start_two_at
+fields_at tags.Upgraded = upgraded_at
+fields_at tags.Archived = archived_at
 
 unfoldable pub entry_at : Cursor → Read Entry
 entry_at = keyed_at (choice_at tag_table) fields_at

@@ -5,6 +5,7 @@ ghost use Rattle.pec_grammar.specs.Reading.{standing, MayGive};
 ghost use Rattle.pec_records.specs.Entry.{IsEntry, IsEntryFault};
 ghost use Rattle.pec_records.specs.EntryReading.{start_at, accepted_at, not_accepted_at, took_at, decided_at};
 ghost use Rattle.pec_records.specs.EntryReading.{charged_at, learned_at, acked_at, ticked_at, anomaly_at};
+ghost use Rattle.pec_records.specs.EntryReading.{start_two_at, upgraded_at, archived_at};
 ghost use Rattle.pec_records.specs.EntryReading.{entry_at, entry_of};
 ghost use Rattle.pec_records.specs.declared.faults.EntryFault.TheVariants as faults;
 
@@ -12,11 +13,11 @@ use crate::addresses::{read_address, read_addresses};
 use crate::entries::Entry;
 use crate::faults::EntryFault;
 use crate::fields::{
-    moment_of, read_bytes, read_cause, read_decision, read_id, read_number_32, read_seconds,
-    read_tag,
+    moment_of, read_bytes, read_cause, read_decision, read_id, read_number_32, read_origin,
+    read_seconds, read_tag,
 };
 use crate::tags::Tag;
-use pec_grammar::{Cursor, ReadError, Stop, raw};
+use pec_grammar::{Cursor, ReadError, Stop};
 use pec_types::{MsgId, each_cause_is_one_of_all, lower_addresses_pass};
 use std::alloc::Global;
 
@@ -81,6 +82,9 @@ fn entry(alloc: Global, at: Cursor<'_>) -> Result<(Entry, Cursor<'_>), ReadError
         Tag::Acked => acked(alloc, at),
         Tag::Ticked => ticked(at),
         Tag::Anomaly => anomaly(alloc, at),
+        Tag::StartTwo => start_two(at),
+        Tag::Upgraded => upgraded(at),
+        Tag::Archived => archived(alloc, at),
     }
 }
 
@@ -88,10 +92,7 @@ fn entry(alloc: Global, at: Cursor<'_>) -> Result<(Entry, Cursor<'_>), ReadError
 fn start(at: Cursor<'_>) -> Result<(Entry, Cursor<'_>), ReadError<'_>>
     ensures { MayGive (λ x. (x.0, standing x.1)) result (start_at (standing at.entry)) }
 {
-    let (provider, at) = read_number_32(at)?;
-    let (bytes, at) = raw(at, 32)?;
-    let mut digest = [0; 32];
-    digest.copy_from_slice(bytes);
+    let (provider, digest, at) = read_origin(at)?;
     Ok((Entry::Start { provider, digest }, at))
 }
 
@@ -234,6 +235,40 @@ fn anomaly(alloc: Global, at: Cursor<'_>) -> Result<(Entry, Cursor<'_>), ReadErr
         moment: moment_of(seconds),
         accounts,
         message,
+    };
+    Ok((entry, at))
+}
+
+#[tactic(auto, unfolding(crate::specs::EntryReading::start_two_at))]
+fn start_two(at: Cursor<'_>) -> Result<(Entry, Cursor<'_>), ReadError<'_>>
+    ensures { MayGive (λ x. (x.0, standing x.1)) result (start_two_at (standing at.entry)) }
+{
+    let (provider, digest, at) = read_origin(at)?;
+    Ok((Entry::StartTwo { provider, digest }, at))
+}
+
+#[tactic(auto, unfolding(crate::specs::EntryReading::upgraded_at))]
+fn upgraded(at: Cursor<'_>) -> Result<(Entry, Cursor<'_>), ReadError<'_>>
+    ensures { MayGive (λ x. (x.0, standing x.1)) result (upgraded_at (standing at.entry)) }
+{
+    let (seconds, at) = read_seconds(at)?;
+    let entry = Entry::Upgraded {
+        moment: moment_of(seconds),
+    };
+    Ok((entry, at))
+}
+
+#[tactic(auto, unfolding(crate::specs::EntryReading::archived_at))]
+fn archived(alloc: Global, at: Cursor<'_>) -> Result<(Entry, Cursor<'_>), ReadError<'_>>
+    ensures { MayGive (λ x. (x.0, standing x.1)) result (archived_at (standing at.entry)) }
+{
+    let (seconds, at) = read_seconds(at)?;
+    let (account, at) = read_address(alloc, at)?;
+    let (place, at) = read_number_32(at)?;
+    let entry = Entry::Archived {
+        moment: moment_of(seconds),
+        account,
+        place,
     };
     Ok((entry, at))
 }

@@ -48,7 +48,7 @@ fn put_entry(out: &mut Vec<u8>, entry: &Entry) -> Result<(), AllocError>
     ensures can { OnOk result (CanBeWritten entry.now) }
 {
     match entry {
-        Entry::Start { provider, digest } => put_start(out, *provider, digest),
+        Entry::Start { provider, digest } => put_origin(out, 0, *provider, digest),
         Entry::Accepted {
             moment,
             sender,
@@ -92,14 +92,27 @@ fn put_entry(out: &mut Vec<u8>, entry: &Entry) -> Result<(), AllocError>
             accounts,
             message,
         } => put_anomaly(out, *moment, accounts, message),
+        Entry::StartTwo { provider, digest } => put_origin(out, 10, *provider, digest),
+        Entry::Upgraded { moment } => put_beginning(out, 11, *moment),
+        Entry::Archived {
+            moment,
+            account,
+            place,
+        } => put_archived(out, *moment, account, *place),
     }
 }
 
-fn put_start(out: &mut Vec<u8>, provider: u32, digest: &[u8; 32]) -> Result<(), AllocError>
-    ensures puts { OnOk result (out.new.items ≡ out.old.items ++ entry_text (entries.Start provider digest.now)) }
-    ensures can { OnOk result (CanBeWritten (entries.Start provider digest.now)) }
+/// Puts a tag, the number of a provider, and the digest of a directory.
+fn put_origin(
+    out: &mut Vec<u8>,
+    tag: u8,
+    provider: u32,
+    digest: &[u8; 32],
+) -> Result<(), AllocError>
+    ensures puts { OnOk result (out.new.items ≡ out.old.items ++ tag ∷ number_32 provider ++ digest.now) }
+    ensures can { OnOk result ((provider < 2 ^ 32) × (length digest.now ≡ 32)) }
 {
-    out.push(0)?;
+    out.push(tag)?;
     put_number_32(out, provider)?;
     out.extend_from_slice(digest)?;
     Ok(())
@@ -249,6 +262,21 @@ fn put_anomaly(
 {
     put_beginning(out, 9, moment)?;
     put_addressed(out, accounts, message)?;
+    Ok(())
+}
+
+fn put_archived(
+    out: &mut Vec<u8>,
+    moment: Moment,
+    account: &Address,
+    place: u32,
+) -> Result<(), AllocError>
+    ensures puts { OnOk result (out.new.items ≡ out.old.items ++ entry_text (entries.Archived moment account.now place)) }
+    ensures can { OnOk result (CanBeWritten (entries.Archived moment account.now place)) }
+{
+    put_beginning(out, 12, moment)?;
+    put_address(out, account)?;
+    put_number_32(out, place)?;
     Ok(())
 }
 

@@ -67,4 +67,19 @@ pub enum Entry {
         accounts: Items<Address>,
         message: Text8,
     },
+    /// The same as `Start`, in a journal of version 2 from its beginning on. Such a journal knows archives.
+    StartTwo {
+        provider: u32,
+        digest: [u8; 32],
+    },
+    /// The journal is of version 2 from here on.
+    Upgraded {
+        moment: Moment,
+    },
+    /// The item at this place of an account's mailbox, from 0, became the last one of its archive.
+    Archived {
+        moment: Moment,
+        account: Address,
+        place: u32,
+    },
 }

@@ -1,7 +1,7 @@
 ghost use Rattle.std.specs.Prelude.{◌≡◌, ◌<◌, IfOk};
 ghost use Rattle.pec_grammar.specs.Grammar.{choice_at};
 ghost use Rattle.pec_grammar.specs.Reading.{standing, Gives, MayGive};
-ghost use Rattle.pec_records.specs.EntryReading.{moment_at, number_32_at, id_from, id_at, bytes_at};
+ghost use Rattle.pec_records.specs.EntryReading.{moment_at, number_32_at, id_from, id_at, bytes_at, origin_at};
 ghost use Rattle.pec_records.specs.EntryReading.{decision_table, cause_rows, cause_table, tag_table};
 
 use crate::tags::Tag;
@@ -34,6 +34,18 @@ pub(crate) fn read_number_32(at: Cursor<'_>) -> Result<(u32, Cursor<'_>), Stop<'
 {
     let (number, at) = number(at, 4, 1 << 32)?;
     Ok((number as u32, at))
+}
+
+/// Reads what a journal begins with: the number of its provider, and the digest of a directory.
+#[tactic(auto, unfolding(crate::specs::EntryReading::origin_at))]
+pub(crate) fn read_origin(at: Cursor<'_>) -> Result<(u32, [u8; 32], Cursor<'_>), Stop<'_>>
+    ensures { Gives (λ x. ((x.0, x.1), standing x.2)) result (origin_at (standing at.entry)) }
+{
+    let (provider, at) = read_number_32(at)?;
+    let (bytes, at) = raw(at, 32)?;
+    let mut digest = [0; 32];
+    digest.copy_from_slice(bytes);
+    Ok((provider, digest, at))
 }
 
 /// Reads what names a message: its provider, and its number there.
@@ -101,7 +113,7 @@ fn one_cause<'a>(at: Cursor<'a>, causes: &[Cause]) -> Result<(Cause, Cursor<'a>)
 pub(crate) fn read_tag(at: Cursor<'_>) -> Result<(Tag, Cursor<'_>), Stop<'_>>
     ensures { Gives (λ x. (x.0, standing x.1)) result (choice_at tag_table (standing at.entry)) }
 {
-    let table: [(&[u8], Tag); 10] = [
+    let table: [(&[u8], Tag); 13] = [
         (&[0], Tag::Start),
         (&[1], Tag::Accepted),
         (&[2], Tag::NotAccepted),
@@ -112,7 +124,9 @@ pub(crate) fn read_tag(at: Cursor<'_>) -> Result<(Tag, Cursor<'_>), Stop<'_>>
         (&[7], Tag::Acked),
         (&[8], Tag::Ticked),
         (&[9], Tag::Anomaly),
+        (&[10], Tag::StartTwo),
+        (&[11], Tag::Upgraded),
+        (&[12], Tag::Archived),
     ];
-    let (tag, at) = one_of(at, &table)?;
-    Ok((tag, at))
+    one_of(at, &table)
 }

@@ -11,4 +11,7 @@ pub(crate) enum Tag {
     Acked,
     Ticked,
     Anomaly,
+    StartTwo,
+    Upgraded,
+    Archived,
 }

@@ -2,3 +2,4 @@ pub mod Occurrence
 pub mod Verdicts
 pub mod VerdictReading
 pub mod Screened
+pub mod Perhaps

@@ -5,9 +5,11 @@
 mod judging;
 mod looking;
 mod patterns;
+mod perhaps;
 mod screens;
 
 pub use judging::{Judge, NoScreens};
 pub use looking::Screen;
 pub use patterns::{PatternScreen, a_rule_is_the_least_pattern};
+pub use perhaps::Perhaps;
 pub use screens::{ReplaceFault, Screens, a_verdict_is_of_the_first_box};

@@ -13,8 +13,9 @@ use pec_types::Text8;
 use std::alloc::Global;
 use std::test::Fail;
 
-/// A disk with a journal of entries, a line for each: `start PROVIDER`, `start-of-another PROVIDER` with the digest of
-/// another directory, `ticked MOMENT`, `accepted MOMENT SENDER MESSAGE`; or any other, which is no entry.
+/// A disk with a journal of entries, a line for each: `start PROVIDER`, `start-two PROVIDER`, `start-of-another PROVIDER`
+/// with the digest of another directory, `ticked MOMENT`, `accepted MOMENT SENDER MESSAGE`, `upgraded MOMENT`, `archived
+/// MOMENT ACCOUNT PLACE`; or any other, which is no entry.
 pub fn journal_of(alloc: Global, entries: &str) -> Result<MemDisk, Fail> {
     let disk = MemDisk::new(alloc, Vec::new(alloc));
     match Journal::create(disk) {
@@ -47,17 +48,23 @@ fn append(alloc: Global, journal: &mut Journal<MemDisk>, bytes: &[u8]) -> Result
 #[derive(Clone, Copy)]
 enum Kind {
     Start,
+    StartTwo,
     StartOfAnother,
     Ticked,
     Accepted,
+    Upgraded,
+    Archived,
     NoEntry,
 }
 
-const KINDS: [(&str, Kind); 4] = [
+const KINDS: [(&str, Kind); 7] = [
     ("start", Kind::Start),
+    ("start-two", Kind::StartTwo),
     ("start-of-another", Kind::StartOfAnother),
     ("ticked", Kind::Ticked),
     ("accepted", Kind::Accepted),
+    ("upgraded", Kind::Upgraded),
+    ("archived", Kind::Archived),
 ];
 
 fn kind_of(word: &str) -> Kind {
@@ -73,11 +80,14 @@ fn kind_of(word: &str) -> Kind {
 fn bytes_of(alloc: Global, line: &str) -> Result<Vec<u8>, Fail> {
     match kind_of(word(line, 0)) {
         Kind::Start => start(alloc, line),
+        Kind::StartTwo => start_two(alloc, line),
         Kind::StartOfAnother => start_of_another(alloc, line),
         Kind::Ticked => ticked(alloc, line),
         Kind::Accepted => accepted(alloc, line),
-        // no entry has the tag 10
-        Kind::NoEntry => Ok(Vec::from_slice(alloc, b"\x0a")?),
+        Kind::Upgraded => upgraded(alloc, line),
+        Kind::Archived => archived(alloc, line),
+        // no entry has the tag 13
+        Kind::NoEntry => Ok(Vec::from_slice(alloc, b"\x0d")?),
     }
 }
 
@@ -91,6 +101,12 @@ fn start(alloc: Global, line: &str) -> Result<Vec<u8>, Fail> {
     let provider = small(line, 1)?;
     let digest = digest(alloc)?;
     encoded(alloc, &Entry::Start { provider, digest })
+}
+
+fn start_two(alloc: Global, line: &str) -> Result<Vec<u8>, Fail> {
+    let provider = small(line, 1)?;
+    let digest = digest(alloc)?;
+    encoded(alloc, &Entry::StartTwo { provider, digest })
 }
 
 /// The digest of the directory of the tests.
@@ -118,6 +134,23 @@ fn accepted(alloc: Global, line: &str) -> Result<Vec<u8>, Fail> {
         moment,
         sender,
         message: Text8::of(message),
+    };
+    encoded(alloc, &entry)
+}
+
+fn upgraded(alloc: Global, line: &str) -> Result<Vec<u8>, Fail> {
+    let moment = moment_of(line, 1)?;
+    encoded(alloc, &Entry::Upgraded { moment })
+}
+
+fn archived(alloc: Global, line: &str) -> Result<Vec<u8>, Fail> {
+    let moment = moment_of(line, 1)?;
+    let account = account_at(alloc, line, 2)?;
+    let place = small(line, 3)?;
+    let entry = Entry::Archived {
+        moment,
+        account,
+        place,
     };
     encoded(alloc, &entry)
 }

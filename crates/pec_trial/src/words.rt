@@ -161,6 +161,8 @@ fn fault_word(fault: ProviderFault) -> &'static [u8] {
         ProviderFault::Full => b"full",
         ProviderFault::NoItem => b"no-item",
         ProviderFault::JournalFull => b"journal-full",
+        ProviderFault::OldJournal => b"old-journal",
+        ProviderFault::NoNeed => b"no-need",
         ProviderFault::NoMemory => b"no-memory",
         ProviderFault::Changed(_) => b"changed",
     }
@@ -253,6 +255,7 @@ fn receipt_word(kind: Kind) -> &'static [u8] {
         Kind::Charge => b"charge",
         Kind::Delivery => b"delivery",
         Kind::DeliveryError(_) => b"delivery-error",
+        Kind::VirusFound => b"virus-found",
         Kind::Warning => b"warning",
         Kind::Notice => b"notice",
         Kind::LateNotice => b"late-notice",

@@ -14,6 +14,9 @@ pub enum Kind {
     Delivery,
     /// The message couldn't be placed in the recipient's mailbox.
     DeliveryError(Refusal),
+    /// The recipient's provider found a virus in the message. It goes to the sender's provider, which tells the sender by
+    /// a delivery error.
+    VirusFound,
     /// No provider took charge for the recipient within 12 hours.
     Warning,
     /// Nothing is known of the recipient's message within 22 hours, given before 24 hours are over.

@@ -50,10 +50,14 @@ pub enum ProviderFault {
     NoAccount,
     /// It has as many messages as a provider may have.
     Full,
-    /// The mailbox has no item at this place.
+    /// The mailbox, or the archive, has no item at this place.
     NoItem,
     /// The journal has no room for the entry.
     JournalFull,
+    /// The journal is of version 1, which has no archives.
+    OldJournal,
+    /// The journal is of version 2 already.
+    NoNeed,
     NoMemory,
     /// What its journal gave back of the entry of this number, from 0, isn't what the call needs. From then on it is
     /// down.
