@@ -1,7 +1,7 @@
--- In journals that are Fit: rows license letters, what is seen in a licensed text is its letter, an item's text is a letter's or
--- is seen as none, and a genuine message meets the joint condition of the entry that it leads to.
+-- In journals that are Fit: rows license letters, what is seen in a licensed text is its letter, an item's text is a
+-- letter's or is seen as none, and a genuine message meets the joint condition of the entry that it leads to.
 use Rattle.std.proofs.Common.{◌≡◌, ℕ, zero, suc, ◌<◌, List, [], ◌∷◌, true, ◌⊎◌, inl, inr, refl, ap, sym, subst, ◌∙◌, arith, Option, Some, None}
-use Rattle.std.specs.Prelude.{Contains, IsSome, IsTrue, is_some, slice_get}
+use Rattle.std.specs.Prelude.{Contains, IsSome, IsTrue, slice_get}
 use Rattle.std.specs.Option.{option_and_then, option_map}
 use Rattle.std.proofs.lemmas.List.Elements.{All-contains}
 use Rattle.std.proofs.lemmas.Option.{none-some, same_Some, slice_get_within}
@@ -13,10 +13,10 @@ use Rattle.pec_types.specs.declared.letters.Letter.TheVariants as letters
 use Rattle.pec_types.specs.declared.messages.Decision.{Decision}
 use Rattle.pec_types.specs.declared.messages.Decision.TheVariants.{Placed, Refused}
 use Rattle.pec_types.specs.declared.messages.Facts.{Facts}
+use Rattle.pec_types.specs.declared.messages.Refusal.TheVariants as refusals
 use Rattle.pec_types.specs.declared.moments.TheConstants.{END_OF_TIME}
 use Rattle.pec_types.specs.declared.receipts.Kind.{Kind}
 use Rattle.pec_types.specs.declared.receipts.Kind.TheVariants as kinds
-use Rattle.pec_records.specs.declared.entries.Entry.{Entry}
 use Rattle.pec_ledger.specs.Half.{Fate, Item, Known, Message, Posted, Taken, EnvelopeItem, ReceiptItem, AnomalyItem}
 use Rattle.pec_ledger.specs.Items.{IsItemText, accepted_body, composed, item_text, original_at, refusal_by, taken_body, text_by}
 use Rattle.pec_ledger.specs.Ledger.{Fit, HasOriginal, IsAckText, IsChargeText, IsDecidedSo, IsEnvelopeText, IsLicensed, IsLicensedText, IsOutcomeText, Journals, accepted_in, body_at, decided_at, ledger}
@@ -26,11 +26,11 @@ use Rattle.pec_ledger.specs.Own.{IsOwnPair, IsTakenPair}
 use Rattle.pec_ledger.specs.Pairs.{Pair, pair_of, same_id, same_pair}
 use Rattle.pec_ledger.specs.Steps.{half}
 use Rattle.pec_ledger.specs.Trade.{Receipt, Seen, SeenEnvelope, SeenReceipt, Trade}
-use Rattle.pec_ledger.specs.TradeLaws.{CanBeComposed, IsOfKind, IsSent, IsTrade, Names, letter_in, letter_on, letter_seen}
+use Rattle.pec_ledger.specs.TradeLaws.{CanBeComposed, IsOfKind, IsRefusal, IsSent, IsTrade, Names, letter_in, letter_on, letter_seen}
 use Rattle.pec_ledger.proofs.Backing.{AcceptedItem, AnomalyRow, IsSentRow, ItemRow, LearnedItem, RefusedItem, SentRow, TakenRow, backed}
 use Rattle.pec_ledger.proofs.Growth.{is_some_by}
 use Rattle.pec_ledger.proofs.GuaranteeLemmas.{known_own}
-use Rattle.pec_ledger.proofs.ListLemmas.{both_found, bound, found_there, from_filter, mapped}
+use Rattle.pec_ledger.proofs.ListLemmas.{both_found, found_there, from_filter, mapped}
 use Rattle.pec_ledger.proofs.Moments.{ItemInRange, fate_in_range, item_in_range, known_in_range, message_in_range, taken_in_range}
 use Rattle.pec_ledger.proofs.PairLemmas.{same_ids, same_pairs}
 
@@ -45,21 +45,44 @@ home_is p (Some q) e = ap (λ k. Some k) (sym (eqb-true p q e))
 
 no_charge : (decision : Decision) → outcome_kind decision ≡ kinds.Charge → ⊥
 no_charge Placed e = cc
-no_charge (Refused refusal) e = cc
+no_charge (Refused refusals.NoMailbox) e = cc
+no_charge (Refused refusals.MailboxFull) e = cc
+no_charge (Refused refusals.Virus) e = cc
 
 no_ack : (decision : Decision) → outcome_kind decision ≡ kinds.Ack → ⊥
 no_ack Placed e = cc
-no_ack (Refused refusal) e = cc
+no_ack (Refused refusals.NoMailbox) e = cc
+no_ack (Refused refusals.MailboxFull) e = cc
+no_ack (Refused refusals.Virus) e = cc
+
+-- the decision that a letter tells, by its kind
+abbrev told_by : Kind → Decision
+told_by (kinds.DeliveryError refusal) = Refused refusal
+told_by kinds.VirusFound = Refused refusals.Virus
+told_by _ = Placed
+
+told_back : (decision : Decision) → told_by (outcome_kind decision) ≡ decision
+told_back Placed = refl
+told_back (Refused refusals.NoMailbox) = refl
+told_back (Refused refusals.MailboxFull) = refl
+told_back (Refused refusals.Virus) = refl
 
 decision_is : (a b : Decision) → outcome_kind a ≡ outcome_kind b → a ≡ b
-decision_is Placed Placed e = refl
-decision_is Placed (Refused refusal) e = absurd (cc)
-decision_is (Refused refusal) Placed e = absurd (cc)
-decision_is (Refused one) (Refused other) e = cc
+decision_is a b e = sym (told_back a) ∙ ap told_by e ∙ told_back b
 
 outcome_on : (decision : Decision) (id : Id) (by : ℕ) (recipient : Bytes) → letter_on (outcome_kind decision) id by (Some recipient) ≡ Some (letters.Outcome id recipient)
 outcome_on Placed id by recipient = refl
-outcome_on (Refused refusal) id by recipient = refl
+outcome_on (Refused refusals.NoMailbox) id by recipient = refl
+outcome_on (Refused refusals.MailboxFull) id by recipient = refl
+outcome_on (Refused refusals.Virus) id by recipient = refl
+
+-- what is seen as a notice of non-acceptance, or as nothing, is no letter
+no_letter : (me : ℕ) (found : Option Seen) → ((seen : Seen) → found ≡ Some seen → IsRefusal seen) → option_and_then (letter_seen me) found ≡ None
+no_letter me None is = refl
+no_letter me (Some (SeenEnvelope id moment original)) is = absurd (is (SeenEnvelope id moment original) refl)
+no_letter me (Some (SeenReceipt receipt)) is =
+    let refusal = is (SeenReceipt receipt) refl
+    in ap (λ (k : Kind). letter_on k receipt.id receipt.by receipt.recipient) refusal.1
 
 module _ (trade : Trade) (J : Journals) (fit : Fit trade J) where
   -- ---- originals
@@ -107,7 +130,7 @@ module _ (trade : Trade) (J : Journals) (fit : Fit trade J) where
       let has = has_original id m e
       in (trade.envelope_text id m.moment has.0, record { message = m; original = has.0; is = has.1; pairs = pairs; text = refl })
 
-  taken_row : (q : ℕ) (id : Id) (row : Taken) → taken_of (ledger trade J q) id ≡ Some row → (row.id ≡ id) × TakenRow trade J q (J q) row
+  pub taken_row : (q : ℕ) (id : Id) (row : Taken) → taken_of (ledger trade J q) id ≡ Some row → (row.id ≡ id) × TakenRow trade J q (J q) row
   taken_row q id row e =
       let there = found_there (λ (taken : Taken). same_id id taken.id) (ledger trade J q).taken row e
       in (sym (same_ids id row.id there.1), All-contains (TakenRow trade J q (J q)) (ledger trade J q).taken row (backed trade J q fit).taken there.0)
@@ -233,7 +256,9 @@ module _ (trade : Trade) (J : Journals) (fit : Fit trade J) where
     outcome_of_kind : (facts : Facts) (decision : Decision) (id : Id) (by moment : ℕ) (recipient : Bytes) → Contains (addresses_of facts) recipient → IsSome (trade.home recipient)
         → IsOfKind trade facts (outcome_kind decision) (record { kind = outcome_kind decision; id = id; by = by; moment = moment; recipient = Some recipient })
     outcome_of_kind facts Placed id by moment recipient among home = record { address = recipient; is = refl; among = among; home = home }
-    outcome_of_kind facts (Refused refusal) id by moment recipient among home = record { address = recipient; is = refl; among = among; home = home }
+    outcome_of_kind facts (Refused refusals.NoMailbox) id by moment recipient among home = record { address = recipient; is = refl; among = among; home = home }
+    outcome_of_kind facts (Refused refusals.MailboxFull) id by moment recipient among home = record { address = recipient; is = refl; among = among; home = home }
+    outcome_of_kind facts (Refused refusals.Virus) id by moment recipient among home = record { address = recipient; is = refl; among = among; home = home }
 
     pub outcome_is_seen : (pair : Pair) (bytes : Bytes) (is : IsOutcomeText trade J pair bytes)
         → trade.view bytes ≡ Some (SeenReceipt (record { kind = outcome_kind is.fate.decision; id = pair.id; by = is.home; moment = is.fate.moment; recipient = Some pair.recipient }))
@@ -278,11 +303,16 @@ module _ (trade : Trade) (J : Journals) (fit : Fit trade J) where
     same_bytes : (o : Option Bytes) (a b : Bytes) → o ≡ Some a → o ≡ Some b → a ≡ b
     same_bytes o a b e f = same_Some a b (sym e ∙ f)
 
+    -- what is composed is seen as what it was composed of
+    composed_seen : (receipt : Receipt) (original bytes : Bytes) → CanBeComposed trade receipt original → trade.receipt_text receipt original ≡ bytes
+        → trade.view bytes ≡ Some (SeenReceipt receipt)
+    composed_seen receipt original bytes can e = ap trade.view (sym e) ∙ laws.receipt_seen receipt original can
+
     -- a receipt that is no letter
-    seen_as_none : (receipt : Receipt) (original bytes : Bytes) → CanBeComposed trade receipt original → trade.receipt_text receipt original ≡ bytes
-        → ((me : ℕ) → letter_on receipt.kind receipt.id receipt.by receipt.recipient ≡ None) → IsLetterOrNone bytes
-    seen_as_none receipt original bytes can e none =
-        inr (λ me. ap (λ (o : Option Seen). option_and_then (letter_seen me) o) (ap trade.view (sym e) ∙ laws.receipt_seen receipt original can) ∙ none me)
+    seen_as_none : (receipt : Receipt) (bytes : Bytes) → trade.view bytes ≡ Some (SeenReceipt receipt)
+        → letter_on receipt.kind receipt.id receipt.by receipt.recipient ≡ None → IsLetterOrNone bytes
+    seen_as_none receipt bytes seen none =
+        inr (λ me. ap (λ (o : Option Seen). option_and_then (letter_seen me) o) seen ∙ none)
 
     -- the original of this provider's message of a number
     original_is : (p : ℕ) (id : Id) (original : Bytes) → id.provider ≡ p → original_at trade p (J p) id.number ≡ Some original
@@ -300,18 +330,18 @@ module _ (trade : Trade) (J : Journals) (fit : Fit trade J) where
             in let same : has.0 ≡ original = same_bytes (body_at (J id.provider) found.0.entry) has.0 original has.1.bytes found.2
             in (found.0, subst (λ (o : Bytes). HasOriginal trade J id found.0 o) same has.1)
 
-    notice_is_none : (p : ℕ) (kind : Kind) (id : Id) (recipient : Bytes) (moment : ℕ) (bytes : Bytes) → moment < END_OF_TIME → IsOwnPair trade p (ledger trade J p) (pair_of id recipient)
+    pub notice_seen : (p : ℕ) (kind : Kind) (id : Id) (recipient : Bytes) (moment : ℕ) (bytes : Bytes) → moment < END_OF_TIME → IsOwnPair trade p (ledger trade J p) (pair_of id recipient)
         → option_map (composed trade kind id p moment (Some recipient)) (original_at trade p (J p) id.number) ≡ Some bytes
         → ((facts : Facts) → (id.provider ≡ p) → Names trade facts (Some recipient) → IsOfKind trade facts kind (record { kind = kind; id = id; by = p; moment = moment; recipient = Some recipient }))
-        → letter_on kind id p (Some recipient) ≡ None → IsLetterOrNone bytes
+        → trade.view bytes ≡ Some (SeenReceipt (record { kind = kind; id = id; by = p; moment = moment; recipient = Some recipient }))
     unfolding is_sent
-    notice_is_none p kind id recipient moment bytes range own e of_kind none =
+    notice_seen p kind id recipient moment bytes range own e of_kind =
         let made = mapped (composed trade kind id p moment (Some recipient)) (original_at trade p (J p) id.number) bytes e
         in let has = original_is p id made.0 own.ours made.1
         in let sent = is_sent id has.0 made.0 has.1
         in let there : accepted_in trade J id ≡ Some own.message = subst (λ (q : ℕ). accepted_at (ledger trade J q) id.number ≡ Some own.message) (sym own.ours) own.accepted
         in let same : own.message ≡ has.0 = same_Some own.message has.0 (sym there ∙ has.1.accepted)
-        in seen_as_none (record { kind = kind; id = id; by = p; moment = moment; recipient = Some recipient }) made.0 bytes
+        in composed_seen (record { kind = kind; id = id; by = p; moment = moment; recipient = Some recipient }) made.0 bytes
         (record {
           sent = sent;
           by = subst (λ (q : ℕ). q < trade.providers) own.ours sent.provider;
@@ -323,55 +353,89 @@ module _ (trade : Trade) (J : Journals) (fit : Fit trade J) where
             home = own.recipient.1;
           });
         })
-        made.2 (λ me. none)
+        made.2
+
+    notice_is_none : (p : ℕ) (kind : Kind) (id : Id) (recipient : Bytes) (moment : ℕ) (bytes : Bytes) → moment < END_OF_TIME → IsOwnPair trade p (ledger trade J p) (pair_of id recipient)
+        → option_map (composed trade kind id p moment (Some recipient)) (original_at trade p (J p) id.number) ≡ Some bytes
+        → ((facts : Facts) → (id.provider ≡ p) → Names trade facts (Some recipient) → IsOfKind trade facts kind (record { kind = kind; id = id; by = p; moment = moment; recipient = Some recipient }))
+        → letter_on kind id p (Some recipient) ≡ None → IsLetterOrNone bytes
+    notice_is_none p kind id recipient moment bytes range own e of_kind none =
+        seen_as_none (record { kind = kind; id = id; by = p; moment = moment; recipient = Some recipient }) bytes
+        (notice_seen p kind id recipient moment bytes range own e of_kind) none
+
+    pub acceptance_seen : (p : ℕ) (id : Id) (moment : ℕ) (bytes : Bytes) → moment < END_OF_TIME → AcceptedItem trade J p (ledger trade J p) id
+        → option_map (composed trade kinds.Acceptance id p moment None) (original_at trade p (J p) id.number) ≡ Some bytes
+        → trade.view bytes ≡ Some (SeenReceipt (record { kind = kinds.Acceptance; id = id; by = p; moment = moment; recipient = None }))
+    acceptance_seen p id moment bytes range item e =
+        let made = mapped (composed trade kinds.Acceptance id p moment None) (original_at trade p (J p) id.number) bytes e
+        in let has = original_is p id made.0 item.ours made.1
+        in let sent = is_sent id has.0 made.0 has.1
+        in composed_seen (record { kind = kinds.Acceptance; id = id; by = p; moment = moment; recipient = None }) made.0 bytes
+        (record { sent = sent; by = subst (λ (q : ℕ). q < trade.providers) item.ours sent.provider; in_range = range; kind = (sym item.ours, refl) }) made.2
 
     acceptance_is_none : (p : ℕ) (id : Id) (moment : ℕ) (bytes : Bytes) → moment < END_OF_TIME → AcceptedItem trade J p (ledger trade J p) id
         → option_map (composed trade kinds.Acceptance id p moment None) (original_at trade p (J p) id.number) ≡ Some bytes → IsLetterOrNone bytes
     acceptance_is_none p id moment bytes range item e =
-        let made = mapped (composed trade kinds.Acceptance id p moment None) (original_at trade p (J p) id.number) bytes e
-        in let has = original_is p id made.0 item.ours made.1
-        in let sent = is_sent id has.0 made.0 has.1
-        in seen_as_none (record { kind = kinds.Acceptance; id = id; by = p; moment = moment; recipient = None }) made.0 bytes
-        (record { sent = sent; by = subst (λ (q : ℕ). q < trade.providers) item.ours sent.provider; in_range = range; kind = (sym item.ours, refl) }) made.2 (λ me. refl)
+        seen_as_none (record { kind = kinds.Acceptance; id = id; by = p; moment = moment; recipient = None }) bytes
+        (acceptance_seen p id moment bytes range item e) refl
 
-    envelope_item : (p : ℕ) (id : Id) (bytes : Bytes) → option_and_then (taken_body (J p)) (taken_of (ledger trade J p) id) ≡ Some bytes → IsLetterOrNone bytes
+    -- an item that is a licensed letter
+    abbrev pub IsLetterText : Bytes → Type 0
+    IsLetterText bytes = (letter : Letter) × IsLicensedText trade J letter bytes
+
+    pub envelope_item : (p : ℕ) (id : Id) (bytes : Bytes) → option_and_then (taken_body (J p)) (taken_of (ledger trade J p) id) ≡ Some bytes → IsLetterText bytes
     envelope_item p id bytes e =
         let found = both_found (taken_body (J p)) (taken_of (ledger trade J p) id) bytes e
         in let is = taken_row p id found.0 found.1
         in let same : is.1.envelope ≡ bytes = same_bytes (body_at (J p) found.0.entry) is.1.envelope bytes is.1.there found.2
-        in inl (letters.Envelope found.0.id p, subst (λ (b : Bytes). IsEnvelopeText trade J found.0.id p b) same is.1.text)
+        in (letters.Envelope found.0.id p, subst (λ (b : Bytes). IsEnvelopeText trade J found.0.id p b) same is.1.text)
 
-    learned_item : (p entry : ℕ) (id : Id) (recipient bytes : Bytes) → LearnedItem trade J p (J p) entry (pair_of id recipient) → body_at (J p) entry ≡ Some bytes → IsLetterOrNone bytes
+    pub learned_item : (p entry : ℕ) (id : Id) (recipient bytes : Bytes) → LearnedItem trade J p (J p) entry (pair_of id recipient) → body_at (J p) entry ≡ Some bytes → IsLetterText bytes
     learned_item p entry id recipient bytes item e =
-        inl (letters.Outcome id recipient, subst (λ (b : Bytes). IsOutcomeText trade J (pair_of id recipient) b) (same_bytes (body_at (J p) entry) item.receipt bytes item.there e) item.text)
+        (letters.Outcome id recipient, subst (λ (b : Bytes). IsOutcomeText trade J (pair_of id recipient) b) (same_bytes (body_at (J p) entry) item.receipt bytes item.there e) item.text)
 
-    refused_item : (p entry : ℕ) (id : Id) (bytes : Bytes) → RefusedItem trade J p (J p) entry id → option_and_then (refusal_by trade id) (slice_get (J p) entry) ≡ Some bytes → IsLetterOrNone bytes
-    refused_item p entry id bytes item e =
+    pub refusal_seen : (p entry : ℕ) (id : Id) (bytes : Bytes) → RefusedItem trade J p (J p) entry id → option_and_then (refusal_by trade id) (slice_get (J p) entry) ≡ Some bytes
+        → (seen : Seen) → trade.view bytes ≡ Some seen → IsRefusal seen
+    refusal_seen p entry id bytes item e =
         let text = trade.refusal_text id item.moment item.sender item.cause item.path item.message
         in let made : option_and_then (refusal_by trade id) (slice_get (J p) entry) ≡ Some text = ap (option_and_then (refusal_by trade id)) item.there
         in let same : text ≡ bytes = same_bytes (option_and_then (refusal_by trade id) (slice_get (J p) entry)) text bytes made e
         in let account : IsTrue (trade.is_account id.provider item.sender) = subst (λ (q : ℕ). IsTrue (trade.is_account q item.sender)) (sym item.ours) item.account
-        in inr (λ me. subst (λ (b : Bytes). letter_in trade me b ≡ None) same
-        (laws.refusal_seen id item.moment item.sender item.cause item.path item.message me (laws.homes item.sender id.provider (laws.accounts id.provider item.sender account))
-        item.number account item.some item.few item.in_range))
+        in subst (λ (b : Bytes). (seen : Seen) → trade.view b ≡ Some seen → IsRefusal seen) same
+        (laws.refusal_seen id item.moment item.sender item.cause item.path item.message (laws.homes item.sender id.provider (laws.accounts id.provider item.sender account))
+        item.number account item.some item.few item.in_range)
+
+    refused_item : (p entry : ℕ) (id : Id) (bytes : Bytes) → RefusedItem trade J p (J p) entry id → option_and_then (refusal_by trade id) (slice_get (J p) entry) ≡ Some bytes → IsLetterOrNone bytes
+    refused_item p entry id bytes item e = inr (λ me. no_letter me (trade.view bytes) (refusal_seen p entry id bytes item e))
+
+    pub anomaly_unseen : (p entry moment : ℕ) (bytes : Bytes) → moment < END_OF_TIME → AnomalyRow trade J p (J p) entry → option_map (trade.anomaly_text p entry moment) (body_at (J p) entry) ≡ Some bytes
+        → trade.view bytes ≡ None
+    anomaly_unseen p entry moment bytes range row e =
+        let made = mapped (trade.anomaly_text p entry moment) (body_at (J p) entry) bytes e
+        in subst (λ (b : Bytes). trade.view b ≡ None) made.2
+        (laws.anomaly_seen p entry moment made.0 (laws.homes row.account p (laws.accounts p row.account row.is)) range)
 
     anomaly_item : (p entry moment : ℕ) (bytes : Bytes) → moment < END_OF_TIME → AnomalyRow trade J p (J p) entry → option_map (trade.anomaly_text p entry moment) (body_at (J p) entry) ≡ Some bytes → IsLetterOrNone bytes
     anomaly_item p entry moment bytes range row e =
-        let made = mapped (trade.anomaly_text p entry moment) (body_at (J p) entry) bytes e
-        in inr (λ me. subst (λ (b : Bytes). letter_in trade me b ≡ None) made.2
-        (laws.anomaly_seen p entry moment made.0 me (laws.homes row.account p (laws.accounts p row.account row.is)) range))
+        inr (λ me. ap (λ (o : Option Seen). option_and_then (letter_seen me) o) (anomaly_unseen p entry moment bytes range row e))
 
     of_item : (p entry : ℕ) (item : Item) (bytes : Bytes) → ItemInRange item → ItemRow trade J p (J p) (ledger trade J p) entry item → text_by trade p (J p) entry item ≡ Some bytes → IsLetterOrNone bytes
     unfolding ledger
-    of_item p entry (EnvelopeItem id) bytes range row e = envelope_item p id bytes e
+    of_item p entry (EnvelopeItem id) bytes range row e = inl (envelope_item p id bytes e)
     of_item p entry (ReceiptItem kinds.Acceptance id None moment) bytes range row e = acceptance_is_none p id moment bytes range row e
     of_item p entry (ReceiptItem kinds.Acceptance id (Some recipient) moment) bytes range row e = absurd row
     of_item p entry (ReceiptItem (kinds.NonAcceptance cause) id None moment) bytes range row e = refused_item p entry id bytes row e
     of_item p entry (ReceiptItem (kinds.NonAcceptance cause) id (Some recipient) moment) bytes range row e = absurd row
-    of_item p entry (ReceiptItem kinds.Delivery id (Some recipient) moment) bytes range row e = learned_item p entry id recipient bytes row e
+    of_item p entry (ReceiptItem kinds.Delivery id (Some recipient) moment) bytes range row e = inl (learned_item p entry id recipient bytes row e)
     of_item p entry (ReceiptItem kinds.Delivery id None moment) bytes range row e = absurd row
-    of_item p entry (ReceiptItem (kinds.DeliveryError refusal) id (Some recipient) moment) bytes range row e = learned_item p entry id recipient bytes row e
-    of_item p entry (ReceiptItem (kinds.DeliveryError refusal) id None moment) bytes range row e = absurd row
+    of_item p entry (ReceiptItem (kinds.DeliveryError refusals.NoMailbox) id (Some recipient) moment) bytes range row e = inl (learned_item p entry id recipient bytes row e)
+    of_item p entry (ReceiptItem (kinds.DeliveryError refusals.NoMailbox) id None moment) bytes range row e = absurd row
+    of_item p entry (ReceiptItem (kinds.DeliveryError refusals.MailboxFull) id (Some recipient) moment) bytes range row e = inl (learned_item p entry id recipient bytes row e)
+    of_item p entry (ReceiptItem (kinds.DeliveryError refusals.MailboxFull) id None moment) bytes range row e = absurd row
+    of_item p entry (ReceiptItem (kinds.DeliveryError refusals.Virus) id (Some recipient) moment) bytes range row e =
+        notice_is_none p (kinds.DeliveryError refusals.Virus) id recipient moment bytes range row.own e (λ facts ours names. names) refl
+    of_item p entry (ReceiptItem (kinds.DeliveryError refusals.Virus) id None moment) bytes range row e = absurd row
+    of_item p entry (ReceiptItem kinds.VirusFound id recipient moment) bytes range row e = absurd row
     of_item p entry (ReceiptItem kinds.Warning id (Some recipient) moment) bytes range row e =
         notice_is_none p kinds.Warning id recipient moment bytes range row e (λ facts ours names. (sym ours, names)) refl
     of_item p entry (ReceiptItem kinds.Warning id None moment) bytes range row e = absurd row
@@ -437,7 +501,7 @@ module _ (trade : Trade) (J : Journals) (fit : Fit trade J) where
         of_letter (inl licensed) = licensed
         of_letter (inr none) = absurd (not_none 0 bytes (SeenReceipt receipt) letter seen on (none 0))
 
-    receipts_same : (a b : Receipt) → Some (SeenReceipt a) ≡ Some (SeenReceipt b) → a ≡ b
+    pub receipts_same : (a b : Receipt) → Some (SeenReceipt a) ≡ Some (SeenReceipt b) → a ≡ b
     receipts_same a b e = let f = same_Some (SeenReceipt a) (SeenReceipt b) e in cc
 
     pub charged_joint : (bytes : Bytes) → IsGenuineText trade J bytes → (receipt : Receipt) → trade.view bytes ≡ Some (SeenReceipt receipt) → receipt.kind ≡ kinds.Charge
@@ -522,90 +586,3 @@ module _ (trade : Trade) (J : Journals) (fit : Fit trade J) where
             in let addresses = same_Some address recipient (ap (λ (r : Receipt). r.recipient) e ∙ names)
             in let same : pair_of other address ≡ pair_of receipt.id recipient = rw (ids, addresses) refl
             in subst (λ (q : Pair). IsSome (known_of (ledger trade J q.id.provider) q)) same (is_some_by (known_of (ledger trade J other.provider) (pair_of other address)) is.row is.known)
-
-  -- ---- one text
-
-  -- a licensed letter has one text
-  original_once : (id : Id) (m n : Accepted) (a b : Bytes) → HasOriginal trade J id m a → HasOriginal trade J id n b → (m ≡ n) × (a ≡ b)
-  original_once id m n a b ha hb =
-      let same = same_Some m n (sym ha.accepted ∙ hb.accepted)
-      in (same, same_Some a b (sym ha.bytes ∙ ap (λ (k : Accepted). body_at (J id.provider) k.entry) same ∙ hb.bytes))
-
-  pub one_text : (letter : Letter) (a b : Bytes) → IsLicensedText trade J letter a → IsLicensedText trade J letter b → a ≡ b
-  one_text (letters.Envelope id to) a b x y =
-      let same = original_once id x.message y.message x.original y.original x.is y.is
-      in x.text ∙ ap (λ (m : Accepted). trade.envelope_text id m.moment x.original) same.0 ∙ ap (trade.envelope_text id y.message.moment) same.1 ∙ sym y.text
-  one_text (letters.Charge id by) a b x y =
-      let same = original_once id x.message y.message x.original y.original x.is y.is
-      in let rows = same_Some x.row y.row (sym x.taken ∙ y.taken)
-      in x.text
-      ∙ ap (λ (r : Taken). trade.receipt_text (record { kind = kinds.Charge; id = id; by = by; moment = r.moment; recipient = None }) x.original) rows
-      ∙ ap (trade.receipt_text (record { kind = kinds.Charge; id = id; by = by; moment = y.row.moment; recipient = None })) same.1 ∙ sym y.text
-  one_text (letters.Outcome id recipient) a b x y =
-      let same = original_once id x.message y.message x.original y.original x.is y.is
-      in let homes = same_Some x.home y.home (sym x.at_home ∙ y.at_home)
-      in let fates = same_Some x.fate y.fate (sym x.decided ∙ ap (λ (q : ℕ). decided_of (ledger trade J q) (pair_of id recipient)) homes ∙ y.decided)
-      in x.text
-      ∙ ap (λ (f : Fate). trade.receipt_text (record { kind = outcome_kind f.decision; id = id; by = x.home; moment = f.moment; recipient = Some recipient }) x.original) fates
-      ∙ ap (λ (q : ℕ). trade.receipt_text (record { kind = outcome_kind y.fate.decision; id = id; by = q; moment = y.fate.moment; recipient = Some recipient }) x.original) homes
-      ∙ ap (trade.receipt_text (record { kind = outcome_kind y.fate.decision; id = id; by = y.home; moment = y.fate.moment; recipient = Some recipient })) same.1
-      ∙ sym y.text
-  one_text (letters.Ack id recipient) a b x y =
-      let same = original_once id x.message y.message x.original y.original x.is y.is
-      in let rows = same_Some x.row y.row (sym x.known ∙ y.known)
-      in x.text
-      ∙ ap (λ (r : Known). trade.receipt_text (record { kind = kinds.Ack; id = id; by = id.provider; moment = r.moment; recipient = Some recipient }) x.original) rows
-      ∙ ap (trade.receipt_text (record { kind = kinds.Ack; id = id; by = id.provider; moment = y.row.moment; recipient = Some recipient })) same.1 ∙ sym y.text
-
-  -- ---- each item has its bytes
-
-  own_original : (p : ℕ) (id : Id) (m : Accepted) → id.provider ≡ p → accepted_at (ledger trade J p) id.number ≡ Some m
-      → (original : Bytes) × (original_at trade p (J p) id.number ≡ Some original)
-  unfolding ledger
-  own_original p id m ours e =
-      let mine : accepted_in trade J id ≡ Some m = subst (λ (q : ℕ). accepted_at (ledger trade J q) id.number ≡ Some m) (sym ours) e
-      in let has = has_original id m mine
-      in let there : body_at (J p) m.entry ≡ Some has.0 = subst (λ (q : ℕ). body_at (J q) m.entry ≡ Some has.0) ours has.1.bytes
-      in (has.0, bound (accepted_body (J p)) (accepted_at (half trade p (J p)) id.number) m has.0 e there)
-
-  has_composed : (p : ℕ) (f : Bytes → Bytes) (id : Id) (m : Accepted) → id.provider ≡ p → accepted_at (ledger trade J p) id.number ≡ Some m
-      → IsSome (option_map f (original_at trade p (J p) id.number))
-  has_composed p f id m ours e =
-      let o = own_original p id m ours e
-      in is_some_by (option_map f (original_at trade p (J p) id.number)) (f o.0) (ap (option_map f) o.1)
-
-  has_text : (p entry : ℕ) (item : Item) → ItemRow trade J p (J p) (ledger trade J p) entry item → IsSome (text_by trade p (J p) entry item)
-  unfolding ledger
-  has_text p entry (EnvelopeItem id) row =
-      let is = taken_row p id row.0 row.1
-      in is_some_by (text_by trade p (J p) entry (EnvelopeItem id)) is.1.envelope
-      (bound (taken_body (J p)) (taken_of (half trade p (J p)) id) row.0 is.1.envelope row.1 is.1.there)
-  has_text p entry (ReceiptItem kinds.Acceptance id None moment) row =
-      has_composed p (composed trade kinds.Acceptance id p moment None) id row.message row.ours row.accepted
-  has_text p entry (ReceiptItem kinds.Acceptance id (Some recipient) moment) row = absurd row
-  has_text p entry (ReceiptItem (kinds.NonAcceptance cause) id None moment) row =
-      ap (λ (o : Option Entry). is_some (option_and_then (refusal_by trade id) o)) row.there
-  has_text p entry (ReceiptItem (kinds.NonAcceptance cause) id (Some recipient) moment) row = absurd row
-  has_text p entry (ReceiptItem kinds.Delivery id (Some recipient) moment) row = is_some_by (body_at (J p) entry) row.receipt row.there
-  has_text p entry (ReceiptItem kinds.Delivery id None moment) row = absurd row
-  has_text p entry (ReceiptItem (kinds.DeliveryError refusal) id (Some recipient) moment) row = is_some_by (body_at (J p) entry) row.receipt row.there
-  has_text p entry (ReceiptItem (kinds.DeliveryError refusal) id None moment) row = absurd row
-  has_text p entry (ReceiptItem kinds.Warning id (Some recipient) moment) row =
-      has_composed p (composed trade kinds.Warning id p moment (Some recipient)) id row.message row.ours row.accepted
-  has_text p entry (ReceiptItem kinds.Warning id None moment) row = absurd row
-  has_text p entry (ReceiptItem kinds.Notice id (Some recipient) moment) row =
-      has_composed p (composed trade kinds.Notice id p moment (Some recipient)) id row.message row.ours row.accepted
-  has_text p entry (ReceiptItem kinds.Notice id None moment) row = absurd row
-  has_text p entry (ReceiptItem kinds.LateNotice id (Some recipient) moment) row =
-      has_composed p (composed trade kinds.LateNotice id p moment (Some recipient)) id row.message row.ours row.accepted
-  has_text p entry (ReceiptItem kinds.LateNotice id None moment) row = absurd row
-  has_text p entry (ReceiptItem kinds.Charge id recipient moment) row = absurd row
-  has_text p entry (ReceiptItem kinds.Ack id recipient moment) row = absurd row
-  has_text p entry (AnomalyItem moment) row =
-      ap (λ (o : Option Bytes). is_some (option_map (trade.anomaly_text p entry moment) o)) row.there
-
-  pub items_have_texts : (p : ℕ) (posted : Posted) → Contains (ledger trade J p).items posted → IsSome (item_text trade p (J p) posted)
-  unfolding item_text
-  items_have_texts p posted c =
-      has_text p posted.entry posted.item
-      (All-contains (λ (q : Posted). ItemRow trade J p (J p) (ledger trade J p) q.entry q.item) (ledger trade J p).items posted (backed trade J p fit).items c)

@@ -1,11 +1,13 @@
--- What stands behind the rows of a half, in journals that are Fit: of each accepted message its original, of each taken one its
--- envelope, of each decided pair a taken row, and of each item what its bytes are made of.
-use Rattle.std.proofs.Common.{◌≡◌, ℕ, ◌+◌, ◌≤◌, ◌<◌, List, [], ◌∷◌, ◌++◌, length, map, refl, ap, sym, subst, ◌∙◌, arith, Option, Some, None}
-use Rattle.std.specs.Prelude.{All, Contains, IsTrue, fold, slice_get}
-use Rattle.std.specs.Option.{option_and_then}
+-- What stands behind the rows of a half, in journals that are Fit: of each accepted message its original, of each taken
+-- one its envelope, of each decided pair a taken row, and of each item what its bytes are made of.
+use Rattle.std.proofs.Common.{◌≡◌, ℕ, ◌+◌, ◌≤◌, ◌<◌, List, [], ◌∷◌, ◌++◌, length, map, Bool, true, refl, ap, sym, subst, ◌∙◌, arith, Option, Some, None}
+use Rattle.std.specs.Prelude.{All, Contains, IsTrue, cond, fold, slice_get}
+use Rattle.std.specs.List.{find}
+use Rattle.std.specs.Option.{option_and_then, option_or}
 use Rattle.std.proofs.lemmas.Bool.{and_parts}
 use Rattle.std.proofs.lemmas.List.{append-nil, append_assoc, length-append}
 use Rattle.std.proofs.lemmas.List.Elements.{All-append, All-cons, All-map, All-nil, All-weaker, All-contains_itself}
+use Rattle.std.proofs.lemmas.List.Folds.{find-append}
 use Rattle.std.proofs.lemmas.Option.{none-some, same_Some}
 use Rattle.pec_types.specs.Bytes.{Bytes, Path}
 use Rattle.pec_types.specs.Message.{Id}
@@ -17,23 +19,25 @@ use Rattle.pec_types.specs.declared.messages.Cause.{Cause}
 use Rattle.pec_types.specs.declared.messages.Decision.{Decision}
 use Rattle.pec_types.specs.declared.messages.Decision.TheVariants.{Placed, Refused}
 use Rattle.pec_types.specs.declared.messages.Facts.{Facts}
+use Rattle.pec_types.specs.declared.messages.Refusal.TheVariants as refusals
 use Rattle.pec_types.specs.declared.moments.TheConstants.{END_OF_TIME}
 use Rattle.pec_types.specs.declared.receipts.Kind.TheVariants as kinds
 use Rattle.pec_records.specs.Entry.{most_addresses}
 use Rattle.pec_records.specs.declared.entries.Entry.{Entry}
 use Rattle.pec_records.specs.declared.entries.Entry.TheVariants as entries
 use Rattle.pec_ledger.specs.Along.{GoesOnAs}
-use Rattle.pec_ledger.specs.Half.{Fate, Half, Item, Mark, Message, Posted, Taken, EnvelopeItem, ReceiptItem, AnomalyItem, empty}
+use Rattle.pec_ledger.specs.Half.{Fate, Half, Item, Known, Mark, Message, Posted, Taken, EnvelopeItem, ReceiptItem, AnomalyItem, empty}
 use Rattle.pec_ledger.specs.Ledger.{Fit, Follows, IsAdmitted, IsEnvelopeText, IsOutcomeText, Journals, Meets, body_at, body_of, ledger}
-use Rattle.pec_ledger.specs.Lookups.{Accepted, accepted_at, accepted_of, addresses_of, at_home, has_room, outcome_kind, taken_of}
+use Rattle.pec_ledger.specs.Lookups.{Accepted, accepted_at, accepted_of, addresses_of, at_home, has_room, known_of, receipt_kind, taken_of}
 use Rattle.pec_ledger.specs.Marks.{clocked, marked, marks_from}
 use Rattle.pec_ledger.specs.Own.{IsFrom, IsOwnPair, IsTakenPair, Own}
-use Rattle.pec_ledger.specs.Pairs.{Pair, id_of, pair_of}
+use Rattle.pec_ledger.specs.Pairs.{Pair, id_of, pair_of, same_pair}
 use Rattle.pec_ledger.specs.Steps.{anomaly_by, decided_by, half, items_by, kind_of_due, messages_by, notice_by, placed_by, step, taken_by}
 use Rattle.pec_ledger.specs.Trade.{Trade}
-use Rattle.pec_ledger.proofs.Growth.{Longer, accepted_stays, body_stays, longer_step, taken_stays}
+use Rattle.pec_ledger.proofs.Growth.{Longer, accepted_stays, body_stays, known_stays, longer_step, taken_stays}
 use Rattle.pec_ledger.proofs.ListLemmas.{bound, stays_at}
 use Rattle.pec_ledger.proofs.MarkLemmas.{Marked, marked_from}
+use Rattle.pec_ledger.proofs.PairLemmas.{pair_again}
 
 -- the last entry stands at the place that the number of those before it is
 pub last_place : {X : Type 0} (xs : List X) (x : X) → slice_get (xs ++ x ∷ []) (length xs) ≡ Some x
@@ -42,6 +46,11 @@ last_place (y ∷ xs) x = last_place xs x
 
 pub one_longer : {X : Type 0} (xs : List X) (x : X) → length (xs ++ x ∷ []) ≡ length xs + 1
 one_longer xs x = length-append xs (x ∷ [])
+
+-- an item that is the first of its kind is found
+found_last : {X : Type 0} (p : X → Bool) (xs : List X) (x : X) → find p xs ≡ None → p x ≡ true → find p (xs ++ x ∷ []) ≡ Some x
+found_last p xs x none e =
+    find-append p xs (x ∷ []) ∙ ap (λ o. option_or o (find p (x ∷ []))) none ∙ ap (λ (b : Bool). cond b (Some x) None) e
 
 module _ (trade : Trade) (J : Journals) (p : ℕ) where
   -- ---- what stands behind
@@ -66,11 +75,18 @@ module _ (trade : Trade) (J : Journals) (p : ℕ) where
     pub text : IsEnvelopeText trade J row.id p envelope
     pub recipients : row.recipients ≡ at_home trade p (trade.envelope_recipients envelope)
 
-  -- an outcome receipt: what was learned
+  -- an outcome receipt that is the letter of the recipient's provider: what was learned
   pub record LearnedItem (es : List Entry) (entry : ℕ) (pair : Pair) : Type 0 where
     pub receipt : Bytes
     pub there : body_at es entry ≡ Some receipt
     pub text : IsOutcomeText trade J pair receipt
+
+  -- the delivery error of a virus: a pair of this provider, of which a virus is known
+  pub record VirusItem (h : Half) (pair : Pair) : Type 0 where
+    pub own : IsOwnPair trade p h pair
+    pub row : Known
+    pub known : known_of h pair ≡ Some row
+    pub so : row.decision ≡ Refused refusals.Virus
 
   -- a notice of non-acceptance: its entry
   pub record RefusedItem (es : List Entry) (entry : ℕ) (id : Id) : Type 0 where
@@ -107,7 +123,9 @@ module _ (trade : Trade) (J : Journals) (p : ℕ) where
   ItemRow es h entry (ReceiptItem kinds.Acceptance id None moment) = AcceptedItem h id
   ItemRow es h entry (ReceiptItem (kinds.NonAcceptance cause) id None moment) = RefusedItem es entry id
   ItemRow es h entry (ReceiptItem kinds.Delivery id (Some recipient) moment) = LearnedItem es entry (pair_of id recipient)
-  ItemRow es h entry (ReceiptItem (kinds.DeliveryError refusal) id (Some recipient) moment) = LearnedItem es entry (pair_of id recipient)
+  ItemRow es h entry (ReceiptItem (kinds.DeliveryError refusals.NoMailbox) id (Some recipient) moment) = LearnedItem es entry (pair_of id recipient)
+  ItemRow es h entry (ReceiptItem (kinds.DeliveryError refusals.MailboxFull) id (Some recipient) moment) = LearnedItem es entry (pair_of id recipient)
+  ItemRow es h entry (ReceiptItem (kinds.DeliveryError refusals.Virus) id (Some recipient) moment) = VirusItem h (pair_of id recipient)
   ItemRow es h entry (ReceiptItem kinds.Warning id (Some recipient) moment) = IsOwnPair trade p h (pair_of id recipient)
   ItemRow es h entry (ReceiptItem kinds.Notice id (Some recipient) moment) = IsOwnPair trade p h (pair_of id recipient)
   ItemRow es h entry (ReceiptItem kinds.LateNotice id (Some recipient) moment) = IsOwnPair trade p h (pair_of id recipient)
@@ -157,6 +175,14 @@ module _ (trade : Trade) (J : Journals) (p : ℕ) where
   learned_stays es fs g entry pair is =
       record { receipt = is.receipt; there = body_stays es fs entry is.receipt g is.there; text = is.text }
 
+  virus_stays : (h k : Half) → Longer h k → (pair : Pair) → VirusItem h pair → VirusItem k pair
+  virus_stays h k g pair is = record {
+    own = own_pair_stays h k g pair is.own;
+    row = is.row;
+    known = known_stays h k pair is.row g is.known;
+    so = is.so;
+  }
+
   refused_stays : (es fs : List Entry) → GoesOnAs es fs → (entry : ℕ) (id : Id) → RefusedItem es entry id → RefusedItem fs entry id
   refused_stays es fs g entry id is = record {
     moment = is.moment;
@@ -189,8 +215,13 @@ module _ (trade : Trade) (J : Journals) (p : ℕ) where
   item_stays es fs g h k l entry (ReceiptItem (kinds.NonAcceptance cause) id (Some recipient) moment) is = absurd is
   item_stays es fs g h k l entry (ReceiptItem kinds.Delivery id (Some recipient) moment) is = learned_stays es fs g entry (pair_of id recipient) is
   item_stays es fs g h k l entry (ReceiptItem kinds.Delivery id None moment) is = absurd is
-  item_stays es fs g h k l entry (ReceiptItem (kinds.DeliveryError refusal) id (Some recipient) moment) is = learned_stays es fs g entry (pair_of id recipient) is
-  item_stays es fs g h k l entry (ReceiptItem (kinds.DeliveryError refusal) id None moment) is = absurd is
+  item_stays es fs g h k l entry (ReceiptItem (kinds.DeliveryError refusals.NoMailbox) id (Some recipient) moment) is = learned_stays es fs g entry (pair_of id recipient) is
+  item_stays es fs g h k l entry (ReceiptItem (kinds.DeliveryError refusals.NoMailbox) id None moment) is = absurd is
+  item_stays es fs g h k l entry (ReceiptItem (kinds.DeliveryError refusals.MailboxFull) id (Some recipient) moment) is = learned_stays es fs g entry (pair_of id recipient) is
+  item_stays es fs g h k l entry (ReceiptItem (kinds.DeliveryError refusals.MailboxFull) id None moment) is = absurd is
+  item_stays es fs g h k l entry (ReceiptItem (kinds.DeliveryError refusals.Virus) id (Some recipient) moment) is = virus_stays h k l (pair_of id recipient) is
+  item_stays es fs g h k l entry (ReceiptItem (kinds.DeliveryError refusals.Virus) id None moment) is = absurd is
+  item_stays es fs g h k l entry (ReceiptItem kinds.VirusFound id recipient moment) is = absurd is
   item_stays es fs g h k l entry (ReceiptItem kinds.Warning id (Some recipient) moment) is = own_pair_stays h k l (pair_of id recipient) is
   item_stays es fs g h k l entry (ReceiptItem kinds.Warning id None moment) is = absurd is
   item_stays es fs g h k l entry (ReceiptItem kinds.Notice id (Some recipient) moment) is = own_pair_stays h k l (pair_of id recipient) is
@@ -268,9 +299,27 @@ module _ (trade : Trade) (J : Journals) (p : ℕ) where
   placed_item es h k g id recipient (Refused refusal) is = All-nil (λ (q : Posted). ItemRow es k q.entry q.item)
 
   learned_item : (es : List Entry) (k : Half) (entry : ℕ) (id : Id) (recipient : Bytes) (moment : ℕ) (decision : Decision) → LearnedItem es entry (pair_of id recipient)
-      → ItemRow es k entry (ReceiptItem (outcome_kind decision) id (Some recipient) moment)
-  learned_item es k entry id recipient moment Placed is = is
-  learned_item es k entry id recipient moment (Refused refusal) is = is
+      → (decision ≡ Refused refusals.Virus → VirusItem k (pair_of id recipient))
+      → ItemRow es k entry (ReceiptItem (receipt_kind decision) id (Some recipient) moment)
+  learned_item es k entry id recipient moment Placed is virus = is
+  learned_item es k entry id recipient moment (Refused refusals.NoMailbox) is virus = is
+  learned_item es k entry id recipient moment (Refused refusals.MailboxFull) is virus = is
+  learned_item es k entry id recipient moment (Refused refusals.Virus) is virus = virus refl
+
+  -- a virus that is learned of is known
+  virus_learned : (h : Half) (moment : ℕ) (id : Id) (recipient : Bytes) (decision : Decision) (decided : ℕ) (message : Bytes)
+      → IsOwnPair trade p h (pair_of id recipient) → known_of h (pair_of id recipient) ≡ None → decision ≡ Refused refusals.Virus
+      → VirusItem (step trade p h (entries.Learned moment id recipient decision decided message)) (pair_of id recipient)
+  unfolding step
+  virus_learned h moment id recipient decision decided message own none so =
+      let e = entries.Learned moment id recipient decision decided message
+      in let row : Known = record { pair = pair_of id recipient; decision = decision; decided = decided; moment = moment }
+      in record {
+        own = own_pair_stays h (step trade p h e) (longer_step trade p h e) (pair_of id recipient) own;
+        row = row;
+        known = found_last (λ (known : Known). same_pair (pair_of id recipient) known.pair) h.known row none (pair_again (pair_of id recipient));
+        so = so;
+      }
 
   notice_item : (es : List Entry) (k : Half) (entry : ℕ) (pair : Pair) (now : ℕ) (due : Due) (mark : Mark) → marked pair now due ≡ Some mark → IsOwnPair trade p k pair
       → ItemRow es k entry (ReceiptItem (kind_of_due mark.due) mark.pair.id (Some mark.pair.recipient) mark.moment)
@@ -356,7 +405,8 @@ module _ (trade : Trade) (J : Journals) (p : ℕ) where
         receipt = message;
         there = ap (body_at (es ++ e ∷ [])) n ∙ bound body_of (slice_get (es ++ e ∷ []) (length es)) e message (last_place es e) refl;
         text = meets.joint.0;
-      }))
+      })
+      (virus_learned h moment id recipient decision decided message meets.own.0 meets.own.1))
   items_rows_by es h n (entries.Ticked moment) meets =
       let e = entries.Ticked moment
       in notice_items (es ++ e ∷ []) h (step trade p h e) moment (longer_step trade p h e)

@@ -1,5 +1,5 @@
--- What a step doesn't take away: lists of a half only grow, so what is found stays found; licences stand, their texts don't
--- change, and joint conditions that are true stay true.
+-- What a step doesn't take away: lists of a half only grow, so what is found stays found; licences stand, their texts
+-- don't change, and joint conditions that are true stay true.
 use Rattle.std.proofs.Common.{◌≡◌, ℕ, List, [], ◌∷◌, ◌++◌, refl, ap, sym, subst, ◌∙◌, Option, Some, None}
 use Rattle.std.specs.Prelude.{fold, slice_get, IsSome, is_some}
 use Rattle.std.proofs.lemmas.List.Sums.{fold-append}
@@ -203,6 +203,9 @@ module _ (trade : Trade) where
       (known_stays (ledger trade J id.provider) (ledger trade K id.provider) (pair_of id recipient) row.0 (longer_half J K g id.provider) row.1)
   joint_stays J K g p (entries.Ticked moment) j = tt
   joint_stays J K g p (entries.Anomaly moment accounts message) j = tt
+  joint_stays J K g p (entries.StartTwo number digest) j = tt
+  joint_stays J K g p (entries.Upgraded moment) j = tt
+  joint_stays J K g p (entries.Archived moment account place) j = tt
 
   pub meets_stays : (J K : Journals) → GoOnAs J K → (p : ℕ) (h : Half) (e : Entry) → Meets trade J p h e → Meets trade K p h e
   meets_stays J K g p h e m = record { own = m.own; in_time = m.in_time; in_range = m.in_range; joint = joint_stays J K g p e m.joint }

@@ -18,16 +18,17 @@ use Rattle.pec_types.specs.declared.messages.Decision.{Decision}
 use Rattle.pec_records.specs.declared.entries.Entry.{Entry}
 use Rattle.pec_records.specs.declared.entries.Entry.TheVariants as entries
 use Rattle.pec_ledger.specs.Along.{times}
-use Rattle.pec_ledger.specs.Guarantees.{HasReceipt, NoReceiptMissing, NoticeByTheDay, OneDelivery, OneOutcome, is_envelope_of, is_notice_kind, is_notice_on, is_outcome, is_outcome_of, is_placed, times_decided, times_known, times_placed}
+use Rattle.pec_ledger.specs.Guarantees.{HasReceipt, NoReceiptMissing, NoticeByTheDay, OneDelivery, OneOutcome, is_envelope_of, is_notice_kind, is_notice_on, is_outcome, is_outcome_of, is_placed, times_decided, times_held, times_known, times_placed}
 use Rattle.pec_ledger.specs.Half.{Fate, Half, Known, Mark, Message, Posted, empty}
 use Rattle.pec_ledger.specs.Ledger.{Fit, Follows, IsDecidedSo, Journals, Meets, ledger}
-use Rattle.pec_ledger.specs.Lookups.{Accepted, HasPair, accepted_at, accepted_of, is_acked, is_notice, known_of, mailbox, notice_of}
+use Rattle.pec_ledger.specs.Lookups.{Accepted, HasPair, accepted_at, accepted_of, is_acked, is_notice, known_of, notice_of}
 use Rattle.pec_ledger.specs.Marks.{clocked, mark_for, marked, marks_from}
 use Rattle.pec_ledger.specs.Own.{IsOwnPair, Own}
 use Rattle.pec_ledger.specs.Pairs.{Pair, id_of, pair_of, same_pair}
 use Rattle.pec_ledger.specs.Steps.{acked_by, decided_by, half, known_by, step}
 use Rattle.pec_ledger.specs.Trade.{Trade}
 use Rattle.pec_ledger.proofs.AlongLemmas.{along_kept, along_left, always_kept}
+use Rattle.pec_ledger.proofs.BoxLemmas.{held}
 use Rattle.pec_ledger.proofs.Growth.{Longer, accepted_stays, half_append, longer_step, what_is}
 use Rattle.pec_ledger.proofs.ListLemmas.{both_found, filter_twice, found_there, some_counted}
 use Rattle.pec_ledger.proofs.MarkLemmas.{marks_hold}
@@ -171,13 +172,18 @@ module _ (trade : Trade) (J : Journals) where
     decided_once = decided_once fit;
     known_once = known_once fit;
     known_decided = known_decided fit;
-    receipts = λ p pair message e. all_there (ledger trade J p) is_outcome pair message (in_place fit p) e ∙ outcomes p pair;
-    elsewhere = λ p pair message account e other. none_elsewhere (ledger trade J p) is_outcome pair message account (in_place fit p) e other;
+    receipts = λ p pair message e.
+        held (is_outcome_of pair) (ledger trade J p) message.sender
+        ∙ all_there (ledger trade J p) is_outcome pair message (in_place fit p) e ∙ outcomes p pair;
+    elsewhere = λ p pair message account e other.
+        held (is_outcome_of pair) (ledger trade J p) account
+        ∙ none_elsewhere (ledger trade J p) is_outcome pair message account (in_place fit p) e other;
   }
 
-  delivered : (p : ℕ) (pair : Pair) → times (is_envelope_of pair.id) (mailbox (ledger trade J p) pair.recipient) ≡ times_placed (ledger trade J p) pair
+  delivered : (p : ℕ) (pair : Pair) → times_held (is_envelope_of pair.id) (ledger trade J p) pair.recipient ≡ times_placed (ledger trade J p) pair
   delivered p pair =
-      ap length (filter_twice (is_envelope_of pair.id) (λ (posted : Posted). bytes_eq pair.recipient posted.account) (ledger trade J p).items)
+      held (is_envelope_of pair.id) (ledger trade J p) pair.recipient
+      ∙ ap length (filter_twice (is_envelope_of pair.id) (λ (posted : Posted). bytes_eq pair.recipient posted.account) (ledger trade J p).items)
       ∙ envelopes p pair
 
   placed_at_most : (pair : Pair) (fates : List Fate)
@@ -273,7 +279,7 @@ module _ (trade : Trade) (p : ℕ) where
   abbrev HasNotice : ℕ → Half → Type 0
   HasNotice now k = (pair : Pair) (message : Accepted) → pair.id.provider ≡ p → accepted_at k pair.id.number ≡ Some message
       → HasPair trade message pair.recipient → message.moment + LATE_AFTER ≤ now → known_of k pair ≡ None
-      → 1 ≤ times (is_notice_on pair) (mailbox k message.sender)
+      → 1 ≤ times_held (is_notice_on pair) k message.sender
 
   after_tick : (h : Half) (now : ℕ) → AllInPlace (step trade p h (entries.Ticked now)) (step trade p h (entries.Ticked now)).items
       → ((pair : Pair) → times (is_notice_on pair) (step trade p h (entries.Ticked now)).items ≡ times (notices pair) (step trade p h (entries.Ticked now)).marks)
@@ -289,7 +295,8 @@ module _ (trade : Trade) (p : ℕ) where
       subst (λ (q : Pair). 1 ≤ times (notices q) (h.marks ++ marks_from trade p h now 0 h.messages)) (sym same) some
       in let count = counts pair
       in let all = all_there (step trade p h (entries.Ticked now)) is_notice_kind pair message places accepted
-      in omega (arith, mine, count, all)
+      in let both = held (is_notice_on pair) (step trade p h (entries.Ticked now)) message.sender
+      in omega (arith, mine, count, all, both)
 
   pub notice_by_the_day : (J : Journals) → Fit trade J → (front : List Entry) (now : ℕ) (back : List Entry) → J p ≡ front ++ entries.Ticked now ∷ back
       → HasNotice now (half trade p (front ++ entries.Ticked now ∷ []))

@@ -26,6 +26,9 @@ begins_on (entries.Learned moment id recipient decision decided message ∷ es) 
 begins_on (entries.Acked moment id recipient ∷ es) more b = absurd b
 begins_on (entries.Ticked moment ∷ es) more b = absurd b
 begins_on (entries.Anomaly moment accounts message ∷ es) more b = absurd b
+begins_on (entries.StartTwo number digest ∷ es) more b = tt
+begins_on (entries.Upgraded moment ∷ es) more b = absurd b
+begins_on (entries.Archived moment account place ∷ es) more b = absurd b
 
 module _ (trade : Trade) where
   pub follows_stays : (J K : Journals) → GoOnAs trade J K → (p : ℕ) (h : Half) (es : List Entry) → Follows trade J p h es → Follows trade K p h es
@@ -71,7 +74,7 @@ module _ (trade : Trade) where
   }
 
   past_the_sites : (sites : List Site) (p : ℕ) → length sites ≤ p → journal_at sites p ≡ []
-  past_the_sites sites p l = ap (λ (site : Site). site.journal) (get_or_past sites p (record { journal = []; up = false; interrupted = None; waiting = [] }) l)
+  past_the_sites sites p l = ap (λ (site : Site). site.journal) (get_or_past sites p (record { journal = []; up = false; interrupted = None; screens = []; waiting = [] }) l)
 
   pub any_list_of_images : (sites : List Site) → Sound trade sites → (images : List (List Entry)) → length images ≡ trade.providers
       → ((p : ℕ) → p < trade.providers → FollowsState trade sites p (slice_index_or images p [])) → Fit trade (journals_in images)

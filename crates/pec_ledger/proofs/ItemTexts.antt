@@ -5,6 +5,7 @@ use Rattle.std.specs.Option.{option_map}
 use Rattle.std.proofs.lemmas.List.Elements.{All-weaker, Contains-append_left}
 use Rattle.pec_types.specs.Bytes.{Bytes}
 use Rattle.pec_types.specs.Message.{Id}
+use Rattle.pec_types.specs.declared.messages.Refusal.TheVariants as refusals
 use Rattle.pec_types.specs.declared.receipts.Kind.{Kind}
 use Rattle.pec_types.specs.declared.receipts.Kind.TheVariants as kinds
 use Rattle.pec_records.specs.declared.entries.Entry.{Entry}
@@ -42,7 +43,10 @@ module _ (trade : Trade) where
   receipt_stays : (p : ℕ) (es fs : List Entry) → GoesOnAs es fs → (entry : ℕ) (kind : Kind) (id : Id) (recipient : Option Bytes) (moment : ℕ) (bytes : Bytes)
       → receipt_of trade p es entry kind id recipient moment ≡ Some bytes → receipt_of trade p fs entry kind id recipient moment ≡ Some bytes
   receipt_stays p es fs g entry kinds.Delivery id recipient moment bytes e = body_stays es fs entry bytes g e
-  receipt_stays p es fs g entry (kinds.DeliveryError refusal) id recipient moment bytes e = body_stays es fs entry bytes g e
+  receipt_stays p es fs g entry (kinds.DeliveryError refusals.NoMailbox) id recipient moment bytes e = body_stays es fs entry bytes g e
+  receipt_stays p es fs g entry (kinds.DeliveryError refusals.MailboxFull) id recipient moment bytes e = body_stays es fs entry bytes g e
+  receipt_stays p es fs g entry (kinds.DeliveryError refusals.Virus) id recipient moment bytes e =
+      composed_stays p es fs g (composed trade (kinds.DeliveryError refusals.Virus) id p moment recipient) id.number bytes e
   receipt_stays p es fs g entry (kinds.NonAcceptance cause) id recipient moment bytes e =
       let found = both_found (refusal_by trade id) (slice_get es entry) bytes e
       in bound (refusal_by trade id) (slice_get fs entry) found.0 bytes (stays_at es fs entry found.0 g found.1) found.2
@@ -56,6 +60,8 @@ module _ (trade : Trade) where
       composed_stays p es fs g (composed trade kinds.Notice id p moment recipient) id.number bytes e
   receipt_stays p es fs g entry kinds.LateNotice id recipient moment bytes e =
       composed_stays p es fs g (composed trade kinds.LateNotice id p moment recipient) id.number bytes e
+  receipt_stays p es fs g entry kinds.VirusFound id recipient moment bytes e =
+      composed_stays p es fs g (composed trade kinds.VirusFound id p moment recipient) id.number bytes e
   receipt_stays p es fs g entry kinds.Ack id recipient moment bytes e =
       composed_stays p es fs g (composed trade kinds.Ack id p moment recipient) id.number bytes e
 

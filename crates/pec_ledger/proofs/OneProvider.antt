@@ -1,4 +1,5 @@
--- What is true of one provider's half along a journal that follows: counts of rows and of items, and where receipts stand.
+-- What is true of one provider's half along a journal that follows: counts of rows and of items, and where receipts
+-- stand.
 use Rattle.std.proofs.Common.{◌≡◌, ℕ, ◌+◌, List, [], ◌∷◌, ◌++◌, Bool, true, false, ◌&&◌, cond, map, length, refl, ap, sym, subst, ◌∙◌, arith, Some}
 use Rattle.std.specs.Str.{bytes_eq}
 use Rattle.pec_types.specs.Bytes.{Bytes, Path}
@@ -13,7 +14,7 @@ use Rattle.pec_records.specs.declared.entries.Entry.TheVariants as entries
 use Rattle.pec_ledger.specs.Along.{times}
 use Rattle.pec_ledger.specs.Guarantees.{is_envelope_of, is_notice_kind, is_notice_on, is_outcome, is_outcome_of, is_placed, is_receipt_of, times_known, times_placed}
 use Rattle.pec_ledger.specs.Half.{Fate, Half, Known, Mark, Posted, EnvelopeItem, ReceiptItem}
-use Rattle.pec_ledger.specs.Lookups.{is_notice, outcome_kind, submitter}
+use Rattle.pec_ledger.specs.Lookups.{is_notice, receipt_kind, submitter}
 use Rattle.pec_ledger.specs.Marks.{marks_from}
 use Rattle.pec_ledger.specs.Pairs.{Pair, pair_of, same_id, same_pair}
 use Rattle.pec_ledger.specs.Steps.{anomaly_by, decided_by, items_by, kind_of_due, known_by, marks_by, notice_by, placed_by, step}
@@ -25,11 +26,11 @@ use Rattle.pec_ledger.proofs.ListLemmas.{never_counted, times_append, times_mapp
 sum_of : (a b c d e f : ℕ) → e ≡ a + c → f ≡ b + d → a ≡ b → c ≡ d → e ≡ f
 sum_of a b c d e f g h i j = omega arith
 
-outcome_is : (decision : Decision) → is_outcome (outcome_kind decision) ≡ true
+outcome_is : (decision : Decision) → is_outcome (receipt_kind decision) ≡ true
 outcome_is Placed = refl
 outcome_is (Refused refusal) = refl
 
-no_notice : (decision : Decision) → is_notice_kind (outcome_kind decision) ≡ false
+no_notice : (decision : Decision) → is_notice_kind (receipt_kind decision) ≡ false
 no_notice Placed = refl
 no_notice (Refused refusal) = refl
 
@@ -81,15 +82,18 @@ module _ (trade : Trade) (p : ℕ) where
   outcomes_by h pair (entries.Decided moment id recipient decision) = placed_no_receipt h is_outcome pair id recipient decision
   outcomes_by h pair (entries.Charged moment id by) = refl
   outcomes_by h pair (entries.Learned moment id recipient decision decided message) =
-      let item : Posted = record { account = submitter h id.number; item = ReceiptItem (outcome_kind decision) id (Some recipient) moment; entry = h.entries }
+      let item : Posted = record { account = submitter h id.number; item = ReceiptItem (receipt_kind decision) id (Some recipient) moment; entry = h.entries }
       in let row : Known = record { pair = pair_of id recipient; decision = decision; decided = decided; moment = moment }
-      in counted_alike item row (is_outcome (outcome_kind decision) && same_pair pair (pair_of id recipient)) (same_pair pair (pair_of id recipient))
-      (and_true (is_outcome (outcome_kind decision)) (same_pair pair (pair_of id recipient)) (outcome_is decision))
+      in counted_alike item row (is_outcome (receipt_kind decision) && same_pair pair (pair_of id recipient)) (same_pair pair (pair_of id recipient))
+      (and_true (is_outcome (receipt_kind decision)) (same_pair pair (pair_of id recipient)) (outcome_is decision))
   outcomes_by h pair (entries.Acked moment id recipient) = refl
   outcomes_by h pair (entries.Ticked moment) =
       notices_pass h (is_outcome_of pair)
       (λ mark. and_false (is_outcome (kind_of_due mark.due)) (same_pair pair (pair_of mark.pair.id mark.pair.recipient)) (due_is_no_outcome mark.due))
       (marks_from trade p h moment 0 h.messages)
+  outcomes_by h pair (entries.StartTwo number digest) = refl
+  outcomes_by h pair (entries.Upgraded moment) = refl
+  outcomes_by h pair (entries.Archived moment account place) = refl
   outcomes_by h pair (entries.Anomaly moment accounts message) = anomalies_pass h moment (is_outcome_of pair) (λ account. refl) accounts
 
   pub outcomes_step : (h : Half) (e : Entry) → ((pair : Pair) → times (is_outcome_of pair) h.items ≡ times_known h pair)
@@ -112,14 +116,17 @@ module _ (trade : Trade) (p : ℕ) where
   notices_by h pair (entries.Decided moment id recipient decision) = placed_no_receipt h is_notice_kind pair id recipient decision
   notices_by h pair (entries.Charged moment id by) = refl
   notices_by h pair (entries.Learned moment id recipient decision decided message) =
-      let item : Posted = record { account = submitter h id.number; item = ReceiptItem (outcome_kind decision) id (Some recipient) moment; entry = h.entries }
-      in counted_alike item item (is_notice_kind (outcome_kind decision) && same_pair pair (pair_of id recipient)) false
-      (and_false (is_notice_kind (outcome_kind decision)) (same_pair pair (pair_of id recipient)) (no_notice decision))
+      let item : Posted = record { account = submitter h id.number; item = ReceiptItem (receipt_kind decision) id (Some recipient) moment; entry = h.entries }
+      in counted_alike item item (is_notice_kind (receipt_kind decision) && same_pair pair (pair_of id recipient)) false
+      (and_false (is_notice_kind (receipt_kind decision)) (same_pair pair (pair_of id recipient)) (no_notice decision))
   notices_by h pair (entries.Acked moment id recipient) = refl
   notices_by h pair (entries.Ticked moment) =
       times_mapped (is_notice_on pair) (λ (mark : Mark). is_notice mark.due && same_pair pair mark.pair) (notice_by h)
       (λ mark. ap (λ b. b && same_pair pair mark.pair) (due_is_notice mark.due))
       (marks_from trade p h moment 0 h.messages)
+  notices_by h pair (entries.StartTwo number digest) = refl
+  notices_by h pair (entries.Upgraded moment) = refl
+  notices_by h pair (entries.Archived moment account place) = refl
   notices_by h pair (entries.Anomaly moment accounts message) = anomalies_pass h moment (is_notice_on pair) (λ account. refl) accounts
 
   pub notices_step : (h : Half) (e : Entry)
@@ -178,6 +185,9 @@ module _ (trade : Trade) (p : ℕ) where
   envelopes_by h pair (entries.Acked moment id recipient) = refl
   envelopes_by h pair (entries.Ticked moment) =
       notices_pass h (is_envelope_for pair) (λ mark. and_no (bytes_eq pair.recipient (submitter h mark.pair.id.number))) (marks_from trade p h moment 0 h.messages)
+  envelopes_by h pair (entries.StartTwo number digest) = refl
+  envelopes_by h pair (entries.Upgraded moment) = refl
+  envelopes_by h pair (entries.Archived moment account place) = refl
   envelopes_by h pair (entries.Anomaly moment accounts message) =
       anomalies_pass h moment (is_envelope_for pair) (λ account. and_no (bytes_eq pair.recipient account)) accounts
 

@@ -1,4 +1,4 @@
--- Where receipts stand: each that names a recipient is in the mailbox of its message's sender.
+-- Where receipts stand: each that names a recipient was placed with its message's sender.
 use Rattle.std.proofs.Common.{◌≡◌, ◌≢◌, ℕ, ◌+◌, List, [], ◌∷◌, Bool, true, false, ◌&&◌, inl, inr, map, length, refl, ap, sym, ◌∙◌, arith, Option, Some, None}
 use Rattle.std.specs.Prelude.{All, Contains, slice_get, unwrap_or}
 use Rattle.std.specs.Option.{option_map}
@@ -18,7 +18,7 @@ use Rattle.pec_records.specs.declared.entries.Entry.TheVariants as entries
 use Rattle.pec_ledger.specs.Along.{times}
 use Rattle.pec_ledger.specs.Guarantees.{is_receipt_of}
 use Rattle.pec_ledger.specs.Half.{Half, Item, Mark, Message, Posted, EnvelopeItem, ReceiptItem, AnomalyItem}
-use Rattle.pec_ledger.specs.Lookups.{Accepted, accepted_at, accepted_of, mailbox, submitter}
+use Rattle.pec_ledger.specs.Lookups.{Accepted, accepted_at, accepted_of, ever_placed, submitter}
 use Rattle.pec_ledger.specs.Marks.{marks_from}
 use Rattle.pec_ledger.specs.Own.{IsOwnPair, Own}
 use Rattle.pec_ledger.specs.Pairs.{Pair, pair_of}
@@ -116,6 +116,9 @@ module _ (trade : Trade) (p : ℕ) where
       })
   new_in_place h k g (entries.Acked moment id recipient) own = none_in_place k
   new_in_place h k g (entries.Ticked moment) own = notices_in_place h k moment g
+  new_in_place h k g (entries.StartTwo number digest) own = none_in_place k
+  new_in_place h k g (entries.Upgraded moment) own = none_in_place k
+  new_in_place h k g (entries.Archived moment account place) own = none_in_place k
   new_in_place h k g (entries.Anomaly moment accounts message) own =
       All-map (λ (posted : Posted). InPlace k posted.account posted.item) (anomaly_by h moment) accounts (λ i d l. tt)
 
@@ -129,7 +132,7 @@ module _ (trade : Trade) (p : ℕ) where
       (λ posted i. in_place_stays h k g posted.account posted.item i) h.items is)
       (new_in_place h k g e own)
 
--- ---- in one mailbox all, in each other none
+-- ---- with one account all, with each other none
 
 same_accepted : (o : Option Accepted) (m n : Accepted) → o ≡ Some m → o ≡ Some n → m ≡ n
 same_accepted o m n e f = same_Some m n (sym e ∙ f)
@@ -158,7 +161,7 @@ not_both true false h = refl
 not_both false b h = refl
 
 pub all_there : (h : Half) (test : Kind → Bool) (pair : Pair) (message : Accepted) → AllInPlace h h.items → accepted_at h pair.id.number ≡ Some message
-    → times (names test pair) (mailbox h message.sender) ≡ times (names test pair) h.items
+    → times (names test pair) (ever_placed h message.sender) ≡ times (names test pair) h.items
 all_there h test pair message is e =
     ap length (filter_twice (names test pair) (λ (posted : Posted). bytes_eq message.sender posted.account) h.items)
     ∙ counts_agree (λ (posted : Posted). bytes_eq message.sender posted.account && names test pair posted) (names test pair) h.items
@@ -168,11 +171,11 @@ all_there h test pair message is e =
     (λ t. (bytes_eq-Decides message.sender posted.account).1 (sym (stands_with h test pair message e posted.account posted.item i t))))
     h.items is)
 
-different : (a b : Bytes) → (a ≡ b → ⊥) → bytes_eq a b ≡ false
+pub different : (a b : Bytes) → (a ≡ b → ⊥) → bytes_eq a b ≡ false
 different a b n = elim (cases_Bool (bytes_eq a b)) [ inl t ↦ absurd (n ((bytes_eq-Decides a b).0 t)) | inr f ↦ f ]
 
 pub none_elsewhere : (h : Half) (test : Kind → Bool) (pair : Pair) (message : Accepted) (account : Bytes) → AllInPlace h h.items
-    → accepted_at h pair.id.number ≡ Some message → account ≢ message.sender → times (names test pair) (mailbox h account) ≡ 0
+    → accepted_at h pair.id.number ≡ Some message → account ≢ message.sender → times (names test pair) (ever_placed h account) ≡ 0
 none_elsewhere h test pair message account is e other =
     ap length (filter_twice (names test pair) (λ (posted : Posted). bytes_eq account posted.account) h.items)
     ∙ none_there (λ (posted : Posted). bytes_eq account posted.account && names test pair posted) h.items

@@ -163,6 +163,7 @@ kind_back facts kinds.Warning receipt is = refl
 kind_back facts kinds.Notice receipt is = refl
 kind_back facts kinds.LateNotice receipt is = refl
 kind_back facts kinds.Ack receipt is = refl
+kind_back facts kinds.VirusFound receipt is = refl
 
 receipts_same : (a b : Kind) (id : Id) (by moment : ℕ) (r s : Option Bytes) → a ≡ b → r ≡ s
     → (let x : Receipt = record { kind = a; id = id; by = by; moment = moment; recipient = r } in let y : Receipt = record { kind = b; id = id; by = by; moment = moment; recipient = s } in x ≡ y)
@@ -196,8 +197,8 @@ small_is_trade = record {
   envelope_names = λ id moment original sent range. ap path_in sent.are;
   envelope_of = envelope_of;
   receipt_seen = receipt_seen;
-  refusal_seen = λ id moment sender cause path message me l n a s f range. refl;
-  anomaly_seen = λ p entry moment message me l range. refl;
+  refusal_seen = λ id moment sender cause path message l n a s f range seen e. absurd (none-some seen e);
+  anomaly_seen = λ p entry moment message l range. refl;
   nothing_seen = refl;
   seen_opens = λ message seen e. ap is_some e;
   frames = frames_back;

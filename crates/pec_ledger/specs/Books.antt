@@ -1,5 +1,5 @@
--- What an account is shown: its book (`book`), a line for each of its accepted messages and certified recipients, and
--- its mailbox (`mailbox_lines`). This project's profile.
+-- What an account is shown: its book (`book`), a line for each of its accepted messages and certified recipients, its
+-- mailbox (`mailbox_lines`) and its archive (`archive_lines`). This project's profile.
 use Rattle.std.specs.Prelude.{ℕ, ◌+◌, List, [], ◌∷◌, ◌++◌, map, filter, Option, Some, None, is_some, if◌then◌else◌}
 use Rattle.std.specs.Option.{option_map}
 use Rattle.std.specs.Str.{bytes_eq}
@@ -11,7 +11,7 @@ use Rattle.pec_types.specs.declared.messages.BookLine.{BookLine}
 use Rattle.pec_types.specs.declared.messages.Decision.{Decision}
 use Rattle.pec_types.specs.declared.messages.Recipient.{Recipient}
 use Rattle.pec_ledger.specs.Half.{Charge, Half, Item, Known, Mark, Message, Posted, EnvelopeItem, ReceiptItem, AnomalyItem}
-use Rattle.pec_ledger.specs.Lookups.{Accepted, accepted_of, charge_of, known_of, mailbox, notice_of, warning_of}
+use Rattle.pec_ledger.specs.Lookups.{Accepted, accepted_of, archive, charge_of, known_of, mailbox, notice_of, warning_of}
 use Rattle.pec_ledger.specs.Pairs.{id_of, pair_of}
 use Rattle.pec_ledger.specs.Trade.{Trade}
 
@@ -57,7 +57,7 @@ lines_from trade provider half account number (message ∷ messages) =
 unfoldable pub book : Trade → ℕ → Half → Bytes → List BookLine
 book trade provider half account = lines_from trade provider half account 0 half.messages
 
--- ---- mailboxes
+-- ---- mailboxes and archives
 
 -- An item as a line: what it is, and the message and the recipient that it names.
 abbrev pub item_line : Item → ItemLine
@@ -69,3 +69,7 @@ item_line (AnomalyItem moment) = record { kind = item_kinds.Anomaly; id = None; 
 -- The lines of an account's mailbox, in order of placing.
 unfoldable pub mailbox_lines : Half → Bytes → List ItemLine
 mailbox_lines half account = map (λ (posted : Posted). item_line posted.item) (mailbox half account)
+
+-- The lines of its archive, in the order in which the items were moved there.
+unfoldable pub archive_lines : Half → Bytes → List ItemLine
+archive_lines half account = map (λ (posted : Posted). item_line posted.item) (archive half account)

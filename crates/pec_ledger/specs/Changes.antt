@@ -5,9 +5,9 @@ use Rattle.pec_types.specs.Bytes.{Bytes, Path}
 use Rattle.pec_types.specs.declared.messages.Cause.{Cause}
 use Rattle.pec_types.specs.declared.messages.Facts.{Facts}
 use Rattle.pec_records.specs.declared.entries.Entry.{Entry}
-use Rattle.pec_ledger.specs.Half.{Charge, Fate, Half, Item, Known, Mark, Message, Posted, Taken}
+use Rattle.pec_ledger.specs.Half.{Charge, Fate, Half, Item, Known, Mark, Message, Move, Posted, Taken}
 use Rattle.pec_ledger.specs.Pairs.{Pair}
-use Rattle.pec_ledger.specs.Steps.{adds, moment_of, size_of}
+use Rattle.pec_ledger.specs.Steps.{adds, moment_of, size_of, version_by}
 use Rattle.pec_ledger.specs.Trade.{Trade}
 
 -- The rows that an entry adds.
@@ -20,10 +20,12 @@ pub record Rows : Type 0 where
   pub decided : List Fate
   pub acked : List Pair
   pub items : List Posted
+  pub moves : List Move
 
 -- no rows
 abbrev pub nothing : Rows
-nothing = record { messages = []; charged = []; marks = []; known = []; taken = []; decided = []; acked = []; items = [] }
+nothing =
+    record { messages = []; charged = []; marks = []; known = []; taken = []; decided = []; acked = []; items = []; moves = [] }
 
 -- one item for an account, and no other rows
 abbrev pub adds_item : Half → Bytes → Item → Rows
@@ -38,6 +40,7 @@ adds_message half moment sender facts cause path =
 abbrev pub Changes : Trade → ℕ → Half → Entry → Rows → Type 0
 Changes trade provider half entry rows = adds trade provider half entry ≡ record {
   moment = moment_of entry;
+  version = version_by entry;
   size = size_of entry;
   messages = rows.messages;
   charged = rows.charged;
@@ -47,4 +50,5 @@ Changes trade provider half entry rows = adds trade provider half entry ≡ reco
   decided = rows.decided;
   acked = rows.acked;
   items = rows.items;
+  moves = rows.moves;
 }

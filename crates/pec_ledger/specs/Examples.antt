@@ -7,7 +7,7 @@ use Rattle.pec_types.specs.Message.{Id}
 use Rattle.pec_types.specs.declared.limits.Due.{Due}
 use Rattle.pec_types.specs.declared.messages.Class.{Class}
 use Rattle.pec_types.specs.declared.messages.Decision.TheVariants.{Placed, Refused}
-use Rattle.pec_types.specs.declared.messages.Refusal.TheVariants.{NoMailbox}
+use Rattle.pec_types.specs.declared.messages.Refusal.TheVariants.{NoMailbox, Virus}
 use Rattle.pec_types.specs.declared.messages.BookLine.{BookLine}
 use Rattle.pec_types.specs.declared.mailboxes.ItemLine.{ItemLine}
 use Rattle.pec_types.specs.declared.mailboxes.ItemKind.TheVariants as item_kinds
@@ -126,3 +126,35 @@ one_placed =
 -- beta accepted a message of carl: the receipt of acceptance is all that is in his mailbox
 abbrev pub carl_wrote : List Entry
 carl_wrote = entries.Start 1 [] ∷ entries.Accepted morning carl (carl ++ 0 ∷ bob) ∷ []
+
+-- the same, and then that one item is archived: beta's journal is of version 2
+abbrev pub one_archived : List Entry
+one_archived =
+    entries.StartTwo 1 []
+    ∷ entries.Took 1704186002 first (1 ∷ 0 ∷ 0 ∷ morning ∷ to_one carl)
+    ∷ entries.Took 1704186002 (id_of 0 1) (1 ∷ 0 ∷ 1 ∷ morning ∷ to_one carl)
+    ∷ entries.Decided 1704186002 first carl Placed
+    ∷ entries.Archived 1704186002 carl 0
+    ∷ []
+
+-- and then the second message is placed
+abbrev pub two_placed : List Entry
+two_placed = one_archived ++ entries.Decided 1704186004 (id_of 0 1) carl Placed ∷ []
+
+-- ---- a virus that the recipient's provider finds
+
+-- the journal of beta, which took alice's message to bob
+abbrev pub virus_decided : List Entry
+virus_decided =
+    entries.Start 1 []
+    ∷ entries.Took 1704186002 first (1 ∷ 0 ∷ 0 ∷ morning ∷ to_one bob)
+    ∷ entries.Decided 1704186002 first bob (Refused Virus)
+    ∷ []
+
+-- the journal of alfa, to which beta told it
+abbrev pub virus_learned : List Entry
+virus_learned =
+    accepting (to_one bob)
+    ++ entries.Charged 1704186003 first 1
+    ∷ entries.Learned 1704186003 first bob (Refused Virus) 1704186002 []
+    ∷ []

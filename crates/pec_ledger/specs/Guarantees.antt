@@ -13,7 +13,7 @@ use Rattle.pec_records.specs.declared.entries.Entry.TheVariants as entries
 use Rattle.pec_ledger.specs.Along.{times}
 use Rattle.pec_ledger.specs.Half.{Fate, Half, Item, Known, Posted, EnvelopeItem, ReceiptItem, AnomalyItem}
 use Rattle.pec_ledger.specs.Ledger.{IsDecidedSo, Journals, accepted_in, ledger}
-use Rattle.pec_ledger.specs.Lookups.{Accepted, HasPair, accepted_at, is_acked, known_of, mailbox}
+use Rattle.pec_ledger.specs.Lookups.{Accepted, HasPair, accepted_at, archive, is_acked, known_of, mailbox}
 use Rattle.pec_ledger.specs.Pairs.{Pair, pair_of, same_id, same_pair}
 use Rattle.pec_ledger.specs.Steps.{half}
 use Rattle.pec_ledger.specs.Trade.{Trade}
@@ -76,41 +76,48 @@ times_known half pair = times (λ (known : Known). same_pair pair known.pair) ha
 abbrev pub times_placed : Half → Pair → ℕ
 times_placed half pair = times (λ (fate : Fate). same_pair pair fate.pair && is_placed fate.decision) half.decided
 
+-- How many items of an account, in its mailbox and its archive together, pass a test.
+abbrev pub times_held : (Posted → Bool) → Half → Bytes → ℕ
+times_held test half account = times test (mailbox half account) + times test (archive half account)
+
 module _ (trade : Trade) (journals : Journals) where
-  -- A pair is decided at most once and known at most once; a known outcome is the decided one; the sender's mailbox
-  -- holds exactly one outcome receipt of each known pair and none of another, and no other mailbox of the provider
-  -- holds one.
+  -- A pair is decided at most once and known at most once; a known outcome is the decided one; the sender's mailbox and
+  -- archive together hold exactly one outcome receipt of each known pair and none of another, and no other account of
+  -- the provider holds one.
   pub record OneOutcome : Type 0 where
     pub decided_once : (provider : ℕ) (pair : Pair) → times_decided (ledger trade journals provider) pair ≤ 1
     pub known_once : (provider : ℕ) (pair : Pair) → times_known (ledger trade journals provider) pair ≤ 1
     pub known_decided : (provider : ℕ)
         → All (λ (known : Known). IsDecidedSo trade journals known.pair known.decision known.decided) (ledger trade journals provider).known
     pub receipts : (provider : ℕ) (pair : Pair) (message : Accepted) → accepted_at (ledger trade journals provider) pair.id.number ≡ Some message
-        → times (is_outcome_of pair) (mailbox (ledger trade journals provider) message.sender) ≡ times_known (ledger trade journals provider) pair
+        → times_held (is_outcome_of pair) (ledger trade journals provider) message.sender ≡ times_known (ledger trade journals provider) pair
     pub elsewhere : (provider : ℕ) (pair : Pair) (message : Accepted) (account : Bytes)
         → accepted_at (ledger trade journals provider) pair.id.number ≡ Some message → account ≢ message.sender
-        → times (is_outcome_of pair) (mailbox (ledger trade journals provider) account) ≡ 0
+        → times_held (is_outcome_of pair) (ledger trade journals provider) account ≡ 0
 
-  -- A recipient's mailbox holds exactly one envelope of a message where the pair is decided Placed, and none otherwise.
+  -- A recipient's mailbox and archive together hold exactly one envelope of a message where the pair is decided Placed,
+  -- and none otherwise.
   pub record OneDelivery : Type 0 where
     pub envelopes : (provider : ℕ) (pair : Pair)
-        → times (is_envelope_of pair.id) (mailbox (ledger trade journals provider) pair.recipient)
+        → times_held (is_envelope_of pair.id) (ledger trade journals provider) pair.recipient
         ≡ times_placed (ledger trade journals provider) pair
     pub once : (provider : ℕ) (pair : Pair)
-        → times (is_envelope_of pair.id) (mailbox (ledger trade journals provider) pair.recipient) ≤ 1
+        → times_held (is_envelope_of pair.id) (ledger trade journals provider) pair.recipient ≤ 1
 
-  -- The pair is one of an accepted message, and its receipt of delivery or error is in the sender's mailbox, once.
+  -- The pair is one of an accepted message, and its receipt of delivery or error is in the sender's mailbox or archive,
+  -- once.
   pub record HasReceipt (pair : Pair) : Type 0 where
     pub message : Accepted
     pub accepted : accepted_in trade journals pair.id ≡ Some message
-    pub receipt : times (is_outcome_of pair) (mailbox (ledger trade journals pair.id.provider) message.sender) ≡ 1
+    pub receipt : times_held (is_outcome_of pair) (ledger trade journals pair.id.provider) message.sender ≡ 1
 
-  -- Of each pair of which a provider was told that its receipt has arrived, the sender's mailbox holds that receipt.
+  -- Of each pair of which a provider was told that its receipt has arrived, the sender's mailbox or archive holds that
+  -- receipt.
   pub record NoReceiptMissing : Type 0 where
     pub receipt : (provider : ℕ) (pair : Pair) → is_acked (ledger trade journals provider) pair ≡ true → HasReceipt pair
 
   -- After a clock call, each pair that the provider accepted 24 hours before or earlier, and of which nothing is known,
-  -- has a notice in the sender's mailbox.
+  -- has a notice in the sender's mailbox or archive.
   pub record NoticeByTheDay : Type 0 where
     pub notice : (provider : ℕ) (front : List Entry) (now : ℕ) (back : List Entry)
         → journals provider ≡ front ++ entries.Ticked now ∷ back → (pair : Pair) (message : Accepted)
@@ -118,4 +125,4 @@ module _ (trade : Trade) (journals : Journals) where
         → accepted_at (half trade provider (front ++ entries.Ticked now ∷ [])) pair.id.number ≡ Some message
         → HasPair trade message pair.recipient → message.moment + LATE_AFTER ≤ now
         → known_of (half trade provider (front ++ entries.Ticked now ∷ [])) pair ≡ None
-        → 1 ≤ times (is_notice_on pair) (mailbox (half trade provider (front ++ entries.Ticked now ∷ [])) message.sender)
+        → 1 ≤ times_held (is_notice_on pair) (half trade provider (front ++ entries.Ticked now ∷ [])) message.sender

@@ -72,13 +72,20 @@ pub record Posted : Type 0 where
   pub item : Item
   pub entry : ℕ
 
+-- The item at a place of an account's mailbox, from 0, was moved into the account's archive.
+pub record Move : Type 0 where
+  pub account : Bytes
+  pub place : ℕ
+
 -- ---- halves
 
--- The figures of a provider (number of entries, greatest moment, end of its journal in bytes), the rows of both sides,
--- and all items that were ever placed in its mailboxes, in the order in which they were.
+-- The figures of a provider (number of entries, greatest moment, version of its journal, and the end of this in bytes),
+-- the rows of both sides, all items that were ever placed in its mailboxes, in the order in which they were, and the
+-- moves into archives, in theirs.
 pub record Half : Type 0 where
   pub entries : ℕ
   pub last : ℕ
+  pub version : ℕ
   pub end : ℕ
   pub messages : List Message
   pub charged : List Charge
@@ -88,10 +95,12 @@ pub record Half : Type 0 where
   pub decided : List Fate
   pub acked : List Pair
   pub items : List Posted
+  pub moves : List Move
 
--- What one entry adds: its moment, its bytes in the journal, and rows.
+-- What one entry adds: its moment, the version that it makes of the journal, its bytes there, and rows.
 pub record Adds : Type 0 where
   pub moment : ℕ
+  pub version : ℕ
   pub size : ℕ
   pub messages : List Message
   pub charged : List Charge
@@ -101,6 +110,7 @@ pub record Adds : Type 0 where
   pub decided : List Fate
   pub acked : List Pair
   pub items : List Posted
+  pub moves : List Move
 
 -- where a journal without entries ends, in bytes
 abbrev pub start_of_entries : ℕ
@@ -111,6 +121,7 @@ abbrev pub empty : Half
 empty = record {
   entries = 0;
   last = 0;
+  version = 0;
   end = start_of_entries;
   messages = [];
   charged = [];
@@ -120,6 +131,7 @@ empty = record {
   decided = [];
   acked = [];
   items = [];
+  moves = [];
 }
 
 -- A half with what an entry adds.
@@ -127,6 +139,7 @@ abbrev pub joined : Half → Adds → Half
 joined half adds = record {
   entries = half.entries + 1;
   last = max half.last adds.moment;
+  version = max half.version adds.version;
   end = half.end + adds.size;
   messages = half.messages ++ adds.messages;
   charged = half.charged ++ adds.charged;
@@ -136,4 +149,5 @@ joined half adds = record {
   decided = half.decided ++ adds.decided;
   acked = half.acked ++ adds.acked;
   items = half.items ++ adds.items;
+  moves = half.moves ++ adds.moves;
 }

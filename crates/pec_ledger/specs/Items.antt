@@ -1,10 +1,12 @@
--- The bytes of a mailbox item: `item_text`, from the provider's own journal alone. An envelope shows what the Took
--- entry of its id holds, a receipt of delivery or error what its Learned entry holds; all others are composed from
--- entries. RFC 6109, section 3, within this project's profile.
+-- The bytes of an item: `item_text`, from the provider's own journal alone. An envelope shows what the Took entry of
+-- its id holds, and a receipt of delivery or error what its Learned entry holds. All others are composed from entries,
+-- the delivery error of a virus too: of it the recipient's provider told this one, and this one tells the sender. RFC
+-- 6109, section 3, within this project's profile.
 use Rattle.std.specs.Prelude.{◌≡◌, ℕ, List, Contains, slice_get, Option, Some, None}
 use Rattle.std.specs.Option.{option_and_then, option_map}
 use Rattle.pec_types.specs.Bytes.{Bytes}
 use Rattle.pec_types.specs.Message.{Id}
+use Rattle.pec_types.specs.declared.messages.Refusal.TheVariants as refusals
 use Rattle.pec_types.specs.declared.receipts.Kind.{Kind}
 use Rattle.pec_types.specs.declared.receipts.Kind.TheVariants as kinds
 use Rattle.pec_records.specs.declared.entries.Entry.{Entry}
@@ -43,7 +45,8 @@ module _ (trade : Trade) where
     -- the bytes of a receipt or notice, which came into the mailbox by the entry of this number, from 0
     abbrev pub receipt_of : List Entry → ℕ → Kind → Id → Option Bytes → ℕ → Option Bytes
     receipt_of journal entry kinds.Delivery id recipient moment = body_at journal entry
-    receipt_of journal entry (kinds.DeliveryError refusal) id recipient moment = body_at journal entry
+    receipt_of journal entry (kinds.DeliveryError refusals.NoMailbox) id recipient moment = body_at journal entry
+    receipt_of journal entry (kinds.DeliveryError refusals.MailboxFull) id recipient moment = body_at journal entry
     receipt_of journal entry (kinds.NonAcceptance cause) id recipient moment =
         option_and_then (refusal_by id) (slice_get journal entry)
     receipt_of journal entry kind id recipient moment =

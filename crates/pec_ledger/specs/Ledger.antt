@@ -1,7 +1,7 @@
 -- The ledger: all providers' halves side by side (`ledger`), what a letter is licensed by and its one text
 -- (`IsLicensedText`), the conditions that speak of the whole ledger (`Joint`), and when journals are right (`Fit`).
 -- RFC 6109, sections 3.1 to 3.4, within this project's profile.
-use Rattle.std.specs.Prelude.{◌≡◌, ℕ, ◌<◌, ◌≤◌, ◌⊎◌, List, ◌∷◌, slice_get, Option, Some, None, IsSome}
+use Rattle.std.specs.Prelude.{◌≡◌, ℕ, ◌<◌, ◌≤◌, ◌⊎◌, List, ◌∷◌, Contains, slice_get, Option, Some, None, IsSome}
 use Rattle.std.specs.Option.{option_and_then}
 use Rattle.pec_types.specs.Bytes.{Bytes}
 use Rattle.pec_types.specs.Message.{Id}
@@ -19,7 +19,7 @@ use Rattle.pec_ledger.specs.Half.{Half, Fate, Known, Taken, empty}
 use Rattle.pec_ledger.specs.Lookups.{Accepted, HasPairsAt, accepted_at, addresses_of, decided_of, known_of, outcome_kind, taken_of}
 use Rattle.pec_ledger.specs.Own.{Own}
 use Rattle.pec_ledger.specs.Pairs.{Pair, pair_of}
-use Rattle.pec_ledger.specs.Steps.{half, moment_of, step}
+use Rattle.pec_ledger.specs.Steps.{half, moment_of, step, version_by}
 use Rattle.pec_ledger.specs.Trade.{Trade}
 
 -- All journals, one for each number of a provider.
@@ -39,10 +39,15 @@ body_of _ = None
 abbrev pub body_at : List Entry → ℕ → Option Bytes
 body_at journal number = option_and_then body_of (slice_get journal number)
 
--- A journal begins with its Start.
+-- A journal begins with its Start, of version 1 or of version 2.
 abbrev pub Begins : List Entry → Type 0
 Begins (entries.Start number digest ∷ rest) = Unit {0}
+Begins (entries.StartTwo number digest ∷ rest) = Unit {0}
 Begins _ = ⊥
+
+-- A journal is of version 2: an entry of it makes it so, a Start of that version or an upgrade.
+abbrev pub IsOfVersionTwo : List Entry → Type 0
+IsOfVersionTwo journal = (entry : Entry) × Contains journal entry × (version_by entry ≡ 2)
 
 module _ (trade : Trade) where
   -- The half of each provider, by its own journal alone.
@@ -94,7 +99,7 @@ module _ (trade : Trade) where
           recipient = None;
         }) original
 
-  -- The receipt on a pair that is decided at the recipient's provider, at the moment of the decision.
+  -- The letter on a pair that is decided at the recipient's provider, at the moment of the decision.
   pub record IsOutcomeText (journals : Journals) (pair : Pair) (bytes : Bytes) : Type 0 where
     pub message : Accepted
     pub original : Bytes
@@ -170,6 +175,9 @@ module _ (trade : Trade) where
       IsSome (known_of (ledger journals id.provider) (pair_of id recipient))
   Joint journals provider (entries.Ticked moment) = Unit {0}
   Joint journals provider (entries.Anomaly moment accounts message) = Unit {0}
+  Joint journals provider (entries.StartTwo number digest) = Unit {0}
+  Joint journals provider (entries.Upgraded moment) = Unit {0}
+  Joint journals provider (entries.Archived moment account place) = Unit {0}
 
   -- An entry may follow a half of this provider, in these journals: its own condition, a moment that isn't before the
   -- greatest and is one that a clock tells, below END_OF_TIME, and its joint condition.
@@ -183,7 +191,7 @@ module _ (trade : Trade) where
   abbrev pub Follows : Journals → ℕ → Half → List Entry → Type 0
   Follows journals provider half entries = AllAlong (step trade provider) (Meets journals provider) half entries
 
-  -- The journals are right: each begins with Start, and each entry may follow.
+  -- The journals are right: each begins with its Start, and each entry may follow.
   pub record Fit (journals : Journals) : Type 0 where
     pub begins : (provider : ℕ) → provider < trade.providers → Begins (journals provider)
     pub follows : (provider : ℕ) → Follows journals provider empty (journals provider)

@@ -1,5 +1,6 @@
 pub mod Along
 pub mod Books
+pub mod Boxes
 pub mod Changes
 pub mod Deadlines
 pub mod Due

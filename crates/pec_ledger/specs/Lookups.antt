@@ -14,8 +14,10 @@ use Rattle.pec_types.specs.declared.messages.Facts.{Facts}
 use Rattle.pec_types.specs.declared.messages.Recipient.{Recipient}
 use Rattle.pec_types.specs.declared.receipts.Kind.{Kind}
 use Rattle.pec_types.specs.declared.receipts.Kind.TheVariants as kinds
+use Rattle.pec_types.specs.declared.messages.Refusal.TheVariants as refusals
 use Rattle.pec_ledger.specs.Along.{times}
-use Rattle.pec_ledger.specs.Half.{Half, Message, Charge, Mark, Known, Taken, Fate, Item, Posted, EnvelopeItem, ReceiptItem, AnomalyItem}
+use Rattle.pec_ledger.specs.Boxes.{Boxes, boxes_of}
+use Rattle.pec_ledger.specs.Half.{Half, Message, Charge, Mark, Known, Taken, Fate, Item, Move, Posted, EnvelopeItem, ReceiptItem, AnomalyItem}
 use Rattle.pec_ledger.specs.Pairs.{Pair, same_id, same_pair}
 use Rattle.pec_ledger.specs.Trade.{Trade}
 
@@ -114,11 +116,28 @@ warning_of half pair = find (λ (mark : Mark). is_warning mark.due && same_pair 
 abbrev pub charge_of : Trade → Half → Pair → Option Charge
 charge_of trade half pair = option_and_then (charged_of half pair.id) (trade.home pair.recipient)
 
--- ---- mailboxes
+-- ---- mailboxes and archives
 
--- The items of an account, in order of placing.
+-- All items that were ever placed with an account, in order of placing.
+abbrev pub ever_placed : Half → Bytes → List Posted
+ever_placed half account = filter (λ (posted : Posted). bytes_eq account posted.account) half.items
+
+-- the places of its mailbox from which items were moved, in the order of the moves
+abbrev pub places_moved : Half → Bytes → List ℕ
+places_moved half account =
+    map (λ (move : Move). move.place) (filter (λ (move : Move). bytes_eq account move.account) half.moves)
+
+-- The mailbox and the archive of an account.
+abbrev pub boxes : Half → Bytes → Boxes
+boxes half account = boxes_of (ever_placed half account) (places_moved half account)
+
+-- The items of an account's mailbox, in order of placing.
 abbrev pub mailbox : Half → Bytes → List Posted
-mailbox half account = filter (λ (posted : Posted). bytes_eq account posted.account) half.items
+mailbox half account = (boxes half account).mailbox
+
+-- The items of its archive, in the order in which they were moved there.
+abbrev pub archive : Half → Bytes → List Posted
+archive half account = (boxes half account).archive
 
 -- envelopes and anomalies take room, receipts and notices don't
 abbrev pub takes_room : Item → Bool
@@ -126,7 +145,7 @@ takes_room (EnvelopeItem id) = true
 takes_room (AnomalyItem moment) = true
 takes_room (ReceiptItem kind id recipient moment) = false
 
--- How many items of an account take room.
+-- How many items of an account's mailbox take room.
 abbrev pub counted : Half → Bytes → ℕ
 counted half account = times (λ (posted : Posted). takes_room posted.item) (mailbox half account)
 
@@ -134,7 +153,17 @@ counted half account = times (λ (posted : Posted). takes_room posted.item) (mai
 abbrev pub has_room : Trade → ℕ → Half → Bytes → Bool
 has_room trade provider half account = trade.is_account provider account && nat_lt (counted half account) (trade.quota account)
 
--- the kind of the receipt on a decision
+-- ---- receipts on a decision
+
+-- the kind of the letter by which the recipient's provider tells a decision: that of a virus is for the sender's
+-- provider
 abbrev pub outcome_kind : Decision → Kind
 outcome_kind Placed = kinds.Delivery
-outcome_kind (Refused refusal) = kinds.DeliveryError refusal
+outcome_kind (Refused refusals.NoMailbox) = kinds.DeliveryError refusals.NoMailbox
+outcome_kind (Refused refusals.MailboxFull) = kinds.DeliveryError refusals.MailboxFull
+outcome_kind (Refused refusals.Virus) = kinds.VirusFound
+
+-- the kind of the receipt on it that the sender gets
+abbrev pub receipt_kind : Decision → Kind
+receipt_kind Placed = kinds.Delivery
+receipt_kind (Refused refusal) = kinds.DeliveryError refusal

@@ -13,16 +13,18 @@ use Rattle.pec_ledger.specs.Steps.{half}
 use Rattle.pec_ledger.specs.Trade.{Framed, Trade}
 
 -- A provider as it stands: its journal, whether it is up, the entry whose append failed and may or may not be on the
--- disk, and the frames that wait for it, a list for each provider that sent them, oldest first.
+-- disk, the patterns of its screens, a list for each box, and the frames that wait for it, a list for each provider
+-- that sent them, oldest first.
 pub record Site : Type 0 where
   pub journal : List Entry
   pub up : Bool
   pub interrupted : Option Entry
+  pub screens : List (List Bytes)
   pub waiting : List (List Bytes)
 
--- where no provider stands: nothing is kept, nothing is up, and nothing waits
+-- where no provider stands: nothing is kept, nothing is up, nothing is looked for, and nothing waits
 abbrev pub empty_site : Site
-empty_site = record { journal = []; up = false; interrupted = None; waiting = [] }
+empty_site = record { journal = []; up = false; interrupted = None; screens = []; waiting = [] }
 
 -- the provider of a number, from 0, as it stands
 abbrev pub site_at : List Site → ℕ → Site
@@ -89,23 +91,24 @@ module _ (trade : Trade) where
     pub down : (provider : ℕ) → IsSome (interrupted_at sites provider) → is_up sites provider ≡ false
     pub genuine : (from to : ℕ) → AreGenuine (journals_of sites) (frames_between sites from to)
 
-  -- a provider as it begins: its journal has its Start, it is up, and nothing waits
-  abbrev pub started : ℕ → Site
-  started provider = record {
-    journal = entries.Start provider trade.digest ∷ [];
+  -- a provider as it begins: its journal, of version 2, has its Start, it is up, it has its screens, and nothing waits
+  abbrev pub started : (ℕ → List (List Bytes)) → ℕ → Site
+  started screens provider = record {
+    journal = entries.StartTwo provider trade.digest ∷ [];
     up = true;
     interrupted = None;
+    screens = screens provider;
     waiting = replicate trade.providers [];
   }
 
   -- so many providers, numbered from here on
-  abbrev pub started_from : ℕ → ℕ → List Site
-  started_from number zero = []
-  started_from number (suc count) = started number ∷ started_from (number + 1) count
+  abbrev pub started_from : (ℕ → List (List Bytes)) → ℕ → ℕ → List Site
+  started_from screens number zero = []
+  started_from screens number (suc count) = started screens number ∷ started_from screens (number + 1) count
 
-  -- The state at the start.
-  unfoldable pub at_start : List Site
-  at_start = started_from 0 trade.providers
+  -- The state at the start, with these screens of each provider.
+  unfoldable pub at_start : (ℕ → List (List Bytes)) → List Site
+  at_start screens = started_from screens 0 trade.providers
 
   -- ---- how a state goes on
 

@@ -12,13 +12,13 @@ use Rattle.pec_records.specs.declared.entries.Entry.{Entry}
 use Rattle.pec_records.specs.declared.entries.Entry.TheVariants as entries
 use Rattle.pec_ledger.specs.Along.{AllDiffer}
 use Rattle.pec_ledger.specs.Half.{Half, Taken}
-use Rattle.pec_ledger.specs.Lookups.{Accepted, HasPair, HasPairsAt, accepted_at, at_home, charged_of, counted, decided_of, has_room, is_acked, known_of, taken_of}
+use Rattle.pec_ledger.specs.Lookups.{Accepted, HasPair, HasPairsAt, accepted_at, at_home, charged_of, counted, decided_of, has_room, is_acked, known_of, mailbox, taken_of}
 use Rattle.pec_ledger.specs.Pairs.{Pair, pair_of}
 use Rattle.pec_ledger.specs.Trade.{Trade}
 
 module _ (trade : Trade) (provider : ℕ) where
-  -- What is decided for a recipient: refused where it is no account, refused where the account has no room, and
-  -- otherwise placed. The rows are those of pec_points' table.
+  -- What is decided for a recipient where no screen finds a rule in the message: refused where it is no account,
+  -- refused where the account has no room, and otherwise placed. The rows are those of pec_points' table.
   unfoldable pub decision_at : Half → Bytes → Decision
   decision_at half recipient =
       if not (trade.is_account provider recipient) then Refused refusals.NoMailbox
@@ -74,3 +74,7 @@ module _ (trade : Trade) (provider : ℕ) where
   Own half (entries.Ticked moment) = Unit {0}
   Own half (entries.Anomaly moment accounts message) =
       (0 < length accounts) × AllDiffer accounts × All (λ account. IsTrue (has_room trade provider half account)) accounts
+  Own half (entries.StartTwo number digest) = (half.entries ≡ 0) × (number ≡ provider) × (digest ≡ trade.digest)
+  Own half (entries.Upgraded moment) = half.version ≡ 1
+  Own half (entries.Archived moment account place) =
+      (half.version ≡ 2) × IsTrue (trade.is_account provider account) × (place < length (mailbox half account))

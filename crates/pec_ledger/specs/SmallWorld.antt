@@ -102,6 +102,7 @@ kind_code kinds.Warning = 7
 kind_code kinds.Notice = 8
 kind_code kinds.LateNotice = 9
 kind_code kinds.Ack = 10
+kind_code kinds.VirusFound = 11
 
 -- the kind for which a number stands
 abbrev pub kind_at : ℕ → Kind
@@ -115,7 +116,8 @@ kind_at code =
     else (if code == 7 then kinds.Warning
     else (if code == 8 then kinds.Notice
     else (if code == 9 then kinds.LateNotice
-    else (if code == 10 then kinds.Ack else kinds.NonAcceptance causes.Head)))))))))
+    else (if code == 10 then kinds.Ack
+    else (if code == 11 then kinds.VirusFound else kinds.NonAcceptance causes.Head))))))))))
 
 -- the end of a receipt's text, which names the recipient, if there is one
 abbrev pub recipient_text : Option Bytes → Bytes

@@ -1,5 +1,5 @@
--- What an entry changes: `adds`, list by list, and `half`, what a provider's entries come to. Of the ten entries only
--- those that say so change a list. RFC 6109, sections 3.1 to 3.4, within this project's profile.
+-- What an entry changes: `adds`, list by list, and `half`, what a provider's entries come to. Of all entries only those
+-- that say so change a list. RFC 6109, sections 3.1 to 3.4, within this project's profile.
 use Rattle.std.specs.Prelude.{ℕ, ◌+◌, List, [], ◌∷◌, length, map, fold, Some, None}
 use Rattle.pec_types.specs.Bytes.{Bytes}
 use Rattle.pec_types.specs.Message.{Id}
@@ -12,8 +12,8 @@ use Rattle.pec_types.specs.declared.limits.Due.TheVariants as dues
 use Rattle.pec_records.specs.Entry.{entry_text}
 use Rattle.pec_records.specs.declared.entries.Entry.{Entry}
 use Rattle.pec_records.specs.declared.entries.Entry.TheVariants as entries
-use Rattle.pec_ledger.specs.Half.{Half, Adds, Message, Charge, Mark, Known, Taken, Fate, Posted, EnvelopeItem, ReceiptItem, AnomalyItem, empty, joined}
-use Rattle.pec_ledger.specs.Lookups.{at_home, outcome_kind, submitter}
+use Rattle.pec_ledger.specs.Half.{Half, Adds, Message, Charge, Mark, Known, Taken, Fate, Move, Posted, EnvelopeItem, ReceiptItem, AnomalyItem, empty, joined}
+use Rattle.pec_ledger.specs.Lookups.{at_home, receipt_kind, submitter}
 use Rattle.pec_ledger.specs.Marks.{marks_from}
 use Rattle.pec_ledger.specs.Pairs.{Pair, id_of, pair_of}
 use Rattle.pec_ledger.specs.Trade.{Trade}
@@ -30,6 +30,16 @@ moment_of (entries.Learned moment id recipient decision decided message) = momen
 moment_of (entries.Acked moment id recipient) = moment
 moment_of (entries.Ticked moment) = moment
 moment_of (entries.Anomaly moment accounts message) = moment
+moment_of (entries.StartTwo provider digest) = 0
+moment_of (entries.Upgraded moment) = moment
+moment_of (entries.Archived moment account place) = moment
+
+-- the version that a journal has from an entry on, if the entry says one, and else 0
+abbrev pub version_by : Entry → ℕ
+version_by (entries.Start provider digest) = 1
+version_by (entries.StartTwo provider digest) = 2
+version_by (entries.Upgraded moment) = 2
+version_by _ = 0
 
 -- how many bytes longer an entry makes its journal: its own, a gate and a length
 unfoldable pub size_of : Entry → ℕ
@@ -58,6 +68,11 @@ decided_by _ = []
 abbrev pub acked_by : Entry → List Pair
 acked_by (entries.Acked moment id recipient) = pair_of id recipient ∷ []
 acked_by _ = []
+
+-- the item that it moves into an archive, if it moves one
+abbrev pub moves_by : Entry → List Move
+moves_by (entries.Archived moment account place) = record { account = account; place = place } ∷ []
+moves_by _ = []
 
 -- ---- items
 
@@ -130,7 +145,7 @@ module _ (trade : Trade) (provider : ℕ) where
   items_by half (entries.Decided moment id recipient decision) = placed_by half id recipient decision
   items_by half (entries.Learned moment id recipient decision decided message) = record {
     account = submitter half id.number;
-    item = ReceiptItem (outcome_kind decision) id (Some recipient) moment;
+    item = ReceiptItem (receipt_kind decision) id (Some recipient) moment;
     entry = half.entries;
   } ∷ []
   items_by half (entries.Ticked moment) = map (notice_by half) (marks_from trade provider half moment 0 half.messages)
@@ -141,6 +156,7 @@ module _ (trade : Trade) (provider : ℕ) where
   abbrev pub adds : Half → Entry → Adds
   adds half entry = record {
     moment = moment_of entry;
+    version = version_by entry;
     size = size_of entry;
     messages = messages_by half entry;
     charged = charged_by entry;
@@ -150,6 +166,7 @@ module _ (trade : Trade) (provider : ℕ) where
     decided = decided_by entry;
     acked = acked_by entry;
     items = items_by half entry;
+    moves = moves_by entry;
   }
 
   -- The half after an entry.

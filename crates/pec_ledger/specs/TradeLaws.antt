@@ -9,6 +9,7 @@ use Rattle.pec_types.specs.declared.letters.Letter.{Letter}
 use Rattle.pec_types.specs.declared.letters.Letter.TheVariants as letters
 use Rattle.pec_types.specs.declared.messages.Cause.{Cause}
 use Rattle.pec_types.specs.declared.messages.Facts.{Facts}
+use Rattle.pec_types.specs.declared.messages.Refusal.TheVariants as refusals
 use Rattle.pec_types.specs.declared.messages.TheConstants.{MESSAGES}
 use Rattle.pec_types.specs.declared.moments.TheConstants.{END_OF_TIME}
 use Rattle.pec_types.specs.declared.receipts.Kind.{Kind}
@@ -20,11 +21,14 @@ use Rattle.pec_ledger.specs.Trade.{Receipt, Seen, SeenEnvelope, SeenReceipt, Tra
 
 -- ---- which letter a message is
 
--- the letter that a receipt is, by its kind, its message, who sealed it, and its recipient
+-- the letter that a receipt is, by its kind, its message, who sealed it, and its recipient; the delivery error of a
+-- virus is for the sender alone, and no letter
 abbrev pub letter_on : Kind → Id → ℕ → Option Bytes → Option Letter
 letter_on kinds.Charge id by recipient = Some (letters.Charge id by)
 letter_on kinds.Delivery id by (Some recipient) = Some (letters.Outcome id recipient)
-letter_on (kinds.DeliveryError refusal) id by (Some recipient) = Some (letters.Outcome id recipient)
+letter_on (kinds.DeliveryError refusals.NoMailbox) id by (Some recipient) = Some (letters.Outcome id recipient)
+letter_on (kinds.DeliveryError refusals.MailboxFull) id by (Some recipient) = Some (letters.Outcome id recipient)
+letter_on kinds.VirusFound id by (Some recipient) = Some (letters.Outcome id recipient)
 letter_on kinds.Ack id by (Some recipient) = Some (letters.Ack id recipient)
 letter_on _ id by recipient = None
 
@@ -37,6 +41,11 @@ letter_seen me (SeenReceipt receipt) = letter_on receipt.kind receipt.id receipt
 -- the letter that a provider sees in a message, if it sees one
 abbrev pub letter_in : Trade → ℕ → Bytes → Option Letter
 letter_in trade me message = option_and_then (letter_seen me) (trade.view message)
+
+-- what is seen is a notice of non-acceptance
+abbrev pub IsRefusal : Seen → Type 0
+IsRefusal (SeenEnvelope id moment original) = ⊥
+IsRefusal (SeenReceipt receipt) = (cause : Cause) × (receipt.kind ≡ kinds.NonAcceptance cause)
 
 -- ---- premises
 
@@ -65,6 +74,7 @@ IsOfKind trade facts (kinds.NonAcceptance cause) receipt = ⊥
 IsOfKind trade facts kinds.Charge receipt = receipt.recipient ≡ None
 IsOfKind trade facts kinds.Delivery receipt = Names trade facts receipt.recipient
 IsOfKind trade facts (kinds.DeliveryError refusal) receipt = Names trade facts receipt.recipient
+IsOfKind trade facts kinds.VirusFound receipt = Names trade facts receipt.recipient
 IsOfKind trade facts kinds.Warning receipt = (receipt.by ≡ receipt.id.provider) × Names trade facts receipt.recipient
 IsOfKind trade facts kinds.Notice receipt = (receipt.by ≡ receipt.id.provider) × Names trade facts receipt.recipient
 IsOfKind trade facts kinds.LateNotice receipt = (receipt.by ≡ receipt.id.provider) × Names trade facts receipt.recipient
@@ -102,13 +112,13 @@ pub record IsTrade (trade : Trade) : Type 0 where
   -- Receipts: one is seen as what it was composed of.
   pub receipt_seen : (receipt : Receipt) (original : Bytes) → CanBeComposed trade receipt original
       → trade.view (trade.receipt_text receipt original) ≡ Some (SeenReceipt receipt)
-  -- Notices of non-acceptance and anomalies are seen as no letter.
-  pub refusal_seen : (id : Id) (moment : ℕ) (sender : Bytes) (cause : Cause) (path : Path) (message : Bytes) (me : ℕ)
+  -- What is seen in a notice of non-acceptance is one, if anything is; in an anomaly nothing is seen.
+  pub refusal_seen : (id : Id) (moment : ℕ) (sender : Bytes) (cause : Cause) (path : Path) (message : Bytes)
       → id.provider < trade.providers → id.number < MESSAGES → IsTrue (trade.is_account id.provider sender)
       → 0 < length path → length path ≤ most_addresses → moment < END_OF_TIME
-      → letter_in trade me (trade.refusal_text id moment sender cause path message) ≡ None
-  pub anomaly_seen : (provider entry moment : ℕ) (message : Bytes) (me : ℕ) → provider < trade.providers
-      → moment < END_OF_TIME → letter_in trade me (trade.anomaly_text provider entry moment message) ≡ None
+      → (seen : Seen) → trade.view (trade.refusal_text id moment sender cause path message) ≡ Some seen → IsRefusal seen
+  pub anomaly_seen : (provider entry moment : ℕ) (message : Bytes) → provider < trade.providers
+      → moment < END_OF_TIME → trade.view (trade.anomaly_text provider entry moment message) ≡ None
   -- Seals: what is seen opens, and nothing is seen in a text of no bytes.
   pub nothing_seen : trade.view [] ≡ None
   pub seen_opens : (message : Bytes) (seen : Seen) → trade.view message ≡ Some seen → trade.opens message ≡ true

@@ -1,4 +1,5 @@
 ghost use Rattle.std.specs.Prelude.{◌≡◌, ℕ, ◌<◌, List, [], length, slice_index_or};
+ghost use Rattle.pec_types.specs.Bytes.{Bytes};
 ghost use Rattle.pec_records.specs.declared.entries.Entry.{Entry};
 ghost use Rattle.pec_ledger.specs.Ledger.{Fit, Journals};
 ghost use Rattle.pec_ledger.specs.Network.{at_start, Continues, FollowsState, Happens, IsNext, journals_in, Site, Sound};
@@ -19,7 +20,7 @@ pub fn any_images()
 /// The state at the start is Sound, and so is each next one. What may happen to a provider in a command, crash and
 /// restart too, is what it owes for that.
 pub fn soundness()
-    ensures start { (trade : Trade) → Sound trade (at_start trade) }
+    ensures start { (trade : Trade) (screens : ℕ → List (List Bytes)) → Sound trade (at_start trade screens) }
     ensures next { (trade : Trade) (old new : List Site) → Sound trade old → IsNext trade old new → Sound trade new }
     ensures each { (trade : Trade) (old new : List Site) (provider : ℕ) → Happens trade old new provider → Continues trade old new provider }
 {}

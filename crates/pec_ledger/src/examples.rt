@@ -7,8 +7,8 @@ ghost use Rattle.pec_types.specs.declared.messages.Refusal.{Refusal as SomeRefus
 ghost use Rattle.pec_types.specs.declared.messages.Refusal.TheVariants as refusals;
 ghost use Rattle.pec_types.specs.declared.receipts.Kind.TheVariants as kinds;
 ghost use Rattle.pec_records.specs.declared.entries.Entry.TheVariants as entries;
-ghost use Rattle.pec_ledger.specs.Books.{book, mailbox_lines};
-ghost use Rattle.pec_ledger.specs.Examples.{accepting, alice, anna, bob, carl, carl_wrote, first, mark_on_anna, nobody, noticed_and_delivered, one_placed, open_line, receipt_line, receipt_line_on, receipt_on, to_nobody, to_one, to_two};
+ghost use Rattle.pec_ledger.specs.Books.{archive_lines, book, mailbox_lines};
+ghost use Rattle.pec_ledger.specs.Examples.{accepting, alice, anna, bob, carl, carl_wrote, first, mark_on_anna, nobody, noticed_and_delivered, one_archived, one_placed, open_line, receipt_line, receipt_line_on, receipt_on, to_nobody, to_one, to_two, two_placed, virus_decided, virus_learned};
 ghost use Rattle.pec_ledger.specs.Network.{FollowsState, journal_at, Site};
 ghost use Rattle.pec_ledger.specs.Own.{decision_at};
 ghost use Rattle.pec_ledger.specs.SmallWorld.{small};
@@ -29,6 +29,7 @@ pub fn the_premises_are_met()
     ensures charge { CanBeComposed small (receipt_on kinds.Charge None) (to_one anna) }
     ensures delivery { CanBeComposed small (receipt_on kinds.Delivery (Some anna)) (to_one anna) }
     ensures error { (refusal : SomeRefusal) → CanBeComposed small (receipt_on (kinds.DeliveryError refusal) (Some anna)) (to_one anna) }
+    ensures virus_found { CanBeComposed small (receipt_on kinds.VirusFound (Some anna)) (to_one anna) }
     ensures warning { CanBeComposed small (receipt_on kinds.Warning (Some anna)) (to_one anna) }
     ensures notice { CanBeComposed small (receipt_on kinds.Notice (Some anna)) (to_one anna) }
     ensures late_notice { CanBeComposed small (receipt_on kinds.LateNotice (Some anna)) (to_one anna) }
@@ -69,6 +70,24 @@ pub fn books_of_the_examples()
     ensures room_beside_a_receipt { decision_at small 1 (half small 1 carl_wrote) carl ≡ decisions.Placed }
     ensures room_for_first { decision_at small 1 (half small 1 []) carl ≡ decisions.Placed }
     ensures no_account { decision_at small 1 (half small 1 []) nobody ≡ decisions.Refused refusals.NoMailbox }
+    // What is archived takes no room, and leaves the mailbox for the archive; what is placed then stands in the
+    // mailbox.
+    ensures room_again { decision_at small 1 (half small 1 one_archived) carl ≡ decisions.Placed }
+    ensures emptied { mailbox_lines (half small 1 one_archived) carl ≡ [] }
+    ensures vault { archive_lines (half small 1 one_archived) carl
+        ≡ record { kind = item_kinds.Envelope; id = Some first; recipient = None } ∷ [] }
+    ensures next_item { mailbox_lines (half small 1 two_placed) carl
+        ≡ record { kind = item_kinds.Envelope; id = Some (record { provider = 0; number = 1 }); recipient = None } ∷ [] }
+    ensures same_vault { archive_lines (half small 1 two_placed) carl ≡ archive_lines (half small 1 one_archived) carl }
+    // A virus that the recipient's provider finds: nothing is placed, and the sender gets a delivery error.
+    ensures virus_book { book small 0 (half small 0 virus_learned) alice
+        ≡ record (open_line bob classes.Primary) {
+          charged = Some 1704186003;
+          outcome = Some (decisions.Refused refusals.Virus, 1704186002);
+        } ∷ [] }
+    ensures virus_receipts { mailbox_lines (half small 0 virus_learned) alice
+        ≡ receipt_line kinds.Acceptance ∷ receipt_line_on (kinds.DeliveryError refusals.Virus) bob ∷ [] }
+    ensures virus_kept_out { mailbox_lines (half small 1 virus_decided) bob ≡ [] }
 {}
 
 /// What clock calls mark after a message of which nothing is heard.

@@ -4,6 +4,8 @@ ghost use Rattle.pec_types.specs.Message.{Id};
 ghost use Rattle.pec_types.specs.declared.letters.Letter.{Letter as SomeLetter};
 ghost use Rattle.pec_types.specs.declared.letters.Letter.TheVariants as letters;
 ghost use Rattle.pec_types.specs.declared.messages.Decision.{Decision as SomeDecision};
+ghost use Rattle.pec_types.specs.declared.messages.Decision.TheVariants as decisions;
+ghost use Rattle.pec_types.specs.declared.messages.Refusal.TheVariants as refusals;
 ghost use Rattle.pec_types.specs.declared.receipts.Kind.TheVariants as kinds;
 ghost use Rattle.pec_records.specs.declared.entries.Entry.{Entry};
 ghost use Rattle.pec_records.specs.declared.entries.Entry.TheVariants as entries;
@@ -119,4 +121,9 @@ pub fn arrivals_are_true()
         → (bytes : Bytes) → IsGenuineText trade journals bytes → (receipt : Receipt) → trade.view bytes ≡ Some (SeenReceipt receipt)
         → receipt.kind ≡ kinds.Ack → (recipient : Bytes) → receipt.recipient ≡ Some recipient
         → IsSome (known_of (ledger trade journals receipt.id.provider) (pair_of receipt.id recipient)) }
+    // The delivery error of a virus leads to no entry, but what it tells is decided too.
+    ensures viruses { (trade : Trade) (journals : Journals) → Fit trade journals → IsTrade trade
+        → (bytes : Bytes) → IsGenuineText trade journals bytes → (receipt : Receipt) → trade.view bytes ≡ Some (SeenReceipt receipt)
+        → receipt.kind ≡ kinds.DeliveryError refusals.Virus → (recipient : Bytes) → receipt.recipient ≡ Some recipient
+        → (moment : ℕ) × IsDecidedSo trade journals (pair_of receipt.id recipient) (decisions.Refused refusals.Virus) moment }
 {}

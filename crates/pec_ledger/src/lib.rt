@@ -3,6 +3,7 @@
 //! whose contract is the statement.
 #![tactic(auto)]
 
+mod boxes;
 mod crashes;
 mod examples;
 mod guarantees;
@@ -10,6 +11,7 @@ mod letters;
 mod licences;
 mod tables;
 
+pub use boxes::{a_journal_has_a_version, an_entry_fills_boxes, boxes_hold_what_was_placed};
 pub use crashes::{any_images, soundness};
 pub use examples::{
     a_world_is_there, books_of_the_examples, marks_of_the_examples, the_premises_are_met,

@@ -14,7 +14,7 @@ ghost use Rattle.pec_ledger.specs.Books.{book};
 ghost use Rattle.pec_ledger.specs.Changes.{Changes, adds_item, adds_message, nothing};
 ghost use Rattle.pec_ledger.specs.Due.{due_letters, owed_letters};
 ghost use Rattle.pec_ledger.specs.Half.{AnomalyItem, EnvelopeItem, Half, Mark, ReceiptItem};
-ghost use Rattle.pec_ledger.specs.Lookups.{at_home, counted, outcome_kind, submitter};
+ghost use Rattle.pec_ledger.specs.Lookups.{at_home, counted, receipt_kind, submitter};
 ghost use Rattle.pec_ledger.specs.Marks.{marks_from};
 ghost use Rattle.pec_ledger.specs.Own.{decision_at};
 ghost use Rattle.pec_ledger.specs.Pairs.{id_of, pair_of};
@@ -32,7 +32,7 @@ pub fn the_time_table()
     a_pair_has_one_due();
 }
 
-/// The decision on a pair, row by row: no account, no room, and otherwise placed.
+/// The decision on a pair where no screen finds a rule, row by row: no account, no room, and otherwise placed.
 pub fn the_decisions()
     ensures no_mailbox { (trade : Trade) (provider : ℕ) (half : Half) (recipient : Bytes)
         → (decision_at trade provider half recipient ≡ decisions.Refused refusals.NoMailbox) ↔ (trade.is_account provider recipient ≡ false) }
@@ -60,7 +60,8 @@ pub fn the_due_letters()
         → due_letters trade provider half to room owed ≡ take room (owed_letters trade provider half to owed) }
 {}
 
-/// What each entry changes: which rows it adds, and that it adds no others.
+/// What each entry changes: which rows it adds, and that it adds no others. Which version it makes of its journal, it
+/// says alone (`version_by`).
 pub fn what_an_entry_changes()
     ensures start { (trade : Trade) (provider : ℕ) (half : Half) (number : ℕ) (digest : Bytes)
         → Changes trade provider half (entries.Start number digest) nothing }
@@ -99,7 +100,7 @@ pub fn what_an_entry_changes()
         (record nothing { charged = record { id = id; by = by; moment = moment } ∷ [] }) }
     ensures learned { (trade : Trade) (provider : ℕ) (half : Half) (moment : ℕ) (id : Id) (recipient : Bytes) (decision : SomeDecision) (decided : ℕ) (message : Bytes)
         → Changes trade provider half (entries.Learned moment id recipient decision decided message)
-        (record (adds_item half (submitter half id.number) (ReceiptItem (outcome_kind decision) id (Some recipient) moment)) {
+        (record (adds_item half (submitter half id.number) (ReceiptItem (receipt_kind decision) id (Some recipient) moment)) {
           known = record { pair = pair_of id recipient; decision = decision; decided = decided; moment = moment } ∷ [];
         }) }
     ensures acked { (trade : Trade) (provider : ℕ) (half : Half) (moment : ℕ) (id : Id) (recipient : Bytes)
@@ -113,4 +114,11 @@ pub fn what_an_entry_changes()
     ensures anomaly { (trade : Trade) (provider : ℕ) (half : Half) (moment : ℕ) (accounts : Path) (message : Bytes)
         → Changes trade provider half (entries.Anomaly moment accounts message)
         (record nothing { items = map (anomaly_by half moment) accounts }) }
+    ensures start_two { (trade : Trade) (provider : ℕ) (half : Half) (number : ℕ) (digest : Bytes)
+        → Changes trade provider half (entries.StartTwo number digest) nothing }
+    ensures upgraded { (trade : Trade) (provider : ℕ) (half : Half) (moment : ℕ)
+        → Changes trade provider half (entries.Upgraded moment) nothing }
+    ensures archived { (trade : Trade) (provider : ℕ) (half : Half) (moment : ℕ) (account : Bytes) (place : ℕ)
+        → Changes trade provider half (entries.Archived moment account place)
+        (record nothing { moves = record { account = account; place = place } ∷ [] }) }
 {}

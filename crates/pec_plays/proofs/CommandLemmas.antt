@@ -1,7 +1,7 @@
 -- Each command but a round leads to a state that may come next.
 use Rattle.std.proofs.Common.{◌≡◌, ℕ, zero, suc, ◌+◌, ◌<◌, ◌≤◌, List, [], ◌∷◌, ◌++◌, Bool, true, false, inl, inr, length, take, drop, refl, ap, sym, subst, ◌∙◌, arith, nat_lt, Option, Some, None}
-use Rattle.std.specs.Prelude.{All, IsSome, slice_index_or, slice_set, slice_get, if◌then◌else◌}
-use Rattle.std.proofs.lemmas.Bool.{cases_eq, cases_lt, ltb-false, ltb-true}
+use Rattle.std.specs.Prelude.{All, IsSome, slice_index_or, slice_set, slice_get, ◌==◌, if◌then◌else◌}
+use Rattle.std.proofs.lemmas.Bool.{cases_eq, cases_lt, eqb-true, ltb-false, ltb-true}
 use Rattle.std.proofs.lemmas.List.{append-nil, get_or-set_other, get_or-set_same, set_past}
 use Rattle.std.proofs.lemmas.List.Elements.{All-append, All-drop, All-push, All-take}
 use Rattle.std.proofs.lemmas.Option.{none-some, same_Some}
@@ -16,13 +16,14 @@ use Rattle.pec_records.specs.declared.entries.Entry.{Entry}
 use Rattle.pec_records.specs.declared.entries.Entry.TheVariants as entries
 use Rattle.pec_ledger.specs.Half.{Half, Posted}
 use Rattle.pec_ledger.specs.Items.{item_text}
+use Rattle.pec_screen.specs.Verdicts.{Patterns}
 use Rattle.pec_ledger.specs.Ledger.{Follows, Journals, Meets}
 use Rattle.pec_ledger.specs.Network.{AreGenuine, IsGenuine, IsNext, Site, Sound, frames_between, journal_at, journals_of, site_at, Stays, Appends, Fails, Restarts}
 use Rattle.pec_ledger.specs.Own.{Own}
 use Rattle.pec_ledger.specs.Steps.{half, moment_of}
 use Rattle.pec_ledger.specs.Trade.{Trade}
 use Rattle.pec_ledger.specs.TradeLaws.{IsTrade}
-use Rattle.pec_plays.specs.Commands.{Answer, Luck, Played, append, appended, asked, at_work, entry_by, injected, lost, messages_at, put_again, read_back, restarted, restarted_site, screened_cause, shown, shown_bytes, stopped_site, submitted, swapped, swapped_at, ticked, with_entry, with_frames, with_site}
+use Rattle.pec_plays.specs.Commands.{Answer, Luck, Played, append, appended, asked, at_work, entry_by, injected, lost, messages_at, put_again, read_back, restarted, restarted_site, screened_cause, shown, shown_bytes, stopped_site, submitted, swapped, swapped_at, ticked, with_entry, with_frames, with_site, account_home, archived, items_at, screened, upgraded, version_at, with_screens}
 use Rattle.pec_plays.specs.Rounds.{link_size, with_waiting}
 use Rattle.pec_plays.specs.Steps.{has_no_room}
 use Rattle.pec_plays.specs.Turns.{broken, last_of}
@@ -57,6 +58,16 @@ module _ (trade : Trade) (world : IsTrade trade) (p now : ℕ) (es : List Entry)
       record { own = (entry_own sender path message true None e account room some few).0; in_time = time; in_range = range; joint = inr (refl, e) }
   entry_meets J sender path message found (Some cause) e account room some few time range =
       record { own = (entry_own sender path message found (Some cause) e account room some few).0; in_time = time; in_range = range; joint = inl e }
+
+-- ---- the provider of an account
+
+pub account_so : (trade : Trade) (account : Bytes) (found : Option ℕ) (p : ℕ) → account_home trade account found ≡ Some p → trade.is_account p account ≡ true
+account_so trade account None p e = absurd (none-some p e)
+account_so trade account (Some q) p e = by (trade.is_account q account) refl e
+  where
+    by : (t : Bool) → trade.is_account q account ≡ t → (if t then Some q else None) ≡ Some p → trade.is_account p account ≡ true
+    by true is f = subst (λ (k : ℕ). trade.is_account k account ≡ true) (same_Some q p f) is
+    by false is f = absurd (none-some p f)
 
 module _ (trade : Trade) (world : IsTrade trade) (laws : StateLaws trade) where
   -- ---- appends
@@ -120,6 +131,48 @@ module _ (trade : Trade) (world : IsTrade trade) (laws : StateLaws trade) where
   next_ticked luck sites p now sound range =
       next_at_work sites p now _ sound
       (λ up time. next_append luck sites p (entries.Ticked now) _ sound up (record { own = tt; in_time = time; in_range = range; joint = tt }))
+
+  -- ---- archives
+
+  pub next_archived : (luck : Luck) (sites : List Site) (found : Option ℕ) (now : ℕ) (account : Bytes) (place : ℕ) → Sound trade sites → now < END_OF_TIME
+      → ((p : ℕ) → found ≡ Some p → trade.is_account p account ≡ true) → IsNext trade sites (archived trade luck sites found now account place).after
+  next_archived luck sites None now account place sound range is = next_as_it_was trade laws sites sound
+  next_archived luck sites (Some p) now account place sound range is =
+      next_at_work sites p now _ sound
+      (λ up time. by_test sites (nat_lt place (items_at trade sites p account)) _ _
+      (λ there. by_test sites (version_at trade sites p == 2) _ _
+      (λ two. next_append luck sites p (entries.Archived now account place) _ sound up
+      (record {
+        own = (eqb-true (version_at trade sites p) 2 two, is p refl, ltb-true place (items_at trade sites p account) there);
+        in_time = time;
+        in_range = range;
+        joint = tt;
+      }))
+      (λ old. next_as_it_was trade laws sites sound))
+      (λ none. next_as_it_was trade laws sites sound))
+
+  pub next_upgraded : (luck : Luck) (sites : List Site) (p now : ℕ) → Sound trade sites → now < END_OF_TIME → IsNext trade sites (upgraded trade luck sites p now).after
+  next_upgraded luck sites p now sound range =
+      next_at_work sites p now _ sound
+      (λ up time. by_test sites (version_at trade sites p == 1) _ _
+      (λ one. next_append luck sites p (entries.Upgraded now) _ sound up
+      (record { own = eqb-true (version_at trade sites p) 1 one; in_time = time; in_range = range; joint = tt }))
+      (λ new. next_as_it_was trade laws sites sound))
+
+  -- ---- screens
+
+  pub next_screened : (sites : List Site) (p place : ℕ) (spare : Option Patterns) → Sound trade sites → IsNext trade sites (screened sites p place spare).after
+  next_screened sites p place None sound = next_as_it_was trade laws sites sound
+  next_screened sites p place (Some patterns) sound =
+      by_test sites (site_at sites p).up _ _
+      (λ up. by_test sites (nat_lt place (length (site_at sites p).screens)) _ _
+      (λ there. next_with trade laws sites p (with_screens (site_at sites p) (slice_set (site_at sites p).screens place patterns)) sound
+      (λ new e.
+      Stays (ap (λ (s : Site). s.journal) e) (ap (λ (s : Site). s.interrupted) e)
+      (λ some. ap (λ (s : Site). s.up) e ∙ sound.down p (subst (λ (i : Option Entry). IsSome i) (ap (λ (s : Site). s.interrupted) e) some)))
+      (λ from. sound.genuine from p))
+      (λ none. next_as_it_was trade laws sites sound))
+      (λ down. next_as_it_was trade laws sites sound)
 
   -- ---- links
 

@@ -20,7 +20,8 @@ use Rattle.pec_ledger.specs.Steps.{half}
 use Rattle.pec_ledger.specs.Tables.{IsOwedEnvelope, IsOwedOutcome}
 use Rattle.pec_ledger.specs.Trade.{Framed, Seen, Trade}
 use Rattle.pec_ledger.specs.TradeLaws.{IsTrade}
-use Rattle.pec_plays.specs.Frames.{ack_of, charge_of, composed, envelope_of, original_in, original_taken, outcome_of, to_home, to_sender, unless_empty, unless_nobody}
+use Rattle.pec_plays.specs.Frames.{ack_of, charge_of, composed, envelope_of, original_in, original_taken, outcome_of, to_addressee, to_home, unless_empty, unless_nobody}
+use Rattle.pec_plays.specs.Paths.{outcome_path}
 use Rattle.pec_plays.proofs.FrameLemmas.{TextLaws}
 use Rattle.pec_plays.proofs.ListLemmas.{home_again, id_again, into_filter, pair_again, some_found, what_is}
 use Rattle.pec_plays.proofs.OwedLemmas.{IsBacked}
@@ -97,6 +98,9 @@ module _ (trade : Trade) (world : IsTrade trade) (J : Journals) (laws : TextLaws
             ∙ ap (λ (t : Bool). if t then Some is.original else None) (id_again id);
       }
 
+  pub taken_is_seen : (id : Id) (row : Taken) → taken_of (ledger trade J p) id ≡ Some row → IsSome (original_taken trade p (J p) id row)
+  taken_is_seen id row e = subst (λ (o : Option Bytes). IsSome o) (sym (taken_original id row e).taken) refl
+
   pub charge_composed : (id : Id) (row : Taken) → taken_of (ledger trade J p) id ≡ Some row → IsSome (composed trade p (J p) (letters.Charge id p))
   unfolding ledger
   charge_composed id row e =
@@ -138,7 +142,7 @@ module _ (trade : Trade) (world : IsTrade trade) (J : Journals) (laws : TextLaws
       (subst
       (λ (o : Option Facts).
       IsSome
-      (to_sender trade p (J p)
+      (to_addressee trade p (J p) pair.id found.0.decision
       (trade.receipt_text
       (record {
         kind = outcome_kind found.0.decision;
@@ -147,7 +151,7 @@ module _ (trade : Trade) (world : IsTrade trade) (J : Journals) (laws : TextLaws
         moment = found.0.moment;
         recipient = Some pair.recipient;
       }) original.original) o))
-      (sym original.is.facts) (some (original.message.facts.sender ∷ []))))))
+      (sym original.is.facts) (some (outcome_path trade pair.id found.0.decision original.message.facts.sender))))))
 
   some_home : (text : Bytes) (home : Option ℕ) → IsSome home → ((path : Path) → IsSome (unless_empty path text)) → IsSome (to_home trade p (J p) text home)
   some_home text None e some = absurd (false≢true e)

@@ -10,6 +10,7 @@ use Rattle.pec_types.specs.Bytes.{Bytes, Path}
 use Rattle.pec_types.specs.Message.{Id}
 use Rattle.pec_types.specs.declared.letters.Letter.{Letter}
 use Rattle.pec_types.specs.declared.letters.Letter.TheVariants as letters
+use Rattle.pec_types.specs.declared.messages.Decision.{Decision}
 use Rattle.pec_types.specs.declared.messages.Facts.{Facts}
 use Rattle.pec_types.specs.declared.receipts.Kind.TheVariants as kinds
 use Rattle.pec_ledger.specs.Due.{due_letters}
@@ -21,7 +22,8 @@ use Rattle.pec_ledger.specs.Pairs.{Pair, pair_of, same_id}
 use Rattle.pec_ledger.specs.Steps.{half}
 use Rattle.pec_ledger.specs.Trade.{Framed, Seen, SeenEnvelope, Trade}
 use Rattle.pec_ledger.specs.TradeLaws.{IsTrade}
-use Rattle.pec_plays.specs.Frames.{ack_of, charge_of, composed, due_frames, envelope_of, frame_of, original_in, original_taken, outcome_of, to_home, to_sender, unless_empty, unless_nobody}
+use Rattle.pec_plays.specs.Frames.{ack_of, charge_of, composed, due_frames, envelope_of, frame_of, original_in, original_taken, outcome_of, to_addressee, to_home, unless_empty, unless_nobody}
+use Rattle.pec_plays.specs.Paths.{outcome_path}
 use Rattle.pec_plays.proofs.ListLemmas.{from_filter, home_is}
 
 -- what the ledger's laws say of rows and their texts, in journals that are Fit
@@ -120,9 +122,10 @@ module _ (trade : Trade) (world : IsTrade trade) (J : Journals) (laws : TextLaws
         },
       )
 
-  to_its_sender : (text : Bytes) (facts : Option Facts) (f : Framed) → to_sender trade p (J p) text facts ≡ Some f → f.message ≡ text
-  to_its_sender text None f e = absurd (none-some f e)
-  to_its_sender text (Some facts) f e = text_is (facts.sender ∷ []) text f e
+  to_its_addressee : (id : Id) (decision : Decision) (text : Bytes) (facts : Option Facts) (f : Framed) → to_addressee trade p (J p) id decision text facts ≡ Some f
+      → f.message ≡ text
+  to_its_addressee id decision text None f e = absurd (none-some f e)
+  to_its_addressee id decision text (Some facts) f e = text_is (outcome_path trade id decision facts.sender) text f e
 
   outcome_licensed : (id : Id) (recipient : Bytes) (fate : Fate) (row : Taken) (f : Framed) → decided_of (ledger trade J p) (pair_of id recipient) ≡ Some fate
       → taken_of (ledger trade J p) id ≡ Some row → outcome_of trade p (J p) id recipient fate row ≡ Some f → Licensed f.message
@@ -139,7 +142,7 @@ module _ (trade : Trade) (world : IsTrade trade) (J : Journals) (laws : TextLaws
           at_home = laws.homes p (pair_of id recipient) fate decided;
           fate = fate;
           decided = decided;
-          text = to_its_sender _ (trade.facts made.0) f made.2;
+          text = to_its_addressee id fate.decision _ (trade.facts made.0) f made.2;
         },
       )
 

@@ -1,6 +1,6 @@
 -- Each command only appends: every journal goes on as it was.
 use Rattle.std.proofs.Common.{ℕ, List, [], ◌∷◌, Bool, true, false, inl, inr, length, refl, ap, sym, subst, ◌∙◌, nat_lt, Option, Some, None}
-use Rattle.std.specs.Prelude.{slice_get, slice_set, if◌then◌else◌}
+use Rattle.std.specs.Prelude.{slice_get, slice_set, if◌then◌else◌, ◌==◌}
 use Rattle.std.specs.Option.{unwrap_or}
 use Rattle.std.proofs.lemmas.Bool.{cases_lt}
 use Rattle.std.proofs.lemmas.List.{append-nil}
@@ -9,14 +9,15 @@ use Rattle.pec_types.specs.declared.messages.TheConstants.{MESSAGES}
 use Rattle.pec_types.specs.declared.turns.ProviderFault.{ProviderFault}
 use Rattle.pec_records.specs.declared.entries.Entry.{Entry}
 use Rattle.pec_records.specs.declared.entries.Entry.TheVariants as entries
+use Rattle.pec_screen.specs.Verdicts.{Patterns}
 use Rattle.pec_ledger.specs.Along.{GoesOnAs}
-use Rattle.pec_ledger.specs.Books.{book, mailbox_lines}
+use Rattle.pec_ledger.specs.Books.{archive_lines, book, mailbox_lines}
 use Rattle.pec_ledger.specs.Half.{Half, Posted}
 use Rattle.pec_ledger.specs.Items.{item_text}
-use Rattle.pec_ledger.specs.Lookups.{mailbox}
+use Rattle.pec_ledger.specs.Lookups.{archive, mailbox}
 use Rattle.pec_ledger.specs.Network.{Site, chosen, frames_between, journal_at, site_at}
 use Rattle.pec_ledger.specs.Trade.{Trade}
-use Rattle.pec_plays.specs.Commands.{Answer, Command, Luck, Played, Submit, Tick, Round, Lose, Repeat, Swap, Inject, Crash, Restart, Book, Mailbox, Show, Lines, Items, account_home, answers, append, appended, asked, at_work, injected, lost, messages_at, played, put_again, read_back, restarted, restarted_site, shown, shown_bytes, stopped_site, submitted, swapped, swapped_at, with_entry, with_frames, with_site}
+use Rattle.pec_plays.specs.Commands.{Answer, Command, Luck, Played, Submit, Tick, Round, Lose, Repeat, Swap, Inject, Crash, Restart, Book, Mailbox, Show, Lines, Items, account_home, answers, append, appended, asked, at_work, injected, lost, messages_at, played, put_again, read_back, restarted, restarted_site, shown, shown_bytes, stopped_site, submitted, swapped, swapped_at, with_entry, with_frames, with_site, Archive, Upgrade, Vault, VaultShow, Vaults, Screen, archived, finds_at, items_at, screened, upgraded, version_at, with_screens}
 use Rattle.pec_plays.specs.Rounds.{link_size, rounded, turns_of, with_waiting}
 use Rattle.pec_plays.specs.Steps.{has_no_room}
 use Rattle.pec_plays.specs.Turns.{broken, last_of}
@@ -63,6 +64,24 @@ module _ (trade : Trade) (sites : List Site) where
   submitted_goes_on luck p now sender path message found =
       by_test (trade.is_account p sender) _ _
       (work_goes_on p now _ (by_test (nat_lt (messages_at trade sites p) MESSAGES) _ _ (append_goes_on luck p _ _) as_they_are)) as_they_are
+
+  archived_goes_on : (luck : Luck) (found : Option ℕ) (now : ℕ) (account : Bytes) (place : ℕ) → GoOn (archived trade luck sites found now account place).after
+  archived_goes_on luck None now account place = as_they_are
+  archived_goes_on luck (Some p) now account place =
+      work_goes_on p now _
+      (by_test (nat_lt place (items_at trade sites p account)) _ _
+      (by_test (version_at trade sites p == 2) _ _ (append_goes_on luck p (entries.Archived now account place) _) as_they_are) as_they_are)
+
+  upgraded_goes_on : (luck : Luck) (p now : ℕ) → GoOn (upgraded trade luck sites p now).after
+  upgraded_goes_on luck p now =
+      work_goes_on p now _ (by_test (version_at trade sites p == 1) _ _ (append_goes_on luck p (entries.Upgraded now) _) as_they_are)
+
+  screened_goes_on : (p place : ℕ) (spare : Option Patterns) → GoOn (screened sites p place spare).after
+  screened_goes_on p place None = as_they_are
+  screened_goes_on p place (Some patterns) =
+      by_test (site_at sites p).up _ _
+      (by_test (nat_lt place (length (site_at sites p).screens)) _ _
+      (with_one p (with_screens (site_at sites p) (slice_set (site_at sites p).screens place patterns)) (itself (journal_at sites p))) as_they_are) as_they_are
 
   frames_go_on : (from to : ℕ) (frames : List Bytes) → GoOn (with_frames sites from to frames)
   frames_go_on from to frames = with_one to (with_waiting (site_at sites to) (slice_set (site_at sites to).waiting from frames)) (itself (journal_at sites to))
@@ -115,7 +134,7 @@ module _ (trade : Trade) (sites : List Site) where
 
   pub played_goes_on : (luck : Luck) (command : Command) → GoOn (played trade luck sites command).after
   unfolding played
-  played_goes_on luck (Submit p now sender path message found) = submitted_goes_on luck p now sender path message found
+  played_goes_on luck (Submit p now sender path message) = submitted_goes_on luck p now sender path message (finds_at sites p message)
   played_goes_on luck (Tick p now) = work_goes_on p now _ (append_goes_on luck p (entries.Ticked now) _)
   played_goes_on luck (Round now) = rounded_goes_on now luck
   played_goes_on luck (Lose from to place) = lost_goes_on from to place
@@ -131,3 +150,11 @@ module _ (trade : Trade) (sites : List Site) where
   played_goes_on luck (Show address place) =
       asked_goes_on (λ (p : ℕ) (h : Half). shown trade luck sites p (slice_get (mailbox h address) place)) (account_home trade address (trade.home address))
       (λ p h. shown_goes_on luck p (slice_get (mailbox h address) place))
+  played_goes_on luck (Archive address now place) = archived_goes_on luck (account_home trade address (trade.home address)) now address place
+  played_goes_on luck (Upgrade p now) = upgraded_goes_on luck p now
+  played_goes_on luck (Vault address) =
+      asked_goes_on (λ (p : ℕ) (h : Half). answers sites (Vaults (archive_lines h address))) (account_home trade address (trade.home address)) (λ p h. as_they_are)
+  played_goes_on luck (VaultShow address place) =
+      asked_goes_on (λ (p : ℕ) (h : Half). shown trade luck sites p (slice_get (archive h address) place)) (account_home trade address (trade.home address))
+      (λ p h. shown_goes_on luck p (slice_get (archive h address) place))
+  played_goes_on luck (Screen p place spare) = screened_goes_on p place spare

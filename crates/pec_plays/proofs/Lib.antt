@@ -13,7 +13,9 @@ pub mod NextLemmas
 pub mod OpenLemmas
 pub mod DeliveryLemmas
 pub mod LinkLemmas
+pub mod LooksLemmas
 pub mod SettleLemmas
+pub mod DoubtLemmas
 pub mod GoesOnLemmas
 pub mod OwedLemmas
 pub mod QuietLemmas

@@ -12,11 +12,10 @@ use Rattle.pec_records.specs.declared.entries.Entry.TheVariants as entries
 use Rattle.pec_ledger.specs.Along.{AllDiffer, StandsNotIn}
 use Rattle.pec_ledger.specs.Half.{Fate, Half, Taken}
 use Rattle.pec_ledger.specs.Lookups.{decided_of, taken_of}
-use Rattle.pec_ledger.specs.Own.{decision_at}
 use Rattle.pec_ledger.specs.Pairs.{Pair, same_pair}
 use Rattle.pec_ledger.specs.Steps.{half, step}
 use Rattle.pec_ledger.specs.Trade.{Trade}
-use Rattle.pec_plays.specs.Decisions.{decide, is_open, is_recipient_of, pairs_taken, undecided}
+use Rattle.pec_plays.specs.Decisions.{Looks, decide, decided_as, is_open, is_recipient_of, pairs_taken, undecided}
 use Rattle.pec_plays.specs.Reception.{each_once}
 use Rattle.pec_plays.specs.Steps.{journal_after}
 use Rattle.pec_plays.proofs.ListLemmas.{once_differ, pair_again, same_pairs}
@@ -116,10 +115,10 @@ module _ (trade : Trade) (p now : ℕ) where
       ∙ others_kept (is_open h) (is_open k) pair (open_behind h pair decision) (each_once same_pair (pairs_taken h.taken))
       (once_differ same_pair pair_again (pairs_taken h.taken)) pairs e
 
-  pub next_undecided : (es : List Entry) (pair : Pair) (pairs : List Pair) → undecided trade p es ≡ pair ∷ pairs
-      → undecided trade p (journal_after es (decide trade p now es pair)) ≡ pairs
+  pub next_undecided : (looks : Looks) (es : List Entry) (pair : Pair) (pairs : List Pair) → undecided trade p es ≡ pair ∷ pairs
+      → undecided trade p (journal_after es (decide trade p now looks es pair)) ≡ pairs
   unfolding undecided decide
-  next_undecided es pair pairs e =
-      let decision = decision_at trade p (half trade p es) pair.recipient
+  next_undecided looks es pair pairs e =
+      let decision = decided_as trade p looks es pair
       in ap (λ (h : Half). filter (is_open h) (each_once same_pair (pairs_taken h.taken))) (half_one trade p es (entries.Decided now pair.id pair.recipient decision))
       ∙ undecided_behind (half trade p es) pair decision pairs e

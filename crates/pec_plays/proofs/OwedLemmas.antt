@@ -19,7 +19,7 @@ use Rattle.pec_ledger.specs.Lookups.{at_home, known_of, taken_of}
 use Rattle.pec_ledger.specs.Pairs.{Pair, pair_of, same_id, same_pair}
 use Rattle.pec_ledger.specs.Steps.{half, known_by, step, taken_by}
 use Rattle.pec_ledger.specs.Trade.{Framed, Trade}
-use Rattle.pec_plays.specs.Decisions.{decide, undecided}
+use Rattle.pec_plays.specs.Decisions.{Looks, decide, undecided}
 use Rattle.pec_plays.specs.Reception.{arrive}
 use Rattle.pec_plays.specs.ReceptionRows.{IsReceived, NewEnvelope, KnownEnvelope, NewCharge, KnownCharge, NewOutcome, KnownOutcome, NewAck, KnownAck, SomeRoom, NoRoom}
 use Rattle.pec_plays.specs.Steps.{Step, journal_after}
@@ -147,27 +147,27 @@ module _ (trade : Trade) (p : ℕ) where
 
     -- ---- turns
 
-    decide_owes_nothing : (es : List Entry) (pair : Pair) → (decide trade p now es pair).owed ≡ []
+    decide_owes_nothing : (looks : Looks) (es : List Entry) (pair : Pair) → (decide trade p now looks es pair).owed ≡ []
     unfolding decide
-    decide_owes_nothing es pair = refl
+    decide_owes_nothing looks es pair = refl
 
-    decisions_owe_nothing : (es : List Entry) (pairs : List Pair) → owed_of (decisions trade p now es pairs) ≡ []
-    decisions_owe_nothing es [] = refl
-    decisions_owe_nothing es (pair ∷ pairs) =
-        ap (λ (l : List Letter). l ++ owed_of (decisions trade p now (journal_after es (decide trade p now es pair)) pairs)) (decide_owes_nothing es pair)
-        ∙ decisions_owe_nothing (journal_after es (decide trade p now es pair)) pairs
+    decisions_owe_nothing : (looks : Looks) (es : List Entry) (pairs : List Pair) → owed_of (decisions trade p now looks es pairs) ≡ []
+    decisions_owe_nothing looks es [] = refl
+    decisions_owe_nothing looks es (pair ∷ pairs) =
+        ap (λ (l : List Letter). l ++ owed_of (decisions trade p now looks (journal_after es (decide trade p now looks es pair)) pairs)) (decide_owes_nothing looks es pair)
+        ∙ decisions_owe_nothing looks (journal_after es (decide trade p now looks es pair)) pairs
 
-    pub plan_backs : (es : List Entry) (frames : List Bytes) (letter : Letter) → Contains (owed_of (plan trade p now es frames)) letter
-        → IsBacked p (half trade p (es ++ entries_of (plan trade p now es frames))) letter
-    plan_backs es [] letter c =
-        absurd (contains_none letter (subst (λ (l : List Letter). Contains l letter) (decisions_owe_nothing es (undecided trade p es)) c))
-    plan_backs es (frame ∷ frames) letter c =
+    pub plan_backs : (looks : Looks) (es : List Entry) (frames : List Bytes) (letter : Letter) → Contains (owed_of (plan trade p now looks es frames)) letter
+        → IsBacked p (half trade p (es ++ entries_of (plan trade p now looks es frames))) letter
+    plan_backs looks es [] letter c =
+        absurd (contains_none letter (subst (λ (l : List Letter). Contains l letter) (decisions_owe_nothing looks es (undecided trade p es)) c))
+    plan_backs looks es (frame ∷ frames) letter c =
         let s = arrive trade p now es frame
         in let behind = journal_after es s
-        in let rest = plan trade p now behind frames
+        in let rest = plan trade p now looks behind frames
         in let all : (behind ++ entries_of rest) ≡ es ++ (option_to_list s.entry ++ entries_of rest) = append_assoc es (option_to_list s.entry) (entries_of rest)
         in subst (λ (l : List Entry). IsBacked p (half trade p l) letter) all
         (elim (Contains-append_cases s.owed (owed_of rest) letter c) [
           | inl here ↦ backed_stays behind (behind ++ entries_of rest) letter (entries_of rest, refl) (frame_backs es frame (trade.unframed frame) refl letter here)
-          | inr later ↦ plan_backs behind frames letter later
+          | inr later ↦ plan_backs looks behind frames letter later
         ])

@@ -18,12 +18,11 @@ use Rattle.pec_ledger.specs.Half.{Fate, Half, Taken, empty}
 use Rattle.pec_ledger.specs.Ledger.{Follows, Journals, Meets}
 use Rattle.pec_ledger.specs.Lookups.{decided_of, taken_of}
 use Rattle.pec_ledger.specs.Network.{AreGenuine, IsGenuine}
-use Rattle.pec_ledger.specs.Own.{decision_at}
 use Rattle.pec_ledger.specs.Pairs.{Pair, same_id, same_pair}
 use Rattle.pec_ledger.specs.Steps.{half, moment_of, step}
 use Rattle.pec_ledger.specs.Trade.{Trade}
 use Rattle.pec_ledger.specs.TradeLaws.{IsTrade}
-use Rattle.pec_plays.specs.Decisions.{decide, is_open, is_recipient_of, pairs_taken, undecided}
+use Rattle.pec_plays.specs.Decisions.{Looks, decide, decided_as, is_open, is_recipient_of, pairs_taken, undecided}
 use Rattle.pec_plays.specs.Reception.{arrive, each_once}
 use Rattle.pec_plays.specs.Steps.{Step, journal_after}
 use Rattle.pec_plays.specs.Turns.{decisions, entries_of, entry_at, plan}
@@ -63,7 +62,11 @@ pub half_one : (trade : Trade) (p : ℕ) (es : List Entry) (e : Entry) → half 
 unfolding half
 half_one trade p es e = fold-append (step trade p) empty es (e ∷ [])
 
-module _ (trade : Trade) (world : IsTrade trade) (J : Journals) (laws : ArrivalLaws trade J) (p now : ℕ) where
+-- what follows of given entries doesn't hang on what is found
+abbrev pub nothing_found : Looks
+nothing_found journal pair = false
+
+module _ (trade : Trade) (world : IsTrade trade) (J : Journals) (laws : ArrivalLaws trade J) (p now : ℕ) (looks : Looks) where
   last_after : (h : Half) (e : Entry) → h.last ≤ now → moment_of e ≡ now → (step trade p h e).last ≤ now
   unfolding step
   last_after h e l m = omega arith
@@ -104,22 +107,22 @@ module _ (trade : Trade) (world : IsTrade trade) (J : Journals) (laws : ArrivalL
       (and_from (is_recipient_of other.recipient (taken_of h other.id)) (is_none (find test (h.decided ++ fate ∷ []))) parts.0 (ap is_none none))
 
   all_stay_open : (es : List Entry) (pair : Pair) (pairs : List Pair) → StandsNotIn pair pairs → AllOpen es pairs
-      → AllOpen (journal_after es (decide trade p now es pair)) pairs
+      → AllOpen (journal_after es (decide trade p now looks es pair)) pairs
   unfolding decide
   all_stay_open es pair [] n all = tt
   all_stay_open es pair (other ∷ pairs) n all = (
-    subst (λ (h : Half). is_open h other ≡ true) (sym (half_one trade p es (entries.Decided now pair.id pair.recipient (decision_at trade p (half trade p es) pair.recipient))))
-        (stays_open (half trade p es) pair other (decision_at trade p (half trade p es) pair.recipient) n.0 all.0),
+    subst (λ (h : Half). is_open h other ≡ true) (sym (half_one trade p es (entries.Decided now pair.id pair.recipient (decided_as trade p looks es pair))))
+        (stays_open (half trade p es) pair other (decided_as trade p looks es pair) n.0 all.0),
     all_stay_open es pair pairs n.1 all.1,
   )
 
   decisions_follow : (es : List Entry) (pairs : List Pair) → AllDiffer pairs → AllOpen es pairs → (half trade p es).last ≤ now → now < END_OF_TIME
-      → Follows trade J p (half trade p es) (entries_of (decisions trade p now es pairs))
+      → Follows trade J p (half trade p es) (entries_of (decisions trade p now looks es pairs))
   decisions_follow es [] differ all time range = tt
   decisions_follow es (pair ∷ pairs) differ all time range =
-      one_step es (decide trade p now es pair).entry (entries_of (decisions trade p now (journal_after es (decide trade p now es pair)) pairs))
-      (decide_good trade world J laws p now es time range pair all.0) time
-      (λ later. decisions_follow (journal_after es (decide trade p now es pair)) pairs differ.1 (all_stay_open es pair pairs differ.0 all.1) later range)
+      one_step es (decide trade p now looks es pair).entry (entries_of (decisions trade p now looks (journal_after es (decide trade p now looks es pair)) pairs))
+      (decide_good trade world J laws p now es time range looks pair all.0) time
+      (λ later. decisions_follow (journal_after es (decide trade p now looks es pair)) pairs differ.1 (all_stay_open es pair pairs differ.0 all.1) later range)
 
   passing : (es : List Entry) (pairs : List Pair) → AllOpen es (filter (is_open (half trade p es)) pairs)
   passing es [] = tt
@@ -131,7 +134,7 @@ module _ (trade : Trade) (world : IsTrade trade) (J : Journals) (laws : ArrivalL
       by_test false e rest = rest
 
   undecided_follow : (es : List Entry) → (half trade p es).last ≤ now → now < END_OF_TIME
-      → Follows trade J p (half trade p es) (entries_of (decisions trade p now es (undecided trade p es)))
+      → Follows trade J p (half trade p es) (entries_of (decisions trade p now looks es (undecided trade p es)))
   unfolding undecided
   undecided_follow es time range =
       let all = each_once same_pair (pairs_taken (half trade p es).taken)
@@ -141,10 +144,10 @@ module _ (trade : Trade) (world : IsTrade trade) (J : Journals) (laws : ArrivalL
   -- ---- plans
 
   pub plan_follows : (es : List Entry) (frames : List Bytes) → AreGenuine trade J frames → (half trade p es).last ≤ now → now < END_OF_TIME
-      → Follows trade J p (half trade p es) (entries_of (plan trade p now es frames))
+      → Follows trade J p (half trade p es) (entries_of (plan trade p now looks es frames))
   plan_follows es [] good time range = undecided_follow es time range
   plan_follows es (frame ∷ frames) good time range =
-      one_step es (arrive trade p now es frame).entry (entries_of (plan trade p now (journal_after es (arrive trade p now es frame)) frames))
+      one_step es (arrive trade p now es frame).entry (entries_of (plan trade p now looks (journal_after es (arrive trade p now es frame)) frames))
       (arrive_good trade world J laws p now es time range frame (All-head (IsGenuine trade J) frame frames good)) time
       (λ later. plan_follows (journal_after es (arrive trade p now es frame)) frames (All-tail (IsGenuine trade J) frame frames good) later range)
 

@@ -1,6 +1,6 @@
 -- Runs without faults are one: a turn without faults is cut in one way.
 use Rattle.std.proofs.Common.{◌≡◌, ℕ, zero, suc, ◌+◌, ◌<◌, List, [], ◌∷◌, ◌++◌, Bool, true, false, inl, inr, length, take, refl, ap, sym, subst, ◌∙◌, arith, nat_lt, Option, Some, None}
-use Rattle.std.specs.Prelude.{slice_get, slice_set, slice_index_or, if◌then◌else◌}
+use Rattle.std.specs.Prelude.{slice_get, slice_set, slice_index_or, if◌then◌else◌, ◌==◌}
 use Rattle.std.specs.Option.{unwrap_or}
 use Rattle.std.proofs.lemmas.Bool.{cases_lt, false≢true}
 use Rattle.std.proofs.lemmas.List.Elements.{All-cons, All-head, All-nil, All-tail}
@@ -11,20 +11,22 @@ use Rattle.pec_types.specs.declared.turns.ProviderFault.{ProviderFault}
 use Rattle.pec_types.specs.declared.turns.ProviderFault.TheVariants as faults
 use Rattle.pec_records.specs.declared.entries.Entry.{Entry}
 use Rattle.pec_records.specs.declared.entries.Entry.TheVariants as entries
-use Rattle.pec_ledger.specs.Books.{book, mailbox_lines}
+use Rattle.pec_screen.specs.Verdicts.{Patterns}
+use Rattle.pec_ledger.specs.Books.{archive_lines, book, mailbox_lines}
 use Rattle.pec_ledger.specs.Half.{Half, Posted}
 use Rattle.pec_ledger.specs.Items.{item_text}
-use Rattle.pec_ledger.specs.Lookups.{mailbox}
+use Rattle.pec_ledger.specs.Lookups.{archive, mailbox}
 use Rattle.pec_ledger.specs.Network.{Site, chosen, empty_site, frames_between, journal_at, site_at}
 use Rattle.pec_ledger.specs.Steps.{half}
 use Rattle.pec_ledger.specs.Trade.{Trade}
-use Rattle.pec_plays.specs.Commands.{Answer, Command, Luck, Played, IsUp, Refuses, Restarted, Turns, Submit, Tick, Round, Lose, Repeat, Swap, Inject, Crash, Restart, Book, Mailbox, Show, Lines, Items, account_home, answers, append, appended, asked, at_work, messages_at, played, put_again, read_back, restarted, restarted_site, shown, shown_bytes, stopped_site, submitted, swapped, swapped_at, ticked, with_entry, with_frames, with_site}
-use Rattle.pec_plays.specs.Possible.{AllQuiet, GaveWhatWasKept, HaveRoom, IsCalm, IsFull, IsOfKept, IsQuiet, MayCut, MayMeet, NoneInterrupted, later_cut, quiet_cut, quiet_luck, quiet_lucks}
+use Rattle.pec_plays.specs.Commands.{Answer, Command, Luck, Played, IsUp, Refuses, Restarted, Turns, Submit, Tick, Round, Lose, Repeat, Swap, Inject, Crash, Restart, Book, Mailbox, Show, Lines, Items, account_home, answers, append, appended, asked, at_work, messages_at, played, put_again, read_back, restarted, restarted_site, shown, shown_bytes, stopped_site, submitted, swapped, swapped_at, ticked, with_entry, with_frames, with_site, Archive, Upgrade, Vault, VaultShow, Vaults, Screen, archived, finds_at, items_at, screened, upgraded, version_at, with_screens}
+use Rattle.pec_plays.specs.Possible.{AllQuiet, GaveWhatWasKept, HaveRoom, IsCalm, IsFull, IsQuiet, MayCut, MayMeet, NoneInterrupted, later_cut, quiet_cut, quiet_luck, quiet_lucks}
 use Rattle.pec_plays.specs.Rounds.{Rounded, delivered, link_size, outs_of, rooms_of, rounded, told_from, turns_from, turns_of, with_waiting}
 use Rattle.pec_plays.specs.Scripts.{onto, script}
 use Rattle.pec_plays.specs.Steps.{Step, has_no_room}
-use Rattle.pec_plays.specs.Turns.{Cut, Turned, Whole, Fails, Full, Stops, Other, cut_turn, frames_in, last_of, not_begun, plan, turned}
+use Rattle.pec_plays.specs.Turns.{Cut, Turned, Whole, Fails, Full, Stops, Unread, Other, Sees, cut_turn, last_of, not_begun, steps_of, turned}
 use Rattle.pec_plays.proofs.DeliveryLemmas.{after_is, past_the_end}
+use Rattle.pec_plays.proofs.LooksLemmas.{calm_is_kept, steps_kept}
 use Rattle.pec_plays.proofs.SiteLemmas.{put_cases}
 
 -- ---- cuts
@@ -51,22 +53,27 @@ full_later s steps n false e is more =
     ap later_cut
     (more (record { before = All-tail (λ (x : Step). x.full ≡ false) s (take n steps) is.before; step = is.step; there = is.there; full = is.full }))
 
-pub calm_cut : (steps : List Step) (cut : Cut) → MayCut steps cut → IsCalm cut → cut ≡ quiet_cut steps
-calm_cut [] Whole may calm = refl
-calm_cut [] (Full n) may calm = absurd (none-some may.step may.there)
-calm_cut steps (Fails n fault) may calm = absurd calm
-calm_cut steps (Stops n) may calm = absurd calm
-calm_cut steps (Other out) may calm = absurd calm
-calm_cut (s ∷ steps) Whole may calm = whole_is s steps s.full refl may (λ room. calm_cut steps Whole room tt)
-calm_cut (s ∷ steps) (Full zero) may calm = full_here s steps s.full refl may
-calm_cut (s ∷ steps) (Full (suc n)) may calm = full_later s steps n s.full refl may (λ is. calm_cut steps (Full n) is tt)
+pub calm_cut : (trade : Trade) (p : ℕ) (steps : List Step) (cut : Cut) → MayCut trade p steps cut → IsCalm cut → cut ≡ quiet_cut steps
+calm_cut trade p [] Whole may calm = refl
+calm_cut trade p [] (Full n) may calm = absurd (none-some may.step may.there)
+calm_cut trade p steps (Fails n fault) may calm = absurd calm
+calm_cut trade p steps (Stops n) may calm = absurd calm
+calm_cut trade p steps (Unread n fault) may calm = absurd calm
+calm_cut trade p steps (Other out) may calm = absurd calm
+calm_cut trade p steps (Sees looks cut) may calm = absurd calm
+calm_cut trade p (s ∷ steps) Whole may calm = whole_is s steps s.full refl may (λ room. calm_cut trade p steps Whole room tt)
+calm_cut trade p (s ∷ steps) (Full zero) may calm = full_here s steps s.full refl may
+calm_cut trade p (s ∷ steps) (Full (suc n)) may calm = full_later s steps n s.full refl may (λ is. calm_cut trade p steps (Full n) is tt)
 
-later_may : (s : Step) (steps : List Step) (cut : Cut) → s.full ≡ false → MayCut steps cut → IsCalm cut → MayCut (s ∷ steps) (later_cut cut)
-later_may s steps Whole e may calm = All-cons (λ (x : Step). x.full ≡ false) s steps e may
-later_may s steps (Fails n fault) e may calm = absurd calm
-later_may s steps (Stops n) e may calm = absurd calm
-later_may s steps (Other out) e may calm = absurd calm
-later_may s steps (Full n) e may calm = record {
+later_may : (trade : Trade) (p : ℕ) (s : Step) (steps : List Step) (cut : Cut) → s.full ≡ false → MayCut trade p steps cut → IsCalm cut
+    → MayCut trade p (s ∷ steps) (later_cut cut)
+later_may trade p s steps Whole e may calm = All-cons (λ (x : Step). x.full ≡ false) s steps e may
+later_may trade p s steps (Fails n fault) e may calm = absurd calm
+later_may trade p s steps (Stops n) e may calm = absurd calm
+later_may trade p s steps (Unread n fault) e may calm = absurd calm
+later_may trade p s steps (Other out) e may calm = absurd calm
+later_may trade p s steps (Sees looks cut) e may calm = absurd calm
+later_may trade p s steps (Full n) e may calm = record {
   before = All-cons (λ (x : Step). x.full ≡ false) s (take n steps) e may.before;
   step = may.step;
   there = may.there;
@@ -78,7 +85,9 @@ later_calm Whole calm = tt
 later_calm (Fails n fault) calm = calm
 later_calm (Full n) calm = tt
 later_calm (Stops n) calm = calm
+later_calm (Unread n fault) calm = calm
 later_calm (Other out) calm = calm
+later_calm (Sees looks cut) calm = calm
 
 calm_by : (full : Bool) (steps : List Step) → IsCalm (quiet_cut steps) → IsCalm (cut_by full steps)
 calm_by true steps calm = tt
@@ -88,13 +97,23 @@ pub quiet_is_calm : (steps : List Step) → IsCalm (quiet_cut steps)
 quiet_is_calm [] = tt
 quiet_is_calm (s ∷ steps) = calm_by s.full steps (quiet_is_calm steps)
 
-may_by : (s : Step) (steps : List Step) (full : Bool) → s.full ≡ full → MayCut steps (quiet_cut steps) → MayCut (s ∷ steps) (cut_by full steps)
-may_by s steps true e may = record { before = All-nil (λ (x : Step). x.full ≡ false); step = s; there = refl; full = e }
-may_by s steps false e may = later_may s steps (quiet_cut steps) e may (quiet_is_calm steps)
+may_by : (trade : Trade) (p : ℕ) (s : Step) (steps : List Step) (full : Bool) → s.full ≡ full → MayCut trade p steps (quiet_cut steps)
+    → MayCut trade p (s ∷ steps) (cut_by full steps)
+may_by trade p s steps true e may = record { before = All-nil (λ (x : Step). x.full ≡ false); step = s; there = refl; full = e }
+may_by trade p s steps false e may = later_may trade p s steps (quiet_cut steps) e may (quiet_is_calm steps)
 
-pub quiet_may : (steps : List Step) → MayCut steps (quiet_cut steps)
-quiet_may [] = All-nil (λ (x : Step). x.full ≡ false)
-quiet_may (s ∷ steps) = may_by s steps s.full refl (quiet_may steps)
+pub quiet_may : (trade : Trade) (p : ℕ) (steps : List Step) → MayCut trade p steps (quiet_cut steps)
+quiet_may trade p [] = All-nil (λ (x : Step). x.full ≡ false)
+quiet_may trade p (s ∷ steps) = may_by trade p s steps s.full refl (quiet_may trade p steps)
+
+-- the steps of a turn without faults, as it is cut
+quiet_meets : (trade : Trade) (p now : ℕ) (site : Site)
+    → MayCut trade p (steps_of trade p now site (quiet_cut (steps_of trade p now site Whole))) (quiet_cut (steps_of trade p now site Whole))
+quiet_meets trade p now site =
+    let steps = steps_of trade p now site Whole
+    in let calm = quiet_is_calm steps
+    in subst (λ (taken : List Step). MayCut trade p taken (quiet_cut steps))
+    (sym (steps_kept trade p now site (quiet_cut steps) (calm_is_kept (quiet_cut steps) calm))) (quiet_may trade p steps)
 
 -- ---- one command
 
@@ -117,6 +136,20 @@ module _ (trade : Trade) (sites : List Site) (a b : Luck) (quiet_a : IsQuiet a) 
   ticked_one : (p now : ℕ) → ticked trade a sites p now ≡ ticked trade b sites p now
   ticked_one p now = work_one p now _ _ (append_one p (entries.Ticked now) _)
 
+  archived_one : (found : Option ℕ) (now : ℕ) (account : Bytes) (place : ℕ)
+      → archived trade a sites found now account place ≡ archived trade b sites found now account place
+  archived_one None now account place = refl
+  archived_one (Some p) now account place =
+      work_one p now _ _
+      (ap (λ (x : Played). if nat_lt place (items_at trade sites p account) then x else answers sites (Refuses faults.NoItem))
+      (ap (λ (x : Played). if version_at trade sites p == 2 then x else answers sites (Refuses faults.OldJournal))
+      (append_one p (entries.Archived now account place) _)))
+
+  upgraded_one : (p now : ℕ) → upgraded trade a sites p now ≡ upgraded trade b sites p now
+  upgraded_one p now =
+      work_one p now _ _
+      (ap (λ (x : Played). if version_at trade sites p == 1 then x else answers sites (Refuses faults.NoNeed)) (append_one p (entries.Upgraded now) _))
+
   -- ---- restarts
 
   chosen_nothing : (x : Bool) (i : Option Entry) → i ≡ None → chosen x i ≡ []
@@ -125,7 +158,7 @@ module _ (trade : Trade) (sites : List Site) (a b : Luck) (quiet_a : IsQuiet a) 
 
   found_nothing : (site : Site) (x y : Bool) → site.interrupted ≡ None → restarted_site x site ≡ restarted_site y site
   found_nothing site x y e =
-      ap (λ (more : List Entry). record { journal = site.journal ++ more; up = true; interrupted = None; waiting = site.waiting })
+      ap (λ (more : List Entry). record (site) { journal = site.journal ++ more; up = true; interrupted = None })
       (chosen_nothing x site.interrupted e ∙ sym (chosen_nothing y site.interrupted e))
 
   abbrev restarted_as : Bool → ℕ → Site → Site → Played
@@ -160,19 +193,26 @@ module _ (trade : Trade) (sites : List Site) (a b : Luck) (quiet_a : IsQuiet a) 
   module _ (now : ℕ) where
     -- where a turn begins, it may be cut so
     abbrev MayBegin : ℕ → Site → Cut → Type 0
-    MayBegin p site cut = site.up ≡ true → nat_lt now (last_of trade p site.journal) ≡ false → MayCut (plan trade p now site.journal (frames_in site.waiting)) cut
+    MayBegin p site cut = site.up ≡ true → nat_lt now (last_of trade p site.journal) ≡ false → MayCut trade p (steps_of trade p now site cut) cut
 
     abbrev turn_by : ℕ → (ℕ → ℕ) → Site → Cut → Bool → Bool → Turned
     turn_by p rooms site cut up late =
         if up then (if late then not_begun site (faults.ClockBack (last_of trade p site.journal))
-        else cut_turn trade p rooms site (plan trade p now site.journal (frames_in site.waiting)) cut)
+        else cut_turn trade p rooms site (steps_of trade p now site cut) cut)
         else not_begun site faults.Down
+
+    -- the cut of a turn without faults, by the steps that it would have whole
+    calm_as_whole : (p : ℕ) (site : Site) (cut : Cut) → MayCut trade p (steps_of trade p now site cut) cut → IsCalm cut
+        → cut ≡ quiet_cut (steps_of trade p now site Whole)
+    calm_as_whole p site cut may calm =
+        calm_cut trade p (steps_of trade p now site Whole) cut
+        (subst (λ (taken : List Step). MayCut trade p taken cut) (steps_kept trade p now site cut (calm_is_kept cut calm)) may) calm
 
     turn_one : (p : ℕ) (rooms : ℕ → ℕ) (site : Site) (x y : Cut) → MayBegin p site x → MayBegin p site y → IsCalm x → IsCalm y
         → (up late : Bool) → site.up ≡ up → nat_lt now (last_of trade p site.journal) ≡ late → turn_by p rooms site x up late ≡ turn_by p rooms site y up late
     turn_one p rooms site x y may_x may_y calm_x calm_y true false e f =
-        let steps = plan trade p now site.journal (frames_in site.waiting)
-        in ap (cut_turn trade p rooms site steps) (calm_cut steps x (may_x e f) calm_x ∙ sym (calm_cut steps y (may_y e f) calm_y))
+        ap (λ (cut : Cut). cut_turn trade p rooms site (steps_of trade p now site cut) cut)
+        (calm_as_whole p site x (may_x e f) calm_x ∙ sym (calm_as_whole p site y (may_y e f) calm_y))
     turn_one p rooms site x y may_x may_y calm_x calm_y true true e f = refl
     turn_one p rooms site x y may_x may_y calm_x calm_y false late e f = refl
 
@@ -218,7 +258,7 @@ module _ (trade : Trade) (sites : List Site) (a b : Luck) (quiet_a : IsQuiet a) 
   pub played_one : (command : Command) → NoneInterrupted sites → MayMeet trade a sites command → MayMeet trade b sites command
       → played trade a sites command ≡ played trade b sites command
   unfolding played
-  played_one (Submit p now sender path message found) none may_a may_b = submitted_one p now sender path message found
+  played_one (Submit p now sender path message) none may_a may_b = submitted_one p now sender path message (finds_at sites p message)
   played_one (Tick p now) none may_a may_b = ticked_one p now
   played_one (Round now) none may_a may_b =
       ap (λ (r : Rounded). let x : Played = record { answer = Turns r.turns; after = r.sites } in x) (rounded_one now may_a may_b)
@@ -234,6 +274,14 @@ module _ (trade : Trade) (sites : List Site) (a b : Luck) (quiet_a : IsQuiet a) 
       asked_one (λ (p : ℕ) (h : Half). shown trade a sites p (slice_get (mailbox h address) place))
       (λ (p : ℕ) (h : Half). shown trade b sites p (slice_get (mailbox h address) place)) (account_home trade address (trade.home address))
       (λ p h. shown_one p (slice_get (mailbox h address) place))
+  played_one (Archive address now place) none may_a may_b = archived_one (account_home trade address (trade.home address)) now address place
+  played_one (Upgrade p now) none may_a may_b = upgraded_one p now
+  played_one (Vault address) none may_a may_b = refl
+  played_one (VaultShow address place) none may_a may_b =
+      asked_one (λ (p : ℕ) (h : Half). shown trade a sites p (slice_get (archive h address) place))
+      (λ (p : ℕ) (h : Half). shown trade b sites p (slice_get (archive h address) place)) (account_home trade address (trade.home address))
+      (λ p h. shown_one p (slice_get (archive h address) place))
+  played_one (Screen p place spare) none may_a may_b = refl
 
 -- ---- no entry is interrupted by a command without faults
 
@@ -260,6 +308,20 @@ module _ (trade : Trade) (sites : List Site) (luck : Luck) (quiet : IsQuiet luck
   none_work : (p now : ℕ) (done : Played) → NoneInterrupted done.after → NoneInterrupted (at_work trade sites p now done).after
   none_work p now done more =
       none_by (site_at sites p).up _ _ (none_by (nat_lt now (last_of trade p (journal_at sites p))) _ done none more) none
+
+  none_archived : (found : Option ℕ) (now : ℕ) (account : Bytes) (place : ℕ) → NoneInterrupted (archived trade luck sites found now account place).after
+  none_archived None now account place = none
+  none_archived (Some p) now account place =
+      none_work p now _
+      (none_by (nat_lt place (items_at trade sites p account)) _ _
+      (none_by (version_at trade sites p == 2) _ _ (none_append p (entries.Archived now account place) _) none) none)
+
+  none_screened : (p place : ℕ) (spare : Option Patterns) → NoneInterrupted (screened sites p place spare).after
+  none_screened p place None = none
+  none_screened p place (Some patterns) =
+      none_by (site_at sites p).up _ _
+      (none_by (nat_lt place (length (site_at sites p).screens)) _ _
+      (with_none p (with_screens (site_at sites p) (slice_set (site_at sites p).screens place patterns)) (none p)) none) none
 
   none_frames : (from to : ℕ) (frames : List Bytes) → NoneInterrupted (with_frames sites from to frames)
   none_frames from to frames = with_none to (with_waiting (site_at sites to) (slice_set (site_at sites to).waiting from frames)) (none to)
@@ -293,7 +355,9 @@ module _ (trade : Trade) (sites : List Site) (luck : Luck) (quiet : IsQuiet luck
   cut_keeps p rooms site steps (Fails n fault) calm = absurd calm
   cut_keeps p rooms site steps (Full n) calm = refl
   cut_keeps p rooms site steps (Stops n) calm = absurd calm
+  cut_keeps p rooms site steps (Unread n fault) calm = absurd calm
   cut_keeps p rooms site steps (Other out) calm = absurd calm
+  cut_keeps p rooms site steps (Sees looks cut) calm = absurd calm
 
   keeps_by : (site : Site) (t : Bool) (x y : Turned) → x.site.interrupted ≡ site.interrupted → y.site.interrupted ≡ site.interrupted
       → (if t then x else y).site.interrupted ≡ site.interrupted
@@ -305,7 +369,7 @@ module _ (trade : Trade) (sites : List Site) (luck : Luck) (quiet : IsQuiet luck
   turn_keeps p now rooms site cut calm =
       keeps_by site site.up _ _
       (keeps_by site (nat_lt now (last_of trade p site.journal)) _ _ refl
-      (cut_keeps p rooms site (plan trade p now site.journal (frames_in site.waiting)) cut calm))
+      (cut_keeps p rooms site (steps_of trade p now site cut) cut calm))
       refl
 
   none_rounded : (now : ℕ) → NoneInterrupted (rounded trade now luck.cuts sites).sites
@@ -320,7 +384,7 @@ module _ (trade : Trade) (sites : List Site) (luck : Luck) (quiet : IsQuiet luck
 
   pub none_behind : (command : Command) → NoneInterrupted (played trade luck sites command).after
   unfolding played
-  none_behind (Submit p now sender path message found) =
+  none_behind (Submit p now sender path message) =
       none_by (trade.is_account p sender) _ _
       (none_work p now _ (none_by (nat_lt (messages_at trade sites p) MESSAGES) _ _ (none_append p _ _) none)) none
   none_behind (Tick p now) = none_work p now _ (none_append p (entries.Ticked now) _)
@@ -339,6 +403,14 @@ module _ (trade : Trade) (sites : List Site) (luck : Luck) (quiet : IsQuiet luck
   none_behind (Show address place) =
       none_asked (λ (p : ℕ) (h : Half). shown trade luck sites p (slice_get (mailbox h address) place)) (account_home trade address (trade.home address))
       (λ p h. none_shown p (slice_get (mailbox h address) place))
+  none_behind (Archive address now place) = none_archived (account_home trade address (trade.home address)) now address place
+  none_behind (Upgrade p now) = none_work p now _ (none_by (version_at trade sites p == 1) _ _ (none_append p (entries.Upgraded now) _) none)
+  none_behind (Vault address) =
+      none_asked (λ (p : ℕ) (h : Half). answers sites (Vaults (archive_lines h address))) (account_home trade address (trade.home address)) (λ p h. none)
+  none_behind (VaultShow address place) =
+      none_asked (λ (p : ℕ) (h : Half). shown trade luck sites p (slice_get (archive h address) place)) (account_home trade address (trade.home address))
+      (λ p h. none_shown p (slice_get (archive h address) place))
+  none_behind (Screen p place spare) = none_screened p place spare
 
 -- ---- scripts
 
@@ -360,10 +432,10 @@ script_one trade (x ∷ a) (y ∷ b) sites (command ∷ commands) e none quiet_a
 
 pub quiet_there : (trade : Trade) (sites : List Site) (command : Command) → MayMeet trade (quiet_luck trade sites command) sites command × IsQuiet (quiet_luck trade sites command)
 quiet_there trade sites (Round now) = (
-  λ p l up late. quiet_may (plan trade p now (site_at sites p).journal (frames_in (site_at sites p).waiting)),
-  record { cuts = λ p. quiet_is_calm (plan trade p now (site_at sites p).journal (frames_in (site_at sites p).waiting)); works = refl; reads = refl; shows = refl },
+  λ p l up late. quiet_meets trade p now (site_at sites p),
+  record { cuts = λ p. quiet_is_calm (steps_of trade p now (site_at sites p) Whole); works = refl; reads = refl; shows = refl },
 )
-quiet_there trade sites (Submit p now sender path message found) = (tt, record { cuts = λ p. tt; works = refl; reads = refl; shows = refl })
+quiet_there trade sites (Submit p now sender path message) = (tt, record { cuts = λ p. tt; works = refl; reads = refl; shows = refl })
 quiet_there trade sites (Tick p now) = (tt, record { cuts = λ p. tt; works = refl; reads = refl; shows = refl })
 quiet_there trade sites (Lose from to place) = (tt, record { cuts = λ p. tt; works = refl; reads = refl; shows = refl })
 quiet_there trade sites (Repeat from to place) = (tt, record { cuts = λ p. tt; works = refl; reads = refl; shows = refl })
@@ -374,6 +446,11 @@ quiet_there trade sites (Restart p) = (tt, record { cuts = λ p. tt; works = ref
 quiet_there trade sites (Book address) = (tt, record { cuts = λ p. tt; works = refl; reads = refl; shows = refl })
 quiet_there trade sites (Mailbox address) = (tt, record { cuts = λ p. tt; works = refl; reads = refl; shows = refl })
 quiet_there trade sites (Show address place) = (tt, record { cuts = λ p. tt; works = refl; reads = refl; shows = refl })
+quiet_there trade sites (Archive address now place) = (tt, record { cuts = λ p. tt; works = refl; reads = refl; shows = refl })
+quiet_there trade sites (Upgrade p now) = (tt, record { cuts = λ p. tt; works = refl; reads = refl; shows = refl })
+quiet_there trade sites (Vault address) = (tt, record { cuts = λ p. tt; works = refl; reads = refl; shows = refl })
+quiet_there trade sites (VaultShow address place) = (tt, record { cuts = λ p. tt; works = refl; reads = refl; shows = refl })
+quiet_there trade sites (Screen p place spare) = (tt, record { cuts = λ p. tt; works = refl; reads = refl; shows = refl })
 
 pub quiet_along : (trade : Trade) (sites : List Site) (commands : List Command) → AllQuiet trade (quiet_lucks trade sites commands) sites commands
 quiet_along trade sites [] = tt
@@ -386,13 +463,6 @@ quiet_enough trade sites [] = refl
 quiet_enough trade sites (command ∷ commands) = ap suc (quiet_enough trade (played trade (quiet_luck trade sites command) sites command).after commands)
 
 -- ---- without faults each read gave what was kept
-
-calm_is_kept : (cut : Cut) → IsCalm cut → IsOfKept cut
-calm_is_kept Whole calm = tt
-calm_is_kept (Fails n fault) calm = absurd calm
-calm_is_kept (Full n) calm = tt
-calm_is_kept (Stops n) calm = absurd calm
-calm_is_kept (Other out) calm = absurd calm
 
 pub quiet_is_kept : (luck : Luck) → IsQuiet luck → GaveWhatWasKept luck
 quiet_is_kept luck quiet p = calm_is_kept (luck.cuts p) (quiet.cuts p)

@@ -9,6 +9,7 @@ use Rattle.pec_types.specs.Bytes.{Bytes, Path}
 use Rattle.pec_types.specs.Message.{Id}
 use Rattle.pec_types.specs.declared.messages.Decision.{Decision}
 use Rattle.pec_types.specs.declared.messages.Decision.TheVariants.{Placed, Refused}
+use Rattle.pec_types.specs.declared.messages.Refusal.TheVariants as refusals
 use Rattle.pec_types.specs.declared.receipts.Kind.{Kind}
 use Rattle.pec_types.specs.declared.receipts.Kind.TheVariants as kinds
 use Rattle.pec_types.specs.declared.turns.Event.TheVariants as events
@@ -18,7 +19,8 @@ use Rattle.pec_ledger.specs.Lookups.{Accepted, HasPair, HasPairsAt, accepted_at,
 use Rattle.pec_ledger.specs.Pairs.{pair_of}
 use Rattle.pec_ledger.specs.Steps.{half}
 use Rattle.pec_ledger.specs.Trade.{Framed, Receipt, Seen, SeenEnvelope, SeenReceipt, Trade}
-use Rattle.pec_plays.specs.Reception.{accounts_with_room, ack_fits, ack_rows, anomaly, arrive, by_ack, by_frame, by_outcome, by_receipt, by_seen, charge_fits, charge_rows, each_once, envelope_fits, envelope_rows, has_pair, has_pairs_at, is_senders_path, otherwise, outcome_fits, outcome_rows, same_path}
+use Rattle.pec_plays.specs.Paths.{outcome_path}
+use Rattle.pec_plays.specs.Reception.{accounts_with_room, ack_fits, ack_rows, anomaly, arrive, by_ack, by_frame, by_outcome, by_receipt, by_seen, charge_fits, charge_rows, each_once, envelope_fits, envelope_rows, has_pair, has_pairs_at, is_outcome_path, otherwise, outcome_fits, outcome_rows, same_path}
 use Rattle.pec_plays.specs.ReceptionRows.{AreAccounts, IsAck, IsCharge, IsEnvelope, IsLetter, IsOutcome, IsReceived, AnEnvelope, ACharge, AnOutcome, AnAck, NewEnvelope, KnownEnvelope, NewCharge, KnownCharge, NewOutcome, KnownOutcome, NewAck, KnownAck, SomeRoom, NoRoom}
 use Rattle.pec_plays.specs.Steps.{Step, passes}
 use Rattle.pec_plays.proofs.ListLemmas.{address_there, bytes_again, bytes_same, differ_filter, from_filter, home_again, home_is, into_filter, once_differ, once_from, once_into, some_address, some_item, some_length, what_is}
@@ -115,21 +117,22 @@ module _ (trade : Trade) (p : ℕ) (es : List Entry) (f : Framed) where
       (and_from there along (pairs_again r.by (accepted_at (half trade p es) r.id.number) is.message is.accepted is.pairs)
       (same_as f.path (trade.receipts p ∷ []) is.path))
 
-  pair_is : (recipient : Bytes) (found : Option Accepted) → has_pair trade recipient found ≡ true → is_senders_path f.path found ≡ true
-      → (m : Accepted) × (found ≡ Some m) × HasPair trade m recipient × (f.path ≡ m.sender ∷ [])
-  pair_is recipient None e g = absurd (false≢true e)
-  pair_is recipient (Some m) e g =
+  pair_is : (id : Id) (decision : Decision) (recipient : Bytes) (found : Option Accepted) → has_pair trade recipient found ≡ true
+      → is_outcome_path trade id decision f.path found ≡ true
+      → (m : Accepted) × (found ≡ Some m) × HasPair trade m recipient × (f.path ≡ outcome_path trade id decision m.sender)
+  pair_is id decision recipient None e g = absurd (false≢true e)
+  pair_is id decision recipient (Some m) e g =
       let parts = and_parts (list_any (bytes_eq recipient) (addresses_of m.facts)) (is_some (trade.home recipient)) e
-      in (m, refl, (some_address (addresses_of m.facts) recipient parts.0, parts.1), path_is f.path (m.sender ∷ []) g)
+      in (m, refl, (some_address (addresses_of m.facts) recipient parts.0, parts.1), path_is f.path (outcome_path trade id decision m.sender) g)
 
   outcome_is : (r : Receipt) (recipient : Bytes) (decision : Decision) → trade.view f.message ≡ Some (SeenReceipt r) → r.kind ≡ outcome_kind decision
-      → r.recipient ≡ Some recipient → (now : ℕ) → outcome_fits trade p now es f r recipient ≡ true → IsOutcome trade p es f r recipient decision
+      → r.recipient ≡ Some recipient → (now : ℕ) → outcome_fits trade p now es f r recipient decision ≡ true → IsOutcome trade p es f r recipient decision
   outcome_is r recipient decision seen kind names now e =
       let found = accepted_at (half trade p es) r.id.number
       in let parts = and_parts (r.id.provider == p) _ e
       in let more = and_parts (is_home r.by (trade.home recipient)) _ parts.1
-      in let last = and_parts (has_pair trade recipient found) (is_senders_path f.path found) more.1
-      in let pair = pair_is recipient found last.0 last.1
+      in let last = and_parts (has_pair trade recipient found) (is_outcome_path trade r.id decision f.path found) more.1
+      in let pair = pair_is r.id decision recipient found last.0 last.1
       in record {
         seen = seen;
         kind = kind;
@@ -143,18 +146,20 @@ module _ (trade : Trade) (p : ℕ) (es : List Entry) (f : Framed) where
       }
 
   outcome_again : (r : Receipt) (recipient : Bytes) (decision : Decision) → IsOutcome trade p es f r recipient decision → (now : ℕ)
-      → outcome_fits trade p now es f r recipient ≡ true
+      → outcome_fits trade p now es f r recipient decision ≡ true
   outcome_again r recipient decision is now =
       let found = accepted_at (half trade p es) r.id.number
       in let pair : has_pair trade recipient found ≡ true =
       ap (has_pair trade recipient) is.accepted
       ∙ and_from (list_any (bytes_eq recipient) (addresses_of is.message.facts)) (is_some (trade.home recipient))
       (address_there (addresses_of is.message.facts) recipient is.pair.0) is.pair.1
-      in let along : is_senders_path f.path found ≡ true = ap (is_senders_path f.path) is.accepted ∙ same_as f.path (is.message.sender ∷ []) is.path
-      in and_from (r.id.provider == p) (is_home r.by (trade.home recipient) && (has_pair trade recipient found && is_senders_path f.path found))
+      in let path = is_outcome_path trade r.id decision f.path found
+      in let along : is_outcome_path trade r.id decision f.path found ≡ true =
+      ap (is_outcome_path trade r.id decision f.path) is.accepted ∙ same_as f.path (outcome_path trade r.id decision is.message.sender) is.path
+      in and_from (r.id.provider == p) (is_home r.by (trade.home recipient) && (has_pair trade recipient found && path))
       (eq-eqb r.id.provider p is.ours)
-      (and_from (is_home r.by (trade.home recipient)) (has_pair trade recipient found && is_senders_path f.path found)
-      (home_again r.by (trade.home recipient) is.sealed) (and_from (has_pair trade recipient found) (is_senders_path f.path found) pair along))
+      (and_from (is_home r.by (trade.home recipient)) (has_pair trade recipient found && path)
+      (home_again r.by (trade.home recipient) is.sealed) (and_from (has_pair trade recipient found) path pair along))
 
   ack_is : (r : Receipt) (recipient : Bytes) → trade.view f.message ≡ Some (SeenReceipt r) → r.kind ≡ kinds.Ack → r.recipient ≡ Some recipient
       → (now : ℕ) → ack_fits trade p now es f r recipient ≡ true → IsAck trade p es f r recipient
@@ -183,9 +188,9 @@ module _ (trade : Trade) (p : ℕ) (es : List Entry) (f : Framed) where
   module _ (now : ℕ) where
     -- ---- whether the message is a letter for this provider, as a test
 
-    abbrev fits_outcome : Receipt → Option Bytes → Bool
-    fits_outcome r None = false
-    fits_outcome r (Some recipient) = outcome_fits trade p now es f r recipient
+    abbrev fits_outcome : Receipt → Decision → Option Bytes → Bool
+    fits_outcome r decision None = false
+    fits_outcome r decision (Some recipient) = outcome_fits trade p now es f r recipient decision
 
     abbrev fits_ack : Receipt → Option Bytes → Bool
     fits_ack r None = false
@@ -193,8 +198,10 @@ module _ (trade : Trade) (p : ℕ) (es : List Entry) (f : Framed) where
 
     abbrev fits_kind : Receipt → Kind → Bool
     fits_kind r kinds.Charge = charge_fits trade p now es f r
-    fits_kind r kinds.Delivery = fits_outcome r r.recipient
-    fits_kind r (kinds.DeliveryError refusal) = fits_outcome r r.recipient
+    fits_kind r kinds.Delivery = fits_outcome r Placed r.recipient
+    fits_kind r (kinds.DeliveryError refusals.NoMailbox) = fits_outcome r (Refused refusals.NoMailbox) r.recipient
+    fits_kind r (kinds.DeliveryError refusals.MailboxFull) = fits_outcome r (Refused refusals.MailboxFull) r.recipient
+    fits_kind r kinds.VirusFound = fits_outcome r (Refused refusals.Virus) r.recipient
     fits_kind r kinds.Ack = fits_ack r r.recipient
     fits_kind r _ = false
 
@@ -203,15 +210,17 @@ module _ (trade : Trade) (p : ℕ) (es : List Entry) (f : Framed) where
     fits_seen (Some (SeenEnvelope id moment original)) = envelope_fits trade p f
     fits_seen (Some (SeenReceipt r)) = fits_kind r r.kind
 
-    fits_decision : (r : Receipt) (decision : Decision) → fits_kind r (outcome_kind decision) ≡ fits_outcome r r.recipient
+    fits_decision : (r : Receipt) (decision : Decision) → fits_kind r (outcome_kind decision) ≡ fits_outcome r decision r.recipient
     fits_decision r Placed = refl
-    fits_decision r (Refused refusal) = refl
+    fits_decision r (Refused refusals.NoMailbox) = refl
+    fits_decision r (Refused refusals.MailboxFull) = refl
+    fits_decision r (Refused refusals.Virus) = refl
 
     letter_fits : IsLetter trade p es f → fits_seen (trade.view f.message) ≡ true
     letter_fits (AnEnvelope id is) = ap fits_seen is.seen ∙ envelope_again id is
     letter_fits (ACharge r is) = ap fits_seen is.seen ∙ ap (fits_kind r) is.kind ∙ charge_again r is now
     letter_fits (AnOutcome r recipient decision is) =
-        ap fits_seen is.seen ∙ ap (fits_kind r) is.kind ∙ fits_decision r decision ∙ ap (fits_outcome r) is.names ∙ outcome_again r recipient decision is now
+        ap fits_seen is.seen ∙ ap (fits_kind r) is.kind ∙ fits_decision r decision ∙ ap (fits_outcome r decision) is.names ∙ outcome_again r recipient decision is now
     letter_fits (AnAck r recipient is) = ap fits_seen is.seen ∙ ap (fits_kind r) is.kind ∙ ap (fits_ack r) is.names ∙ ack_again r recipient is now
 
     no_letter : fits_seen (trade.view f.message) ≡ false → IsLetter trade p es f → ⊥
@@ -242,11 +251,11 @@ module _ (trade : Trade) (p : ℕ) (es : List Entry) (f : Framed) where
     charge_received r seen kind true e (Some row) t = KnownCharge r (charge_is r seen kind now e) (ap is_some t) refl
 
     outcome_received : (r : Receipt) (recipient : Bytes) (decision : Decision) → trade.view f.message ≡ Some (SeenReceipt r) → r.kind ≡ outcome_kind decision
-        → r.recipient ≡ Some recipient → (fits : Bool) → outcome_fits trade p now es f r recipient ≡ fits
+        → r.recipient ≡ Some recipient → (fits : Bool) → outcome_fits trade p now es f r recipient decision ≡ fits
         → (row : Option Known) → known_of (half trade p es) (pair_of r.id recipient) ≡ row
         → IsReceived trade p es f now (outcome_rows trade p now es f r recipient decision fits row)
     outcome_received r recipient decision seen kind names false e row t =
-        otherwise_received (ap fits_seen seen ∙ ap (fits_kind r) kind ∙ fits_decision r decision ∙ ap (fits_outcome r) names ∙ e)
+        otherwise_received (ap fits_seen seen ∙ ap (fits_kind r) kind ∙ fits_decision r decision ∙ ap (fits_outcome r decision) names ∙ e)
     outcome_received r recipient decision seen kind names true e None t =
         NewOutcome r recipient decision (outcome_is r recipient decision seen kind names now e) t refl
     outcome_received r recipient decision seen kind names true e (Some row) t =
@@ -262,9 +271,9 @@ module _ (trade : Trade) (p : ℕ) (es : List Entry) (f : Framed) where
     by_outcome_received : (r : Receipt) (decision : Decision) → trade.view f.message ≡ Some (SeenReceipt r) → r.kind ≡ outcome_kind decision
         → (recipient : Option Bytes) → r.recipient ≡ recipient → IsReceived trade p es f now (by_outcome trade p now es f r decision recipient)
     by_outcome_received r decision seen kind None names =
-        otherwise_received (ap fits_seen seen ∙ ap (fits_kind r) kind ∙ fits_decision r decision ∙ ap (fits_outcome r) names)
+        otherwise_received (ap fits_seen seen ∙ ap (fits_kind r) kind ∙ fits_decision r decision ∙ ap (fits_outcome r decision) names)
     by_outcome_received r decision seen kind (Some recipient) names =
-        outcome_received r recipient decision seen kind names (outcome_fits trade p now es f r recipient) refl
+        outcome_received r recipient decision seen kind names (outcome_fits trade p now es f r recipient decision) refl
         (known_of (half trade p es) (pair_of r.id recipient)) refl
 
     by_ack_received : (r : Receipt) → trade.view f.message ≡ Some (SeenReceipt r) → r.kind ≡ kinds.Ack
@@ -278,7 +287,10 @@ module _ (trade : Trade) (p : ℕ) (es : List Entry) (f : Framed) where
     by_receipt_received r seen kinds.Charge kind =
         charge_received r seen kind (charge_fits trade p now es f r) refl (charged_of (half trade p es) r.id r.by) refl
     by_receipt_received r seen kinds.Delivery kind = by_outcome_received r Placed seen kind r.recipient refl
-    by_receipt_received r seen (kinds.DeliveryError refusal) kind = by_outcome_received r (Refused refusal) seen kind r.recipient refl
+    by_receipt_received r seen (kinds.DeliveryError refusals.NoMailbox) kind = by_outcome_received r (Refused refusals.NoMailbox) seen kind r.recipient refl
+    by_receipt_received r seen (kinds.DeliveryError refusals.MailboxFull) kind = by_outcome_received r (Refused refusals.MailboxFull) seen kind r.recipient refl
+    by_receipt_received r seen (kinds.DeliveryError refusals.Virus) kind = otherwise_received (ap fits_seen seen ∙ ap (fits_kind r) kind)
+    by_receipt_received r seen kinds.VirusFound kind = by_outcome_received r (Refused refusals.Virus) seen kind r.recipient refl
     by_receipt_received r seen kinds.Ack kind = by_ack_received r seen kind r.recipient refl
     by_receipt_received r seen kinds.Acceptance kind = otherwise_received (ap fits_seen seen ∙ ap (fits_kind r) kind)
     by_receipt_received r seen (kinds.NonAcceptance cause) kind = otherwise_received (ap fits_seen seen ∙ ap (fits_kind r) kind)
@@ -312,7 +324,9 @@ module _ (trade : Trade) (p : ℕ) (es : List Entry) (f : Framed) where
 
     by_decision : (r : Receipt) (decision : Decision) → by_receipt trade p now es f r (outcome_kind decision) ≡ by_outcome trade p now es f r decision r.recipient
     by_decision r Placed = refl
-    by_decision r (Refused refusal) = refl
+    by_decision r (Refused refusals.NoMailbox) = refl
+    by_decision r (Refused refusals.MailboxFull) = refl
+    by_decision r (Refused refusals.Virus) = refl
 
     outcome_by : (r : Receipt) (recipient : Bytes) (decision : Decision) → IsOutcome trade p es f r recipient decision → (row : Option Known)
         → known_of (half trade p es) (pair_of r.id recipient) ≡ row

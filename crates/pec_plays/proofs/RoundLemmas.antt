@@ -18,13 +18,13 @@ use Rattle.pec_ledger.specs.Trade.{Trade}
 use Rattle.pec_ledger.specs.TradeLaws.{IsTrade}
 use Rattle.pec_plays.specs.Rounds.{delivered, delivered_to, link_size, outs_of, rooms_of, rounded, turns_from, turns_of}
 use Rattle.pec_plays.specs.Steps.{Step}
-use Rattle.pec_plays.specs.Turns.{Cut, Turned, Whole, Fails as FailsAt, Full, Stops, Other, cut_turn, entries_of, entry_at, frames_in, last_of, not_begun, owed_of, plan, puts_from, that_fit, turned, without_first}
+use Rattle.pec_plays.specs.Turns.{Cut, Turned, Whole, Fails as FailsAt, Full, Stops, Unread, Other, Sees, cut_turn, entries_of, entry_at, frames_in, last_of, looks_by, not_begun, owed_of, puts_from, steps_of, that_fit, turned, without_first}
 use Rattle.pec_plays.proofs.DeliveryLemmas.{after_is, after_length, out_at, outs_length, past_the_end, turn_in, turn_is, turns_length}
 use Rattle.pec_plays.proofs.FrameLemmas.{TextLaws, due_genuine}
 use Rattle.pec_plays.specs.Frames.{due_frames}
-use Rattle.pec_plays.specs.Scripts.{LinksAreShort}
+use Rattle.pec_plays.specs.Scripts.{LinksAreShort, put_instead}
 use Rattle.pec_plays.proofs.LinkLemmas.{due_fit}
-use Rattle.pec_plays.proofs.PlanLemmas.{front_follows, next_follows, plan_follows}
+use Rattle.pec_plays.proofs.PlanLemmas.{front_follows, next_follows, nothing_found, plan_follows}
 use Rattle.pec_plays.proofs.SiteLemmas.{StateLaws, none_interrupted, stays_as_it_was, goes_on}
 use Rattle.pec_plays.proofs.StepLemmas.{ArrivalLaws}
 
@@ -64,11 +64,11 @@ module _ (trade : Trade) (world : IsTrade trade) (laws : StateLaws trade) (sites
       → Happens trade sites new p
   broken_at p up steps n follows None e new j i u =
       Appends (entries_of (take n steps)) (none_interrupted trade laws sites p sound up) i j
-      (front_follows trade world (journals_of sites) arrivals p 0 (half trade p (journal_at sites p)) n steps follows)
+      (front_follows trade world (journals_of sites) arrivals p 0 nothing_found (half trade p (journal_at sites p)) n steps follows)
   broken_at p up steps n follows (Some entry) e new j i u =
       Fails (entries_of (take n steps)) entry (none_interrupted trade laws sites p sound up) i u j
       (subst (λ (o : Option Entry). Follows trade (journals_of sites) p (half trade p (journal_at sites p)) (entries_of (take n steps) ++ option_to_list o)) e
-      (next_follows trade world (journals_of sites) arrivals p 0 (half trade p (journal_at sites p)) n steps follows))
+      (next_follows trade world (journals_of sites) arrivals p 0 nothing_found (half trade p (journal_at sites p)) n steps follows))
 
   cut_became : (p : ℕ) (rooms : ℕ → ℕ) (steps : List Step) → (site_at sites p).up ≡ true
       → Follows trade (journals_of sites) p (half trade p (journal_at sites p)) (entries_of steps)
@@ -76,10 +76,14 @@ module _ (trade : Trade) (world : IsTrade trade) (laws : StateLaws trade) (sites
   cut_became p rooms steps up follows Whole new j i u = appends p up (entries_of steps) follows new j i
   cut_became p rooms steps up follows (FailsAt n fault) new j i u = broken_at p up steps n follows (entry_at steps n) refl new j i u
   cut_became p rooms steps up follows (Full n) new j i u =
-      appends p up (entries_of (take n steps)) (front_follows trade world (journals_of sites) arrivals p 0 (half trade p (journal_at sites p)) n steps follows) new j i
+      appends p up (entries_of (take n steps)) (front_follows trade world (journals_of sites) arrivals p 0 nothing_found (half trade p (journal_at sites p)) n steps follows) new j i
   cut_became p rooms steps up follows (Stops n) new j i u =
-      appends p up (entries_of (take n steps)) (front_follows trade world (journals_of sites) arrivals p 0 (half trade p (journal_at sites p)) n steps follows) new j i
+      appends p up (entries_of (take n steps)) (front_follows trade world (journals_of sites) arrivals p 0 nothing_found (half trade p (journal_at sites p)) n steps follows) new j i
+  cut_became p rooms steps up follows (Unread n fault) new j i u =
+      Appends (entries_of (take n steps)) (none_interrupted trade laws sites p sound up) i j
+      (front_follows trade world (journals_of sites) arrivals p 0 nothing_found (half trade p (journal_at sites p)) n steps follows)
   cut_became p rooms steps up follows (Other out) new j i u = appends p up (entries_of steps) follows new j i
+  cut_became p rooms steps up follows (Sees looks cut) new j i u = cut_became p rooms steps up follows cut new j i u
 
   by_test : (p : ℕ) (b : Bool) (x y : Turned) → (b ≡ true → Became p x) → (b ≡ false → Became p y) → Became p (if b then x else y)
   by_test p true x y taken passed = taken refl
@@ -90,8 +94,8 @@ module _ (trade : Trade) (world : IsTrade trade) (laws : StateLaws trade) (sites
   turn_became p now range rooms cut =
       by_test p (site_at sites p).up _ _
       (λ up. by_test p (nat_lt now (last_of trade p (journal_at sites p))) _ _ (λ late. as_it_was p (faults.ClockBack (last_of trade p (journal_at sites p))))
-      (λ time. cut_became p rooms (plan trade p now (journal_at sites p) (frames_in (site_at sites p).waiting)) up
-      (plan_follows trade world (journals_of sites) arrivals p now (journal_at sites p) (frames_in (site_at sites p).waiting)
+      (λ time. cut_became p rooms (steps_of trade p now (site_at sites p) cut) up
+      (plan_follows trade world (journals_of sites) arrivals p now (looks_by trade p (site_at sites p).screens cut) (journal_at sites p) (frames_in (site_at sites p).waiting)
       (all_waiting (journals_of sites) (site_at sites p).waiting (λ k. sound.genuine k p))
       (ltb-false now (last_of trade p (journal_at sites p)) time) range)
       cut))
@@ -107,7 +111,9 @@ module _ (trade : Trade) (world : IsTrade trade) (laws : StateLaws trade) (sites
   cut_leaves p rooms steps (FailsAt n fault) = left_genuine (journals_of sites) (n + 1) (site_at sites p).waiting (λ k. sound.genuine k p)
   cut_leaves p rooms steps (Full n) = left_genuine (journals_of sites) (n + 1) (site_at sites p).waiting (λ k. sound.genuine k p)
   cut_leaves p rooms steps (Stops n) = left_genuine (journals_of sites) (n + 1) (site_at sites p).waiting (λ k. sound.genuine k p)
+  cut_leaves p rooms steps (Unread n fault) = left_genuine (journals_of sites) (n + 1) (site_at sites p).waiting (λ k. sound.genuine k p)
   cut_leaves p rooms steps (Other out) = left_genuine (journals_of sites) (length steps) (site_at sites p).waiting (λ k. sound.genuine k p)
+  cut_leaves p rooms steps (Sees looks cut) = cut_leaves p rooms steps cut
 
   leaves_by : (b : Bool) (x y : Turned) → LeavesGenuine x → LeavesGenuine y → LeavesGenuine (if b then x else y)
   leaves_by true x y a b = a
@@ -118,7 +124,7 @@ module _ (trade : Trade) (world : IsTrade trade) (laws : StateLaws trade) (sites
   turn_leaves p now rooms cut =
       leaves_by (site_at sites p).up _ _
       (leaves_by (nat_lt now (last_of trade p (journal_at sites p))) _ _ (λ k. sound.genuine k p)
-      (cut_leaves p rooms (plan trade p now (journal_at sites p) (frames_in (site_at sites p).waiting)) cut))
+      (cut_leaves p rooms (steps_of trade p now (site_at sites p) cut) cut))
       (λ k. sound.genuine k p)
 
   -- ---- what a turn puts, in journals in which its own is that behind the turn
@@ -131,7 +137,7 @@ module _ (trade : Trade) (world : IsTrade trade) (laws : StateLaws trade) (sites
 
   -- where other frames are put than those that are due, they are genuine
   abbrev GivenGenuine : Journals → Cut → Type 0
-  GivenGenuine J cut = (out : List (List Bytes)) → cut ≡ Other out → AreGenuine trade J (frames_in out)
+  GivenGenuine J cut = (out : List (List Bytes)) → put_instead cut ≡ Some out → AreGenuine trade J (frames_in out)
 
   front_genuine : (J : Journals) (xs ys : List Bytes) → AreGenuine trade J (xs ++ ys) → AreGenuine trade J xs
   front_genuine J [] ys all = All-nil (IsGenuine trade J)
@@ -159,7 +165,9 @@ module _ (trade : Trade) (world : IsTrade trade) (laws : StateLaws trade) (sites
   cut_puts p rooms steps (FailsAt n fault) J texts given e k = All-nil (IsGenuine trade J)
   cut_puts p rooms steps (Full n) J texts given e k = All-nil (IsGenuine trade J)
   cut_puts p rooms steps (Stops n) J texts given e k = All-nil (IsGenuine trade J)
+  cut_puts p rooms steps (Unread n fault) J texts given e k = All-nil (IsGenuine trade J)
   cut_puts p rooms steps (Other out) J texts given e k = fit_genuine J rooms 0 out (given out refl) k
+  cut_puts p rooms steps (Sees looks cut) J texts given e k = cut_puts p rooms steps cut J texts given e k
 
   puts_by : (p : ℕ) (cut : Cut) (b : Bool) (x y : Turned) → PutsGenuine p cut x → PutsGenuine p cut y → PutsGenuine p cut (if b then x else y)
   puts_by p cut true x y a b = a
@@ -170,7 +178,7 @@ module _ (trade : Trade) (world : IsTrade trade) (laws : StateLaws trade) (sites
   turn_puts p now rooms cut =
       puts_by p cut (site_at sites p).up _ _
       (puts_by p cut (nat_lt now (last_of trade p (journal_at sites p))) _ _ (λ J texts given e k. All-nil (IsGenuine trade J))
-      (cut_puts p rooms (plan trade p now (journal_at sites p) (frames_in (site_at sites p).waiting)) cut))
+      (cut_puts p rooms (steps_of trade p now (site_at sites p) cut) cut))
       (λ J texts given e k. All-nil (IsGenuine trade J))
 
   -- ---- what waits after a delivery
@@ -199,7 +207,9 @@ module _ (trade : Trade) (world : IsTrade trade) (laws : StateLaws trade) (sites
   cut_leaves_fewer p rooms steps (FailsAt n fault) k = left_fewer (n + 1) (site_at sites p).waiting k
   cut_leaves_fewer p rooms steps (Full n) k = left_fewer (n + 1) (site_at sites p).waiting k
   cut_leaves_fewer p rooms steps (Stops n) k = left_fewer (n + 1) (site_at sites p).waiting k
+  cut_leaves_fewer p rooms steps (Unread n fault) k = left_fewer (n + 1) (site_at sites p).waiting k
   cut_leaves_fewer p rooms steps (Other out) k = left_fewer (length steps) (site_at sites p).waiting k
+  cut_leaves_fewer p rooms steps (Sees looks cut) k = cut_leaves_fewer p rooms steps cut k
 
   fewer_by : (p : ℕ) (b : Bool) (x y : Turned) → LeavesFewer p x → LeavesFewer p y → LeavesFewer p (if b then x else y)
   fewer_by p true x y a b = a
@@ -210,7 +220,7 @@ module _ (trade : Trade) (world : IsTrade trade) (laws : StateLaws trade) (sites
   turn_leaves_fewer p now rooms cut =
       fewer_by p (site_at sites p).up _ _
       (fewer_by p (nat_lt now (last_of trade p (journal_at sites p))) _ _ (λ k. omega arith)
-      (cut_leaves_fewer p rooms (plan trade p now (journal_at sites p) (frames_in (site_at sites p).waiting)) cut))
+      (cut_leaves_fewer p rooms (steps_of trade p now (site_at sites p) cut) cut))
       (λ k. omega arith)
 
   abbrev PutsFit : (ℕ → ℕ) → Turned → Type 0
@@ -240,6 +250,8 @@ module _ (trade : Trade) (world : IsTrade trade) (laws : StateLaws trade) (sites
   cut_puts_fit p rooms steps (FailsAt n fault) k = omega arith
   cut_puts_fit p rooms steps (Full n) k = omega arith
   cut_puts_fit p rooms steps (Stops n) k = omega arith
+  cut_puts_fit p rooms steps (Unread n fault) k = omega arith
+  cut_puts_fit p rooms steps (Sees looks cut) k = cut_puts_fit p rooms steps cut k
   cut_puts_fit p rooms steps (Other out) k =
       subst (λ (n : ℕ). length (slice_index_or (that_fit rooms 0 out) k []) ≤ rooms n) (let z : 0 + k ≡ k = omega arith in z) (that_fits rooms 0 out k)
 
@@ -252,7 +264,7 @@ module _ (trade : Trade) (world : IsTrade trade) (laws : StateLaws trade) (sites
   turn_puts_fit p now rooms cut =
       fit_by rooms (site_at sites p).up _ _
       (fit_by rooms (nat_lt now (last_of trade p (journal_at sites p))) _ _ (λ k. omega arith)
-      (cut_puts_fit p rooms (plan trade p now (journal_at sites p) (frames_in (site_at sites p).waiting)) cut))
+      (cut_puts_fit p rooms (steps_of trade p now (site_at sites p) cut) cut))
       (λ k. omega arith)
 
   longer_by : (to : ℕ) (outs : List (List (List Bytes))) (links : List (List Bytes)) (k : ℕ)
@@ -296,7 +308,8 @@ module _ (trade : Trade) (world : IsTrade trade) (laws : StateLaws trade) (sites
         laws.frames (journals_of sites) (journals_of after) (λ q. goes_on trade laws sites after q (each_happens q)) frames good
 
     abbrev AllGiven : Type 0
-    AllGiven = (p : ℕ) (out : List (List Bytes)) → p < length sites → cuts p ≡ Other out → AreGenuine trade (journals_of after) (frames_in out)
+    AllGiven = (p : ℕ) (out : List (List Bytes)) → p < length sites → put_instead (cuts p) ≡ Some out
+        → AreGenuine trade (journals_of after) (frames_in out)
 
     puts_are : AllGiven → (to k : ℕ) → AreGenuine trade (journals_of after) (slice_index_or (slice_index_or (outs_of turns) k []) to [])
     puts_are given to k =
@@ -318,7 +331,7 @@ module _ (trade : Trade) (world : IsTrade trade) (laws : StateLaws trade) (sites
               (waits_on to (frames_between sites from to) (sound.genuine from to))
         ]
 
-    pub next_rounded : ((p : ℕ) (out : List (List Bytes)) → p < length sites → cuts p ≡ Other out
+    pub next_rounded : ((p : ℕ) (out : List (List Bytes)) → p < length sites → put_instead (cuts p) ≡ Some out
         → AreGenuine trade (journals_of (rounded trade now cuts sites).sites) (frames_in out))
         → IsNext trade sites (rounded trade now cuts sites).sites
     unfolding rounded turns_of

@@ -1,6 +1,6 @@
 -- No two answers of a run decide one pair, and none learn one: each told pair is that of a new row at its one provider.
 use Rattle.std.proofs.Common.{◌≡◌, ℕ, suc, ◌+◌, ◌<◌, ◌≤◌, List, [], ◌∷◌, ◌++◌, Bool, true, false, inl, inr, length, refl, ap, sym, subst, ◌∙◌, arith, nat_lt, Option, Some, None}
-use Rattle.std.specs.Prelude.{slice_get, if◌then◌else◌}
+use Rattle.std.specs.Prelude.{slice_get, ◌==◌, if◌then◌else◌}
 use Rattle.std.specs.List.{find, flat_map}
 use Rattle.std.specs.Option.{unwrap_or}
 use Rattle.std.proofs.lemmas.Bool.{cases_eq, cases_lt}
@@ -11,19 +11,20 @@ use Rattle.pec_types.specs.declared.messages.TheConstants.{MESSAGES}
 use Rattle.pec_types.specs.declared.turns.ProviderFault.{ProviderFault}
 use Rattle.pec_records.specs.declared.entries.Entry.{Entry}
 use Rattle.pec_records.specs.declared.entries.Entry.TheVariants as entries
+use Rattle.pec_screen.specs.Verdicts.{Patterns}
 use Rattle.pec_ledger.specs.Along.{AllDiffer, GoesOnAs, times}
 use Rattle.pec_ledger.specs.Half.{Fate, Half, Known, Posted}
 use Rattle.pec_ledger.specs.Items.{item_text}
 use Rattle.pec_ledger.specs.Ledger.{Fit, Journals, ledger}
-use Rattle.pec_ledger.specs.Lookups.{decided_of, known_of, mailbox}
-use Rattle.pec_ledger.specs.Books.{book, mailbox_lines}
+use Rattle.pec_ledger.specs.Lookups.{archive, decided_of, known_of, mailbox}
+use Rattle.pec_ledger.specs.Books.{archive_lines, book, mailbox_lines}
 use Rattle.pec_ledger.specs.Network.{Site, Sound, frames_between, journal_at, journals_of, site_at}
 use Rattle.pec_ledger.specs.Own.{IsOwnPair}
 use Rattle.pec_ledger.specs.Guarantees.{OneOutcome}
 use Rattle.pec_ledger.specs.Pairs.{Pair, same_pair}
 use Rattle.pec_ledger.specs.Steps.{half}
 use Rattle.pec_ledger.specs.Trade.{Trade}
-use Rattle.pec_plays.specs.Commands.{Answer, Command, Luck, Played, Submit, Tick, Round, Lose, Repeat, Swap, Inject, Crash, Restart, Book, Mailbox, Show, Lines, Items, account_home, answers, append, appended, asked, at_work, messages_at, played, put_again, read_back, shown, shown_bytes, swapped, swapped_at}
+use Rattle.pec_plays.specs.Commands.{Answer, Command, Luck, Played, Submit, Tick, Round, Lose, Repeat, Swap, Inject, Crash, Restart, Book, Mailbox, Show, Lines, Items, account_home, answers, append, appended, asked, at_work, messages_at, played, put_again, read_back, shown, shown_bytes, swapped, swapped_at, Archive, Upgrade, Vault, VaultShow, Archived, Upgraded, Vaults, Screen, archived, items_at, screened, upgraded, version_at}
 use Rattle.pec_plays.specs.Steps.{has_no_room}
 use Rattle.pec_plays.specs.Rounds.{delivered, link_size, outs_of, rooms_of, rounded, told_from, turns_from, turns_of}
 use Rattle.pec_plays.specs.Scripts.{AllUnforged, IsUnforged, script}
@@ -208,6 +209,23 @@ module _ (trade : Trade) (names : Event → List Pair) (rows : Half → List Pai
   shown_names luck sites p None = refl
   shown_names luck sites p (Some posted) = bytes_names luck sites p (item_text trade p (journal_at sites p) posted)
 
+  archived_names : (luck : Luck) (sites : List Site) (found : Option ℕ) (now : ℕ) (account : Bytes) (place : ℕ) → NamesNone (archived trade luck sites found now account place)
+  archived_names luck sites None now account place = refl
+  archived_names luck sites (Some p) now account place =
+      work_names sites p now _
+      (by_test (nat_lt place (items_at trade sites p account)) _ _
+      (by_test (version_at trade sites p == 2) _ _ (append_names luck sites p (entries.Archived now account place) Archived refl) refl) refl)
+
+  upgraded_names : (luck : Luck) (sites : List Site) (p now : ℕ) → NamesNone (upgraded trade luck sites p now)
+  upgraded_names luck sites p now =
+      work_names sites p now _
+      (by_test (version_at trade sites p == 1) _ _ (append_names luck sites p (entries.Upgraded now) Upgraded refl) refl)
+
+  screened_names : (sites : List Site) (p place : ℕ) (spare : Option Patterns) → NamesNone (screened sites p place spare)
+  screened_names sites p place None = refl
+  screened_names sites p place (Some patterns) =
+      by_test (site_at sites p).up _ _ (by_test (nat_lt place (length (site_at sites p).screens)) _ _ refl refl) refl
+
   home_grows : (sites : List Site) (luck : Luck) (command : Command) (pair : Pair) (at : Option ℕ)
       → at_home (journals_of sites) pair at ≤ at_home (journals_of (played trade luck sites command).after) pair at
   home_grows sites luck command pair None = omega arith
@@ -233,8 +251,8 @@ module _ (trade : Trade) (names : Event → List Pair) (rows : Half → List Pai
       → Grows sites luck command
   unfolding played
   command_grows sites luck (Round now) one = round_grows sites luck now one
-  command_grows sites luck (Submit p now sender path message found) one =
-      names_none sites luck (Submit p now sender path message found)
+  command_grows sites luck (Submit p now sender path message) one =
+      names_none sites luck (Submit p now sender path message)
       (by_test (trade.is_account p sender) _ _
       (work_names sites p now _ (by_test (nat_lt (messages_at trade sites p) MESSAGES) _ _ (append_names luck sites p _ _ refl) refl)) refl)
   command_grows sites luck (Tick p now) one =
@@ -260,6 +278,17 @@ module _ (trade : Trade) (names : Event → List Pair) (rows : Half → List Pai
       names_none sites luck (Show address place)
       (asked_names sites (λ (p : ℕ) (h : Half). shown trade luck sites p (slice_get (mailbox h address) place)) (account_home trade address (trade.home address))
       (λ p h. shown_names luck sites p (slice_get (mailbox h address) place)))
+  command_grows sites luck (Archive address now place) one =
+      names_none sites luck (Archive address now place) (archived_names luck sites (account_home trade address (trade.home address)) now address place)
+  command_grows sites luck (Upgrade p now) one = names_none sites luck (Upgrade p now) (upgraded_names luck sites p now)
+  command_grows sites luck (Vault address) one =
+      names_none sites luck (Vault address)
+      (asked_names sites (λ (p : ℕ) (h : Half). answers sites (Vaults (archive_lines h address))) (account_home trade address (trade.home address)) (λ p h. refl))
+  command_grows sites luck (VaultShow address place) one =
+      names_none sites luck (VaultShow address place)
+      (asked_names sites (λ (p : ℕ) (h : Half). shown trade luck sites p (slice_get (archive h address) place)) (account_home trade address (trade.home address))
+      (λ p h. shown_names luck sites p (slice_get (archive h address) place)))
+  command_grows sites luck (Screen p place spare) one = names_none sites luck (Screen p place spare) (screened_names sites p place spare)
 
   -- ---- scripts
 

@@ -1,9 +1,9 @@
 -- An answer settles the state behind it: of two lucks with one answer the state is one.
 use Rattle.std.proofs.Common.{◌≡◌, ℕ, suc, ◌+◌, ◌-◌, ◌≤◌, min, List, [], ◌∷◌, ◌++◌, Bool, true, false, inl, inr, length, take, drop, map, refl, ap, sym, subst, ◌∙◌, arith, nat_lt, Option, Some, None}
-use Rattle.std.specs.Prelude.{slice_get, if◌then◌else◌}
+use Rattle.std.specs.Prelude.{slice_get, if◌then◌else◌, ◌==◌}
 use Rattle.std.specs.List.{AllByRecursion}
 use Rattle.std.specs.Option.{option_and_then, option_to_list, unwrap_or}
-use Rattle.std.proofs.lemmas.Bool.{cases_lt}
+use Rattle.std.proofs.lemmas.Bool.{cases_lt, false≢true}
 use Rattle.std.proofs.lemmas.List.{drop_all, length-append, length-map, length-take, take_all}
 use Rattle.std.proofs.lemmas.Option.{none-some, same_Some, slice_get_past}
 use Rattle.pec_types.specs.Bytes.{Bytes, Path}
@@ -16,17 +16,19 @@ use Rattle.pec_records.specs.declared.entries.Entry.{Entry}
 use Rattle.pec_records.specs.declared.entries.Entry.TheVariants as entries
 use Rattle.pec_ledger.specs.Half.{Half, Posted}
 use Rattle.pec_ledger.specs.Items.{item_text}
-use Rattle.pec_ledger.specs.Lookups.{mailbox}
+use Rattle.pec_ledger.specs.Lookups.{archive, mailbox}
 use Rattle.pec_ledger.specs.Network.{Site, chosen, journal_at, site_at}
 use Rattle.pec_ledger.specs.Steps.{half}
 use Rattle.pec_ledger.specs.Trade.{Trade}
-use Rattle.pec_plays.specs.Commands.{Answer, Command, Luck, Played, IsUp, Turns, Restarted, Refuses, Submit, Tick, Round, Lose, Repeat, Swap, Inject, Crash, Restart, Book, Mailbox, Show, account_home, answers, append, appended, asked, at_work, messages_at, played, read_back, restarted, restarted_site, shown, shown_bytes, submitted, ticked, with_site}
-use Rattle.pec_plays.specs.Possible.{GaveWhatWasKept, IsOfKept, IsOfRead}
+use Rattle.pec_plays.specs.Commands.{Answer, Command, Luck, Played, IsUp, Turns, Restarted, Refuses, Submit, Tick, Round, Lose, Repeat, Swap, Inject, Crash, Restart, Book, Mailbox, Show, account_home, answers, append, appended, asked, at_work, messages_at, played, read_back, restarted, restarted_site, shown, shown_bytes, submitted, ticked, with_site, Archive, Upgrade, Vault, VaultShow, Archived, Upgraded, Screen, archived, finds_at, items_at, upgraded, version_at}
+use Rattle.pec_plays.specs.Decisions.{Looks, kept_looks}
+use Rattle.pec_plays.specs.Possible.{AllReadAlike, GaveWhatWasKept, IsOfKept, IsOfRead, ReadAlike, is_looked}
 use Rattle.pec_plays.specs.Reception.{arrive}
 use Rattle.pec_plays.specs.Rounds.{delivered, outs_of, rooms_of, rounded, told_from, turns_from, turns_of}
 use Rattle.pec_plays.specs.Scripts.{script}
 use Rattle.pec_plays.specs.Steps.{Step, has_no_room}
-use Rattle.pec_plays.specs.Turns.{Cut, Turned, Whole, Fails, Full, Stops, Other, behind, broken, cut_turn, entries_of, entry_at, events_of, frames_in, last_of, plan, stopped, turned, without_first}
+use Rattle.pec_plays.specs.Turns.{Cut, Turned, Whole, Fails, Full, Stops, Unread, Other, Sees, behind, broken, cut_turn, entries_of, entry_at, events_of, frames_in, last_of, plan, steps_of, stopped, turned, without_first}
+use Rattle.pec_plays.proofs.LooksLemmas.{steps_kept}
 
 -- ---- tests that both sides make
 
@@ -76,6 +78,20 @@ module _ (trade : Trade) (sites : List Site) (a b : Luck) where
   ticked_settled : (p now : ℕ) → Settled (ticked trade a sites p now) (ticked trade b sites p now)
   ticked_settled p now = work_settled p now _ _ (append_settled p (entries.Ticked now) _ refl)
 
+  archived_settled : (found : Option ℕ) (now : ℕ) (account : Bytes) (place : ℕ)
+      → Settled (archived trade a sites found now account place) (archived trade b sites found now account place)
+  archived_settled None now account place = λ e. refl
+  archived_settled (Some p) now account place =
+      work_settled p now _ _
+      (settled_by (nat_lt place (items_at trade sites p account)) _ _ (answers sites (Refuses faults.NoItem))
+      (settled_by (version_at trade sites p == 2) _ _ (answers sites (Refuses faults.OldJournal))
+      (append_settled p (entries.Archived now account place) Archived refl)))
+
+  upgraded_settled : (p now : ℕ) → Settled (upgraded trade a sites p now) (upgraded trade b sites p now)
+  upgraded_settled p now =
+      work_settled p now _ _
+      (settled_by (version_at trade sites p == 1) _ _ (answers sites (Refuses faults.NoNeed)) (append_settled p (entries.Upgraded now) Upgraded refl))
+
   -- ---- restarts
 
   found_so : (site : Site) (x y : Bool) (i : Option Entry) → site.interrupted ≡ i
@@ -97,7 +113,7 @@ module _ (trade : Trade) (sites : List Site) (a b : Luck) where
       (record { answer = Restarted (length (restarted_site x site).journal); after = with_site sites p (restarted_site x site) })
       (record { answer = Restarted (length (restarted_site y site).journal); after = with_site sites p (restarted_site y site) })
   restarted_so p site x y e =
-      ap (λ (more : List Entry). with_site sites p (record { journal = site.journal ++ more; up = true; interrupted = None; waiting = site.waiting }))
+      ap (λ (more : List Entry). with_site sites p (record (site) { journal = site.journal ++ more; up = true; interrupted = None }))
       (found_so site x y site.interrupted refl (ap count_in e))
 
   works_or_not : (x y : Bool) (z u v : Played) → is_refusal z.answer ≡ true → is_refusal u.answer ≡ false → is_refusal v.answer ≡ false → Settled u v
@@ -149,7 +165,7 @@ sites_so : (site : Site) (steps : List Step) (n m : ℕ) → take n steps ≡ ta
     → behind site (take n steps) (n + 1) ≡ behind site (take m steps) (m + 1)
 sites_so site steps n m e f =
     ap (λ (s : List Step). behind site s (n + 1)) e
-    ∙ ap (λ (links : List (List Bytes)). record { journal = site.journal ++ entries_of (take m steps); up = site.up; interrupted = site.interrupted; waiting = links }) f
+    ∙ ap (λ (links : List (List Bytes)). record { journal = site.journal ++ entries_of (take m steps); up = site.up; interrupted = site.interrupted; screens = site.screens; waiting = links }) f
 
 -- two steps at which a turn ended are one, as far as it can be seen
 pub record SameEnd (site : Site) (steps : List Step) (n m : ℕ) : Type 0 where
@@ -165,7 +181,7 @@ past_the_steps site steps n m few l k = record {
   left = none_left (n + 1) site.waiting (omega (arith, few, l)) ∙ sym (none_left (m + 1) site.waiting (omega (arith, few, k)));
 }
 
-same_end : (site : Site) (steps : List Step) (n m : ℕ) → length (frames_in site.waiting) ≤ length steps
+pub same_end : (site : Site) (steps : List Step) (n m : ℕ) → length (frames_in site.waiting) ≤ length steps
     → events_of (take n steps) ≡ events_of (take m steps) → SameEnd site steps n m
 same_end site steps n m few e =
     let f = ap length e
@@ -180,7 +196,7 @@ same_end site steps n m few e =
       ]
     ]
 
-ended_so : (site : Site) (steps : List Step) (n m : ℕ) (fault : ProviderFault) → SameEnd site steps n m → stopped site steps n fault ≡ stopped site steps m fault
+pub ended_so : (site : Site) (steps : List Step) (n m : ℕ) (fault : ProviderFault) → SameEnd site steps n m → stopped site steps n fault ≡ stopped site steps m fault
 ended_so site steps n m fault same =
     turns_so (behind site (take n steps) (n + 1)) (behind site (take m steps) (m + 1)) (events_of (take n steps)) (events_of (take m steps))
     (sites_so site steps n m same.told same.left) (ap events_of same.told)
@@ -197,11 +213,21 @@ failed_so site steps n m f g same e =
     ∙ ap (λ (i : Option Entry). record (stopped site steps m f) { site = broken (behind site (take m steps) (m + 1)) i }) same.entry
     ∙ ap (λ (h : ProviderFault). record (stopped site steps m h) { site = broken (behind site (take m steps) (m + 1)) (entry_at steps m) }) e
 
+-- a turn that ended so, with an entry that is interrupted or none
+abbrev pub ended_with : Site → List Step → ℕ → ProviderFault → Option Entry → Turned
+ended_with site steps n fault entry = record (stopped site steps n fault) { site = broken (behind site (take n steps) (n + 1)) entry }
+
+pub unread_so : (site : Site) (steps : List Step) (n m : ℕ) (f g : ProviderFault) → SameEnd site steps n m → f ≡ g
+    → ended_with site steps n f None ≡ ended_with site steps m g None
+unread_so site steps n m f g same e =
+    ap (λ (t : Turned). record t { site = broken t.site None }) (ended_so site steps n m f same)
+    ∙ ap (λ (h : ProviderFault). ended_with site steps m h None) e
+
 -- a fault of a read is neither that of a full journal nor want of memory
-not_full : (fault : ProviderFault) → IsOfRead fault → Some fault ≡ Some faults.JournalFull → ⊥
+pub not_full : (fault : ProviderFault) → IsOfRead fault → Some fault ≡ Some faults.JournalFull → ⊥
 not_full fault read e = subst IsOfRead (same_Some fault faults.JournalFull e) read
 
-not_stopped : (fault : ProviderFault) → IsOfRead fault → Some fault ≡ Some faults.NoMemory → ⊥
+pub not_stopped : (fault : ProviderFault) → IsOfRead fault → Some fault ≡ Some faults.NoMemory → ⊥
 not_stopped fault read e = subst IsOfRead (same_Some fault faults.NoMemory e) read
 
 -- the fault by which a turn ended
@@ -212,34 +238,45 @@ code (Some faults.JournalFull) = 2
 code (Some faults.NoMemory) = 3
 code (Some _) = 4
 
-cut_settled : (trade : Trade) (p : ℕ) (rooms : ℕ → ℕ) (site : Site) (steps : List Step) (a b : Cut) → length (frames_in site.waiting) ≤ length steps
-    → IsOfKept a → IsOfKept b
+pub cut_settled : (trade : Trade) (p : ℕ) (rooms : ℕ → ℕ) (site : Site) (steps : List Step) (a b : Cut) → length (frames_in site.waiting) ≤ length steps
+    → IsOfKept a → IsOfKept b → is_looked a ≡ is_looked b
     → (cut_turn trade p rooms site steps a).events ≡ (cut_turn trade p rooms site steps b).events
     → (cut_turn trade p rooms site steps a).ended ≡ (cut_turn trade p rooms site steps b).ended
     → cut_turn trade p rooms site steps a ≡ cut_turn trade p rooms site steps b
-cut_settled trade p rooms site steps Whole Whole few k l e f = refl
-cut_settled trade p rooms site steps (Fails n x) (Fails m y) few k l e f = failed_so site steps n m x y (same_end site steps n m few e) (same_Some x y f)
-cut_settled trade p rooms site steps (Full n) (Full m) few k l e f = ended_so site steps n m faults.JournalFull (same_end site steps n m few e)
-cut_settled trade p rooms site steps (Stops n) (Stops m) few k l e f = ended_so site steps n m faults.NoMemory (same_end site steps n m few e)
-cut_settled trade p rooms site steps Whole (Fails m y) few k l e f = absurd (none-some y f)
-cut_settled trade p rooms site steps Whole (Full m) few k l e f = absurd (let c = ap code f in omega (arith, c))
-cut_settled trade p rooms site steps Whole (Stops m) few k l e f = absurd (let c = ap code f in omega (arith, c))
-cut_settled trade p rooms site steps (Fails n x) Whole few k l e f = absurd (none-some x (sym f))
-cut_settled trade p rooms site steps (Fails n x) (Full m) few k l e f = absurd (not_full x k f)
-cut_settled trade p rooms site steps (Fails n x) (Stops m) few k l e f = absurd (not_stopped x k f)
-cut_settled trade p rooms site steps (Full n) Whole few k l e f = absurd (let c = ap code f in omega (arith, c))
-cut_settled trade p rooms site steps (Full n) (Fails m y) few k l e f = absurd (not_full y l (sym f))
-cut_settled trade p rooms site steps (Full n) (Stops m) few k l e f = absurd (let c = ap code f in omega (arith, c))
-cut_settled trade p rooms site steps (Stops n) Whole few k l e f = absurd (let c = ap code f in omega (arith, c))
-cut_settled trade p rooms site steps (Stops n) (Fails m y) few k l e f = absurd (not_stopped y l (sym f))
-cut_settled trade p rooms site steps (Stops n) (Full m) few k l e f = absurd (let c = ap code f in omega (arith, c))
-cut_settled trade p rooms site steps (Other x) b few k l e f = absurd k
-cut_settled trade p rooms site steps a (Other y) few k l e f = absurd l
+cut_settled trade p rooms site steps Whole Whole few k l i e f = refl
+cut_settled trade p rooms site steps (Fails n x) (Fails m y) few k l i e f = failed_so site steps n m x y (same_end site steps n m few e) (same_Some x y f)
+cut_settled trade p rooms site steps (Full n) (Full m) few k l i e f = ended_so site steps n m faults.JournalFull (same_end site steps n m few e)
+cut_settled trade p rooms site steps (Stops n) (Stops m) few k l i e f = ended_so site steps n m faults.NoMemory (same_end site steps n m few e)
+cut_settled trade p rooms site steps Whole (Fails m y) few k l i e f = absurd (none-some y f)
+cut_settled trade p rooms site steps Whole (Full m) few k l i e f = absurd (let c = ap code f in omega (arith, c))
+cut_settled trade p rooms site steps Whole (Stops m) few k l i e f = absurd (let c = ap code f in omega (arith, c))
+cut_settled trade p rooms site steps (Fails n x) Whole few k l i e f = absurd (none-some x (sym f))
+cut_settled trade p rooms site steps (Fails n x) (Full m) few k l i e f = absurd (not_full x k f)
+cut_settled trade p rooms site steps (Fails n x) (Stops m) few k l i e f = absurd (not_stopped x k f)
+cut_settled trade p rooms site steps (Full n) Whole few k l i e f = absurd (let c = ap code f in omega (arith, c))
+cut_settled trade p rooms site steps (Full n) (Fails m y) few k l i e f = absurd (not_full y l (sym f))
+cut_settled trade p rooms site steps (Full n) (Stops m) few k l i e f = absurd (let c = ap code f in omega (arith, c))
+cut_settled trade p rooms site steps (Stops n) Whole few k l i e f = absurd (let c = ap code f in omega (arith, c))
+cut_settled trade p rooms site steps (Stops n) (Fails m y) few k l i e f = absurd (not_stopped y l (sym f))
+cut_settled trade p rooms site steps (Stops n) (Full m) few k l i e f = absurd (let c = ap code f in omega (arith, c))
+cut_settled trade p rooms site steps (Other x) b few k l i e f = absurd k
+cut_settled trade p rooms site steps a (Other y) few k l i e f = absurd l
+cut_settled trade p rooms site steps (Sees x a) b few k l i e f = absurd k
+cut_settled trade p rooms site steps a (Sees y b) few k l i e f = absurd l
+cut_settled trade p rooms site steps (Unread n x) (Unread m y) few k l i e f = unread_so site steps n m x y (same_end site steps n m few e) (same_Some x y f)
+cut_settled trade p rooms site steps (Unread n x) Whole few k l i e f = absurd (false≢true i)
+cut_settled trade p rooms site steps (Unread n x) (Fails m y) few k l i e f = absurd (false≢true i)
+cut_settled trade p rooms site steps (Unread n x) (Full m) few k l i e f = absurd (false≢true i)
+cut_settled trade p rooms site steps (Unread n x) (Stops m) few k l i e f = absurd (false≢true i)
+cut_settled trade p rooms site steps Whole (Unread m y) few k l i e f = absurd (false≢true (sym i))
+cut_settled trade p rooms site steps (Fails n x) (Unread m y) few k l i e f = absurd (false≢true (sym i))
+cut_settled trade p rooms site steps (Full n) (Unread m y) few k l i e f = absurd (false≢true (sym i))
+cut_settled trade p rooms site steps (Stops n) (Unread m y) few k l i e f = absurd (false≢true (sym i))
 
 module _ (trade : Trade) (now : ℕ) where
-  more_steps : (p : ℕ) (es : List Entry) (frames : List Bytes) → length frames ≤ length (plan trade p now es frames)
-  more_steps p es [] = omega arith
-  more_steps p es (frame ∷ frames) = suc_le (more_steps p (es ++ option_to_list (arrive trade p now es frame).entry) frames)
+  pub more_steps : (p : ℕ) (looks : Looks) (es : List Entry) (frames : List Bytes) → length frames ≤ length (plan trade p now looks es frames)
+  more_steps p looks es [] = omega arith
+  more_steps p looks es (frame ∷ frames) = suc_le (more_steps p looks (es ++ option_to_list (arrive trade p now es frame).entry) frames)
     where
       suc_le : {n m : ℕ} → n ≤ m → suc n ≤ suc m
       suc_le l = omega (arith, l)
@@ -256,15 +293,31 @@ module _ (trade : Trade) (now : ℕ) where
   else_test true x y z s = λ e f. refl
   else_test false x y z s = s
 
-  turned_settled : (p : ℕ) (rooms : ℕ → ℕ) (site : Site) (a b : Cut) → IsOfKept a → IsOfKept b
+  -- the steps of both turns are one
+  cut_as_told : (p : ℕ) (rooms : ℕ → ℕ) (site : Site) (taken left : List Step) (a b : Cut) → taken ≡ steps_of trade p now site Whole → left ≡ steps_of trade p now site Whole
+      → IsOfKept a → IsOfKept b → is_looked a ≡ is_looked b
+      → (cut_turn trade p rooms site taken a).events ≡ (cut_turn trade p rooms site left b).events
+      → (cut_turn trade p rooms site taken a).ended ≡ (cut_turn trade p rooms site left b).ended
+      → cut_turn trade p rooms site taken a ≡ cut_turn trade p rooms site left b
+  cut_as_told p rooms site taken left a b same alike k l i e f =
+      let steps = steps_of trade p now site Whole
+      in let one : cut_turn trade p rooms site taken a ≡ cut_turn trade p rooms site steps a = ap (λ (s : List Step). cut_turn trade p rooms site s a) same
+      in let other : cut_turn trade p rooms site left b ≡ cut_turn trade p rooms site steps b = ap (λ (s : List Step). cut_turn trade p rooms site s b) alike
+      in one
+      ∙ cut_settled trade p rooms site steps a b (more_steps p (kept_looks trade p site.screens) site.journal (frames_in site.waiting)) k l i
+      (sym (ap (λ (t : Turned). t.events) one) ∙ e ∙ ap (λ (t : Turned). t.events) other)
+      (sym (ap (λ (t : Turned). t.ended) one) ∙ f ∙ ap (λ (t : Turned). t.ended) other)
+      ∙ sym other
+
+  turned_settled : (p : ℕ) (rooms : ℕ → ℕ) (site : Site) (a b : Cut) → IsOfKept a → IsOfKept b → is_looked a ≡ is_looked b
       → (turned trade p now rooms a site).events ≡ (turned trade p now rooms b site).events
       → (turned trade p now rooms a site).ended ≡ (turned trade p now rooms b site).ended
       → turned trade p now rooms a site ≡ turned trade p now rooms b site
   unfolding turned
-  turned_settled p rooms site a b k l =
+  turned_settled p rooms site a b k l i =
       by_test site.up _ _ _
       (else_test (nat_lt now (last_of trade p site.journal)) _ _ _
-      (cut_settled trade p rooms site (plan trade p now site.journal (frames_in site.waiting)) a b (more_steps p site.journal (frames_in site.waiting)) k l))
+      (cut_as_told p rooms site (steps_of trade p now site a) (steps_of trade p now site b) a b (steps_kept trade p now site a k) (steps_kept trade p now site b l) k l i))
 
   abbrev events_in : List Turn → List Event
   events_in [] = []
@@ -281,21 +334,23 @@ module _ (trade : Trade) (now : ℕ) where
   both_turns : (x y : Turned) (xs ys : List Turned) → x ≡ y → xs ≡ ys → x ∷ xs ≡ y ∷ ys
   both_turns x y xs ys e f = rw (e, f) refl
 
-  turns_settled : (all : List Site) (a b : ℕ → Cut) → ((p : ℕ) → IsOfKept (a p)) → ((p : ℕ) → IsOfKept (b p)) → (number : ℕ) (ss : List Site)
+  turns_settled : (all : List Site) (a b : ℕ → Cut) → ((p : ℕ) → IsOfKept (a p)) → ((p : ℕ) → IsOfKept (b p))
+      → ((p : ℕ) → is_looked (a p) ≡ is_looked (b p)) → (number : ℕ) (ss : List Site)
       → told_from number (turns_from trade now all a number ss) ≡ told_from number (turns_from trade now all b number ss)
       → turns_from trade now all a number ss ≡ turns_from trade now all b number ss
-  turns_settled all a b k l number [] e = refl
-  turns_settled all a b k l number (s ∷ ss) e =
+  turns_settled all a b k l i number [] e = refl
+  turns_settled all a b k l i number (s ∷ ss) e =
       both_turns (turned trade number now (rooms_of all number) (a number) s) (turned trade number now (rooms_of all number) (b number) s)
       (turns_from trade now all a (number + 1) ss) (turns_from trade now all b (number + 1) ss)
-      (turned_settled number (rooms_of all number) s (a number) (b number) (k number) (l number)
+      (turned_settled number (rooms_of all number) s (a number) (b number) (k number) (l number) (i number)
       (ap events_in e) (ap ended_in e))
-      (turns_settled all a b k l (number + 1) ss (ap tail_of e))
+      (turns_settled all a b k l i (number + 1) ss (ap tail_of e))
 
-  rounded_settled : (sites : List Site) (a b : ℕ → Cut) → ((p : ℕ) → IsOfKept (a p)) → ((p : ℕ) → IsOfKept (b p)) → (rounded trade now a sites).turns ≡ (rounded trade now b sites).turns
+  rounded_settled : (sites : List Site) (a b : ℕ → Cut) → ((p : ℕ) → IsOfKept (a p)) → ((p : ℕ) → IsOfKept (b p))
+      → ((p : ℕ) → is_looked (a p) ≡ is_looked (b p)) → (rounded trade now a sites).turns ≡ (rounded trade now b sites).turns
       → (rounded trade now a sites).sites ≡ (rounded trade now b sites).sites
   unfolding rounded turns_of
-  rounded_settled sites a b k l e = ap (λ (turns : List Turned). delivered (outs_of turns) 0 turns) (turns_settled sites a b k l 0 sites e)
+  rounded_settled sites a b k l i e = ap (λ (turns : List Turned). delivered (outs_of turns) 0 turns) (turns_settled sites a b k l i 0 sites e)
 
 -- ---- commands and scripts
 
@@ -303,23 +358,33 @@ abbrev turns_told : Answer → List Turn
 turns_told (Turns turns) = turns
 turns_told _ = []
 
-pub played_settled : (trade : Trade) (sites : List Site) (command : Command) (a b : Luck) → GaveWhatWasKept a → GaveWhatWasKept b → Settled (played trade a sites command) (played trade b sites command)
+pub played_settled : (trade : Trade) (sites : List Site) (command : Command) (a b : Luck) → GaveWhatWasKept a → GaveWhatWasKept b
+    → ReadAlike a b → Settled (played trade a sites command) (played trade b sites command)
 unfolding played
-played_settled trade sites (Submit p now sender path message found) a b k l = submitted_settled trade sites a b p now sender path message found
-played_settled trade sites (Tick p now) a b k l = ticked_settled trade sites a b p now
-played_settled trade sites (Round now) a b k l = λ e. rounded_settled trade now sites a.cuts b.cuts k l (ap turns_told e)
-played_settled trade sites (Lose from to place) a b k l = λ e. refl
-played_settled trade sites (Repeat from to place) a b k l = λ e. refl
-played_settled trade sites (Swap from to place) a b k l = λ e. refl
-played_settled trade sites (Inject from to frame) a b k l = λ e. refl
-played_settled trade sites (Crash p) a b k l = λ e. refl
-played_settled trade sites (Restart p) a b k l = restarted_settled trade sites a b p (site_at sites p)
-played_settled trade sites (Book address) a b k l = λ e. refl
-played_settled trade sites (Mailbox address) a b k l = λ e. refl
-played_settled trade sites (Show address place) a b k l =
+played_settled trade sites (Submit p now sender path message) a b k l i = submitted_settled trade sites a b p now sender path message (finds_at sites p message)
+played_settled trade sites (Tick p now) a b k l i = ticked_settled trade sites a b p now
+played_settled trade sites (Round now) a b k l i = λ e. rounded_settled trade now sites a.cuts b.cuts k l i (ap turns_told e)
+played_settled trade sites (Lose from to place) a b k l i = λ e. refl
+played_settled trade sites (Repeat from to place) a b k l i = λ e. refl
+played_settled trade sites (Swap from to place) a b k l i = λ e. refl
+played_settled trade sites (Inject from to frame) a b k l i = λ e. refl
+played_settled trade sites (Crash p) a b k l i = λ e. refl
+played_settled trade sites (Restart p) a b k l i = restarted_settled trade sites a b p (site_at sites p)
+played_settled trade sites (Book address) a b k l i = λ e. refl
+played_settled trade sites (Mailbox address) a b k l i = λ e. refl
+played_settled trade sites (Show address place) a b k l i =
     asked_settled trade sites a b (λ (p : ℕ) (h : Half). shown trade a sites p (slice_get (mailbox h address) place))
     (λ (p : ℕ) (h : Half). shown trade b sites p (slice_get (mailbox h address) place)) (account_home trade address (trade.home address))
     (λ p h. shown_settled trade sites a b p (slice_get (mailbox h address) place))
+played_settled trade sites (Archive address now place) a b k l i =
+    archived_settled trade sites a b (account_home trade address (trade.home address)) now address place
+played_settled trade sites (Upgrade p now) a b k l i = upgraded_settled trade sites a b p now
+played_settled trade sites (Vault address) a b k l i = λ e. refl
+played_settled trade sites (VaultShow address place) a b k l i =
+    asked_settled trade sites a b (λ (p : ℕ) (h : Half). shown trade a sites p (slice_get (archive h address) place))
+    (λ (p : ℕ) (h : Half). shown trade b sites p (slice_get (archive h address) place)) (account_home trade address (trade.home address))
+    (λ p h. shown_settled trade sites a b p (slice_get (archive h address) place))
+played_settled trade sites (Screen p place spare) a b k l i = λ e. refl
 
 abbrev first_answer : Answer → List Answer → Answer
 first_answer other [] = other
@@ -330,16 +395,17 @@ later_answers [] = []
 later_answers (answer ∷ answers) = answers
 
 pub script_settled : (trade : Trade) (sites : List Site) (commands : List Command) (a b : List Luck) → AllByRecursion GaveWhatWasKept a → AllByRecursion GaveWhatWasKept b
+    → AllReadAlike a b
     → (script trade a sites commands).answers ≡ (script trade b sites commands).answers → (script trade a sites commands).after ≡ (script trade b sites commands).after
-script_settled trade sites [] [] [] k l e = refl
-script_settled trade sites [] [] (y ∷ b) k l e = refl
-script_settled trade sites [] (x ∷ a) [] k l e = refl
-script_settled trade sites [] (x ∷ a) (y ∷ b) k l e = refl
-script_settled trade sites (command ∷ commands) [] [] k l e = refl
-script_settled trade sites (command ∷ commands) [] (y ∷ b) k l e = absurd (let n = ap length e in omega (arith, n))
-script_settled trade sites (command ∷ commands) (x ∷ a) [] k l e = absurd (let n = ap length e in omega (arith, n))
-script_settled trade sites (command ∷ commands) (x ∷ a) (y ∷ b) k l e =
-    let same = played_settled trade sites command x y k.0 l.0 (ap (first_answer IsUp) e)
+script_settled trade sites [] [] [] k l i e = refl
+script_settled trade sites [] [] (y ∷ b) k l i e = refl
+script_settled trade sites [] (x ∷ a) [] k l i e = refl
+script_settled trade sites [] (x ∷ a) (y ∷ b) k l i e = refl
+script_settled trade sites (command ∷ commands) [] [] k l i e = refl
+script_settled trade sites (command ∷ commands) [] (y ∷ b) k l i e = absurd (let n = ap length e in omega (arith, n))
+script_settled trade sites (command ∷ commands) (x ∷ a) [] k l i e = absurd (let n = ap length e in omega (arith, n))
+script_settled trade sites (command ∷ commands) (x ∷ a) (y ∷ b) k l i e =
+    let same = played_settled trade sites command x y k.0 l.0 i.0 (ap (first_answer IsUp) e)
     in let rest : (script trade a (played trade x sites command).after commands).answers ≡ (script trade b (played trade x sites command).after commands).answers =
     ap later_answers e ∙ sym (ap (λ (after : List Site). (script trade b after commands).answers) same)
-    in script_settled trade (played trade x sites command).after commands a b k.1 l.1 rest ∙ ap (λ (after : List Site). (script trade b after commands).after) same
+    in script_settled trade (played trade x sites command).after commands a b k.1 l.1 i.1 rest ∙ ap (λ (after : List Site). (script trade b after commands).after) same

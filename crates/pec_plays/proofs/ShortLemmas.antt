@@ -1,6 +1,6 @@
 -- No command makes a link longer than 64 frames.
-use Rattle.std.proofs.Common.{◌≡◌, ℕ, ◌+◌, ◌≤◌, List, [], ◌∷◌, ◌++◌, Bool, true, false, length, take, drop, refl, ap, sym, subst, arith, nat_lt, Option, Some, None}
-use Rattle.std.specs.Prelude.{if◌then◌else◌}
+use Rattle.std.proofs.Common.{◌≡◌, ℕ, ◌+◌, ◌≤◌, List, [], ◌∷◌, ◌++◌, Bool, true, false, length, take, drop, refl, ap, sym, arith, nat_lt, Option, Some, None}
+use Rattle.std.specs.Prelude.{if◌then◌else◌, slice_set, ◌==◌}
 use Rattle.std.specs.Option.{unwrap_or}
 use Rattle.std.proofs.lemmas.Bool.{ltb-true}
 use Rattle.std.proofs.lemmas.List.{length-append, length-drop, length-take}
@@ -15,7 +15,8 @@ use Rattle.pec_ledger.specs.Items.{item_text}
 use Rattle.pec_ledger.specs.Network.{Site, frames_between, journal_at, site_at}
 use Rattle.pec_ledger.specs.Steps.{half}
 use Rattle.pec_ledger.specs.Trade.{Trade}
-use Rattle.pec_plays.specs.Commands.{Answer, Luck, Played, append, appended, asked, at_work, injected, lost, messages_at, put_again, read_back, restarted, restarted_site, shown, shown_bytes, stopped_site, submitted, swapped, swapped_at, ticked, with_entry, with_site}
+use Rattle.pec_plays.specs.Commands.{Answer, Luck, Played, append, appended, asked, at_work, injected, lost, messages_at, put_again, read_back, restarted, restarted_site, shown, shown_bytes, stopped_site, submitted, swapped, swapped_at, ticked, with_entry, with_site, archived, items_at, screened, upgraded, version_at, with_screens}
+use Rattle.pec_screen.specs.Verdicts.{Patterns}
 use Rattle.pec_plays.specs.Rounds.{link_size}
 use Rattle.pec_plays.specs.Scripts.{LinksAreShort}
 use Rattle.pec_plays.specs.Steps.{has_no_room}
@@ -49,6 +50,27 @@ module _ (trade : Trade) (sites : List Site) (short : LinksAreShort sites) where
 
   pub short_ticked : (luck : Luck) (p now : ℕ) → LinksAreShort (ticked trade luck sites p now).after
   short_ticked luck p now = short_at_work p now _ (short_append luck p (entries.Ticked now) _)
+
+  pub short_archived : (luck : Luck) (found : Option ℕ) (now : ℕ) (account : Bytes) (place : ℕ) → LinksAreShort (archived trade luck sites found now account place).after
+  short_archived luck None now account place = short
+  short_archived luck (Some p) now account place =
+      short_at_work p now _
+      (by_test (nat_lt place (items_at trade sites p account)) _ _
+      (λ there. by_test (version_at trade sites p == 2) _ _ (λ two. short_append luck p (entries.Archived now account place) _) (λ old. short))
+      (λ none. short))
+
+  pub short_upgraded : (luck : Luck) (p now : ℕ) → LinksAreShort (upgraded trade luck sites p now).after
+  short_upgraded luck p now =
+      short_at_work p now _ (by_test (version_at trade sites p == 1) _ _ (λ one. short_append luck p (entries.Upgraded now) _) (λ new. short))
+
+  pub short_screened : (p place : ℕ) (spare : Option Patterns) → LinksAreShort (screened sites p place spare).after
+  short_screened p place None = short
+  short_screened p place (Some patterns) =
+      by_test (site_at sites p).up _ _
+      (λ up. by_test (nat_lt place (length (site_at sites p).screens)) _ _
+      (λ there. short_with sites p (with_screens (site_at sites p) (slice_set (site_at sites p).screens place patterns)) short (λ from. short from p))
+      (λ none. short))
+      (λ down. short)
 
   pub short_lost : (from to place : ℕ) → LinksAreShort (lost sites from to place).after
   short_lost from to place =

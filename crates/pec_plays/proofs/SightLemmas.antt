@@ -1,7 +1,7 @@
 -- What is done with a frame, and what is decided, is what the tables of pec_points answer.
-use Rattle.std.proofs.Common.{◌≡◌, ℕ, List, [], ◌∷◌, Bool, true, false, not, ◌&&◌, cond, length, refl, ap, sym, ◌∙◌, arith, nat_lt, Option, Some, None}
+use Rattle.std.proofs.Common.{◌≡◌, ℕ, List, [], ◌∷◌, Bool, true, false, not, ◌&&◌, cond, inl, inr, length, refl, ap, sym, ◌∙◌, arith, nat_lt, Option, Some, None}
 use Rattle.std.specs.Prelude.{is_some, nat_le, unwrap_or, ◌==◌, if◌then◌else◌}
-use Rattle.std.proofs.lemmas.Bool.{eqb-true, eq-eqb, false≢true, ltb-false, ne_eqb}
+use Rattle.std.proofs.lemmas.Bool.{and_parts, eqb-true, eq-eqb, false≢true, ltb-false, ne_eqb}
 use Rattle.pec_types.specs.Bytes.{Bytes, Path}
 use Rattle.pec_types.specs.Message.{Id}
 use Rattle.pec_types.specs.declared.letters.Letter.{Letter}
@@ -13,7 +13,7 @@ use Rattle.pec_types.specs.declared.receipts.Kind.{Kind}
 use Rattle.pec_types.specs.declared.receipts.Kind.TheVariants as kinds
 use Rattle.pec_types.specs.declared.turns.Event.TheVariants as events
 use Rattle.pec_records.specs.declared.entries.Entry.{Entry}
-use Rattle.pec_points.specs.Decision.{IsFull, HasRoom, NoAccount, decided_by}
+use Rattle.pec_points.specs.Decision.{HasRoom, Infected, IsFull, NoAccount, decided_by}
 use Rattle.pec_points.specs.DecisionReading.{decision_of}
 use Rattle.pec_points.specs.Reception.{FrameRow, NewEnvelope, KnownEnvelope, NewCharge, KnownCharge, NewOutcome, KnownOutcome, NewAck, KnownAck, SomeRoom, NoRoom, received_by}
 use Rattle.pec_points.specs.ReceptionReading.{is_home as is_table_home, reception_of}
@@ -21,32 +21,58 @@ use Rattle.pec_points.specs.declared.reception.Arrived.{Arrived}
 use Rattle.pec_points.specs.declared.reception.Reception.{Reception}
 use Rattle.pec_points.specs.declared.reception.Reception.TheVariants.{Take, Charge, Outcome, Ack, Repeat, Anomaly, Drop}
 use Rattle.pec_ledger.specs.Half.{Half, Charge as ChargeRow, Known, Taken}
-use Rattle.pec_ledger.specs.Lookups.{accepted_at, charged_of, counted, decided_of, is_acked, is_home, known_of, outcome_kind, taken_of}
-use Rattle.pec_ledger.specs.Own.{decision_at}
+use Rattle.pec_ledger.specs.Lookups.{accepted_at, charged_of, counted, decided_of, is_acked, is_home, known_of, taken_of}
+use Rattle.pec_ledger.specs.Own.{MayDecide, decision_at}
 use Rattle.pec_ledger.specs.Pairs.{pair_of}
 use Rattle.pec_ledger.specs.Steps.{half}
 use Rattle.pec_ledger.specs.Trade.{Framed, Receipt, Seen, SeenEnvelope, SeenReceipt, Trade}
-use Rattle.pec_plays.specs.Reception.{accounts_with_room, ack_fits, ack_rows, anomaly, arrive, by_ack, by_frame, by_outcome, by_receipt, by_seen, charge_fits, charge_rows, envelope_fits, envelope_rows, has_pair, is_senders_path, otherwise, outcome_fits, outcome_rows, same_path}
+use Rattle.pec_plays.specs.Decisions.{decision_on}
+use Rattle.pec_plays.specs.Reception.{accounts_with_room, ack_fits, ack_rows, anomaly, arrive, by_ack, by_frame, by_outcome, by_receipt, by_seen, charge_fits, charge_rows, envelope_fits, envelope_rows, has_pair, is_outcome_path, otherwise, outcome_fits, outcome_rows, same_path}
 use Rattle.pec_plays.specs.Steps.{Step, passes}
 use Rattle.pec_plays.specs.TableSight.{a_charge, a_receipt, an_ack, an_envelope, an_outcome, arrived_at, arrived_by, decision_of_kind, done_by, done_on, mailbox_at, no_letter, rooms_in}
 
 -- ---- decisions
 
-abbrev table_decision : Bool → Bool → Decision
-table_decision account full = decided_by (unwrap_or (cond (not account) (Some NoAccount) (cond full (Some IsFull) (Some HasRoom))) HasRoom)
+abbrev table_decision : Bool → Bool → Bool → Decision
+table_decision account virus full =
+    decided_by (unwrap_or (cond (not account) (Some NoAccount) (cond virus (Some Infected) (cond full (Some IsFull) (Some HasRoom)))) HasRoom)
 
 abbrev own_decision : Bool → Bool → Decision
 own_decision account full = if not account then Refused refusals.NoMailbox else (if full then Refused refusals.MailboxFull else Placed)
 
-one_decision : (account full : Bool) → own_decision account full ≡ table_decision account full
-one_decision true true = refl
-one_decision true false = refl
-one_decision false true = refl
-one_decision false false = refl
+abbrev screened_decision : Bool → Bool → Bool → Decision
+screened_decision account virus full = if account && virus then Refused refusals.Virus else own_decision account full
 
-pub decision_seen_so : (trade : Trade) (p : ℕ) (h : Half) (r : Bytes) → decision_at trade p h r ≡ decision_of (mailbox_at trade p h r)
-unfolding decision_at decision_of mailbox_at
-decision_seen_so trade p h r = one_decision (trade.is_account p r) (nat_le (trade.quota r) (counted h r))
+one_decision : (account virus full : Bool) → screened_decision account virus full ≡ table_decision account virus full
+one_decision true true full = refl
+one_decision true false true = refl
+one_decision true false false = refl
+one_decision false true true = refl
+one_decision false true false = refl
+one_decision false false true = refl
+one_decision false false false = refl
+
+pub decision_seen_so : (trade : Trade) (p : ℕ) (h : Half) (r : Bytes) (found : Bool) → decision_on trade p h r found ≡ decision_of (mailbox_at trade p h r found)
+unfolding decision_at decision_of decision_on mailbox_at
+decision_seen_so trade p h r found = one_decision (trade.is_account p r) found (nat_le (trade.quota r) (counted h r))
+
+-- a provider may decide so
+pub may_decide : (trade : Trade) (p : ℕ) (h : Half) (r : Bytes) (found : Bool) → MayDecide trade p h r (decision_on trade p h r found)
+unfolding decision_on
+may_decide trade p h r found = by (trade.is_account p r && found) refl
+  where
+    by : (b : Bool) → (trade.is_account p r && found) ≡ b → MayDecide trade p h r (if b then Refused refusals.Virus else decision_at trade p h r)
+    by true e = inr (refl, (and_parts (trade.is_account p r) found e).0)
+    by false e = inl refl
+
+-- no screen being asked it is the decision of the ledger
+pub unscreened_decision : (trade : Trade) (p : ℕ) (h : Half) (r : Bytes) → decision_on trade p h r false ≡ decision_at trade p h r
+unfolding decision_on
+unscreened_decision trade p h r = by (trade.is_account p r)
+  where
+    by : (b : Bool) → (if b && false then Refused refusals.Virus else decision_at trade p h r) ≡ decision_at trade p h r
+    by true = refl
+    by false = refl
 
 -- ---- the answer of the table of reception, by what the tests say
 
@@ -113,12 +139,12 @@ module _ (trade : Trade) (p now : ℕ) (es : List Entry) (f : Framed) where
   swapped_tests true false c d e = absurd (false≢true (sym e))
   swapped_tests false true c d e = absurd (false≢true e)
 
-  on_outcome : (r : Receipt) (recipient : Bytes) → reception_of p (an_outcome trade p es f r (Some recipient))
-      ≡ answer (outcome_fits trade p now es f r recipient) (is_some (known_of (half trade p es) (pair_of r.id recipient))) room Outcome
+  on_outcome : (r : Receipt) (decision : Decision) (recipient : Bytes) → reception_of p (an_outcome trade p es f r decision (Some recipient))
+      ≡ answer (outcome_fits trade p now es f r recipient decision) (is_some (known_of (half trade p es) (pair_of r.id recipient))) room Outcome
   unfolding reception_of
-  on_outcome r recipient =
+  on_outcome r decision recipient =
       let found = accepted_at (half trade p es) r.id.number
-      in let there = has_pair trade recipient found && is_senders_path f.path found
+      in let there = has_pair trade recipient found && is_outcome_path trade r.id decision f.path found
       in row_answers NewOutcome KnownOutcome refl (is_table_home r.by (trade.home recipient) && ((r.id.provider == p) && there))
       (is_some (known_of (half trade p es) (pair_of r.id recipient))) room
       ∙ ap (λ (b : Bool). answer b (is_some (known_of (half trade p es) (pair_of r.id recipient))) room Outcome)
@@ -155,10 +181,6 @@ module _ (trade : Trade) (p now : ℕ) (es : List Entry) (f : Framed) where
   charge_done r seen true None = refl
   charge_done r seen true (Some row) = refl
 
-  decision_of_outcome : (decision : Decision) → decision_of_kind (outcome_kind decision) ≡ decision
-  decision_of_outcome Placed = refl
-  decision_of_outcome (Refused refusal) = refl
-
   outcome_done : (r : Receipt) (recipient : Bytes) (decision : Decision) → decision_of_kind r.kind ≡ decision → (fits : Bool) (row : Option Known)
       → outcome_rows trade p now es f r recipient decision fits row
       ≡ done_on trade p now es f (Some (SeenReceipt r)) (answer fits (is_some row) room Outcome) (Some (letters.Outcome r.id recipient))
@@ -181,11 +203,11 @@ module _ (trade : Trade) (p now : ℕ) (es : List Entry) (f : Framed) where
   otherwise_by seen = else_done seen None room refl ∙ sym (ap (λ (a : Reception). done_on trade p now es f seen a None) on_nothing)
 
   outcome_by : (r : Receipt) (decision : Decision) → decision_of_kind r.kind ≡ decision → (recipient : Option Bytes)
-      → By (Some (SeenReceipt r)) (by_outcome trade p now es f r decision recipient) (an_outcome trade p es f r recipient)
+      → By (Some (SeenReceipt r)) (by_outcome trade p now es f r decision recipient) (an_outcome trade p es f r decision recipient)
   outcome_by r decision e None = otherwise_by (Some (SeenReceipt r))
   outcome_by r decision e (Some recipient) =
-      outcome_done r recipient decision e (outcome_fits trade p now es f r recipient) (known_of (half trade p es) (pair_of r.id recipient))
-      ∙ sym (ap (λ (a : Reception). done_on trade p now es f (Some (SeenReceipt r)) a (Some (letters.Outcome r.id recipient))) (on_outcome r recipient))
+      outcome_done r recipient decision e (outcome_fits trade p now es f r recipient decision) (known_of (half trade p es) (pair_of r.id recipient))
+      ∙ sym (ap (λ (a : Reception). done_on trade p now es f (Some (SeenReceipt r)) a (Some (letters.Outcome r.id recipient))) (on_outcome r decision recipient))
 
   ack_by : (r : Receipt) (recipient : Option Bytes) → By (Some (SeenReceipt r)) (by_ack trade p now es f r recipient) (an_ack trade p es f r recipient)
   ack_by r None = otherwise_by (Some (SeenReceipt r))
@@ -198,7 +220,10 @@ module _ (trade : Trade) (p now : ℕ) (es : List Entry) (f : Framed) where
       charge_done r (Some (SeenReceipt r)) (charge_fits trade p now es f r) (charged_of (half trade p es) r.id r.by)
       ∙ sym (ap (λ (a : Reception). done_on trade p now es f (Some (SeenReceipt r)) a (Some (letters.Charge r.id r.by))) (on_charge r))
   receipt_by r kinds.Delivery e = outcome_by r Placed (ap decision_of_kind e) r.recipient
-  receipt_by r (kinds.DeliveryError refusal) e = outcome_by r (Refused refusal) (ap decision_of_kind e) r.recipient
+  receipt_by r (kinds.DeliveryError refusals.NoMailbox) e = outcome_by r (Refused refusals.NoMailbox) (ap decision_of_kind e) r.recipient
+  receipt_by r (kinds.DeliveryError refusals.MailboxFull) e = outcome_by r (Refused refusals.MailboxFull) (ap decision_of_kind e) r.recipient
+  receipt_by r (kinds.DeliveryError refusals.Virus) e = otherwise_by (Some (SeenReceipt r))
+  receipt_by r kinds.VirusFound e = outcome_by r (Refused refusals.Virus) (ap decision_of_kind e) r.recipient
   receipt_by r kinds.Ack e = ack_by r r.recipient
   receipt_by r kinds.Acceptance e = otherwise_by (Some (SeenReceipt r))
   receipt_by r (kinds.NonAcceptance cause) e = otherwise_by (Some (SeenReceipt r))

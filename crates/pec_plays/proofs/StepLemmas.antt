@@ -1,5 +1,5 @@
 -- What a provider does on frames and on open pairs meets its own conditions, and on genuine frames those of the ledger.
-use Rattle.std.proofs.Common.{◌≡◌, ℕ, ◌<◌, ◌≤◌, List, ◌∷◌, true, inl, length, refl, ap, sym, subst, ◌∙◌, arith, Option, Some, None}
+use Rattle.std.proofs.Common.{◌≡◌, ℕ, ◌<◌, ◌≤◌, List, ◌∷◌, true, length, refl, ap, sym, subst, ◌∙◌, arith, Option, Some, None}
 use Rattle.std.specs.Prelude.{All, Contains, IsSome, IsTrue, is_none}
 use Rattle.std.specs.Str.{bytes_eq}
 use Rattle.std.proofs.lemmas.Bool.{and_parts, false≢true}
@@ -17,17 +17,18 @@ use Rattle.pec_ledger.specs.Half.{Taken}
 use Rattle.pec_ledger.specs.Ledger.{IsDecidedSo, IsEnvelopeText, IsOutcomeText, Joint, Journals, Meets, ledger}
 use Rattle.pec_ledger.specs.Lookups.{at_home, decided_of, has_room, is_home, known_of, outcome_kind, taken_of}
 use Rattle.pec_ledger.specs.Network.{IsGenuine, IsGenuineText}
-use Rattle.pec_ledger.specs.Own.{IsTakenPair, Own, decision_at}
+use Rattle.pec_ledger.specs.Own.{IsTakenPair, Own}
 use Rattle.pec_ledger.specs.Pairs.{Pair, pair_of}
 use Rattle.pec_ledger.specs.Steps.{half, moment_of}
 use Rattle.pec_ledger.specs.Trade.{Framed, Receipt, SeenEnvelope, SeenReceipt, Trade}
 use Rattle.pec_ledger.specs.TradeLaws.{IsTrade}
-use Rattle.pec_plays.specs.Decisions.{decide, is_open, is_recipient_of}
+use Rattle.pec_plays.specs.Decisions.{Looks, decide, decided_as, is_open, is_recipient_of}
 use Rattle.pec_plays.specs.Reception.{accounts_with_room, arrive, each_once}
 use Rattle.pec_plays.specs.ReceptionRows.{IsReceived, NewEnvelope, KnownEnvelope, NewCharge, KnownCharge, NewOutcome, KnownOutcome, NewAck, KnownAck, SomeRoom, NoRoom}
 use Rattle.pec_plays.specs.Steps.{Step}
 use Rattle.pec_plays.proofs.ListLemmas.{bytes_again, differ_filter, found_none, from_filter, home_is, once_differ, some_address, some_item}
 use Rattle.pec_plays.proofs.ReceptionLemmas.{no_frame, row_says}
+use Rattle.pec_plays.proofs.SightLemmas.{may_decide}
 
 -- what the ledger's laws say of genuine messages, in journals that are Fit
 pub record ArrivalLaws (trade : Trade) (J : Journals) : Type 0 where
@@ -104,14 +105,14 @@ pub taken_pair : (trade : Trade) (p : ℕ) (es : List Entry) (pair : Pair) (foun
 taken_pair trade p es pair None e t = absurd (false≢true t)
 taken_pair trade p es pair (Some row) e t = record { row = row; taken = e; recipient = some_address row.recipients pair.recipient t }
 
-pub decide_own : (trade : Trade) (p now : ℕ) (es : List Entry) (pair : Pair) → is_open (half trade p es) pair ≡ true
-    → (e : Entry) → (decide trade p now es pair).entry ≡ Some e → Own trade p (half trade p es) e × (moment_of e ≡ now)
+pub decide_own : (trade : Trade) (p now : ℕ) (looks : Looks) (es : List Entry) (pair : Pair) → is_open (half trade p es) pair ≡ true
+    → (e : Entry) → (decide trade p now looks es pair).entry ≡ Some e → Own trade p (half trade p es) e × (moment_of e ≡ now)
 unfolding decide
-decide_own trade p now es pair open_so e is =
+decide_own trade p now looks es pair open_so e is =
     let parts = and_parts (is_recipient_of pair.recipient (taken_of (half trade p es) pair.id)) (is_none (decided_of (half trade p es) pair)) open_so
-    in let entry = entries.Decided now pair.id pair.recipient (decision_at trade p (half trade p es) pair.recipient)
+    in let entry = entries.Decided now pair.id pair.recipient (decided_as trade p looks es pair)
     in let own : Own trade p (half trade p es) entry =
-    (taken_pair trade p es pair (taken_of (half trade p es) pair.id) refl parts.0, found_none (decided_of (half trade p es) pair) parts.1, inl refl)
+    (taken_pair trade p es pair (taken_of (half trade p es) pair.id) refl parts.0, found_none (decided_of (half trade p es) pair) parts.1, may_decide trade p (half trade p es) pair.recipient (looks es pair))
     in let same = same_Some entry e is
     in (subst (Own trade p (half trade p es)) same own, subst (λ (x : Entry). moment_of x ≡ now) same refl)
 
@@ -176,9 +177,9 @@ module _ (trade : Trade) (world : IsTrade trade) (J : Journals) (laws : ArrivalL
     arrive_good frame genuine e is =
         let own = arrive_own trade world p now es frame e is in meets e own.0 own.1 (frame_joint frame genuine (trade.unframed frame) refl e is)
 
-    pub decide_good : (pair : Pair) → is_open (half trade p es) pair ≡ true → Good (decide trade p now es pair)
+    pub decide_good : (looks : Looks) (pair : Pair) → is_open (half trade p es) pair ≡ true → Good (decide trade p now looks es pair)
     unfolding decide
-    decide_good pair open_so e is =
-        let own = decide_own trade p now es pair open_so e is
-        in let entry = entries.Decided now pair.id pair.recipient (decision_at trade p (half trade p es) pair.recipient)
+    decide_good looks pair open_so e is =
+        let own = decide_own trade p now looks es pair open_so e is
+        in let entry = entries.Decided now pair.id pair.recipient (decided_as trade p looks es pair)
         in meets e own.0 own.1 (subst (Joint trade J p) (same_Some entry e is) tt)

@@ -12,6 +12,7 @@ use Rattle.pec_types.specs.Bytes.{Bytes, Path}
 use Rattle.pec_types.specs.Message.{Id}
 use Rattle.pec_types.specs.declared.messages.Decision.{Decision}
 use Rattle.pec_types.specs.declared.messages.Decision.TheVariants.{Placed, Refused}
+use Rattle.pec_types.specs.declared.messages.Refusal.TheVariants as refusals
 use Rattle.pec_types.specs.declared.receipts.Kind.{Kind}
 use Rattle.pec_types.specs.declared.receipts.Kind.TheVariants as kinds
 use Rattle.pec_types.specs.declared.turns.Event.{Event}
@@ -23,11 +24,11 @@ use Rattle.pec_ledger.specs.Network.{Site}
 use Rattle.pec_ledger.specs.Pairs.{Pair, pair_of, same_pair}
 use Rattle.pec_ledger.specs.Steps.{decided_by, half, known_by, step}
 use Rattle.pec_ledger.specs.Trade.{Framed, Receipt, Seen, SeenEnvelope, SeenReceipt, Trade}
-use Rattle.pec_plays.specs.Decisions.{decide, undecided}
+use Rattle.pec_plays.specs.Decisions.{Looks, decide, undecided}
 use Rattle.pec_plays.specs.Reception.{accounts_with_room, ack_fits, ack_rows, anomaly, arrive, by_ack, by_frame, by_outcome, by_receipt, by_seen, charge_fits, charge_rows, envelope_fits, envelope_rows, otherwise, outcome_fits, outcome_rows}
 use Rattle.pec_plays.specs.Steps.{Step, journal_after}
 use Rattle.pec_plays.specs.Told.{decides, learns}
-use Rattle.pec_plays.specs.Turns.{Cut, Turned, Whole, Fails, Full, Stops, Other, cut_turn, decisions, entries_of, events_of, frames_in, last_of, plan, turned}
+use Rattle.pec_plays.specs.Turns.{Cut, Turned, Whole, Fails, Full, Stops, Unread, Other, Sees, cut_turn, decisions, entries_of, events_of, frames_in, last_of, looks_by, plan, steps_of, turned}
 use Rattle.pec_plays.proofs.ListLemmas.{pair_again}
 
 -- ---- counts
@@ -167,7 +168,7 @@ module _ (trade : Trade) (p now : ℕ) (es : List Entry) where
   by_outcome_tells : (f : Framed) (r : Receipt) (decision : Decision) (recipient : Option Bytes) → TellsStep (by_outcome trade p now es f r decision recipient)
   by_outcome_tells f r decision None = otherwise_tells f
   by_outcome_tells f r decision (Some recipient) =
-      outcome_tells f r recipient decision (outcome_fits trade p now es f r recipient) (known_of (half trade p es) (pair_of r.id recipient))
+      outcome_tells f r recipient decision (outcome_fits trade p now es f r recipient decision) (known_of (half trade p es) (pair_of r.id recipient))
 
   by_ack_tells : (f : Framed) (r : Receipt) (recipient : Option Bytes) → TellsStep (by_ack trade p now es f r recipient)
   by_ack_tells f r None = otherwise_tells f
@@ -177,7 +178,10 @@ module _ (trade : Trade) (p now : ℕ) (es : List Entry) where
   by_receipt_tells : (f : Framed) (r : Receipt) (kind : Kind) → TellsStep (by_receipt trade p now es f r kind)
   by_receipt_tells f r kinds.Charge = charge_tells f r (charge_fits trade p now es f r) (charged_of (half trade p es) r.id r.by)
   by_receipt_tells f r kinds.Delivery = by_outcome_tells f r Placed r.recipient
-  by_receipt_tells f r (kinds.DeliveryError refusal) = by_outcome_tells f r (Refused refusal) r.recipient
+  by_receipt_tells f r (kinds.DeliveryError refusals.NoMailbox) = by_outcome_tells f r (Refused refusals.NoMailbox) r.recipient
+  by_receipt_tells f r (kinds.DeliveryError refusals.MailboxFull) = by_outcome_tells f r (Refused refusals.MailboxFull) r.recipient
+  by_receipt_tells f r (kinds.DeliveryError refusals.Virus) = otherwise_tells f
+  by_receipt_tells f r kinds.VirusFound = by_outcome_tells f r (Refused refusals.Virus) r.recipient
   by_receipt_tells f r kinds.Ack = by_ack_tells f r r.recipient
   by_receipt_tells f r kinds.Acceptance = otherwise_tells f
   by_receipt_tells f r (kinds.NonAcceptance cause) = otherwise_tells f
@@ -198,9 +202,9 @@ module _ (trade : Trade) (p now : ℕ) (es : List Entry) where
   unfolding arrive
   arrive_tells frame = by_frame_tells (trade.unframed frame)
 
-  decide_tells : (pair : Pair) → TellsStep (decide trade p now es pair)
+  decide_tells : (looks : Looks) (pair : Pair) → TellsStep (decide trade p now looks es pair)
   unfolding decide
-  decide_tells pair = record { decided = refl; known = refl }
+  decide_tells looks pair = record { decided = refl; known = refl }
 
 -- ---- turns
 
@@ -208,12 +212,12 @@ abbrev AllTell : List Step → Type 0
 AllTell [] = Unit {0}
 AllTell (s ∷ steps) = TellsStep s × AllTell steps
 
-module _ (trade : Trade) (p now : ℕ) where
-  decisions_tell : (es : List Entry) (pairs : List Pair) → AllTell (decisions trade p now es pairs)
+module _ (trade : Trade) (p now : ℕ) (looks : Looks) where
+  decisions_tell : (es : List Entry) (pairs : List Pair) → AllTell (decisions trade p now looks es pairs)
   decisions_tell es [] = tt
-  decisions_tell es (pair ∷ pairs) = (decide_tells trade p now es pair, decisions_tell (journal_after es (decide trade p now es pair)) pairs)
+  decisions_tell es (pair ∷ pairs) = (decide_tells trade p now es looks pair, decisions_tell (journal_after es (decide trade p now looks es pair)) pairs)
 
-  plan_tells : (es : List Entry) (frames : List Bytes) → AllTell (plan trade p now es frames)
+  plan_tells : (es : List Entry) (frames : List Bytes) → AllTell (plan trade p now looks es frames)
   plan_tells es [] = decisions_tell es (undecided trade p es)
   plan_tells es (frame ∷ frames) = (arrive_tells trade p now es frame, plan_tells (journal_after es (arrive trade p now es frame)) frames)
 
@@ -246,7 +250,9 @@ module _ (trade : Trade) (p now : ℕ) (rooms : ℕ → ℕ) (site : Site) where
   cut_tells steps all (Fails n fault) = record { more = entries_of (take n steps); journal = refl; tells = front_tells n steps all }
   cut_tells steps all (Full n) = record { more = entries_of (take n steps); journal = refl; tells = front_tells n steps all }
   cut_tells steps all (Stops n) = record { more = entries_of (take n steps); journal = refl; tells = front_tells n steps all }
+  cut_tells steps all (Unread n fault) = record { more = entries_of (take n steps); journal = refl; tells = front_tells n steps all }
   cut_tells steps all (Other out) = record { more = entries_of steps; journal = refl; tells = all_tell steps all }
+  cut_tells steps all (Sees looks cut) = cut_tells steps all cut
 
   by_test : (b : Bool) (x y : Turned) → TurnTells site x → TurnTells site y → TurnTells site (if b then x else y)
   by_test true x y a b = a
@@ -257,7 +263,7 @@ module _ (trade : Trade) (p now : ℕ) (rooms : ℕ → ℕ) (site : Site) where
   turn_tells cut =
       by_test site.up _ _
       (by_test (nat_lt now (last_of trade p site.journal)) _ _ (untold _ refl refl)
-      (cut_tells (plan trade p now site.journal (frames_in site.waiting)) (plan_tells trade p now site.journal (frames_in site.waiting)) cut))
+      (cut_tells (steps_of trade p now site cut) (plan_tells trade p now (looks_by trade p site.screens cut) site.journal (frames_in site.waiting)) cut))
       (untold _ refl refl)
 
 -- ---- rows of halves

@@ -16,26 +16,26 @@ use Rattle.pec_ledger.specs.Network.{Site}
 use Rattle.pec_ledger.specs.Pairs.{Pair}
 use Rattle.pec_ledger.specs.Steps.{half}
 use Rattle.pec_ledger.specs.Trade.{Trade}
-use Rattle.pec_plays.specs.Decisions.{decide, undecided}
+use Rattle.pec_plays.specs.Decisions.{Looks, decide, undecided}
 use Rattle.pec_plays.specs.Frames.{IsDueFrame, due_frames, frame_of}
-use Rattle.pec_plays.specs.Possible.{IsOfKept, IsOfRead, MayCut, MayFail, TellsCut, cut_by}
+use Rattle.pec_plays.specs.Possible.{IsOfKept, IsOfRead, MayCut, MayFail, TellsCut, as_told, cut_by}
 use Rattle.pec_plays.specs.Steps.{Step, journal_after}
-use Rattle.pec_plays.specs.Turns.{Cut, Whole, Fails, Full, Stops, Other, cut_turn, decisions, entries_of, entry_at, events_of, frames_in, owed_of, plan, puts_from, that_fit, without_first}
+use Rattle.pec_plays.specs.Turns.{Cut, Whole, Fails, Full, Stops, Unread, Other, Sees, cut_turn, decisions, entries_of, events_of, frames_in, owed_of, plan, puts_from, that_fit, without_first}
 use Rattle.pec_plays.proofs.ListLemmas.{contains_cases, contains_here, contains_none, contains_there}
 use Rattle.pec_plays.proofs.NextLemmas.{next_undecided}
 
 -- ---- plans
 
-module _ (trade : Trade) (p now : ℕ) (es : List Entry) where
+module _ (trade : Trade) (p now : ℕ) (looks : Looks) (es : List Entry) where
   pub pair_first : (pair : Pair) (pairs : List Pair) → undecided trade p es ≡ pair ∷ pairs
-      → plan trade p now es [] ≡ decide trade p now es pair ∷ plan trade p now (journal_after es (decide trade p now es pair)) []
+      → plan trade p now looks es [] ≡ decide trade p now looks es pair ∷ plan trade p now looks (journal_after es (decide trade p now looks es pair)) []
   pair_first pair pairs e =
-      let behind = journal_after es (decide trade p now es pair)
-      in ap (decisions trade p now es) e
-      ∙ ap (λ (left : List Pair). decide trade p now es pair ∷ decisions trade p now behind left) (sym (next_undecided trade p now es pair pairs e))
+      let behind = journal_after es (decide trade p now looks es pair)
+      in ap (decisions trade p now looks es) e
+      ∙ ap (λ (left : List Pair). decide trade p now looks es pair ∷ decisions trade p now looks behind left) (sym (next_undecided trade p now looks es pair pairs e))
 
-  pub none_left : undecided trade p es ≡ [] → plan trade p now es [] ≡ []
-  none_left e = ap (decisions trade p now es) e
+  pub none_left : undecided trade p es ≡ [] → plan trade p now looks es [] ≡ []
+  none_left e = ap (decisions trade p now looks es) e
 
 -- ---- frames that are taken
 
@@ -132,7 +132,9 @@ early_puts trade p rooms site steps Whole fault e = absurd (none-some fault e)
 early_puts trade p rooms site steps (Fails n f) fault e = refl
 early_puts trade p rooms site steps (Full n) fault e = refl
 early_puts trade p rooms site steps (Stops n) fault e = refl
+early_puts trade p rooms site steps (Unread n f) fault e = refl
 early_puts trade p rooms site steps (Other out) fault e = absurd (none-some fault e)
+early_puts trade p rooms site steps (Sees looks cut) fault e = early_puts trade p rooms site steps cut fault e
 
 -- ---- other frames that are put
 
@@ -167,15 +169,20 @@ fit_as_they_are rooms out fit =
 
 -- ---- cuts
 
-told_so : (n : ℕ) (steps : List Step) → n ≤ length steps → length (events_of (take n steps)) ≡ n
+pub told_so : (n : ℕ) (steps : List Step) → n ≤ length steps → length (events_of (take n steps)) ≡ n
 told_so n steps l =
     let many : length (events_of (take n steps)) ≡ length (take n steps) = length-map (take n steps) (λ (step : Step). step.event)
     in let few = length-take n steps
     in omega (arith, l, many, few)
 
-step_there : (n : ℕ) (steps : List Step) (found : Option Step) → slice_get steps n ≡ found → IsSome (option_and_then (λ (step : Step). step.entry) found) → n < length steps
+pub step_there : (n : ℕ) (steps : List Step) (found : Option Step) → slice_get steps n ≡ found → IsSome (option_and_then (λ (step : Step). step.entry) found) → n < length steps
 step_there n steps None e some = absurd (false≢true some)
 step_there n steps (Some step) e some = slice_get_within steps n step e
+
+pub slice_get_at : {entry : Entry} (n : ℕ) (steps : List Step) (found : Option Step) → slice_get steps n ≡ found
+    → option_and_then (λ (step : Step). step.entry) found ≡ Some entry → n < length steps
+slice_get_at {entry = entry} n steps None e some = absurd (none-some entry some)
+slice_get_at n steps (Some step) e some = slice_get_within steps n step e
 
 read_told : (n told : ℕ) (fault : ProviderFault) → IsOfRead fault → told ≡ n → Fails n fault ≡ cut_by (Some fault) told
 read_told n told faults.DiskFault read e = ap (λ (k : ℕ). Fails k faults.DiskFault) (sym e)
@@ -191,14 +198,18 @@ fails_told n steps fault (inl append) =
 fails_told n steps fault (inr read) =
     read_told n (length (events_of (take n steps))) fault read.1 (told_so n steps (let e = read.0 in omega (arith, e)))
 
-pub cut_told : (trade : Trade) (p : ℕ) (rooms : ℕ → ℕ) (site : Site) (steps : List Step) (cut : Cut) → MayCut steps cut
+pub cut_told : (trade : Trade) (p : ℕ) (rooms : ℕ → ℕ) (site : Site) (steps : List Step) (cut : Cut) → MayCut trade p steps cut
     → TellsCut (cut_turn trade p rooms site steps cut).ended (length (cut_turn trade p rooms site steps cut).events) cut
 cut_told trade p rooms site steps Whole may = refl
 cut_told trade p rooms site steps (Fails n fault) may = fails_told n steps fault may.1
 cut_told trade p rooms site steps (Full n) may =
     ap Full (sym (told_so n steps (let l = slice_get_within steps n may.step may.there in omega (arith, l))))
 cut_told trade p rooms site steps (Stops n) may = ap Stops (sym (told_so n steps (let l = may.1 in omega (arith, l))))
+cut_told trade p rooms site steps (Unread n fault) may =
+    read_told n (length (events_of (take n steps))) fault may.1
+    (told_so n steps (let l = slice_get_at n steps (slice_get steps n) refl may.2.there in omega (arith, l)))
 cut_told trade p rooms site steps (Other out) may = refl
+cut_told trade p rooms site steps (Sees looks cut) may = cut_told trade p rooms site steps cut may
 
 pub told_is_kept : (ended : Option ProviderFault) (told : ℕ) → IsOfKept (cut_by ended told)
 told_is_kept None told = tt
@@ -206,9 +217,12 @@ told_is_kept (Some faults.DiskFault) told = tt
 told_is_kept (Some (faults.Changed entry)) told = tt
 told_is_kept (Some _) told = tt
 
-pub told_or_other : (ended : Option ProviderFault) (told : ℕ) (cut : Cut) → TellsCut ended told cut → (cut ≡ cut_by ended told) ⊎ (ended ≡ None)
+pub told_or_other : (ended : Option ProviderFault) (told : ℕ) (cut : Cut) → TellsCut ended told cut
+    → (as_told cut ≡ cut_by ended told) ⊎ (ended ≡ None)
 told_or_other ended told Whole tells = inl tells
 told_or_other ended told (Fails n fault) tells = inl tells
 told_or_other ended told (Full n) tells = inl tells
 told_or_other ended told (Stops n) tells = inl tells
+told_or_other ended told (Unread n fault) tells = inl tells
 told_or_other ended told (Other out) tells = inr tells
+told_or_other ended told (Sees looks cut) tells = told_or_other ended told cut tells

@@ -1,7 +1,7 @@
 -- The commands of a script, what they answer, and what they do: `played`. Where a device may fail, a luck says whether
 -- it did; for a given answer there is at most one state. Each answer is a value; lines are made of it elsewhere. This
 -- project's profile.
-use Rattle.std.specs.Prelude.{ℕ, ◌+◌, nat_lt, Bool, true, false, List, [], ◌∷◌, ◌++◌, length, map, take, drop, slice_get, slice_set, if◌then◌else◌, Option, Some, None}
+use Rattle.std.specs.Prelude.{ℕ, ◌+◌, ◌==◌, nat_lt, Bool, true, false, List, [], ◌∷◌, ◌++◌, length, map, take, drop, slice_get, slice_set, if◌then◌else◌, Option, Some, None}
 use Rattle.std.specs.Option.{unwrap_or}
 use Rattle.pec_types.specs.Bytes.{Bytes, Path}
 use Rattle.pec_types.specs.Message.{Id}
@@ -18,10 +18,12 @@ use Rattle.pec_types.specs.declared.turns.Submitted.TheVariants as submissions
 use Rattle.pec_types.specs.declared.turns.Turn.{Turn}
 use Rattle.pec_records.specs.declared.entries.Entry.{Entry}
 use Rattle.pec_records.specs.declared.entries.Entry.TheVariants as entries
-use Rattle.pec_ledger.specs.Books.{book, mailbox_lines}
+use Rattle.pec_screen.specs.VerdictReading.{finds}
+use Rattle.pec_screen.specs.Verdicts.{Patterns}
+use Rattle.pec_ledger.specs.Books.{archive_lines, book, mailbox_lines}
 use Rattle.pec_ledger.specs.Half.{Half, Mark, Posted}
 use Rattle.pec_ledger.specs.Items.{item_text}
-use Rattle.pec_ledger.specs.Lookups.{mailbox}
+use Rattle.pec_ledger.specs.Lookups.{archive, mailbox}
 use Rattle.pec_ledger.specs.Network.{Site, chosen, frames_between, journal_at, site_at}
 use Rattle.pec_ledger.specs.Pairs.{id_of}
 use Rattle.pec_ledger.specs.Steps.{half, marks_by}
@@ -30,10 +32,10 @@ use Rattle.pec_plays.specs.Rounds.{link_size, rounded, with_waiting}
 use Rattle.pec_plays.specs.Steps.{has_no_room}
 use Rattle.pec_plays.specs.Turns.{Cut, broken, last_of}
 
--- What a script asks of the network. Providers, and places on a link or in a mailbox, are numbered from 0, and moments
--- are in seconds. A submission says what the provider's screens find in its message: whether one of them finds a rule.
+-- What a script asks of the network. Providers, and places on a link, in a mailbox or in an archive, are numbered from
+-- 0, and moments are in seconds. Another screen of a provider has the patterns of the last spare, if one is left.
 pub data Command : Type 0 where
-  Submit : (provider moment : ℕ) (sender : Bytes) (path : Path) (message : Bytes) (found : Bool) → Command
+  Submit : (provider moment : ℕ) (sender : Bytes) (path : Path) (message : Bytes) → Command
   Tick : (provider moment : ℕ) → Command
   Round : (moment : ℕ) → Command
   Lose : (from to place : ℕ) → Command
@@ -45,6 +47,11 @@ pub data Command : Type 0 where
   Book : (address : Bytes) → Command
   Mailbox : (address : Bytes) → Command
   Show : (address : Bytes) (place : ℕ) → Command
+  Archive : (address : Bytes) (moment place : ℕ) → Command
+  Upgrade : (provider moment : ℕ) → Command
+  Vault : (address : Bytes) → Command
+  VaultShow : (address : Bytes) (place : ℕ) → Command
+  Screen : (provider place : ℕ) (spare : Option Patterns) → Command
 
 -- What a command answers: what it did or shows, or why it did nothing. A restart tells how many entries are there.
 pub data Answer : Type 0 where
@@ -59,15 +66,22 @@ pub data Answer : Type 0 where
   Restarted : (entries : ℕ) → Answer
   Lines : (lines : List BookLine) → Answer
   Items : (items : List ItemLine) → Answer
+  Vaults : (items : List ItemLine) → Answer
+  Archived : Answer
+  Upgraded : Answer
+  Screened : Answer
   Shown : (bytes : Bytes) → Answer
   Refuses : (fault : ProviderFault) → Answer
   NoFrame : Answer
+  NoSpare : Answer
+  NoScreen : Answer
   LinkFull : Answer
   IsUp : Answer
 
 -- What devices do in a command: how each provider's turn is cut, whether the append or the restart fails, whether a
 -- restart finds the interrupted entry, how the read of an item that is to be shown failed, if it did, and which bytes
--- are shown in place of the item's, if others are: only a disk that gives back other bytes than it took can be the cause.
+-- are shown in place of the item's, if others are: only a disk that gives back other bytes than it took can be the
+-- cause.
 pub record Luck : Type 0 where
   pub cuts : ℕ → Cut
   pub fails : Bool
@@ -93,7 +107,7 @@ with_site sites provider site = slice_set sites provider site
 -- a provider with one more entry at the end of its journal
 abbrev pub with_entry : Site → Entry → Site
 with_entry site entry =
-    record { journal = site.journal ++ entry ∷ []; up = site.up; interrupted = site.interrupted; waiting = site.waiting }
+    record (site) { journal = site.journal ++ entry ∷ [] }
 
 -- an entry is appended, or its append fails and the provider is down
 abbrev pub appended : Bool → List Site → ℕ → Entry → Answer → Played
@@ -118,6 +132,10 @@ at_work trade sites provider now done =
     else answers sites (Refuses faults.Down)
 
 -- ---- submissions
+
+-- whether some screen of a provider finds a rule in a message
+abbrev pub finds_at : List Site → ℕ → Bytes → Bool
+finds_at sites provider message = finds (site_at sites provider).screens message
 
 -- what speaks against a message: a cause of the table, and where there is none, that a screen finds a rule
 abbrev pub screened_cause : Bool → Option Cause → Option Cause
@@ -214,12 +232,12 @@ injected sites from to frame =
 
 -- a provider that crashed: it is down, and its journal and the frames that wait for it stay
 abbrev pub stopped_site : Site → Site
-stopped_site site = record { journal = site.journal; up = false; interrupted = site.interrupted; waiting = site.waiting }
+stopped_site site = record (site) { up = false }
 
 -- a provider that is up again, its interrupted entry found or forgotten
 abbrev pub restarted_site : Bool → Site → Site
 restarted_site found site =
-    record { journal = site.journal ++ chosen found site.interrupted; up = true; interrupted = None; waiting = site.waiting }
+    record (site) { journal = site.journal ++ chosen found site.interrupted; up = true; interrupted = None }
 
 -- What a restart does: the provider is up again, unless it is up already, or its disk fails.
 abbrev pub restarted : Luck → List Site → ℕ → Site → Played
@@ -245,7 +263,8 @@ asked sites show trade (Some provider) =
     if (site_at sites provider).up then show provider (half trade provider (journal_at sites provider))
     else answers sites (Refuses faults.Down)
 
--- what is shown of an item's bytes: where the read of its entry fails, nothing is, and the provider is down from then on
+-- what is shown of an item's bytes: where the read of its entry fails, nothing is, and the provider is down from then
+-- on
 abbrev pub read_back : Option ProviderFault → Bytes → List Site → ℕ → Played
 read_back None bytes sites provider = answers sites (Shown bytes)
 read_back (Some fault) bytes sites provider =
@@ -256,18 +275,72 @@ abbrev pub shown_bytes : Luck → List Site → ℕ → Option Bytes → Played
 shown_bytes luck sites provider None = answers sites (Refuses faults.NoItem)
 shown_bytes luck sites provider (Some bytes) = read_back luck.read (unwrap_or luck.shown bytes) sites provider
 
--- the item that was asked for, if the mailbox has it
+-- the item that was asked for, if it is there
 abbrev pub shown : Trade → Luck → List Site → ℕ → Option Posted → Played
 shown trade luck sites provider None = answers sites (Refuses faults.NoItem)
 shown trade luck sites provider (Some posted) =
     shown_bytes luck sites provider (item_text trade provider (journal_at sites provider) posted)
 
+-- ---- archives
+
+-- the number of items in an account's mailbox at a provider
+abbrev pub items_at : Trade → List Site → ℕ → Bytes → ℕ
+items_at trade sites provider account = length (mailbox (half trade provider (journal_at sites provider)) account)
+
+-- the version of a provider's journal
+abbrev pub version_at : Trade → List Site → ℕ → ℕ
+version_at trade sites provider = (half trade provider (journal_at sites provider)).version
+
+-- an item is archived at this provider
+abbrev pub archived_at : Trade → Luck → List Site → ℕ → ℕ → Bytes → ℕ → Played
+archived_at trade luck sites provider moment account place =
+    at_work trade sites provider moment
+    (if nat_lt place (items_at trade sites provider account)
+    then (if version_at trade sites provider == 2
+    then append trade luck sites provider (entries.Archived moment account place) Archived
+    else answers sites (Refuses faults.OldJournal))
+    else answers sites (Refuses faults.NoItem))
+
+-- What archiving an item does at a moment: the item at a place of an account's mailbox goes to its archive, unless that
+-- is refused. The provider is the account's.
+abbrev pub archived : Trade → Luck → List Site → Option ℕ → ℕ → Bytes → ℕ → Played
+archived trade luck sites None moment account place = answers sites (Refuses faults.NoAccount)
+archived trade luck sites (Some provider) moment account place = archived_at trade luck sites provider moment account place
+
+-- What raising a journal does at a moment: it is of version 2 from then on, unless that is refused.
+abbrev pub upgraded : Trade → Luck → List Site → ℕ → ℕ → Played
+upgraded trade luck sites provider moment =
+    at_work trade sites provider moment
+    (if version_at trade sites provider == 1 then append trade luck sites provider (entries.Upgraded moment) Upgraded
+    else answers sites (Refuses faults.NoNeed))
+
+-- ---- screens
+
+-- a provider whose screens have these patterns
+abbrev pub with_screens : Site → List Patterns → Site
+with_screens site screens = record (site) { screens = screens }
+
+-- What another screen does: the last spare takes the place of one of the provider's, unless there is none, the provider
+-- is down, or it has no screen there.
+abbrev pub screened : List Site → ℕ → ℕ → Option Patterns → Played
+screened sites provider place None = answers sites NoSpare
+screened sites provider place (Some patterns) =
+    if (site_at sites provider).up
+    then (if nat_lt place (length (site_at sites provider).screens)
+    then record {
+      answer = Screened;
+      after = with_site sites provider
+          (with_screens (site_at sites provider) (slice_set (site_at sites provider).screens place patterns));
+    }
+    else answers sites NoScreen)
+    else answers sites (Refuses faults.Down)
+
 -- ---- all commands
 
 -- What a command does.
 unfoldable pub played : Trade → Luck → List Site → Command → Played
-played trade luck sites (Submit provider moment sender path message found) =
-    submitted trade luck sites provider moment sender path message found
+played trade luck sites (Submit provider moment sender path message) =
+    submitted trade luck sites provider moment sender path message (finds_at sites provider message)
 played trade luck sites (Tick provider moment) = ticked trade luck sites provider moment
 played trade luck sites (Round moment) =
     record { answer = Turns (rounded trade moment luck.cuts sites).turns; after = (rounded trade moment luck.cuts sites).sites }
@@ -285,3 +358,12 @@ played trade luck sites (Mailbox address) =
 played trade luck sites (Show address place) =
     asked sites (λ provider half. shown trade luck sites provider (slice_get (mailbox half address) place)) trade
     (account_home trade address (trade.home address))
+played trade luck sites (Archive address moment place) =
+    archived trade luck sites (account_home trade address (trade.home address)) moment address place
+played trade luck sites (Upgrade provider moment) = upgraded trade luck sites provider moment
+played trade luck sites (Vault address) =
+    asked sites (λ provider half. answers sites (Vaults (archive_lines half address))) trade (account_home trade address (trade.home address))
+played trade luck sites (VaultShow address place) =
+    asked sites (λ provider half. shown trade luck sites provider (slice_get (archive half address) place)) trade
+    (account_home trade address (trade.home address))
+played trade luck sites (Screen provider place spare) = screened sites provider place spare

@@ -11,9 +11,18 @@ use Rattle.pec_ledger.specs.Half.{Half}
 use Rattle.pec_ledger.specs.Network.{Site, at_start, journal_at}
 use Rattle.pec_ledger.specs.SmallWorld.{small}
 use Rattle.pec_ledger.specs.Steps.{half}
-use Rattle.pec_plays.specs.Commands.{Answer, Book, Command, Inject, Luck, Mailbox, Restart, Round, Show, Submit, Swap, Turns}
+use Rattle.pec_plays.specs.Commands.{Answer, Archive, Book, Command, Inject, Luck, Mailbox, Restart, Round, Screen, Show, Submit, Swap, Turns, Upgrade, Vault}
 use Rattle.pec_plays.specs.Scripts.{script}
-use Rattle.pec_plays.specs.Turns.{Cut, Fails, Whole}
+use Rattle.pec_plays.specs.Turns.{Cut, Fails, Unread, Whole}
+
+-- no provider has a screen
+abbrev pub no_screens : ℕ → List (List Bytes)
+no_screens provider = []
+
+-- beta has one screen, which finds its one pattern in each message
+abbrev pub beta_looks : ℕ → List (List Bytes)
+beta_looks zero = []
+beta_looks (suc provider) = ([] ∷ []) ∷ []
 
 -- no device fails
 abbrev pub calm : Luck
@@ -34,7 +43,7 @@ finding = record { cuts = λ provider. Whole; fails = false; found = true; read 
 
 -- what alice writes, to this address
 abbrev pub writes_to : Bytes → Command
-writes_to recipient = Submit 0 morning alice (recipient ∷ []) (to_one recipient) false
+writes_to recipient = Submit 0 morning alice (recipient ∷ []) (to_one recipient)
 
 -- a provider's turn as it is told: what came of frames and pairs, how many frames it put for whom, why it ended early
 abbrev pub turn_of : ℕ → List Event → List (ℕ × ℕ) → Option ProviderFault → Turn
@@ -94,6 +103,35 @@ with_a_look = writes_to anna ∷ Round 1704186001 ∷ Round 1704186002 ∷ Show 
 abbrev pub unread : Luck
 unread = record { cuts = λ provider. Whole; fails = false; found = false; read = Some faults.DiskFault; shown = None }
 
+-- ---- the read of an envelope fails before a decision
+
+-- in a round it is read for the step of alfa of a number
+abbrev pub unread_at : ℕ → ℕ → Cut
+unread_at number zero = Unread number faults.DiskFault
+unread_at number (suc provider) = Whole
+
+-- the luck of such a round, by the number of the step, from 0
+abbrev pub looking_fails : ℕ → Luck
+looking_fails number = record { cuts = unread_at number; fails = false; found = false; read = None; shown = None }
+
+-- ---- an item is archived
+
+-- alice writes to anna, whose item is archived after two rounds, and no item is left for another; alfa's journal is of
+-- version 2 from its start
+abbrev pub put_away : List Command
+put_away =
+    writes_to anna ∷ Round 1704186001 ∷ Round 1704186002 ∷ Archive anna 1704186002 0 ∷ Mailbox anna ∷ Vault anna
+    ∷ Archive anna 1704186002 0 ∷ Upgrade 0 1704186002 ∷ []
+
+-- ---- a virus at the incoming point
+
+-- alice writes to bob, whose provider finds a virus; both mailboxes are shown, and then another screen is put in the
+-- place of that one: there is one spare, and no place 1
+abbrev pub unwelcome : List Command
+unwelcome =
+    writes_to bob ∷ Round 1704186001 ∷ Round 1704186002 ∷ Round 1704186003 ∷ Mailbox alice ∷ Mailbox bob
+    ∷ Screen 1 1 (Some ((9 ∷ []) ∷ [])) ∷ Screen 1 0 (Some ((9 ∷ []) ∷ [])) ∷ Screen 1 0 None ∷ []
+
 -- a luck for each command of a script, with which no device fails
 abbrev pub calmly : List Command → List Luck
 calmly [] = []
@@ -101,7 +139,7 @@ calmly (command ∷ commands) = calm ∷ calmly commands
 
 -- the state behind a script without faults
 abbrev pub left_by : List Command → List Site
-left_by commands = (script small (calmly commands) (at_start small) commands).after
+left_by commands = (script small (calmly commands) (at_start small no_screens) commands).after
 
 -- alfa's half then
 abbrev pub alfa_behind : List Command → Half
@@ -113,4 +151,8 @@ halfway = writes_to anna ∷ Round 1704186001 ∷ Round 1704186002 ∷ []
 
 -- what a script answers from the start, with these lucks
 abbrev pub answers_of : List Luck → List Command → List Answer
-answers_of lucks commands = (script small lucks (at_start small) commands).answers
+answers_of lucks commands = (script small lucks (at_start small no_screens) commands).answers
+
+-- the same without faults, where providers have these screens
+abbrev pub answers_where : (ℕ → List (List Bytes)) → List Command → List Answer
+answers_where screens commands = (script small (calmly commands) (at_start small screens) commands).answers

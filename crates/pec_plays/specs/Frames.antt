@@ -7,6 +7,7 @@ use Rattle.pec_types.specs.Bytes.{Bytes, Path}
 use Rattle.pec_types.specs.Message.{Id}
 use Rattle.pec_types.specs.declared.letters.Letter.{Letter}
 use Rattle.pec_types.specs.declared.letters.Letter.TheVariants as letters
+use Rattle.pec_types.specs.declared.messages.Decision.{Decision}
 use Rattle.pec_types.specs.declared.messages.Facts.{Facts}
 use Rattle.pec_types.specs.declared.receipts.Kind.TheVariants as kinds
 use Rattle.pec_records.specs.declared.entries.Entry.{Entry}
@@ -17,6 +18,7 @@ use Rattle.pec_ledger.specs.Lookups.{Accepted, accepted_at, addresses_of, at_hom
 use Rattle.pec_ledger.specs.Pairs.{pair_of, same_id}
 use Rattle.pec_ledger.specs.Steps.{half}
 use Rattle.pec_ledger.specs.Trade.{Framed, Seen, SeenEnvelope, SeenReceipt, Trade}
+use Rattle.pec_plays.specs.Paths.{outcome_path}
 
 -- a letter that can't be composed, of which the text is `[]`, isn't put
 abbrev pub unless_empty : Path → Bytes → Option Framed
@@ -67,17 +69,17 @@ module _ (trade : Trade) (provider : ℕ) (journal : List Entry) where
       }) original))
       (original_taken id row)
 
-  -- along the path of the original's sender
-  abbrev pub to_sender : Bytes → Option Facts → Option Framed
-  to_sender text None = None
-  to_sender text (Some facts) = unless_empty (facts.sender ∷ []) text
+  -- along the path of an outcome of the original, whose facts tell its sender
+  abbrev pub to_addressee : Id → Decision → Bytes → Option Facts → Option Framed
+  to_addressee id decision text None = None
+  to_addressee id decision text (Some facts) = unless_empty (outcome_path trade id decision facts.sender) text
 
-  -- the receipt of delivery or the notice of error on one of its recipients
+  -- the receipt of delivery, the notice of error or that of a virus on one of its recipients
   abbrev pub outcome_of : Id → Bytes → Fate → Taken → Option Framed
   outcome_of id recipient fate row =
       option_and_then
       (λ (original : Bytes).
-      to_sender
+      to_addressee id fate.decision
       (trade.receipt_text
       (record {
         kind = outcome_kind fate.decision;

@@ -2,12 +2,14 @@ pub mod Commands
 pub mod Decisions
 pub mod Examples
 pub mod Frames
+pub mod Paths
 pub mod Possible
 pub mod Reception
 pub mod ReceptionRows
 pub mod Refusals
 pub mod Rounds
 pub mod Scripts
+pub mod Settled
 pub mod Steps
 pub mod TableSight
 pub mod Told

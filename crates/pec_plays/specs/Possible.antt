@@ -1,14 +1,17 @@
--- Which lucks can be: how a turn may be cut (`MayCut`), what a command may meet (`MayMeet`), when no device failed in it
--- (`IsQuiet`), and when each read gave what was kept (`GaveWhatWasKept`). This project's profile.
-use Rattle.std.specs.Prelude.{◌≡◌, ◌⊎◌, ℕ, zero, suc, ◌+◌, ◌<◌, nat_lt, false, true, List, [], ◌∷◌, length, take, slice_get, All, IfSome, IsSome, Option, Some, None, if◌then◌else◌}
+-- Which lucks can be: how a turn may be cut (`MayCut`), what a command may meet (`MayMeet`), when no device failed in
+-- it (`IsQuiet`), and when each read gave what was kept (`GaveWhatWasKept`). This project's profile.
+use Rattle.std.specs.Prelude.{◌≡◌, ◌⊎◌, ℕ, zero, suc, ◌+◌, ◌<◌, nat_lt, Bool, false, true, List, [], ◌∷◌, length, take, slice_get, All, IfSome, IsSome, IsTrue, Option, Some, None, if◌then◌else◌}
 use Rattle.pec_types.specs.Bytes.{Bytes}
+use Rattle.pec_types.specs.Message.{Id}
+use Rattle.pec_types.specs.declared.messages.Decision.{Decision}
 use Rattle.pec_types.specs.declared.turns.ProviderFault.{ProviderFault}
 use Rattle.pec_types.specs.declared.turns.ProviderFault.TheVariants as faults
+use Rattle.pec_records.specs.declared.entries.Entry.TheVariants as entries
 use Rattle.pec_ledger.specs.Network.{Site, interrupted_at, site_at}
 use Rattle.pec_ledger.specs.Trade.{Trade}
-use Rattle.pec_plays.specs.Commands.{Command, Luck, Round, Show, played}
+use Rattle.pec_plays.specs.Commands.{Command, Luck, Round, Show, VaultShow, played}
 use Rattle.pec_plays.specs.Steps.{Step}
-use Rattle.pec_plays.specs.Turns.{Cut, Whole, Fails, Full, Stops, Other, entry_at, frames_in, last_of, plan}
+use Rattle.pec_plays.specs.Turns.{Cut, Whole, Fails, Full, Stops, Unread, Other, Sees, entry_at, last_of, steps_of}
 
 -- The journal has room for the entries of all these steps.
 abbrev pub HaveRoom : List Step → Type 0
@@ -32,15 +35,29 @@ abbrev pub MayFail : List Step → ℕ → ProviderFault → Type 0
 MayFail steps number fault =
     ((fault ≡ faults.DiskFault) × IsSome (entry_at steps number)) ⊎ ((number ≡ length steps) × IsOfRead fault)
 
--- A turn that was planned so may be cut so: it is done whole, and a read fails, only where there is room for all
--- entries; an append fails only at a step with an entry, for which there is room; the journal is full at the first step
--- for which it has no room; and memory runs out before some step that there would have been room to reach.
-abbrev pub MayCut : List Step → Cut → Type 0
-MayCut steps Whole = HaveRoom steps
-MayCut steps (Fails number fault) = HaveRoom (take (number + 1) steps) × MayFail steps number fault
-MayCut steps (Full number) = IsFull steps number
-MayCut steps (Stops number) = HaveRoom (take number steps) × (number < length steps)
-MayCut steps (Other out) = HaveRoom steps
+-- The step of a number decides a pair whose recipient is an account of the provider: before it does, its screens look
+-- at the message.
+pub record IsLookedAt (trade : Trade) (provider : ℕ) (steps : List Step) (number : ℕ) : Type 0 where
+  pub moment : ℕ
+  pub id : Id
+  pub recipient : Bytes
+  pub decision : Decision
+  pub there : entry_at steps number ≡ Some (entries.Decided moment id recipient decision)
+  pub account : IsTrue (trade.is_account provider recipient)
+
+-- A turn of a provider that was planned so may be cut so: it is done whole, and a read for a letter fails, only where
+-- there is room for all entries; an append fails only at a step with an entry, for which there is room; the journal is
+-- full at the first step for which it has no room; memory runs out before some step that there would have been room to
+-- reach; and the read of an envelope fails before such a step for which screens look at it.
+abbrev pub MayCut : Trade → ℕ → List Step → Cut → Type 0
+MayCut trade provider steps Whole = HaveRoom steps
+MayCut trade provider steps (Fails number fault) = HaveRoom (take (number + 1) steps) × MayFail steps number fault
+MayCut trade provider steps (Full number) = IsFull steps number
+MayCut trade provider steps (Stops number) = HaveRoom (take number steps) × (number < length steps)
+MayCut trade provider steps (Unread number fault) =
+    HaveRoom (take number steps) × IsOfRead fault × IsLookedAt trade provider steps number
+MayCut trade provider steps (Other out) = HaveRoom steps
+MayCut trade provider steps (Sees looks cut) = MayCut trade provider steps cut
 
 -- A command may meet such a luck: the turns of a round that begin may be cut so, and the read of an item fails as reads
 -- do.
@@ -48,8 +65,9 @@ abbrev pub MayMeet : Trade → Luck → List Site → Command → Type 0
 MayMeet trade luck sites (Round now) =
     (provider : ℕ) → provider < length sites → (site_at sites provider).up ≡ true
     → nat_lt now (last_of trade provider (site_at sites provider).journal) ≡ false
-    → MayCut (plan trade provider now (site_at sites provider).journal (frames_in (site_at sites provider).waiting)) (luck.cuts provider)
+    → MayCut trade provider (steps_of trade provider now (site_at sites provider) (luck.cuts provider)) (luck.cuts provider)
 MayMeet trade luck sites (Show address place) = IfSome luck.read IsOfRead
+MayMeet trade luck sites (VaultShow address place) = IfSome luck.read IsOfRead
 MayMeet trade luck sites _ = Unit {0}
 
 -- no call of a disk failed, none gave back other bytes, and no memory was missing
@@ -58,7 +76,9 @@ IsCalm Whole = Unit {0}
 IsCalm (Fails number fault) = ⊥
 IsCalm (Full number) = Unit {0}
 IsCalm (Stops number) = ⊥
+IsCalm (Unread number fault) = ⊥
 IsCalm (Other out) = ⊥
+IsCalm (Sees looks cut) = ⊥
 
 -- No device failed in a command, and none gave back other bytes than it took.
 pub record IsQuiet (luck : Luck) : Type 0 where
@@ -69,13 +89,38 @@ pub record IsQuiet (luck : Luck) : Type 0 where
 
 -- what was read is what was kept, or the read failed, as reads do
 abbrev pub IsOfKept : Cut → Type 0
+IsOfKept Whole = Unit {0}
 IsOfKept (Fails number fault) = IsOfRead fault
+IsOfKept (Full number) = Unit {0}
+IsOfKept (Stops number) = Unit {0}
+IsOfKept (Unread number fault) = IsOfRead fault
 IsOfKept (Other out) = ⊥
-IsOfKept _ = Unit {0}
+IsOfKept (Sees looks cut) = ⊥
 
--- So it is in each turn of a command: no frame was put in place of one that is due.
+-- So it is in each turn of a command: no frame was put in place of one that is due, and screens looked at no message in
+-- place of one that was taken.
 abbrev pub GaveWhatWasKept : Luck → Type 0
 GaveWhatWasKept luck = (provider : ℕ) → IsOfKept (luck.cuts provider)
+
+-- no read failed before a decision
+abbrev pub is_looked : Cut → Bool
+is_looked Whole = true
+is_looked (Fails number fault) = true
+is_looked (Full number) = true
+is_looked (Stops number) = true
+is_looked (Unread number fault) = false
+is_looked (Other out) = true
+is_looked (Sees looks cut) = is_looked cut
+
+-- In the turns of a command a read before a decision failed with one luck where one did with the other.
+abbrev pub ReadAlike : Luck → Luck → Type 0
+ReadAlike luck other = (provider : ℕ) → is_looked (luck.cuts provider) ≡ is_looked (other.cuts provider)
+
+-- So it is in each command of a script.
+abbrev pub AllReadAlike : List Luck → List Luck → Type 0
+AllReadAlike [] others = Unit {0}
+AllReadAlike (luck ∷ lucks) [] = Unit {0}
+AllReadAlike (luck ∷ lucks) (other ∷ others) = ReadAlike luck other × AllReadAlike lucks others
 
 -- No provider has an interrupted entry.
 abbrev pub NoneInterrupted : List Site → Type 0
@@ -98,10 +143,26 @@ cut_by (Some faults.JournalFull) told = Full told
 cut_by (Some faults.NoMemory) told = Stops told
 cut_by _ told = Whole
 
--- A turn that ended so and told of so many steps was cut so: as it tells, or it ended well and put other frames.
+-- A turn that ended so and told of so many steps was cut so: as it tells, or it ended well and put other frames. A read
+-- that failed before a decision is told as an append that failed there, and what screens looked at isn't told.
 abbrev pub TellsCut : Option ProviderFault → ℕ → Cut → Type 0
+TellsCut ended told Whole = Whole ≡ cut_by ended told
+TellsCut ended told (Fails number fault) = Fails number fault ≡ cut_by ended told
+TellsCut ended told (Full number) = Full number ≡ cut_by ended told
+TellsCut ended told (Stops number) = Stops number ≡ cut_by ended told
+TellsCut ended told (Unread number fault) = Fails number fault ≡ cut_by ended told
 TellsCut ended told (Other out) = ended ≡ None
-TellsCut ended told cut = cut ≡ cut_by ended told
+TellsCut ended told (Sees looks cut) = TellsCut ended told cut
+
+-- a cut as the answer tells it, but for other bytes, of which it tells nothing
+abbrev pub as_told : Cut → Cut
+as_told Whole = Whole
+as_told (Fails number fault) = Fails number fault
+as_told (Full number) = Full number
+as_told (Stops number) = Stops number
+as_told (Unread number fault) = Fails number fault
+as_told (Other out) = Whole
+as_told (Sees looks cut) = as_told cut
 
 -- ---- the cut of a quiet turn
 
@@ -111,7 +172,9 @@ later_cut Whole = Whole
 later_cut (Fails number fault) = Fails (suc number) fault
 later_cut (Full number) = Full (suc number)
 later_cut (Stops number) = Stops (suc number)
+later_cut (Unread number fault) = Unread (suc number) fault
 later_cut (Other out) = Other out
+later_cut (Sees looks cut) = Sees looks (later_cut cut)
 
 -- A turn without faults is done whole, or ends at the first step for which the journal has no room.
 abbrev pub quiet_cut : List Step → Cut
@@ -121,8 +184,7 @@ quiet_cut (step ∷ steps) = if step.full then Full zero else later_cut (quiet_c
 -- A luck without faults, for a command.
 abbrev pub quiet_luck : Trade → List Site → Command → Luck
 quiet_luck trade sites (Round now) = record {
-  cuts = λ provider.
-      quiet_cut (plan trade provider now (site_at sites provider).journal (frames_in (site_at sites provider).waiting));
+  cuts = λ provider. quiet_cut (steps_of trade provider now (site_at sites provider) Whole);
   fails = false;
   found = false;
   read = None;

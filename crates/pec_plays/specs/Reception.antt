@@ -9,6 +9,7 @@ use Rattle.pec_types.specs.Message.{Id}
 use Rattle.pec_types.specs.declared.letters.Letter.TheVariants as letters
 use Rattle.pec_types.specs.declared.messages.Decision.{Decision}
 use Rattle.pec_types.specs.declared.messages.Decision.TheVariants.{Placed, Refused}
+use Rattle.pec_types.specs.declared.messages.Refusal.TheVariants as refusals
 use Rattle.pec_types.specs.declared.receipts.Kind.{Kind}
 use Rattle.pec_types.specs.declared.receipts.Kind.TheVariants as kinds
 use Rattle.pec_types.specs.declared.turns.Event.TheVariants as events
@@ -19,6 +20,7 @@ use Rattle.pec_ledger.specs.Lookups.{Accepted, accepted_at, addresses_of, at_hom
 use Rattle.pec_ledger.specs.Pairs.{pair_of}
 use Rattle.pec_ledger.specs.Steps.{half}
 use Rattle.pec_ledger.specs.Trade.{Framed, Receipt, Seen, SeenEnvelope, SeenReceipt, Trade}
+use Rattle.pec_plays.specs.Paths.{outcome_path}
 use Rattle.pec_plays.specs.Steps.{Step, enters, passes}
 
 -- ---- paths
@@ -53,10 +55,10 @@ abbrev pub has_pair : Trade → Bytes → Option Accepted → Bool
 has_pair trade recipient None = false
 has_pair trade recipient (Some message) = list_any (bytes_eq recipient) (addresses_of message.facts) && is_some (trade.home recipient)
 
--- the path is the sender of the message
-abbrev pub is_senders_path : Path → Option Accepted → Bool
-is_senders_path path None = false
-is_senders_path path (Some message) = same_path path (message.sender ∷ [])
+-- the path is that of an outcome of the message
+abbrev pub is_outcome_path : Trade → Id → Decision → Path → Option Accepted → Bool
+is_outcome_path trade id decision path None = false
+is_outcome_path trade id decision path (Some message) = same_path path (outcome_path trade id decision message.sender)
 
 -- the accounts of a path that have room, each once, in the order in which they first stand there
 abbrev pub accounts_with_room : Trade → ℕ → List Entry → Path → Path
@@ -102,13 +104,13 @@ module _ (trade : Trade) (provider now : ℕ) (journal : List Entry) where
 
   -- ---- outcomes
 
-  -- the message is ours and has this pair, the recipient's provider sealed, and the path is the sender
-  abbrev pub outcome_fits : Framed → Receipt → Bytes → Bool
-  outcome_fits framed receipt recipient =
+  -- the message is ours and has this pair, the recipient's provider sealed, and the path is that of what was decided
+  abbrev pub outcome_fits : Framed → Receipt → Bytes → Decision → Bool
+  outcome_fits framed receipt recipient decision =
       (receipt.id.provider == provider)
       && (is_home receipt.by (trade.home recipient)
       && (has_pair trade recipient (accepted_at (half trade provider journal) receipt.id.number)
-      && is_senders_path framed.path (accepted_at (half trade provider journal) receipt.id.number)))
+      && is_outcome_path trade receipt.id decision framed.path (accepted_at (half trade provider journal) receipt.id.number)))
 
   -- an outcome: it is learned if it is new, and its acknowledgement is owed also where it came before
   abbrev pub outcome_rows : Framed → Receipt → Bytes → Decision → Bool → Option Known → Step
@@ -138,11 +140,11 @@ module _ (trade : Trade) (provider now : ℕ) (journal : List Entry) where
 
   -- ---- by what is seen
 
-  -- what is done with a receipt of delivery or a notice of error
+  -- what is done with a receipt of delivery, a notice of error or that of a virus
   abbrev pub by_outcome : Framed → Receipt → Decision → Option Bytes → Step
   by_outcome framed receipt decision None = otherwise framed
   by_outcome framed receipt decision (Some recipient) =
-      outcome_rows framed receipt recipient decision (outcome_fits framed receipt recipient)
+      outcome_rows framed receipt recipient decision (outcome_fits framed receipt recipient decision)
       (known_of (half trade provider journal) (pair_of receipt.id recipient))
 
   -- what is done with an acknowledgement
@@ -152,12 +154,15 @@ module _ (trade : Trade) (provider now : ℕ) (journal : List Entry) where
       ack_rows framed receipt recipient (ack_fits framed receipt recipient)
       (is_acked (half trade provider journal) (pair_of receipt.id recipient))
 
-  -- what is done with a receipt, by its kind: acceptances, warnings and notices are no letters
+  -- what is done with a receipt, by its kind: acceptances, warnings, notices and the delivery error of a virus are no
+  -- letters
   abbrev pub by_receipt : Framed → Receipt → Kind → Step
   by_receipt framed receipt kinds.Charge =
       charge_rows framed receipt (charge_fits framed receipt) (charged_of (half trade provider journal) receipt.id receipt.by)
   by_receipt framed receipt kinds.Delivery = by_outcome framed receipt Placed receipt.recipient
-  by_receipt framed receipt (kinds.DeliveryError refusal) = by_outcome framed receipt (Refused refusal) receipt.recipient
+  by_receipt framed receipt (kinds.DeliveryError refusals.NoMailbox) = by_outcome framed receipt (Refused refusals.NoMailbox) receipt.recipient
+  by_receipt framed receipt (kinds.DeliveryError refusals.MailboxFull) = by_outcome framed receipt (Refused refusals.MailboxFull) receipt.recipient
+  by_receipt framed receipt kinds.VirusFound = by_outcome framed receipt (Refused refusals.Virus) receipt.recipient
   by_receipt framed receipt kinds.Ack = by_ack framed receipt receipt.recipient
   by_receipt framed receipt _ = otherwise framed
 

@@ -15,6 +15,7 @@ use Rattle.pec_ledger.specs.Lookups.{Accepted, HasPair, HasPairsAt, accepted_at,
 use Rattle.pec_ledger.specs.Pairs.{pair_of}
 use Rattle.pec_ledger.specs.Steps.{half}
 use Rattle.pec_ledger.specs.Trade.{Framed, Receipt, SeenEnvelope, SeenReceipt, Trade}
+use Rattle.pec_plays.specs.Paths.{outcome_path}
 use Rattle.pec_plays.specs.Reception.{accounts_with_room}
 use Rattle.pec_plays.specs.Steps.{Step, enters, passes}
 
@@ -42,7 +43,7 @@ module _ (trade : Trade) (provider : ℕ) (journal : List Entry) (framed : Frame
     pub path : framed.path ≡ trade.receipts provider ∷ []
 
   -- An outcome that the recipient's provider sealed, of a pair of a message of this provider, along the path of the
-  -- sender.
+  -- sender, or of the receipt address where it tells of a virus.
   pub record IsOutcome (receipt : Receipt) (recipient : Bytes) (decision : Decision) : Type 0 where
     pub seen : trade.view framed.message ≡ Some (SeenReceipt receipt)
     pub kind : receipt.kind ≡ outcome_kind decision
@@ -52,7 +53,7 @@ module _ (trade : Trade) (provider : ℕ) (journal : List Entry) (framed : Frame
     pub message : Accepted
     pub accepted : accepted_at (half trade provider journal) receipt.id.number ≡ Some message
     pub pair : HasPair trade message recipient
-    pub path : framed.path ≡ message.sender ∷ []
+    pub path : framed.path ≡ outcome_path trade receipt.id decision message.sender
 
   -- An acknowledgement that the provider of the id sealed, of a pair that is decided here, where its recipient is at
   -- home, along the path of the receipt address.

@@ -29,7 +29,13 @@ delivered_to to (out ∷ outs) (link ∷ links) = (link ++ slice_index_or out to
 
 -- a provider for which these frames wait, a list for each that sent them
 abbrev pub with_waiting : Site → List (List Bytes) → Site
-with_waiting site waiting = record { journal = site.journal; up = site.up; interrupted = site.interrupted; waiting = waiting }
+with_waiting site waiting = record {
+  journal = site.journal;
+  up = site.up;
+  interrupted = site.interrupted;
+  screens = site.screens;
+  waiting = waiting;
+}
 
 -- the providers behind their turns, numbered from here on, each with the frames that were put for it
 abbrev pub delivered : List (List (List Bytes)) → ℕ → List Turned → List Site

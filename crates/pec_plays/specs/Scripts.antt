@@ -1,15 +1,16 @@
 -- Scripts: commands one after another, each with its luck (`script`), and which of them may come (`IsUnforged`). This
 -- project's profile.
-use Rattle.std.specs.Prelude.{◌≡◌, ℕ, ◌<◌, ◌≤◌, List, [], ◌∷◌, length}
+use Rattle.std.specs.Prelude.{◌≡◌, ℕ, ◌-◌, ◌<◌, ◌≤◌, List, [], ◌∷◌, length, slice_get, take, Option, Some, None}
 use Rattle.pec_types.specs.Bytes.{Bytes}
 use Rattle.pec_types.specs.declared.moments.TheConstants.{END_OF_TIME}
+use Rattle.pec_screen.specs.Verdicts.{Patterns}
 use Rattle.pec_records.specs.Entry.{most_addresses}
 use Rattle.pec_ledger.specs.Guarantees.{NoReceiptMissing, NoticeByTheDay, OneDelivery, OneOutcome}
 use Rattle.pec_ledger.specs.Network.{AreGenuine, frames_between, IsGenuine, Site, Sound, journals_of}
 use Rattle.pec_ledger.specs.Trade.{Trade}
-use Rattle.pec_plays.specs.Commands.{Answer, Command, Inject, Luck, Round, Submit, Tick, played}
+use Rattle.pec_plays.specs.Commands.{Answer, Archive, Command, Inject, Luck, Round, Screen, Screened, Submit, Tick, Upgrade, played}
 use Rattle.pec_plays.specs.Rounds.{link_size, rounded}
-use Rattle.pec_plays.specs.Turns.{Other, frames_in}
+use Rattle.pec_plays.specs.Turns.{Cut, Whole, Fails, Full, Stops, Unread, Other, Sees, frames_in}
 
 -- What a script answers, and the state behind it.
 pub record Told : Type 0 where
@@ -27,21 +28,54 @@ script trade (luck ∷ lucks) sites [] = record { answers = []; after = sites }
 script trade (luck ∷ lucks) sites (command ∷ commands) =
     onto (played trade luck sites command).answer (script trade lucks (played trade luck sites command).after commands)
 
+-- ---- spares
+
+-- the spares that are left behind an answer: one is used where it told so
+abbrev pub spares_behind : List Patterns → Answer → List Patterns
+spares_behind spares Screened = take (length spares - 1) spares
+spares_behind spares _ = spares
+
+-- In a command another screen is the last spare, if one is left.
+abbrev pub HandsIn : List Patterns → Command → Type 0
+HandsIn spares (Screen provider place spare) = spare ≡ slice_get spares (length spares - 1)
+HandsIn spares _ = Unit {0}
+
+-- So it is in each command of a script that answers so.
+abbrev pub AllHandIn : List Patterns → List Answer → List Command → Type 0
+AllHandIn spares [] commands = Unit {0}
+AllHandIn spares (answer ∷ answers) [] = Unit {0}
+AllHandIn spares (answer ∷ answers) (command ∷ commands) =
+    HandsIn spares command × AllHandIn (spares_behind spares answer) answers commands
+
+-- ---- what may come
+
+-- the frames that a turn puts in place of those that are due, where it puts others
+abbrev pub put_instead : Cut → Option (List (List Bytes))
+put_instead Whole = None
+put_instead (Fails number fault) = None
+put_instead (Full number) = None
+put_instead (Stops number) = None
+put_instead (Unread number fault) = None
+put_instead (Other out) = Some out
+put_instead (Sees looks cut) = put_instead cut
+
 -- No frame that the turns of a round put in place of a due one is forged, in the journals behind the round.
 abbrev pub PutsNoneForged : Trade → Luck → List Site → ℕ → Type 0
 PutsNoneForged trade luck sites moment =
-    (provider : ℕ) (out : List (List Bytes)) → provider < length sites → luck.cuts provider ≡ Other out
+    (provider : ℕ) (out : List (List Bytes)) → provider < length sites → put_instead (luck.cuts provider) ≡ Some out
     → AreGenuine trade (journals_of (rounded trade moment luck.cuts sites).sites) (frames_in out)
 
 -- A command may come: a moment is one that a clock tells, below END_OF_TIME, a path has 1 to 1,000 addresses, and no
--- forged frame is injected, or put in place of a due one. Where a message stands in an injected frame and opens, that is
--- the text of a licensed letter or of an item, as the command begins; all other frames are free.
+-- forged frame is injected, or put in place of a due one. Where a message stands in an injected frame and opens, that
+-- is the text of a licensed letter or of an item, as the command begins; all other frames are free.
 abbrev pub IsUnforged : Trade → Luck → List Site → Command → Type 0
-IsUnforged trade luck sites (Submit provider moment sender path message found) =
+IsUnforged trade luck sites (Submit provider moment sender path message) =
     (0 < length path) × (length path ≤ most_addresses) × (moment < END_OF_TIME)
 IsUnforged trade luck sites (Tick provider moment) = moment < END_OF_TIME
 IsUnforged trade luck sites (Round moment) = (moment < END_OF_TIME) × PutsNoneForged trade luck sites moment
 IsUnforged trade luck sites (Inject from to frame) = IsGenuine trade (journals_of sites) frame
+IsUnforged trade luck sites (Archive address moment place) = moment < END_OF_TIME
+IsUnforged trade luck sites (Upgrade provider moment) = moment < END_OF_TIME
 IsUnforged trade luck sites _ = Unit {0}
 
 -- Each command along a script may come.

@@ -1,13 +1,14 @@
 -- What the tables of pec_points see of a provider's journal: of a message in a frame (`arrived_at`), and of a recipient
 -- (`mailbox_at`); and what is done by the answer of the table of reception (`done_by`). RFC 6109, sections 3.1 to 3.3,
 -- within this project's profile.
-use Rattle.std.specs.Prelude.{ℕ, true, false, List, [], ◌∷◌, length, Option, Some, None, is_some}
+use Rattle.std.specs.Prelude.{ℕ, Bool, true, false, List, [], ◌∷◌, length, Option, Some, None, is_some}
 use Rattle.pec_types.specs.Bytes.{Bytes}
 use Rattle.pec_types.specs.Message.{Id}
 use Rattle.pec_types.specs.declared.letters.Letter.{Letter}
 use Rattle.pec_types.specs.declared.letters.Letter.TheVariants as letters
 use Rattle.pec_types.specs.declared.messages.Decision.{Decision}
 use Rattle.pec_types.specs.declared.messages.Decision.TheVariants.{Placed, Refused}
+use Rattle.pec_types.specs.declared.messages.Refusal.TheVariants as refusals
 use Rattle.pec_types.specs.declared.receipts.Kind.{Kind}
 use Rattle.pec_types.specs.declared.receipts.Kind.TheVariants as kinds
 use Rattle.pec_types.specs.declared.turns.Event.TheVariants as events
@@ -22,13 +23,14 @@ use Rattle.pec_ledger.specs.Lookups.{accepted_at, charged_of, counted, decided_o
 use Rattle.pec_ledger.specs.Pairs.{pair_of}
 use Rattle.pec_ledger.specs.Steps.{half}
 use Rattle.pec_ledger.specs.Trade.{Framed, Receipt, Seen, SeenEnvelope, SeenReceipt, Trade}
-use Rattle.pec_plays.specs.Reception.{accounts_with_room, envelope_fits, has_pair, has_pairs_at, is_senders_path, otherwise, same_path}
+use Rattle.pec_plays.specs.Reception.{accounts_with_room, envelope_fits, has_pair, has_pairs_at, is_outcome_path, otherwise, same_path}
 use Rattle.pec_plays.specs.Steps.{Step, enters, passes}
 
--- What the decision sees of a recipient.
-unfoldable pub mailbox_at : Trade → ℕ → Half → Bytes → Mailbox
-mailbox_at trade provider half recipient = record {
+-- What the decision sees of a recipient, where some screen finds a rule in the message or none does.
+unfoldable pub mailbox_at : Trade → ℕ → Half → Bytes → Bool → Mailbox
+mailbox_at trade provider half recipient found = record {
   account = trade.is_account provider recipient;
+  virus = found;
   count = counted half recipient;
   quota = trade.quota recipient;
 }
@@ -79,15 +81,15 @@ module _ (trade : Trade) (provider : ℕ) (journal : List Entry) (framed : Frame
     accounts_with_room = rooms_in;
   }
 
-  -- a receipt of delivery or a notice of error: whether its path fits, its pair exists, and an outcome is known
-  abbrev pub an_outcome : Receipt → Option Bytes → Arrived
-  an_outcome receipt None = no_letter
-  an_outcome receipt (Some recipient) = record {
+  -- what tells a decision: whether its path fits, its pair exists, and an outcome is known
+  abbrev pub an_outcome : Receipt → Decision → Option Bytes → Arrived
+  an_outcome receipt decision None = no_letter
+  an_outcome receipt decision (Some recipient) = record {
     letter = Some (letters.Outcome receipt.id recipient);
     sealer = receipt.by;
     id_provider = receipt.id.provider;
     recipient_home = trade.home recipient;
-    path_fits = is_senders_path framed.path (accepted_at (half trade provider journal) receipt.id.number);
+    path_fits = is_outcome_path trade receipt.id decision framed.path (accepted_at (half trade provider journal) receipt.id.number);
     row_there = has_pair trade recipient (accepted_at (half trade provider journal) receipt.id.number);
     done = is_some (known_of (half trade provider journal) (pair_of receipt.id recipient));
     accounts_with_room = rooms_in;
@@ -107,11 +109,13 @@ module _ (trade : Trade) (provider : ℕ) (journal : List Entry) (framed : Frame
     accounts_with_room = rooms_in;
   }
 
-  -- a receipt, by its kind: acceptances, warnings and notices are no letters
+  -- a receipt, by its kind: acceptances, warnings, notices and the delivery error of a virus are no letters
   abbrev pub a_receipt : Receipt → Kind → Arrived
   a_receipt receipt kinds.Charge = a_charge receipt
-  a_receipt receipt kinds.Delivery = an_outcome receipt receipt.recipient
-  a_receipt receipt (kinds.DeliveryError refusal) = an_outcome receipt receipt.recipient
+  a_receipt receipt kinds.Delivery = an_outcome receipt Placed receipt.recipient
+  a_receipt receipt (kinds.DeliveryError refusals.NoMailbox) = an_outcome receipt (Refused refusals.NoMailbox) receipt.recipient
+  a_receipt receipt (kinds.DeliveryError refusals.MailboxFull) = an_outcome receipt (Refused refusals.MailboxFull) receipt.recipient
+  a_receipt receipt kinds.VirusFound = an_outcome receipt (Refused refusals.Virus) receipt.recipient
   a_receipt receipt kinds.Ack = an_ack receipt receipt.recipient
   a_receipt receipt _ = no_letter
 
@@ -130,6 +134,7 @@ module _ (trade : Trade) (provider : ℕ) (journal : List Entry) (framed : Frame
 -- what a receipt of this kind says was decided
 abbrev pub decision_of_kind : Kind → Decision
 decision_of_kind (kinds.DeliveryError refusal) = Refused refusal
+decision_of_kind kinds.VirusFound = Refused refusals.Virus
 decision_of_kind _ = Placed
 
 -- what the receipt that is seen says was decided

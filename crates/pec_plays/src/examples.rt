@@ -3,6 +3,7 @@ ghost use Rattle.pec_types.specs.declared.letters.Letter.TheVariants as letters;
 ghost use Rattle.pec_types.specs.declared.mailboxes.ItemKind.TheVariants as item_kinds;
 ghost use Rattle.pec_types.specs.declared.messages.Class.TheVariants as classes;
 ghost use Rattle.pec_types.specs.declared.messages.Decision.TheVariants as decisions;
+ghost use Rattle.pec_types.specs.declared.messages.Refusal.TheVariants as refusals;
 ghost use Rattle.pec_types.specs.declared.receipts.Kind.TheVariants as kinds;
 ghost use Rattle.pec_types.specs.declared.turns.Event.TheVariants as events;
 ghost use Rattle.pec_types.specs.declared.turns.ProviderFault.TheVariants as faults;
@@ -11,8 +12,8 @@ ghost use Rattle.pec_ledger.specs.Examples.{anna, bob, first, open_line, receipt
 ghost use Rattle.pec_ledger.specs.Due.{owed_letters};
 ghost use Rattle.pec_ledger.specs.Network.{at_start, frames_between, Sound};
 ghost use Rattle.pec_ledger.specs.SmallWorld.{small};
-ghost use Rattle.pec_plays.specs.Commands.{Injected, IsUp, Items, Lines, NoFrame, Refuses, Restarted, Submits, Swapped, Turns};
-ghost use Rattle.pec_plays.specs.Examples.{alfa_behind, alfa_turn, answers_of, calm, calmly, failing, finding, from_outside, halfway, idle, left_by, no_such_place, out_of_order, to_the_end, turn_of, unread, with_a_fault, with_a_look};
+ghost use Rattle.pec_plays.specs.Commands.{Archived, Injected, IsUp, Items, Lines, NoFrame, NoScreen, NoSpare, Refuses, Restarted, Screened, Submits, Swapped, Turns, Vaults};
+ghost use Rattle.pec_plays.specs.Examples.{alfa_behind, alfa_turn, answers_of, answers_where, beta_looks, calm, calmly, failing, finding, from_outside, halfway, idle, left_by, looking_fails, no_screens, no_such_place, out_of_order, put_away, to_the_end, turn_of, unread, unwelcome, with_a_fault, with_a_look};
 ghost use Rattle.pec_plays.specs.Scripts.{AllUnforged};
 
 use crate::soundness::a_network_stays_sound;
@@ -111,12 +112,51 @@ pub fn answers_of_the_examples()
         ∷ Refuses faults.Down
         ∷ Restarted 4
         ∷ [] }
+    // The read of the envelope fails before the decision: it is told as a failed append, but a restart finds no entry.
+    ensures unread_decision { answers_of (calm ∷ calm ∷ looking_fails 1 ∷ calm ∷ finding ∷ calm ∷ []) with_a_fault
+        ≡ Submits (submissions.Accepted first)
+        ∷ alfa_turn [] ((0, 1) ∷ [])
+        ∷ Turns (turn_of 0 (events.Took first ∷ []) [] (Some faults.DiskFault) ∷ idle 1 ∷ [])
+        ∷ Refuses faults.Down
+        ∷ Restarted 3
+        ∷ IsUp
+        ∷ [] }
+    // A virus at the incoming point: the sender gets its own provider's delivery error. Then another screen is put
+    // there.
+    ensures unwelcome { answers_where beta_looks unwelcome
+        ≡ Submits (submissions.Accepted first)
+        ∷ Turns (turn_of 0 [] ((1, 1) ∷ []) None ∷ idle 1 ∷ [])
+        ∷ Turns
+        (turn_of 0 [] ((1, 1) ∷ []) None
+        ∷ turn_of 1 (events.Took first ∷ events.Decided first bob (decisions.Refused refusals.Virus) ∷ []) ((0, 2) ∷ []) None
+        ∷ [])
+        ∷ Turns
+        (turn_of 0 (events.Charged first 1 ∷ events.Learned first bob (decisions.Refused refusals.Virus) ∷ []) ((1, 1) ∷ []) None
+        ∷ turn_of 1 (events.Repeat (letters.Envelope first 1) ∷ []) ((0, 2) ∷ []) None
+        ∷ [])
+        ∷ Items (receipt_line kinds.Acceptance ∷ receipt_line_on (kinds.DeliveryError refusals.Virus) bob ∷ [])
+        ∷ Items []
+        ∷ NoScreen
+        ∷ Screened
+        ∷ NoSpare
+        ∷ [] }
+    // An item is archived, and is gone from the mailbox.
+    ensures put_away { answers_of (calmly put_away) put_away
+        ≡ Submits (submissions.Accepted first)
+        ∷ alfa_turn [] ((0, 1) ∷ [])
+        ∷ alfa_turn (events.Took first ∷ events.Decided first anna decisions.Placed ∷ []) ((0, 3) ∷ [])
+        ∷ Archived
+        ∷ Items []
+        ∷ Vaults (record { kind = item_kinds.Envelope; id = Some first; recipient = None } ∷ [])
+        ∷ Refuses faults.NoItem
+        ∷ Refuses faults.NoNeed
+        ∷ [] }
 {}
 
 /// There is a run that meets all premises of the laws of runs, and has rows of every kind: its commands may come, its
 /// state is Sound to the end, and halfway frames wait and letters are owed.
 pub fn a_run_is_there()
-    ensures unforged { AllUnforged small (calmly to_the_end) (at_start small) to_the_end }
+    ensures unforged { AllUnforged small (calmly to_the_end) (at_start small no_screens) to_the_end }
     ensures sound { Sound small (left_by to_the_end) }
     ensures rows { length (alfa_behind to_the_end).messages ∷ length (alfa_behind to_the_end).charged ∷ length (alfa_behind to_the_end).known
         ∷ length (alfa_behind to_the_end).taken ∷ length (alfa_behind to_the_end).decided ∷ length (alfa_behind to_the_end).acked ∷ []

@@ -16,14 +16,18 @@ pub use examples::{a_run_is_there, answers_of_the_examples};
 pub use reception::{
     a_frame_is_received_by_its_row, decisions_are_the_table, reception_is_the_table,
 };
-pub use refusals::{clock_calls_are_refused_in_order, submissions_are_refused_in_order};
+pub use refusals::{
+    archiving_is_refused_in_order, clock_calls_are_refused_in_order,
+    submissions_are_refused_in_order, upgrades_are_refused_in_order,
+};
 pub use rounds::a_round_is_its_turns;
 pub use rules::{
     the_next_pairs_are_left, what_a_provider_does_is_its_own, what_a_provider_does_may_follow,
 };
 pub use runs::{a_command_appends, answers_settle_the_state, no_two_answers, quiet_runs_are_one};
 pub use soundness::{
-    a_cut_turn_is_a_front, a_network_stays_sound, due_letters_are_composed, undecided_pairs,
+    a_cut_turn_is_a_front, a_network_stays_sound, due_letters_are_composed,
+    taken_messages_have_originals, undecided_pairs,
 };
 pub use turns::{
     a_cut_is_told, a_plan_goes_step_by_step, a_turn_puts_what_is_due, frames_are_taken_in_order,

@@ -1,14 +1,19 @@
-ghost use Rattle.std.specs.Prelude.{◌≡◌, ◌↔◌, ℕ, List, [], Some, None};
+ghost use Rattle.std.specs.Prelude.{◌≡◌, ◌↔◌, ℕ, Bool, false, List, [], Some, None};
 ghost use Rattle.pec_types.specs.Bytes.{Bytes};
 ghost use Rattle.pec_types.specs.declared.messages.Decision.{Decision};
 ghost use Rattle.pec_types.specs.declared.turns.Event.TheVariants as events;
 ghost use Rattle.pec_records.specs.declared.entries.Entry.{Entry};
+ghost use Rattle.pec_records.specs.declared.entries.Entry.TheVariants as entries;
+ghost use Rattle.pec_screen.specs.Verdicts.{Patterns};
 ghost use Rattle.pec_points.specs.Decision.{IsDecision};
 ghost use Rattle.pec_points.specs.Reception.{IsReception};
 ghost use Rattle.pec_points.specs.declared.reception.Reception.{Reception};
 ghost use Rattle.pec_ledger.specs.Half.{Half};
-ghost use Rattle.pec_ledger.specs.Own.{decision_at};
+ghost use Rattle.pec_ledger.specs.Own.{MayDecide, decision_at};
+ghost use Rattle.pec_ledger.specs.Pairs.{Pair};
+ghost use Rattle.pec_ledger.specs.Steps.{half};
 ghost use Rattle.pec_ledger.specs.Trade.{Framed, Trade};
+ghost use Rattle.pec_plays.specs.Decisions.{decide, decision_on, found_in_taken, kept_looks};
 ghost use Rattle.pec_plays.specs.Reception.{accounts_with_room, arrive};
 ghost use Rattle.pec_plays.specs.ReceptionRows.{AreAccounts, IsReceived};
 ghost use Rattle.pec_plays.specs.Steps.{Step, passes};
@@ -38,10 +43,20 @@ pub fn reception_is_the_table()
     a_frame_has_one_reception();
 }
 
-/// What a provider decides on a pair is what the table of decisions decides on what is seen of the recipient.
+/// What a provider decides on a pair, where some screen finds a rule in the message or none does, is what the table of
+/// decisions decides on what is seen of the recipient, and may be decided so. It decides each pair by what its screens
+/// find in the original that was taken.
 pub fn decisions_are_the_table()
-    ensures { (trade : Trade) (provider : ℕ) (half : Half) (recipient : Bytes) (decision : Decision)
-        → (decision_at trade provider half recipient ≡ decision) ↔ IsDecision (mailbox_at trade provider half recipient) decision }
+    ensures table { (trade : Trade) (provider : ℕ) (half : Half) (recipient : Bytes) (found : Bool) (decision : Decision)
+        → (decision_on trade provider half recipient found ≡ decision) ↔ IsDecision (mailbox_at trade provider half recipient found) decision }
+    ensures own { (trade : Trade) (provider : ℕ) (half : Half) (recipient : Bytes) (found : Bool)
+        → MayDecide trade provider half recipient (decision_on trade provider half recipient found) }
+    ensures unscreened { (trade : Trade) (provider : ℕ) (half : Half) (recipient : Bytes)
+        → decision_on trade provider half recipient false ≡ decision_at trade provider half recipient }
+    // the screens look at the original that was taken
+    ensures decided { (trade : Trade) (provider now : ℕ) (screens : List Patterns) (journal : List Entry) (pair : Pair) (decision : Decision)
+        → IsDecision (mailbox_at trade provider (half trade provider journal) pair.recipient (found_in_taken trade provider screens journal pair.id)) decision
+        → (decide trade provider now (kept_looks trade provider screens) journal pair).entry ≡ Some (entries.Decided now pair.id pair.recipient decision) }
 {
     a_recipient_has_one_decision();
 }

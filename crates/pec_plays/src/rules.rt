@@ -13,7 +13,7 @@ ghost use Rattle.pec_ledger.specs.Steps.{half, moment_of};
 ghost use Rattle.pec_ledger.specs.Trade.{Trade};
 ghost use Rattle.pec_ledger.specs.TradeLaws.{IsTrade};
 ghost use Rattle.pec_plays.specs.Commands.{entry_by, screened_cause};
-ghost use Rattle.pec_plays.specs.Decisions.{decide, undecided};
+ghost use Rattle.pec_plays.specs.Decisions.{Looks, decide, undecided};
 ghost use Rattle.pec_plays.specs.Reception.{arrive};
 ghost use Rattle.pec_plays.specs.Steps.{journal_after};
 
@@ -26,8 +26,8 @@ pub fn what_a_provider_does_is_its_own()
     ensures arrivals { (trade : Trade) → IsTrade trade → (provider now : ℕ) (journal : List Entry) (frame : Bytes) (entry : Entry)
         → (arrive trade provider now journal frame).entry ≡ Some entry
         → Own trade provider (half trade provider journal) entry × (moment_of entry ≡ now) }
-    ensures decisions { (trade : Trade) (provider now : ℕ) (journal : List Entry) (pair : Pair) → Contains (undecided trade provider journal) pair
-        → (entry : Entry) → (decide trade provider now journal pair).entry ≡ Some entry
+    ensures decisions { (trade : Trade) (provider now : ℕ) (looks : Looks) (journal : List Entry) (pair : Pair) → Contains (undecided trade provider journal) pair
+        → (entry : Entry) → (decide trade provider now looks journal pair).entry ≡ Some entry
         → Own trade provider (half trade provider journal) entry × (moment_of entry ≡ now) }
     ensures submissions { (trade : Trade) → IsTrade trade → (provider now : ℕ) (journal : List Entry) (sender : Bytes) (path : Path) (message : Bytes) (found : Bool)
         → IsTrue (trade.is_account provider sender) → length (half trade provider journal).messages < MESSAGES
@@ -48,8 +48,8 @@ pub fn what_a_provider_does_may_follow()
         → Meets trade journals provider (half trade provider journal) entry }
     ensures decisions { (trade : Trade) → IsTrade trade → (journals : Journals) → Fit trade journals
         → (provider now : ℕ) (journal : List Entry) → (half trade provider journal).last ≤ now → now < END_OF_TIME
-        → (pair : Pair) → Contains (undecided trade provider journal) pair
-        → (entry : Entry) → (decide trade provider now journal pair).entry ≡ Some entry
+        → (looks : Looks) (pair : Pair) → Contains (undecided trade provider journal) pair
+        → (entry : Entry) → (decide trade provider now looks journal pair).entry ≡ Some entry
         → Meets trade journals provider (half trade provider journal) entry }
     ensures submissions { (trade : Trade) → IsTrade trade → (journals : Journals)
         → (provider now : ℕ) (journal : List Entry) → (half trade provider journal).last ≤ now → now < END_OF_TIME
@@ -66,6 +66,6 @@ pub fn what_a_provider_does_may_follow()
 
 /// When the first undecided pair is decided, the others are the undecided pairs, in their order.
 pub fn the_next_pairs_are_left()
-    ensures { (trade : Trade) (provider now : ℕ) (journal : List Entry) (pair : Pair) (pairs : List Pair) → undecided trade provider journal ≡ pair ∷ pairs
-        → undecided trade provider (journal_after journal (decide trade provider now journal pair)) ≡ pairs }
+    ensures { (trade : Trade) (provider now : ℕ) (looks : Looks) (journal : List Entry) (pair : Pair) (pairs : List Pair) → undecided trade provider journal ≡ pair ∷ pairs
+        → undecided trade provider (journal_after journal (decide trade provider now looks journal pair)) ≡ pairs }
 {}

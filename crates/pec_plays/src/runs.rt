@@ -5,22 +5,31 @@ ghost use Rattle.pec_ledger.specs.Network.{journal_at, Site, Sound};
 ghost use Rattle.pec_ledger.specs.Trade.{Trade};
 ghost use Rattle.pec_ledger.specs.TradeLaws.{IsTrade};
 ghost use Rattle.pec_plays.specs.Commands.{Command, Luck, played};
-ghost use Rattle.pec_plays.specs.Possible.{AllQuiet, GaveWhatWasKept, IsQuiet, MayMeet, NoneInterrupted, quiet_luck, quiet_lucks};
+ghost use Rattle.pec_plays.specs.Possible.{AllQuiet, AllReadAlike, GaveWhatWasKept, IsQuiet, MayMeet, NoneInterrupted, ReadAlike, quiet_luck, quiet_lucks};
 ghost use Rattle.pec_plays.specs.Scripts.{AllUnforged, script};
+ghost use Rattle.pec_plays.specs.Settled.{AreOneBut};
 ghost use Rattle.pec_plays.specs.Told.{decided_told, learned_told};
 
 use crate::soundness::a_network_stays_sound;
 use pec_ledger::{rows_have_their_texts, the_guarantees};
 
-/// What is answered settles the state behind it: whatever devices did, but that no turn put other frames than those
-/// that were due, with the same answer to a command, or the same answers to a script, the state is the same.
+/// What is answered settles the state behind it: whatever devices did, but that none gave back other bytes than it
+/// took, with the same answer to a command the state is the same, except that after a fault of the disk in the decision
+/// of a pair whose recipient is an account, the entry of that pair may be interrupted or not.
 pub fn answers_settle_the_state()
     ensures commands { (trade : Trade) (sites : List Site) (command : Command) (luck other : Luck)
         → GaveWhatWasKept luck → GaveWhatWasKept other
+        → MayMeet trade luck sites command → MayMeet trade other sites command
+        → (played trade luck sites command).answer ≡ (played trade other sites command).answer
+        → AreOneBut trade command sites luck (played trade luck sites command).after (played trade other sites command).after }
+    // where the same reads before decisions failed nothing is excepted, and a script settles its state too
+    ensures looked { (trade : Trade) (sites : List Site) (command : Command) (luck other : Luck)
+        → GaveWhatWasKept luck → GaveWhatWasKept other → ReadAlike luck other
         → (played trade luck sites command).answer ≡ (played trade other sites command).answer
         → (played trade luck sites command).after ≡ (played trade other sites command).after }
     ensures scripts { (trade : Trade) (sites : List Site) (commands : List Command) (lucks others : List Luck)
         → AllByRecursion GaveWhatWasKept lucks → AllByRecursion GaveWhatWasKept others
+        → AllReadAlike lucks others
         → (script trade lucks sites commands).answers ≡ (script trade others sites commands).answers
         → (script trade lucks sites commands).after ≡ (script trade others sites commands).after }
 {}

@@ -9,7 +9,7 @@ ghost use Rattle.pec_ledger.specs.Half.{Known, Taken};
 ghost use Rattle.pec_ledger.specs.Ledger.{Fit, Journals, ledger};
 ghost use Rattle.pec_ledger.specs.Lookups.{decided_of, known_of, taken_of};
 ghost use Rattle.pec_ledger.specs.Tables.{IsOwedEnvelope, IsOwedOutcome};
-ghost use Rattle.pec_plays.specs.Frames.{composed, due_frames};
+ghost use Rattle.pec_plays.specs.Frames.{composed, due_frames, original_taken};
 ghost use Rattle.pec_ledger.specs.Network.{AreGenuine, IsNext, Site, Sound};
 ghost use Rattle.pec_ledger.specs.Own.{IsTakenPair};
 ghost use Rattle.pec_ledger.specs.Pairs.{Pair, pair_of};
@@ -17,7 +17,7 @@ ghost use Rattle.pec_ledger.specs.Steps.{half};
 ghost use Rattle.pec_ledger.specs.Trade.{Trade};
 ghost use Rattle.pec_ledger.specs.TradeLaws.{IsTrade};
 ghost use Rattle.pec_plays.specs.Commands.{Command, Luck, played};
-ghost use Rattle.pec_plays.specs.Decisions.{undecided};
+ghost use Rattle.pec_plays.specs.Decisions.{Looks, undecided};
 ghost use Rattle.pec_plays.specs.Scripts.{AllUnforged, IsUnforged, KeptAlong, LinksAreShort, script, ShortAlong, SoundAlong};
 ghost use Rattle.pec_plays.specs.Steps.{Step};
 ghost use Rattle.pec_plays.specs.Turns.{Cut, Whole, cut_turn, entries_of, owed_of, plan};
@@ -92,13 +92,23 @@ pub fn due_letters_are_composed()
         → (provider : ℕ) (id : Id) (recipient : Bytes) (row : Known) → known_of (ledger trade journals provider) (pair_of id recipient) ≡ Some row
         → IsSome (composed trade provider (journals provider) (letters.Ack id recipient)) }
     ensures answers { (trade : Trade) → IsTrade trade → (journals : Journals) → Fit trade journals
-        → (provider now : ℕ) (journal : List Entry) (frames : List Bytes)
-        → GoesOnAs (journal ++ entries_of (plan trade provider now journal frames)) (journals provider)
-        → (letter : SomeLetter) → Contains (owed_of (plan trade provider now journal frames)) letter
+        → (provider now : ℕ) (looks : Looks) (journal : List Entry) (frames : List Bytes)
+        → GoesOnAs (journal ++ entries_of (plan trade provider now looks journal frames)) (journals provider)
+        → (letter : SomeLetter) → Contains (owed_of (plan trade provider now looks journal frames)) letter
         → IsSome (composed trade provider (journals provider) letter) }
     // and the frames of what is composed are genuine
     ensures frames { (trade : Trade) → IsTrade trade → (journals : Journals) → Fit trade journals
         → (provider to room : ℕ) (owed : List SomeLetter) → AreGenuine trade journals (due_frames trade provider (journals provider) to room owed) }
+{
+    rows_have_their_texts();
+    texts_are_seen();
+}
+
+/// In journals that are Fit a provider sees the original in the envelope of each message that it took, so no pair is
+/// decided without one.
+pub fn taken_messages_have_originals()
+    ensures { (trade : Trade) → IsTrade trade → (journals : Journals) → Fit trade journals → (provider : ℕ) (id : Id) (row : Taken)
+        → taken_of (ledger trade journals provider) id ≡ Some row → IsSome (original_taken trade provider (journals provider) id row) }
 {
     rows_have_their_texts();
     texts_are_seen();

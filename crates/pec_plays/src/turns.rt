@@ -8,27 +8,28 @@ ghost use Rattle.pec_ledger.specs.Half.{Half};
 ghost use Rattle.pec_ledger.specs.Network.{Site};
 ghost use Rattle.pec_ledger.specs.Pairs.{Pair};
 ghost use Rattle.pec_ledger.specs.Trade.{Trade};
-ghost use Rattle.pec_plays.specs.Decisions.{decide, undecided};
+ghost use Rattle.pec_screen.specs.Verdicts.{Patterns};
+ghost use Rattle.pec_plays.specs.Decisions.{Looks, decide, kept_looks, undecided};
 ghost use Rattle.pec_plays.specs.Frames.{due_frames, IsDueFrame};
-ghost use Rattle.pec_plays.specs.Possible.{IsOfKept, MayCut, TellsCut, cut_by};
+ghost use Rattle.pec_plays.specs.Possible.{IsOfKept, MayCut, TellsCut, as_told, cut_by};
 ghost use Rattle.pec_plays.specs.Reception.{arrive};
 ghost use Rattle.pec_plays.specs.Steps.{Step, journal_after};
-ghost use Rattle.pec_plays.specs.Turns.{Cut, Whole, Other, cut_turn, entries_of, frames_in, owed_of, plan, that_fit, without_first};
+ghost use Rattle.pec_plays.specs.Turns.{Cut, Whole, Other, cut_turn, entries_of, frames_in, looks_by, owed_of, plan, that_fit, without_first};
 
 /// A plan goes step by step: the first waiting frame is received, and where none waits the first undecided pair is
 /// decided; the rest is the plan of the journal behind that step.
 pub fn a_plan_goes_step_by_step()
-    ensures frames { (trade : Trade) (provider now : ℕ) (journal : List Entry) (frame : Bytes) (frames : List Bytes)
-        → plan trade provider now journal (frame ∷ frames)
+    ensures frames { (trade : Trade) (provider now : ℕ) (looks : Looks) (journal : List Entry) (frame : Bytes) (frames : List Bytes)
+        → plan trade provider now looks journal (frame ∷ frames)
         ≡ arrive trade provider now journal frame
-        ∷ plan trade provider now (journal_after journal (arrive trade provider now journal frame)) frames }
-    ensures pairs { (trade : Trade) (provider now : ℕ) (journal : List Entry) (pair : Pair) (pairs : List Pair)
+        ∷ plan trade provider now looks (journal_after journal (arrive trade provider now journal frame)) frames }
+    ensures pairs { (trade : Trade) (provider now : ℕ) (looks : Looks) (journal : List Entry) (pair : Pair) (pairs : List Pair)
         → undecided trade provider journal ≡ pair ∷ pairs
-        → plan trade provider now journal []
-        ≡ decide trade provider now journal pair
-        ∷ plan trade provider now (journal_after journal (decide trade provider now journal pair)) [] }
-    ensures ends { (trade : Trade) (provider now : ℕ) (journal : List Entry)
-        → undecided trade provider journal ≡ [] → plan trade provider now journal [] ≡ [] }
+        → plan trade provider now looks journal []
+        ≡ decide trade provider now looks journal pair
+        ∷ plan trade provider now looks (journal_after journal (decide trade provider now looks journal pair)) [] }
+    ensures ends { (trade : Trade) (provider now : ℕ) (looks : Looks) (journal : List Entry)
+        → undecided trade provider journal ≡ [] → plan trade provider now looks journal [] ≡ [] }
 {}
 
 /// Waiting frames are taken in their order, link by link: those that are left when some were taken are the later ones,
@@ -60,11 +61,15 @@ pub fn a_turn_puts_what_is_due()
 {}
 
 /// A cut that may be is told by how the turn ended and of how many steps it told, but for that of a turn that put other
-/// frames than those that were due: it ended well.
+/// frames than those that were due, which ended well, and for what screens looked at; and a failed read before a
+/// decision is told as the append that failed there.
 pub fn a_cut_is_told()
-    ensures cuts { (trade : Trade) (provider : ℕ) (rooms : ℕ → ℕ) (site : Site) (steps : List Step) (cut : Cut) → MayCut steps cut
+    ensures cuts { (trade : Trade) (provider : ℕ) (rooms : ℕ → ℕ) (site : Site) (steps : List Step) (cut : Cut) → MayCut trade provider steps cut
         → TellsCut (cut_turn trade provider rooms site steps cut).ended (length (cut_turn trade provider rooms site steps cut).events) cut }
-    // what is told is no cut with other frames, and each cut is the one that is told, or the turn ended well
+    // what is told is no cut with other bytes, and each cut is told so, or the turn ended well
     ensures kept { (ended : Option ProviderFault) (told : ℕ) → IsOfKept (cut_by ended told) }
-    ensures other { (ended : Option ProviderFault) (told : ℕ) (cut : Cut) → TellsCut ended told cut → (cut ≡ cut_by ended told) ⊎ (ended ≡ None) }
+    ensures other { (ended : Option ProviderFault) (told : ℕ) (cut : Cut) → TellsCut ended told cut → (as_told cut ≡ cut_by ended told) ⊎ (ended ≡ None) }
+    // where what was kept was read, what is found as pairs are decided is what screens find in what was taken
+    ensures looks { (trade : Trade) (provider : ℕ) (screens : List Patterns) (cut : Cut) → IsOfKept cut
+        → looks_by trade provider screens cut ≡ kept_looks trade provider screens }
 {}

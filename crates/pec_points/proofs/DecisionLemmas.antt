@@ -3,16 +3,17 @@ use Rattle.std.proofs.Common.{◌≡◌, ◌↔◌, [], ◌∷◌, Decides, refl
 use Rattle.std.proofs.lemmas.Bool.{leb-true, le-leb}
 use Rattle.pec_types.specs.declared.messages.Decision.{Decision}
 use Rattle.pec_types.specs.Tables.{IsFirst, first_of, not_so, one_first}
-use Rattle.pec_points.specs.Decision.{Mailbox, MailboxRow, NoAccount, IsFull, HasRoom, mailbox_rows, AppliesToMailbox, decided_by, IsDecision}
+use Rattle.pec_points.specs.Decision.{Mailbox, MailboxRow, NoAccount, Infected, IsFull, HasRoom, mailbox_rows, AppliesToMailbox, decided_by, IsDecision}
 use Rattle.pec_points.specs.DecisionReading.{applies_to_mailbox, mailbox_row_of, decision_of}
 
 mailbox_row : (mailbox : Mailbox) (row : MailboxRow) → Decides (applies_to_mailbox mailbox row) (AppliesToMailbox mailbox row)
 mailbox_row mailbox NoAccount = not_so mailbox.account
+mailbox_row mailbox Infected = (λ e. e, λ h. h)
 mailbox_row mailbox IsFull = (λ e. leb-true mailbox.quota mailbox.count e, λ h. le-leb mailbox.quota mailbox.count h)
 mailbox_row mailbox HasRoom = (λ e. tt, λ h. refl)
 
 first_row : (mailbox : Mailbox) → IsFirst (AppliesToMailbox mailbox) mailbox_rows (mailbox_row_of mailbox)
-first_row mailbox = first_of (applies_to_mailbox mailbox) (AppliesToMailbox mailbox) (mailbox_row mailbox) (NoAccount ∷ IsFull ∷ []) HasRoom HasRoom refl
+first_row mailbox = first_of (applies_to_mailbox mailbox) (AppliesToMailbox mailbox) (mailbox_row mailbox) (NoAccount ∷ Infected ∷ IsFull ∷ []) HasRoom HasRoom refl
 
 pub some_row : (mailbox : Mailbox) → (row : MailboxRow) × IsFirst (AppliesToMailbox mailbox) mailbox_rows row
 some_row mailbox = (mailbox_row_of mailbox, first_row mailbox)

@@ -3,11 +3,12 @@
 use Rattle.std.specs.Prelude.{nat_le, Bool, true, not, unwrap_or}
 use Rattle.std.specs.List.{find}
 use Rattle.pec_types.specs.declared.messages.Decision.{Decision}
-use Rattle.pec_points.specs.Decision.{Mailbox, MailboxRow, NoAccount, IsFull, HasRoom, mailbox_rows, decided_by}
+use Rattle.pec_points.specs.Decision.{Mailbox, MailboxRow, NoAccount, Infected, IsFull, HasRoom, mailbox_rows, decided_by}
 
 -- Whether a row applies.
 abbrev pub applies_to_mailbox : Mailbox → MailboxRow → Bool
 applies_to_mailbox mailbox NoAccount = not mailbox.account
+applies_to_mailbox mailbox Infected = mailbox.virus
 applies_to_mailbox mailbox IsFull = nat_le mailbox.quota mailbox.count
 applies_to_mailbox mailbox HasRoom = true
 

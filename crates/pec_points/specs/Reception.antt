@@ -32,7 +32,7 @@ pub record IsCharge (me : ℕ) (seen : Arrived) : Type 0 where
   pub path : seen.path_fits ≡ true
 
 -- An outcome that the recipient's provider sealed, of a pair of a message of this provider, along the path of the
--- sender.
+-- sender, or of the receipt address where it tells of a virus.
 pub record IsOutcome (me : ℕ) (seen : Arrived) : Type 0 where
   pub id : Id
   pub recipient : List ℕ

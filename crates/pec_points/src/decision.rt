@@ -1,4 +1,4 @@
-ghost use Rattle.std.specs.Prelude.{◌≡◌, ℕ, ◌↔◌, false};
+ghost use Rattle.std.specs.Prelude.{◌≡◌, ℕ, ◌↔◌};
 ghost use Rattle.pec_types.specs.Tables.{IsFirst};
 ghost use Rattle.pec_types.specs.declared.messages.Decision.{Decision as DecisionShown};
 ghost use Rattle.pec_points.specs.Decision.{AppliesToMailbox, IsDecision, Mailbox, MailboxRow, mailbox_rows};
@@ -18,18 +18,20 @@ pub fn a_recipient_has_one_decision()
 {}
 
 /// The decision on a message that was taken, for a recipient at this provider: whether it is an account here, how many
-/// envelopes and anomalies the account has, how many it may have, and whether a virus was found (RFC 6109, section
-/// 3.3). Nothing looks for a virus yet. It takes no memory.
+/// envelopes and anomalies stand in its mailbox, how many may, and whether some screen finds a rule in the message (RFC
+/// 6109, section 3.3). Where it is no account nothing has to look for one. It takes no memory.
 #[tactic(auto, unfolding(crate::specs::DecisionReading::decision_of))]
 pub fn decide(account: bool, count: u64, quota: u64, virus: bool) -> Decision
-    requires { virus ≡ false }
     // It is what the first row that applies decides.
-    ensures row { IsDecision (record { account = account; count = count; quota = quota }) result }
+    ensures row { IsDecision (record { account = account; virus = virus; count = count; quota = quota }) result }
     // The same as a function, for definitions that build on it.
-    ensures exact { result ≡ decision_of (record { account = account; count = count; quota = quota }) }
+    ensures exact { result ≡ decision_of (record { account = account; virus = virus; count = count; quota = quota }) }
 {
     if !account {
         return Decision::Refused(Refusal::NoMailbox);
+    }
+    if virus {
+        return Decision::Refused(Refusal::Virus);
     }
     if count >= quota {
         return Decision::Refused(Refusal::MailboxFull);

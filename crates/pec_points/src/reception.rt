@@ -37,8 +37,8 @@ pub struct Arrived {
     /// The provider of the recipient that the letter names, where the directory has one.
     pub recipient_home: Option<u32>,
     /// The frame's path is that of the letter: for an envelope the list of the message's certified recipients here, of
-    /// whom there are some; for an outcome the sender; for a charge or an acknowledgement this provider's receipt
-    /// address.
+    /// whom there are some; for an outcome the sender, or this provider's receipt address where it tells of a virus; for
+    /// a charge or an acknowledgement that receipt address.
     pub path_fits: bool,
     /// For a charge, the message has pairs at the provider that took charge; for an outcome, the pair exists; for an
     /// acknowledgement, the pair is decided here. For an envelope it isn't looked at.

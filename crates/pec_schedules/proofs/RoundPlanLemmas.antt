@@ -15,7 +15,7 @@ use Rattle.pec_plays.specs.Frames.{due_frames, frame_of}
 use Rattle.pec_plays.specs.Rounds.{rooms_of, rounded}
 use Rattle.pec_plays.specs.Scripts.{LinksAreShort}
 use Rattle.pec_plays.specs.Steps.{Step as TurnStep}
-use Rattle.pec_plays.specs.Turns.{Cut, Turned, Whole, Fails, Full, Stops, Other, cut_turn, entries_of, frames_in, last_of, owed_of, plan, puts_from, that_fit, turned, without_first}
+use Rattle.pec_plays.specs.Turns.{Cut, Turned, Whole, Fails, Full, Stops, Unread, Other, Sees, cut_turn, entries_of, last_of, owed_of, puts_from, steps_of, that_fit, turned, without_first}
 use Rattle.pec_schedules.proofs.ScheduleLemmas.{ends_so}
 use Rattle.pec_schedules.specs.RoundPlans.{LeavesTheRound, plan_of, turn_at}
 use Rattle.pec_schedules.specs.Schedules.{IsPlan, IsSchedule, Line, Step}
@@ -98,6 +98,8 @@ module _ (trade : Trade) (provider : ℕ) (rooms : ℕ → ℕ) where
     cut_in_order steps (Fails number fault) = (later_left (number + 1) site.waiting, λ to. omega arith)
     cut_in_order steps (Full number) = (later_left (number + 1) site.waiting, λ to. omega arith)
     cut_in_order steps (Stops number) = (later_left (number + 1) site.waiting, λ to. omega arith)
+    cut_in_order steps (Unread number fault) = (later_left (number + 1) site.waiting, λ to. omega arith)
+    cut_in_order steps (Sees looks cut) = cut_in_order steps cut
     cut_in_order steps (Other out) = (
       later_left (length steps) site.waiting,
       λ to.
@@ -113,7 +115,7 @@ module _ (trade : Trade) (provider : ℕ) (rooms : ℕ → ℕ) where
     turn_in_order now cut =
         by_test site.up _ _
         (by_test (nat_lt now (last_of trade provider site.journal)) _ _ ((λ from. (0, refl)), λ to. omega arith)
-        (cut_in_order (plan trade provider now site.journal (frames_in site.waiting)) cut))
+        (cut_in_order (steps_of trade provider now site cut) cut))
         ((λ from. (0, refl)), λ to. omega arith)
 
 -- ---- rounds

@@ -92,6 +92,8 @@ module _ (providers : List Provider) (r : Receipt) where
   named_is kinds.Delivery (Some address) e = one_so address e
   named_is (kinds.DeliveryError refusal) None e = absurd (false≢true e)
   named_is (kinds.DeliveryError refusal) (Some address) e = one_so address e
+  named_is kinds.VirusFound None e = absurd (false≢true e)
+  named_is kinds.VirusFound (Some address) e = one_so address e
   named_is kinds.Warning None e = absurd (false≢true e)
   named_is kinds.Warning (Some address) e = one_so address e
   named_is kinds.Notice None e = absurd (false≢true e)
@@ -117,6 +119,8 @@ module _ (providers : List Provider) (r : Receipt) where
   named_again kinds.Delivery (Some address) is = one_again address is
   named_again (kinds.DeliveryError refusal) None is = absurd is
   named_again (kinds.DeliveryError refusal) (Some address) is = one_again address is
+  named_again kinds.VirusFound None is = absurd is
+  named_again kinds.VirusFound (Some address) is = one_again address is
   named_again kinds.Warning None is = absurd is
   named_again kinds.Warning (Some address) is = one_again address is
   named_again kinds.Notice None is = absurd is

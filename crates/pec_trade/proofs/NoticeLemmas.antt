@@ -1,10 +1,11 @@
--- Notices of non-acceptance and anomalies are seen as no letter.
-use Rattle.std.proofs.Common.{◌≡◌, ℕ, ◌<◌, ◌≤◌, ◌^◌, nat_lt, Bool, true, false, cond, List, [], ◌∷◌, ◌++◌, length, map, Option, None, Some, Err, codes, refl, ap, ◌∙◌, arith, length-append}
+-- What is seen in a notice of non-acceptance is one, and in an anomaly nothing is seen.
+use Rattle.std.proofs.Common.{◌≡◌, ℕ, ◌<◌, ◌≤◌, ◌^◌, nat_lt, Bool, true, false, cond, List, [], ◌∷◌, ◌++◌, length, map, Option, None, Some, Err, codes, refl, ap, sym, subst, ◌∙◌, arith, length-append}
 use Rattle.std.specs.Prelude.{IsTrue}
 use Rattle.std.specs.List.{AllByRecursion, list_all}
 use Rattle.std.specs.Option.{IfSome, option_and_then}
 use Rattle.std.proofs.lemmas.Bool.{ltb-true}
 use Rattle.std.proofs.lemmas.List.{length-map}
+use Rattle.std.proofs.lemmas.Option.{none-some, same_Some}
 use Rattle.pec_types.specs.Address.{IsLowerAddress}
 use Rattle.pec_types.specs.Bytes.{Bytes, Path}
 use Rattle.pec_types.specs.Message.{Id}
@@ -39,7 +40,8 @@ use Rattle.pec_receipts.specs.Kinds.{Said, row_of}
 use Rattle.pec_receipts.specs.Receipts.{CanBeGiven, message_in, receipt_text}
 use Rattle.pec_receipts.specs.Seen.{seen_again}
 use Rattle.pec_receipts.specs.SeenReading.{view as receipt_view}
-use Rattle.pec_ledger.specs.TradeLaws.{letter_seen}
+use Rattle.pec_ledger.specs.Trade.{Seen}
+use Rattle.pec_ledger.specs.TradeLaws.{IsRefusal}
 use Rattle.pec_trade.specs.Refused.{refused_facts, text_in}
 use Rattle.pec_trade.specs.Giving.{can_be_given}
 use Rattle.pec_trade.specs.Texts.{anomaly_bytes, given_text, or_none, receipt_seen, refusal, refusal_bytes, seen_in}
@@ -114,15 +116,19 @@ pub record Notices (seals : Seals) : Type 0 where
       → marking_of read.head ≡ Some (markings.Transport, word) → letter_of seals text ≡ Err fault → receipt_view seals providers text ≡ Err fault
 
 module _ (seals : Seals) (laws : Notices seals) (kept : List Kept) (lawful : IsLawful (providers_of kept)) where
-  -- no letter is seen in a text
-  abbrev pub NoLetter : Bytes → Type 0
-  NoLetter text = (me : ℕ) → option_and_then (letter_seen me) (seen_in seals (providers_of kept) text) ≡ None
+  -- nothing is seen in a text
+  abbrev pub IsUnseen : Bytes → Type 0
+  IsUnseen text = seen_in seals (providers_of kept) text ≡ None
 
-  none_seen : (text : Bytes) → seen_in seals (providers_of kept) text ≡ None → NoLetter text
-  none_seen text e me = ap (option_and_then (letter_seen me)) e
+  -- what is seen in a text, if anything is, is a notice of non-acceptance
+  abbrev pub IsNotice : Bytes → Type 0
+  IsNotice text = (seen : Seen) → seen_in seals (providers_of kept) text ≡ Some seen → IsRefusal seen
 
-  nothing : NoLetter []
-  nothing = none_seen [] (nothing_seen seals (providers_of kept))
+  nothing : IsUnseen []
+  nothing = nothing_seen seals (providers_of kept)
+
+  no_notice : (text : Bytes) → IsUnseen text → IsNotice text
+  no_notice text none seen e = absurd (none-some seen (sym none ∙ e))
 
   -- ---- notices
 
@@ -194,28 +200,30 @@ module _ (seals : Seals) (laws : Notices seals) (kept : List Kept) (lawful : IsL
       (laws.receipts.seen kept r message text lawful (can_so id moment account cause path message refused) stands.printable refused.below refused.before
       (omega (arith, few_so path refused.few)) (receipt_is laws.receipts.texts seals kept r message text stands (provider_at kept id.provider) e))
 
-  unseen_so : (id : Id) (moment : ℕ) (account : Bytes) (cause : Cause) (path : Path) (message : Bytes) → Refused id moment account path → (found : Option Bytes)
-      → receipt_text seals kept (refusal id moment account cause path message) message ≡ found → NoLetter (or_none found)
-  unseen_so id moment account cause path message refused None e = nothing
-  unseen_so id moment account cause path message refused (Some text) e =
-      λ me. ap (option_and_then (letter_seen me)) (seen_so id moment account cause path message refused text e)
+  notice_so : (id : Id) (moment : ℕ) (account : Bytes) (cause : Cause) (path : Path) (message : Bytes) → Refused id moment account path → (found : Option Bytes)
+      → receipt_text seals kept (refusal id moment account cause path message) message ≡ found → IsNotice (or_none found)
+  notice_so id moment account cause path message refused None e = no_notice [] nothing
+  notice_so id moment account cause path message refused (Some text) e =
+      λ seen is.
+      subst IsRefusal (same_Some (receipt_seen (seen_again (refusal id moment account cause path message))) seen
+      (sym (seen_so id moment account cause path message refused text e) ∙ is)) (cause, refl)
 
-  -- A notice of non-acceptance is seen as no letter.
-  pub refusal_unseen : (id : Id) (moment : ℕ) (account : Bytes) (cause : Cause) (path : Path) (message : Bytes) → id.provider < length (providers_of kept) → id.number < MESSAGES
+  -- What is seen in a notice of non-acceptance is one.
+  pub refusal_seen : (id : Id) (moment : ℕ) (account : Bytes) (cause : Cause) (path : Path) (message : Bytes) → id.provider < length (providers_of kept) → id.number < MESSAGES
       → IsTrue (is_account_of (providers_of kept) id.provider account) → 0 < length path → length path ≤ most_addresses → moment < END_OF_TIME
-      → NoLetter (refusal_bytes kept seals id moment account cause path message)
+      → IsNotice (refusal_bytes kept seals id moment account cause path message)
   unfolding refusal_bytes
-  refusal_unseen id moment account cause path message within below is some few before = by (list_all is_lower path) refl
+  refusal_seen id moment account cause path message within below is some few before = by (list_all is_lower path) refl
     where
-      given_or_not : (t : Bool) → NoLetter (or_none (receipt_text seals kept (refusal id moment account cause path message) message))
-          → NoLetter (or_none (cond t (receipt_text seals kept (refusal id moment account cause path message) message) None))
-      given_or_not true none = none
-      given_or_not false none = nothing
+      given_or_not : (t : Bool) → IsNotice (or_none (receipt_text seals kept (refusal id moment account cause path message) message))
+          → IsNotice (or_none (cond t (receipt_text seals kept (refusal id moment account cause path message) message) None))
+      given_or_not true one = one
+      given_or_not false one = no_notice [] nothing
 
-      by : (t : Bool) → list_all is_lower path ≡ t → NoLetter (cond t (or_none (given_text kept seals (refusal id moment account cause path message) message)) [])
+      by : (t : Bool) → list_all is_lower path ≡ t → IsNotice (cond t (or_none (given_text kept seals (refusal id moment account cause path message) message)) [])
       by true e =
           given_or_not (can_be_given (providers_of kept) (refusal id moment account cause path message))
-          (unseen_so id moment account cause path message (record {
+          (notice_so id moment account cause path message (record {
             within = within;
             below = below;
             is = is;
@@ -224,7 +232,7 @@ module _ (seals : Seals) (laws : Notices seals) (kept : List Kept) (lawful : IsL
             lower = path_lower laws.told path e;
             before = before;
           }) (receipt_text seals kept (refusal id moment account cause path message) message) refl)
-      by false e = nothing
+      by false e = no_notice [] nothing
 
   -- ---- its text
 
@@ -272,22 +280,22 @@ module _ (seals : Seals) (laws : Notices seals) (kept : List Kept) (lawful : IsL
   -- ---- anomalies
 
   handed_on : (provider entry moment : ℕ) (message : Bytes) → entry < 2 ^ 64 → moment < END_OF_TIME → (found : Option Bytes)
-      → anomaly_text seals kept provider entry moment message ≡ found → NoLetter (or_none found)
+      → anomaly_text seals kept provider entry moment message ≡ found → IsUnseen (or_none found)
   handed_on provider entry moment message small before None e = nothing
   handed_on provider entry moment message small before (Some text) e =
       let is = laws.anomaly kept provider entry moment message text e
       in let head = laws.head kept provider entry moment message text lawful small before is
       in let letter = laws.letter kept provider entry moment message text lawful small before is
-      in none_seen text (in_neither seals (providers_of kept) text faults.Cert faults.Cert
+      in in_neither seals (providers_of kept) text faults.Cert faults.Cert
       (laws.unseen kept (providers_of kept) provider entry moment message text lawful small before is)
-      (laws.unread (providers_of kept) text head.0 anomaly_word faults.Cert head.1.0 head.1.1 letter))
+      (laws.unread (providers_of kept) text head.0 anomaly_word faults.Cert head.1.0 head.1.1 letter)
 
-  -- An anomaly is seen as no letter.
-  pub anomaly_unseen : (provider entry moment : ℕ) (message : Bytes) → moment < END_OF_TIME → NoLetter (anomaly_bytes kept seals provider entry moment message)
+  -- In an anomaly nothing is seen.
+  pub anomaly_unseen : (provider entry moment : ℕ) (message : Bytes) → moment < END_OF_TIME → IsUnseen (anomaly_bytes kept seals provider entry moment message)
   unfolding anomaly_bytes
   anomaly_unseen provider entry moment message before = by (nat_lt entry (2 ^ 64)) refl
     where
-      by : (t : Bool) → nat_lt entry (2 ^ 64) ≡ t → NoLetter (cond t (or_none (anomaly_text seals kept provider entry moment message)) [])
+      by : (t : Bool) → nat_lt entry (2 ^ 64) ≡ t → IsUnseen (cond t (or_none (anomaly_text seals kept provider entry moment message)) [])
       by true e = handed_on provider entry moment message (ltb-true entry (2 ^ 64) e) before (anomaly_text seals kept provider entry moment message) refl
       by false e = nothing
 

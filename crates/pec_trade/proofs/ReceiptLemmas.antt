@@ -63,6 +63,7 @@ module _ (kept : List Kept) (seals : Seals) (receipt : Receipt) (facts : Facts) 
   named_or_not kinds.Charge of = inl of
   named_or_not kinds.Delivery of = inr of
   named_or_not (kinds.DeliveryError refusal) of = inr of
+  named_or_not kinds.VirusFound of = inr of
   named_or_not kinds.Warning of = inr of.1
   named_or_not kinds.Notice of = inr of.1
   named_or_not kinds.LateNotice of = inr of.1
@@ -88,6 +89,7 @@ module _ (kept : List Kept) (seals : Seals) (receipt : Receipt) (facts : Facts) 
   is_named kinds.Charge of = of
   is_named kinds.Delivery of = named_with kinds.Delivery of (of.home, placed of.address facts.recipients of.among)
   is_named (kinds.DeliveryError refusal) of = named_with (kinds.DeliveryError refusal) of (of.home, placed of.address facts.recipients of.among)
+  is_named kinds.VirusFound of = named_with kinds.VirusFound of (of.home, placed of.address facts.recipients of.among)
   is_named kinds.Warning of = named_with kinds.Warning of.1 (of.1.home, placed of.1.address facts.recipients of.1.among)
   is_named kinds.Notice of = named_with kinds.Notice of.1 (of.1.home, placed of.1.address facts.recipients of.1.among)
   is_named kinds.LateNotice of = named_with kinds.LateNotice of.1 (of.1.home, placed of.1.address facts.recipients of.1.among)
@@ -100,6 +102,7 @@ module _ (kept : List Kept) (seals : Seals) (receipt : Receipt) (facts : Facts) 
   is_own kinds.Charge of e = absurd (false≢true (sym e))
   is_own kinds.Delivery of e = absurd (false≢true (sym e))
   is_own (kinds.DeliveryError refusal) of e = absurd (false≢true (sym e))
+  is_own kinds.VirusFound of e = absurd (false≢true (sym e))
   is_own kinds.Warning of e = of.0
   is_own kinds.Notice of e = of.0
   is_own kinds.LateNotice of e = of.0

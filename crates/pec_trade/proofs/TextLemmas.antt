@@ -88,6 +88,7 @@ letter_there texts seals provider heading parts name named small =
 -- what a row says is printable and short
 pub record Right (said : Said) : Type 0 where
   pub phrase : length said.phrase ≤ 200
+  pub behind : length said.behind ≤ 200
   pub printable : IfSome said.detail AllPrintable
   pub detail : IfSome said.detail (λ text. length text ≤ 1000)
 
@@ -115,16 +116,17 @@ refusal_shows refusals.Virus = refl
 
 row_right : Texts → (kind : Kind) → IsRight (row_of kind).said
 unfolding row_of
-row_right texts kinds.Acceptance = record { phrase = omega arith; printable = tt; detail = tt }
+row_right texts kinds.Acceptance = record { phrase = omega arith; behind = omega arith; printable = tt; detail = tt }
 row_right texts (kinds.NonAcceptance cause) =
-    record { phrase = omega arith; printable = cause_shows texts cause; detail = omega (arith, cause_small texts cause) }
-row_right texts kinds.Charge = record { phrase = omega arith; printable = tt; detail = tt }
-row_right texts kinds.Delivery = record { phrase = omega arith; printable = tt; detail = tt }
+    record { phrase = omega arith; behind = omega arith; printable = cause_shows texts cause; detail = omega (arith, cause_small texts cause) }
+row_right texts kinds.Charge = record { phrase = omega arith; behind = omega arith; printable = tt; detail = tt }
+row_right texts kinds.Delivery = record { phrase = omega arith; behind = omega arith; printable = tt; detail = tt }
 row_right texts (kinds.DeliveryError refusal) =
-    record { phrase = omega arith; printable = refusal_shows refusal; detail = omega (arith, refusal_small refusal) }
-row_right texts kinds.Warning = record { phrase = omega arith; printable = refl; detail = omega arith }
-row_right texts kinds.Notice = record { phrase = omega arith; printable = refl; detail = omega arith }
-row_right texts kinds.LateNotice = record { phrase = omega arith; printable = refl; detail = omega arith }
+    record { phrase = omega arith; behind = omega arith; printable = refusal_shows refusal; detail = omega (arith, refusal_small refusal) }
+row_right texts kinds.VirusFound = record { phrase = omega arith; behind = omega arith; printable = refl; detail = omega arith }
+row_right texts kinds.Warning = record { phrase = omega arith; behind = omega arith; printable = refl; detail = omega arith }
+row_right texts kinds.Notice = record { phrase = omega arith; behind = omega arith; printable = refl; detail = omega arith }
+row_right texts kinds.LateNotice = record { phrase = omega arith; behind = omega arith; printable = refl; detail = omega arith }
 row_right texts kinds.Ack = tt
 
 -- ---- recipients
@@ -256,6 +258,7 @@ module _ (texts : Texts) where
   delivered_lower r kinds.Charge lower = tt
   delivered_lower r kinds.Delivery lower = lower
   delivered_lower r (kinds.DeliveryError refusal) lower = lower
+  delivered_lower r kinds.VirusFound lower = lower
   delivered_lower r kinds.Warning lower = lower
   delivered_lower r kinds.Notice lower = lower
   delivered_lower r kinds.LateNotice lower = lower
@@ -268,6 +271,7 @@ module _ (texts : Texts) where
   received_lower providers r kinds.Charge facts = lower_at providers r.by r.facts.recipients facts.recipients
   received_lower providers r kinds.Delivery facts = tt
   received_lower providers r (kinds.DeliveryError refusal) facts = tt
+  received_lower providers r kinds.VirusFound facts = tt
   received_lower providers r kinds.Warning facts = tt
   received_lower providers r kinds.Notice facts = tt
   received_lower providers r kinds.LateNotice facts = tt
@@ -367,6 +371,7 @@ module _ (texts : Texts) where
   named_small issuer r kinds.Charge short lower = omega (arith, short)
   named_small issuer r kinds.Delivery short lower = recipient_small r.recipient lower
   named_small issuer r (kinds.DeliveryError refusal) short lower = recipient_small r.recipient lower
+  named_small issuer r kinds.VirusFound short lower = recipient_small r.recipient lower
   named_small issuer r kinds.Warning short lower = recipient_small r.recipient lower
   named_small issuer r kinds.Notice short lower = recipient_small r.recipient lower
   named_small issuer r kinds.LateNotice short lower = recipient_small r.recipient lower
@@ -383,8 +388,9 @@ module _ (texts : Texts) where
   phrase_small issuer r said short lower right =
       omega (
         arith,
-        sized (said.phrase ∷ named_by issuer r (row_of r.kind).about ∷ explained said.explains said.detail ∷ []) (codes "."),
+        sized (said.phrase ∷ named_by issuer r (row_of r.kind).about ∷ said.behind ∷ explained said.explains said.detail ∷ []) (codes "."),
         right.phrase,
+        right.behind,
         named_small issuer r r.kind short lower,
         explained_small said.explains said.detail right.detail,
       )
@@ -397,6 +403,7 @@ module _ (texts : Texts) where
   reported_small providers r kinds.Charge short few = omega (arith, received_small providers r.by r.facts.recipients short, few)
   reported_small providers r kinds.Delivery short few = omega arith
   reported_small providers r (kinds.DeliveryError refusal) short few = omega arith
+  reported_small providers r kinds.VirusFound short few = omega arith
   reported_small providers r kinds.Warning short few = omega arith
   reported_small providers r kinds.Notice short few = omega arith
   reported_small providers r kinds.LateNotice short few = omega arith

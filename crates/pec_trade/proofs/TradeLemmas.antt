@@ -24,7 +24,7 @@ use Rattle.pec_trade.proofs.DirectoryLemmas.{account_is_home, home_within}
 use Rattle.pec_trade.proofs.EnvelopeLemmas.{Envelopes, recipients_again, seen_again}
 use Rattle.pec_trade.proofs.FactsLemmas.{recipients_differ, recipients_in}
 use Rattle.pec_trade.proofs.FrameLemmas.{Frames, framed_back}
-use Rattle.pec_trade.proofs.NoticeLemmas.{Notices, anomaly_unseen, refusal_unseen}
+use Rattle.pec_trade.proofs.NoticeLemmas.{Notices, anomaly_unseen, refusal_seen as refusal_is_seen}
 use Rattle.pec_trade.proofs.ReceiptLemmas.{Receipts, seen_as}
 use Rattle.pec_trade.proofs.SeenLemmas.{id_is, nothing_seen, opens, the_envelope}
 use Rattle.pec_trade.proofs.SentLemmas.{Sending, sent_as}
@@ -65,10 +65,8 @@ module _ (seals : Seals) (parts : Parts seals) (kept : List Kept) (lawful : IsLa
         envelope_of = envelope_within;
         receipt_seen = λ receipt original can.
             seen_as seals parts.receipts kept lawful fits receipt original can (sent_as parts.sending kept seals lawful receipt.id original can.sent);
-        refusal_seen = λ id moment sender cause path message me within below is some few before.
-            refusal_unseen seals parts.notices kept lawful id moment sender cause path message within below is some few before me;
-        anomaly_seen = λ provider entry moment message me within before.
-            anomaly_unseen seals parts.notices kept lawful provider entry moment message before me;
+        refusal_seen = refusal_is_seen seals parts.notices kept lawful;
+        anomaly_seen = λ provider entry moment message within before. anomaly_unseen seals parts.notices kept lawful provider entry moment message before;
         nothing_seen = nothing_seen seals (providers_of kept);
         seen_opens = opens seals (providers_of kept);
         frames = framed_back parts.frames;

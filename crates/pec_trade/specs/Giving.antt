@@ -18,6 +18,7 @@ names_one (kinds.NonAcceptance cause) = false
 names_one kinds.Charge = false
 names_one kinds.Delivery = true
 names_one (kinds.DeliveryError refusal) = true
+names_one kinds.VirusFound = true
 names_one kinds.Warning = true
 names_one kinds.Notice = true
 names_one kinds.LateNotice = true

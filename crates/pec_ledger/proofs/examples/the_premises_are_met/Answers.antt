@@ -12,6 +12,7 @@ returns c = record {
   charge = can_be kinds.Charge None refl;
   delivery = can_be kinds.Delivery (Some anna) names_anna;
   error = λ refusal. can_be (kinds.DeliveryError refusal) (Some anna) names_anna;
+  virus_found = can_be kinds.VirusFound (Some anna) names_anna;
   warning = can_be kinds.Warning (Some anna) (refl, names_anna);
   notice = can_be kinds.Notice (Some anna) (refl, names_anna);
   late_notice = can_be kinds.LateNotice (Some anna) (refl, names_anna);

@@ -1,5 +1,6 @@
 -- What stands behind rows: from the lemmas.
-use Rattle.pec_ledger.proofs.Arrivals.{ack_licensed, charge_licensed, decided_at_home, envelope_licensed, has_original, items_have_texts, one_text, outcome_licensed, own_known, taken_envelope, taken_pair}
+use Rattle.pec_ledger.proofs.Arrivals.{ack_licensed, charge_licensed, decided_at_home, envelope_licensed, has_original, outcome_licensed, own_known, taken_envelope, taken_pair}
+use Rattle.pec_ledger.proofs.ItemBytes.{items_have_texts, one_text}
 use Rattle.pec_ledger.proofs.letters.rows_have_their_texts.Goals as goal
 
 pub returns : goal.returns

@@ -15,4 +15,7 @@ returns c = record {
   acked = λ trade provider half moment id recipient. refl;
   ticked = λ trade provider half moment. refl;
   anomaly = λ trade provider half moment accounts message. refl;
+  start_two = λ trade provider half number digest. refl;
+  upgraded = λ trade provider half moment. refl;
+  archived = λ trade provider half moment account place. refl;
 }

@@ -19,8 +19,8 @@ returns c =
     in record {
       arrivals = λ trade world J fit p now es time range frame genuine entry is.
           (arrive_good trade world J (laws trade world J fit) p now es time range frame genuine entry is).0;
-      decisions = λ trade world J fit p now es time range pair among entry is.
-          (decide_good trade world J (laws trade world J fit) p now es time range pair (undecided_open trade p es pair among) entry is).0;
+      decisions = λ trade world J fit p now es time range screens pair among entry is.
+          (decide_good trade world J (laws trade world J fit) p now es time range screens pair (undecided_open trade p es pair among) entry is).0;
       submissions = λ trade world J p now es time range sender path message found account room some few.
           entry_meets trade world p now es J sender path message found (trade.cause p sender path message) refl account room some few time range;
       clock_calls = λ trade J p now es time range. record { own = tt; in_time = time; in_range = range; joint = tt };

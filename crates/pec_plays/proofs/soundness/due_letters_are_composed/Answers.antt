@@ -31,8 +31,8 @@ returns c =
       charges = λ trade world J fit p id row e. charge_composed trade world J (texts trade world J fit) (seen trade world J fit) (c.rows_have_their_texts.ensures.decisions trade J fit) p id row e;
       acks = λ trade world J fit p id recipient row e. ack_composed trade world J (texts trade world J fit) (seen trade world J fit) (c.rows_have_their_texts.ensures.decisions trade J fit) p
           (c.rows_have_their_texts.ensures.knowns trade J fit) id recipient row e;
-      answers = λ trade world J fit p now es frames more letter owed. answer_composed trade world J (texts trade world J fit) (seen trade world J fit) (c.rows_have_their_texts.ensures.decisions trade J fit) p
+      answers = λ trade world J fit p now screens es frames more letter owed. answer_composed trade world J (texts trade world J fit) (seen trade world J fit) (c.rows_have_their_texts.ensures.decisions trade J fit) p
           (c.rows_have_their_texts.ensures.knowns trade J fit) letter
-          (backed_stays trade p (es ++ entries_of (plan trade p now es frames)) (J p) letter more (plan_backs trade p now es frames letter owed));
+          (backed_stays trade p (es ++ entries_of (plan trade p now screens es frames)) (J p) letter more (plan_backs trade p now screens es frames letter owed));
       frames = λ trade world J fit p to room owed. due_genuine trade world J (texts trade world J fit) p to room owed;
     }

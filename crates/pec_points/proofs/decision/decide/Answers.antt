@@ -8,6 +8,10 @@ pub returns-then-not-account-clause-row : goal.returns-then-not-account-clause-r
 unfolding decision_of
 returns-then-not-account-clause-row c = decision_is _ _ (search (rules, tests))
 
+pub returns-then-virus-clause-row : goal.returns-then-virus-clause-row
+unfolding decision_of
+returns-then-virus-clause-row c = decision_is _ _ (search (rules, tests))
+
 pub returns-then-count-quota-clause-row : goal.returns-then-count-quota-clause-row
 unfolding decision_of
 returns-then-count-quota-clause-row c = decision_is _ _ (search (rules, tests))
