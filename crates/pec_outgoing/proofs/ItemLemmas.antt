@@ -1,25 +1,27 @@
 -- What is composed of the entry that stands at the needed number of a journal is the item's text by the journal, and
 -- where no number is needed there is no text.
-use Rattle.std.proofs.Common.{◌≡◌, ℕ, ◌&&◌, Bool, true, false, List, Option, None, Some, if◌then◌else◌, option_map, slice_get, refl, ap, sym, subst, ◌∙◌}
+use Rattle.std.proofs.Common.{◌≡◌, ℕ, ◌&&◌, List, Option, None, Some, option_map, slice_get, refl, ap, sym, subst, ◌∙◌}
 use Rattle.std.specs.Option.{option_and_then}
 use Rattle.std.proofs.lemmas.Option.{none-some, same_Some}
 use Rattle.pec_types.specs.Bytes.{Bytes}
 use Rattle.pec_types.specs.Message.{Id}
+use Rattle.pec_types.specs.declared.messages.Refusal.TheVariants as refusals
 use Rattle.pec_types.specs.declared.receipts.Kind.{Kind}
 use Rattle.pec_types.specs.declared.receipts.Kind.TheVariants as kinds
 use Rattle.pec_records.specs.declared.entries.Entry.{Entry}
 use Rattle.pec_records.specs.declared.entries.Entry.TheVariants as entries
-use Rattle.pec_ledger.specs.Half.{AnomalyItem, EnvelopeItem, Half, Item, Posted, ReceiptItem, Taken}
+use Rattle.pec_ledger.specs.Half.{AnomalyItem, EnvelopeItem, Half, Item, Message, Posted, ReceiptItem, Taken}
 use Rattle.pec_ledger.specs.Items.{accepted_body, composed, item_text, refusal_by, taken_body}
 use Rattle.pec_ledger.specs.Ledger.{body_at, body_of}
-use Rattle.pec_ledger.specs.Lookups.{Accepted, accepted_at, mailbox, taken_of}
+use Rattle.pec_ledger.specs.Lookups.{Accepted, accepted_at, taken_of}
 use Rattle.pec_ledger.specs.Pairs.{same_id}
 use Rattle.pec_ledger.specs.Steps.{half}
 use Rattle.pec_ledger.specs.Trade.{Trade}
 use Rattle.pec_shelf.specs.Seen.{Seen}
 use Rattle.pec_outgoing.specs.Desk.{IsHalfOf}
-use Rattle.pec_outgoing.specs.Entries.{anomaly_in, learned_in, names, took_in}
-use Rattle.pec_outgoing.specs.ItemNeeds.{AnomalyWanted, EnvelopeWanted, IsShown, OutcomeWanted, ReceiptWanted, RefusalWanted, Wanted, item_wanted, needed_item, number_wanted, receipt_wanted, wanted_at}
+use Rattle.pec_outgoing.specs.Entries.{anomaly_in, learned_in, names}
+use Rattle.pec_outgoing.specs.ItemNeeds.{AnomalyWanted, EnvelopeWanted, IsShown, OutcomeWanted, ReceiptWanted, RefusalWanted, Wanted}
+use Rattle.pec_outgoing.specs.ItemNeeds.{item_wanted, needed_item, number_wanted, posted_wanted}
 use Rattle.pec_outgoing.proofs.NeedsLemmas.{accepted_so, body_there, body_took, if_some}
 
 body_learned : (id : Id) (named : Option Bytes) (entry : Entry) (message : Bytes) → learned_in id named entry ≡ Some message
@@ -34,6 +36,9 @@ body_learned id named (entries.Decided at other recipient decision) original e =
 body_learned id named (entries.Charged at other by) original e = absurd (none-some original e)
 body_learned id named (entries.Acked at other recipient) original e = absurd (none-some original e)
 body_learned id named (entries.Ticked at) original e = absurd (none-some original e)
+body_learned id named (entries.StartTwo number digest) original e = absurd (none-some original e)
+body_learned id named (entries.Upgraded at) original e = absurd (none-some original e)
+body_learned id named (entries.Archived at account place) original e = absurd (none-some original e)
 body_learned id named (entries.Anomaly at accounts message) original e = absurd (none-some original e)
 
 anomaly_so : {A : Type 0} (f : Bytes → A) (entry : Entry) (text : A) → option_map f (anomaly_in entry) ≡ Some text
@@ -48,12 +53,17 @@ anomaly_so f (entries.Charged at other by) text e = absurd (none-some text e)
 anomaly_so f (entries.Learned at other recipient decision decided message) text e = absurd (none-some text e)
 anomaly_so f (entries.Acked at other recipient) text e = absurd (none-some text e)
 anomaly_so f (entries.Ticked at) text e = absurd (none-some text e)
+anomaly_so f (entries.StartTwo number digest) text e = absurd (none-some text e)
+anomaly_so f (entries.Upgraded at) text e = absurd (none-some text e)
+anomaly_so f (entries.Archived at account place) text e = absurd (none-some text e)
 
 -- the text of an item, by a half
 abbrev pub text_in : Trade → ℕ → List Entry → Half → ℕ → Item → Option Bytes
 text_in trade me journal h number (EnvelopeItem id) = option_and_then (taken_body journal) (taken_of h id)
 text_in trade me journal h number (ReceiptItem kinds.Delivery id recipient moment) = body_at journal number
-text_in trade me journal h number (ReceiptItem (kinds.DeliveryError refusal) id recipient moment) =
+text_in trade me journal h number (ReceiptItem (kinds.DeliveryError refusals.NoMailbox) id recipient moment) =
+    body_at journal number
+text_in trade me journal h number (ReceiptItem (kinds.DeliveryError refusals.MailboxFull) id recipient moment) =
     body_at journal number
 text_in trade me journal h number (ReceiptItem (kinds.NonAcceptance cause) id recipient moment) =
     option_and_then (refusal_by trade id) (slice_get journal number)
@@ -75,7 +85,10 @@ same_text trade me journal posted = by_item posted.item
     by_item (ReceiptItem (kinds.NonAcceptance cause) id recipient moment) = refl
     by_item (ReceiptItem kinds.Charge id recipient moment) = refl
     by_item (ReceiptItem kinds.Delivery id recipient moment) = refl
-    by_item (ReceiptItem (kinds.DeliveryError refusal) id recipient moment) = refl
+    by_item (ReceiptItem (kinds.DeliveryError refusals.NoMailbox) id recipient moment) = refl
+    by_item (ReceiptItem (kinds.DeliveryError refusals.MailboxFull) id recipient moment) = refl
+    by_item (ReceiptItem (kinds.DeliveryError refusals.Virus) id recipient moment) = refl
+    by_item (ReceiptItem kinds.VirusFound id recipient moment) = refl
     by_item (ReceiptItem kinds.Warning id recipient moment) = refl
     by_item (ReceiptItem kinds.Notice id recipient moment) = refl
     by_item (ReceiptItem kinds.LateNotice id recipient moment) = refl
@@ -100,9 +113,9 @@ module _ (trade : Trade) (me : ℕ) (journal : List Entry) (entry : Entry) where
   outcome_so number id recipient text at is =
       body_there trade me journal entry number text at (body_learned id recipient entry text is)
 
-  refusal_so : (number : ℕ) (id : Id)
-      → Shows (RefusalWanted number id) (option_and_then (refusal_by trade id) (slice_get journal number))
-  refusal_so number id text at is = ap (option_and_then (refusal_by trade id)) at ∙ is
+  refusal_so : (number : ℕ) (id : Id) (row : Option Message)
+      → Shows (RefusalWanted number id row) (option_and_then (refusal_by trade id) (slice_get journal number))
+  refusal_so number id row text at is = ap (option_and_then (refusal_by trade id)) at ∙ is.1
 
   receipt_so : (wanted : Wanted) (kind : Kind) (id : Id) (recipient : Option Bytes) (moment : ℕ) (found : Option Accepted)
       → option_map (ReceiptWanted kind id recipient moment) found ≡ Some wanted
@@ -127,11 +140,17 @@ module _ (trade : Trade) (me : ℕ) (journal : List Entry) (entry : Entry) where
   item_so h number (EnvelopeItem id) wanted e = envelope_so wanted id (taken_of h id) e
   item_so h number (ReceiptItem kinds.Delivery id recipient moment) wanted e =
       subst (λ (w : Wanted). Shows w (body_at journal number)) (same_Some _ wanted e) (outcome_so number id recipient)
-  item_so h number (ReceiptItem (kinds.DeliveryError refusal) id recipient moment) wanted e =
+  item_so h number (ReceiptItem (kinds.DeliveryError refusals.NoMailbox) id recipient moment) wanted e =
       subst (λ (w : Wanted). Shows w (body_at journal number)) (same_Some _ wanted e) (outcome_so number id recipient)
+  item_so h number (ReceiptItem (kinds.DeliveryError refusals.MailboxFull) id recipient moment) wanted e =
+      subst (λ (w : Wanted). Shows w (body_at journal number)) (same_Some _ wanted e) (outcome_so number id recipient)
+  item_so h number (ReceiptItem (kinds.DeliveryError refusals.Virus) id recipient moment) wanted e =
+      receipt_so wanted (kinds.DeliveryError refusals.Virus) id recipient moment (accepted_at h id.number) e
+  item_so h number (ReceiptItem kinds.VirusFound id recipient moment) wanted e =
+      receipt_so wanted kinds.VirusFound id recipient moment (accepted_at h id.number) e
   item_so h number (ReceiptItem (kinds.NonAcceptance cause) id recipient moment) wanted e =
       subst (λ (w : Wanted). Shows w (option_and_then (refusal_by trade id) (slice_get journal number)))
-      (same_Some _ wanted e) (refusal_so number id)
+      (same_Some _ wanted e) (refusal_so number id (slice_get h.messages id.number))
   item_so h number (ReceiptItem kinds.Acceptance id recipient moment) wanted e =
       receipt_so wanted kinds.Acceptance id recipient moment (accepted_at h id.number) e
   item_so h number (ReceiptItem kinds.Charge id recipient moment) wanted e =
@@ -147,12 +166,6 @@ module _ (trade : Trade) (me : ℕ) (journal : List Entry) (entry : Entry) where
   item_so h number (AnomalyItem moment) wanted e =
       subst (λ (w : Wanted). Shows w (option_map (trade.anomaly_text me number moment) (body_at journal number)))
       (same_Some _ wanted e) (anomaly_there number moment)
-
-  posted_so : (h : Half) (found : Option Posted) (wanted : Wanted)
-      → option_and_then (λ (posted : Posted). item_wanted h posted.entry posted.item) found ≡ Some wanted
-      → Shows wanted (option_and_then (λ (posted : Posted). text_in trade me journal h posted.entry posted.item) found)
-  posted_so h None wanted e = absurd (none-some wanted e)
-  posted_so h (Some posted) wanted e = item_so h posted.entry posted.item wanted e
 
 -- ---- nothing is needed
 
@@ -172,7 +185,14 @@ module _ (trade : Trade) (me : ℕ) (journal : List Entry) where
       → text_in trade me journal h number item ≡ None
   none_item h number (EnvelopeItem id) e = none_row (EnvelopeWanted id) (taken_body journal) (taken_of h id) e
   none_item h number (ReceiptItem kinds.Delivery id recipient moment) e = absurd (none-some _ (sym e))
-  none_item h number (ReceiptItem (kinds.DeliveryError refusal) id recipient moment) e = absurd (none-some _ (sym e))
+  none_item h number (ReceiptItem (kinds.DeliveryError refusals.NoMailbox) id recipient moment) e =
+      absurd (none-some _ (sym e))
+  none_item h number (ReceiptItem (kinds.DeliveryError refusals.MailboxFull) id recipient moment) e =
+      absurd (none-some _ (sym e))
+  none_item h number (ReceiptItem (kinds.DeliveryError refusals.Virus) id recipient moment) e =
+      none_receipt (kinds.DeliveryError refusals.Virus) id recipient moment (accepted_at h id.number) e
+  none_item h number (ReceiptItem kinds.VirusFound id recipient moment) e =
+      none_receipt kinds.VirusFound id recipient moment (accepted_at h id.number) e
   none_item h number (ReceiptItem (kinds.NonAcceptance cause) id recipient moment) e = absurd (none-some _ (sym e))
   none_item h number (ReceiptItem kinds.Acceptance id recipient moment) e =
       none_receipt kinds.Acceptance id recipient moment (accepted_at h id.number) e
@@ -188,53 +208,29 @@ module _ (trade : Trade) (me : ℕ) (journal : List Entry) where
       none_receipt kinds.Ack id recipient moment (accepted_at h id.number) e
   none_item h number (AnomalyItem moment) e = absurd (none-some _ (sym e))
 
-  none_posted : (h : Half) (found : Option Posted)
-      → option_map number_wanted (option_and_then (λ (posted : Posted). item_wanted h posted.entry posted.item) found)
-      ≡ None
-      → option_and_then (λ (posted : Posted). text_in trade me journal h posted.entry posted.item) found ≡ None
-  none_posted h None e = refl
-  none_posted h (Some posted) e = none_item h posted.entry posted.item e
-
-  all_texts : (found : Option Posted)
-      → option_and_then
-      (λ (posted : Posted). text_in trade me journal (half trade me journal) posted.entry posted.item) found
-      ≡ option_and_then (item_text trade me journal) found
-  all_texts None = refl
-  all_texts (Some posted) = same_text trade me journal posted
-
 -- there is no text of an item for which nothing is needed
-pub nothing_wanted : (trade : Trade) (shelf : Seen) (account : Bytes) (place : ℕ) (journal : List Entry)
-    → IsHalfOf trade journal shelf → needed_item shelf.half account place ≡ None
-    → option_and_then (item_text trade shelf.me journal) (slice_get (mailbox shelf.half account) place) ≡ None
+pub nothing_wanted : (trade : Trade) (shelf : Seen) (posted : Posted) (journal : List Entry)
+    → IsHalfOf trade journal shelf → needed_item shelf.half posted ≡ None
+    → item_text trade shelf.me journal posted ≡ None
 unfolding needed_item
-nothing_wanted trade shelf account place journal is e =
-    let found = slice_get (mailbox shelf.half account) place
-    in sym (all_texts trade shelf.me journal found)
-    ∙ subst
-    (λ (h : Half). option_and_then
-    (λ (posted : Posted). text_in trade shelf.me journal h posted.entry posted.item) found ≡ None)
-    is.half_is
-    (none_posted trade shelf.me journal shelf.half found e)
+nothing_wanted trade shelf posted journal is e =
+    sym (same_text trade shelf.me journal posted)
+    ∙ subst (λ (h : Half). text_in trade shelf.me journal h posted.entry posted.item ≡ None) is.half_is
+    (none_item trade shelf.me journal shelf.half posted.entry posted.item e)
 
 -- what is shown of the entry at the needed number is the item's text
-pub text_so : (trade : Trade) (shelf : Seen) (account : Bytes) (place : ℕ) (journal : List Entry) (entry : Entry)
-    (number : ℕ) (wanted : Wanted) (text : Bytes)
-    → IsHalfOf trade journal shelf → needed_item shelf.half account place ≡ Some number
-    → slice_get journal number ≡ Some entry → wanted_at shelf.half account place ≡ Some wanted
+pub text_so : (trade : Trade) (shelf : Seen) (posted : Posted) (journal : List Entry) (entry : Entry) (number : ℕ)
+    (wanted : Wanted) (text : Bytes)
+    → IsHalfOf trade journal shelf → needed_item shelf.half posted ≡ Some number
+    → slice_get journal number ≡ Some entry → posted_wanted shelf.half posted ≡ Some wanted
     → IsShown trade shelf.me wanted entry text
-    → option_and_then (item_text trade shelf.me journal) (slice_get (mailbox shelf.half account) place) ≡ Some text
+    → item_text trade shelf.me journal posted ≡ Some text
 unfolding needed_item
-text_so trade shelf account place journal entry number wanted text is need at want shown =
-    sym (all_texts trade shelf.me journal found)
-    ∙ subst
-    (λ (h : Half). option_and_then
-    (λ (posted : Posted). text_in trade shelf.me journal h posted.entry posted.item) found ≡ Some text)
-    is.half_is
-    (posted_so trade shelf.me journal entry shelf.half found wanted want text there shown)
+text_so trade shelf posted journal entry number wanted text is need at want shown =
+    sym (same_text trade shelf.me journal posted)
+    ∙ subst (λ (h : Half). text_in trade shelf.me journal h posted.entry posted.item ≡ Some text) is.half_is
+    (item_so trade shelf.me journal entry shelf.half posted.entry posted.item wanted want text there shown)
   where
-    found : Option Posted
-    found = slice_get (mailbox shelf.half account) place
-
     same : number_wanted wanted ≡ number
     same = same_Some (number_wanted wanted) number (sym (ap (option_map number_wanted) want) ∙ need)
 

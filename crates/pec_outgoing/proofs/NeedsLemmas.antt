@@ -1,6 +1,6 @@
 -- What is composed of the entry that stands at the needed number of a journal is what is composed of the journal, and
 -- where no number is needed nothing is composed.
-use Rattle.std.proofs.Common.{◌≡◌, ℕ, ◌==◌, ◌&&◌, Bool, true, false, List, [], ◌∷◌, Option, None, Some, if◌then◌else◌, option_map, slice_get, refl, ap, sym, subst, ◌∙◌}
+use Rattle.std.proofs.Common.{◌≡◌, ℕ, ◌==◌, ◌&&◌, Bool, true, false, List, Option, None, Some, if◌then◌else◌, option_map, slice_get, refl, ap, sym, subst, ◌∙◌}
 use Rattle.std.specs.Option.{option_and_then}
 use Rattle.std.specs.Str.{bytes_eq}
 use Rattle.std.proofs.lemmas.Option.{none-some, same_Some}
@@ -8,6 +8,7 @@ use Rattle.pec_types.specs.Bytes.{Bytes}
 use Rattle.pec_types.specs.Message.{Id}
 use Rattle.pec_types.specs.declared.letters.Letter.{Letter}
 use Rattle.pec_types.specs.declared.letters.Letter.TheVariants as letters
+use Rattle.pec_types.specs.declared.messages.Decision.{Decision}
 use Rattle.pec_types.specs.declared.messages.Facts.{Facts}
 use Rattle.pec_records.specs.declared.entries.Entry.{Entry}
 use Rattle.pec_records.specs.declared.entries.Entry.TheVariants as entries
@@ -15,13 +16,12 @@ use Rattle.pec_ledger.specs.Half.{Fate, Half, Known, Taken}
 use Rattle.pec_ledger.specs.Ledger.{body_at, body_of}
 use Rattle.pec_ledger.specs.Lookups.{Accepted, accepted_at, decided_of, known_of, taken_of}
 use Rattle.pec_ledger.specs.Pairs.{pair_of, same_id}
-use Rattle.pec_ledger.specs.Steps.{half}
 use Rattle.pec_ledger.specs.Trade.{Framed, Trade}
-use Rattle.pec_plays.specs.Frames.{ack_of, charge_of, composed_by, envelope_of, frame_of, original_in, original_taken, outcome_of, to_home, to_sender}
+use Rattle.pec_plays.specs.Frames.{ack_of, charge_of, composed_by, envelope_of, frame_of, original_in, original_taken, outcome_of, to_addressee, to_home}
 use Rattle.pec_shelf.specs.Seen.{Seen}
 use Rattle.pec_outgoing.specs.Desk.{IsHalfOf}
 use Rattle.pec_outgoing.specs.Entries.{accepted_in, took_in}
-use Rattle.pec_outgoing.specs.Needs.{AckAsked, Asked, ChargeAsked, ComposedOf, EnvelopeAsked, Holds, HoldsMessage, OutcomeAsked, asked_by, composed_from, enveloped_in, needed, number_of, to_one}
+use Rattle.pec_outgoing.specs.Needs.{AckAsked, Asked, ChargeAsked, ComposedOf, EnvelopeAsked, FramedOf, Holds, HoldsMessage, OutcomeAsked, along_outcome, asked_by, composed_from, enveloped_in, needed, number_of, to_one}
 
 -- ---- what an entry holds
 
@@ -45,6 +45,9 @@ body_accepted moment sender (entries.Learned at id recipient decision decided me
 body_accepted moment sender (entries.Acked at id recipient) original e = absurd (none-some original e)
 body_accepted moment sender (entries.Ticked at) original e = absurd (none-some original e)
 body_accepted moment sender (entries.Anomaly at accounts message) original e = absurd (none-some original e)
+body_accepted moment sender (entries.StartTwo number digest) original e = absurd (none-some original e)
+body_accepted moment sender (entries.Upgraded at) original e = absurd (none-some original e)
+body_accepted moment sender (entries.Archived at account place) original e = absurd (none-some original e)
 
 pub body_took : (id : Id) (entry : Entry) (message : Bytes) → took_in id entry ≡ Some message → body_of entry
     ≡ Some message
@@ -58,6 +61,9 @@ body_took id (entries.Learned at other recipient decision decided message) origi
 body_took id (entries.Acked at other recipient) original e = absurd (none-some original e)
 body_took id (entries.Ticked at) original e = absurd (none-some original e)
 body_took id (entries.Anomaly at accounts message) original e = absurd (none-some original e)
+body_took id (entries.StartTwo number digest) original e = absurd (none-some original e)
+body_took id (entries.Upgraded at) original e = absurd (none-some original e)
+body_took id (entries.Archived at account place) original e = absurd (none-some original e)
 
 module _ (trade : Trade) (me : ℕ) (journal : List Entry) (entry : Entry) where
   -- an entry's message, where the entry stands in the journal
@@ -75,7 +81,7 @@ module _ (trade : Trade) (me : ℕ) (journal : List Entry) (entry : Entry) where
   original_so id (Some message) original took e =
       ap (option_and_then (λ (envelope : Bytes). original_in id (trade.view envelope))) (took message refl) ∙ e
 
-  taken_so : (id : Id) (row : Taken) (original : Bytes) → slice_get journal row.entry ≡ Some entry
+  pub taken_so : (id : Id) (row : Taken) (original : Bytes) → slice_get journal row.entry ≡ Some entry
       → enveloped_in trade id entry ≡ Some original → original_taken trade me journal id row ≡ Some original
   taken_so id row original at e =
       ap (λ (found : Option Entry). option_and_then (λ (envelope : Bytes). original_in id (trade.view envelope))
@@ -84,10 +90,10 @@ module _ (trade : Trade) (me : ℕ) (journal : List Entry) (entry : Entry) where
 
   -- ---- letters
 
-  sender_so : (text : Bytes) (facts : Option Facts) → to_one (option_map (λ (f : Facts). f.sender) facts) text
-      ≡ to_sender trade me journal text facts
-  sender_so text None = refl
-  sender_so text (Some facts) = refl
+  addressee_so : (id : Id) (decision : Decision) (text : Bytes) (facts : Option Facts)
+      → along_outcome trade id decision facts text ≡ to_addressee trade me journal id decision text facts
+  addressee_so id decision text None = refl
+  addressee_so id decision text (Some facts) = refl
 
   home_so : (text : Bytes) (home : Option ℕ) → to_one (option_map trade.receipts home) text
       ≡ to_home trade me journal text home
@@ -113,7 +119,7 @@ module _ (trade : Trade) (me : ℕ) (journal : List Entry) (entry : Entry) where
       → slice_get journal row.entry ≡ Some entry → enveloped_in trade id entry ≡ Some original
       → composed_from trade me (OutcomeAsked id recipient fate row) original
       ≡ outcome_of trade me journal id recipient fate row
-  outcome_so id recipient fate row original at e = rw (taken_so id row original at e) (sender_so _ (trade.facts original))
+  outcome_so id recipient fate row original at e = rw (taken_so id row original at e) (addressee_so id fate.decision _ (trade.facts original))
 
   ack_so : (id : Id) (recipient : Bytes) (known : Known) (row : Accepted) (original : Bytes)
       → slice_get journal row.entry ≡ Some entry → HoldsMessage trade row entry original
@@ -246,3 +252,20 @@ frame_so trade shelf letter journal entry number asked original found is need at
 
     there : slice_get journal (number_of asked) ≡ Some entry
     there = ap (slice_get journal) same ∙ at
+
+-- what is framed of what may be composed
+abbrev pub framing_of : Trade → Option Framed → Option Bytes
+framing_of trade found = option_and_then (λ (framed : Framed). trade.framed framed.path framed.message) found
+
+-- what is composed of an entry that serves is framed
+pub framed_of : (trade : Trade) (me : ℕ) (h : Half) (letter : Letter) (entry : Entry) (asked : Asked)
+    (made : Option Framed) (found : Option Bytes)
+    → asked_by me h letter ≡ Some asked → ComposedOf trade me asked entry made → found ≡ framing_of trade made
+    → FramedOf trade me h letter entry found
+framed_of trade me h letter entry asked made found has composed e = record {
+  asked = asked;
+  has = has;
+  original = composed.original;
+  holds = composed.holds;
+  is = e ∙ ap (framing_of trade) composed.is;
+}

@@ -6,6 +6,7 @@ use Rattle.pec_types.specs.Bytes.{Bytes}
 use Rattle.pec_types.specs.Message.{Id}
 use Rattle.pec_records.specs.declared.entries.Entry.{Entry}
 use Rattle.pec_records.specs.declared.entries.Entry.TheVariants as entries
+use Rattle.pec_ledger.specs.Half.{Message}
 use Rattle.pec_ledger.specs.Pairs.{same_id}
 
 -- a message that was accepted at this moment from this account
@@ -34,3 +35,13 @@ learned_in id named _ = None
 abbrev pub anomaly_in : Entry → Option Bytes
 anomaly_in (entries.Anomaly moment accounts message) = Some message
 anomaly_in _ = None
+
+-- a message that wasn't accepted, which came at this moment from this account
+abbrev pub is_refused_in : ℕ → Bytes → Entry → Bool
+is_refused_in moment sender (entries.NotAccepted at from cause path message) = (moment == at) && bytes_eq sender from
+is_refused_in moment sender _ = false
+
+-- so it is of a row, where there is one
+abbrev pub is_of_row : Option Message → Entry → Bool
+is_of_row None entry = false
+is_of_row (Some row) entry = is_refused_in row.moment row.sender entry

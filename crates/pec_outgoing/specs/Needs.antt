@@ -6,6 +6,7 @@ use Rattle.pec_types.specs.Bytes.{Bytes}
 use Rattle.pec_types.specs.Message.{Id}
 use Rattle.pec_types.specs.declared.letters.Letter.{Letter}
 use Rattle.pec_types.specs.declared.letters.Letter.TheVariants as letters
+use Rattle.pec_types.specs.declared.messages.Decision.{Decision}
 use Rattle.pec_types.specs.declared.messages.Facts.{Facts}
 use Rattle.pec_types.specs.declared.receipts.Kind.{Kind}
 use Rattle.pec_types.specs.declared.receipts.Kind.TheVariants as kinds
@@ -15,6 +16,7 @@ use Rattle.pec_ledger.specs.Lookups.{Accepted, accepted_at, addresses_of, at_hom
 use Rattle.pec_ledger.specs.Pairs.{pair_of}
 use Rattle.pec_ledger.specs.Trade.{Framed, Trade}
 use Rattle.pec_plays.specs.Frames.{original_in, unless_empty, unless_nobody}
+use Rattle.pec_plays.specs.Paths.{outcome_path}
 use Rattle.pec_outgoing.specs.Entries.{accepted_in, took_in}
 
 -- A letter for which a half has what it needs, with the rows of which it is composed beside an entry.
@@ -91,13 +93,18 @@ module _ (trade : Trade) where
   receipt_on kind id by moment recipient original =
       trade.receipt_text (record { kind = kind; id = id; by = by; moment = moment; recipient = recipient }) original
 
+  -- a text along the path of an outcome of a message, whose facts tell its sender
+  abbrev pub along_outcome : Id → Decision → Option Facts → Bytes → Option Framed
+  along_outcome id decision None text = None
+  along_outcome id decision (Some facts) text = unless_empty (outcome_path trade id decision facts.sender) text
+
   abbrev pub composed_from : ℕ → Asked → Bytes → Option Framed
   composed_from me (EnvelopeAsked id to row) original =
       unless_nobody (at_home trade to (addresses_of row.facts)) (trade.envelope_text id row.moment original)
   composed_from me (ChargeAsked id row) original =
       unless_empty (trade.receipts id.provider ∷ []) (receipt_on kinds.Charge id me row.moment None original)
   composed_from me (OutcomeAsked id recipient fate row) original =
-      to_one (option_map (λ (facts : Facts). facts.sender) (trade.facts original))
+      along_outcome id fate.decision (trade.facts original)
       (receipt_on (outcome_kind fate.decision) id me fate.moment (Some recipient) original)
   composed_from me (AckAsked id recipient known row) original =
       to_one (option_map trade.receipts (trade.home recipient))
@@ -108,3 +115,13 @@ module _ (trade : Trade) where
     pub original : Bytes
     pub holds : Holds asked entry original
     pub is : found ≡ composed_from me asked original
+
+  -- The frame of a letter, if there is one, composed of this entry: the entry is what the letter is composed of, and what
+  -- is composed of its original is framed along the letter's path.
+  pub record FramedOf (me : ℕ) (half : Half) (letter : Letter) (entry : Entry) (found : Option Bytes) : Type 0 where
+    pub asked : Asked
+    pub has : asked_by me half letter ≡ Some asked
+    pub original : Bytes
+    pub holds : Holds asked entry original
+    pub is : found ≡ option_and_then (λ (framed : Framed). trade.framed framed.path framed.message)
+        (composed_from me asked original)

@@ -1,4 +1,5 @@
 -- What contracts see of the crate's types: without where their bytes lie in memory.
+use Rattle.std.specs.Option.{option_map}
 use Rattle.pec_ledger.specs.Lookups.{Accepted}
 use Rattle.pec_outgoing.specs.ItemNeeds.{AnomalyWanted, EnvelopeWanted, OutcomeWanted, ReceiptWanted, RefusalWanted, Wanted}
 use Rattle.pec_outgoing.specs.Needs.{AckAsked, Asked, ChargeAsked, EnvelopeAsked, OutcomeAsked}
@@ -28,7 +29,7 @@ asked_shown (asked.Ack id recipient known message) = AckAsked id recipient.now k
 abbrev pub wanted_shown : SomeWanted → Wanted
 wanted_shown (wanted.Envelope id row) = EnvelopeWanted id row.now
 wanted_shown (wanted.Outcome number id recipient) = OutcomeWanted number id recipient.now
-wanted_shown (wanted.Refusal number id) = RefusalWanted number id
+wanted_shown (wanted.Refusal number id row) = RefusalWanted number id (option_map (λ found. found.now.message) row)
 wanted_shown (wanted.Receipt kind id recipient moment message) =
     ReceiptWanted kind id recipient.now moment (own_shown message)
 wanted_shown (wanted.Anomaly number moment) = AnomalyWanted number moment

@@ -3,9 +3,10 @@
 
 ghost use Rattle.std.specs.Prelude.{◌≡◌, option_map};
 ghost use Rattle.pec_ledger.specs.Pairs.{same_id};
-ghost use Rattle.pec_outgoing.specs.Entries.{accepted_in, anomaly_in, learned_in, names, took_in};
+ghost use Rattle.pec_outgoing.specs.Entries.{accepted_in, anomaly_in, is_of_row, is_refused_in, learned_in, names, took_in};
 
 use pec_records::Entry;
+use pec_shelf::MessageRow;
 use pec_types::{Address, Moment, MsgId};
 
 /// A message that was accepted at this moment from this account.
@@ -36,6 +37,9 @@ pub(crate) fn accepted_in<'a>(
         Entry::Acked { .. } => None,
         Entry::Ticked { .. } => None,
         Entry::Anomaly { .. } => None,
+        Entry::StartTwo { .. } => None,
+        Entry::Upgraded { .. } => None,
+        Entry::Archived { .. } => None,
     }
 }
 
@@ -63,6 +67,9 @@ pub(crate) fn took_in(id: MsgId, entry: &Entry) -> Option<&[u8]>
         Entry::Acked { .. } => None,
         Entry::Ticked { .. } => None,
         Entry::Anomaly { .. } => None,
+        Entry::StartTwo { .. } => None,
+        Entry::Upgraded { .. } => None,
+        Entry::Archived { .. } => None,
     }
 }
 
@@ -95,6 +102,9 @@ pub(crate) fn learned_in<'a>(
         Entry::Acked { .. } => None,
         Entry::Ticked { .. } => None,
         Entry::Anomaly { .. } => None,
+        Entry::StartTwo { .. } => None,
+        Entry::Upgraded { .. } => None,
+        Entry::Archived { .. } => None,
     }
 }
 
@@ -113,6 +123,44 @@ pub(crate) fn anomaly_in(entry: &Entry) -> Option<&[u8]>
         Entry::Learned { .. } => None,
         Entry::Acked { .. } => None,
         Entry::Ticked { .. } => None,
+        Entry::StartTwo { .. } => None,
+        Entry::Upgraded { .. } => None,
+        Entry::Archived { .. } => None,
+    }
+}
+
+/// A message that wasn't accepted, which came at this moment from this account.
+fn is_refused_in(moment: Moment, sender: &Address, entry: &Entry) -> bool
+    ensures { result ≡ is_refused_in moment sender.now entry.now }
+{
+    match entry {
+        Entry::NotAccepted {
+            moment: at,
+            sender: from,
+            ..
+        } => moment.seconds() == at.seconds() && sender.bytes() == from.bytes(),
+        Entry::Start { .. } => false,
+        Entry::Accepted { .. } => false,
+        Entry::Took { .. } => false,
+        Entry::Decided { .. } => false,
+        Entry::Charged { .. } => false,
+        Entry::Learned { .. } => false,
+        Entry::Acked { .. } => false,
+        Entry::Ticked { .. } => false,
+        Entry::Anomaly { .. } => false,
+        Entry::StartTwo { .. } => false,
+        Entry::Upgraded { .. } => false,
+        Entry::Archived { .. } => false,
+    }
+}
+
+/// So it is of a row, where there is one.
+pub(crate) fn is_of_row(row: Option<&MessageRow>, entry: &Entry) -> bool
+    ensures { result ≡ is_of_row (option_map (λ found. found.now.message) row.entry) entry.now }
+{
+    match row {
+        Some(row) => is_refused_in(row.moment(), row.sender(), entry),
+        None => false,
     }
 }
 

@@ -5,7 +5,7 @@ ghost use Rattle.pec_plays.specs.Frames.{frame_of};
 ghost use Rattle.pec_trade.specs.Houses.{world_at};
 ghost use Rattle.pec_trade.specs.Texts.{frame_along};
 ghost use Rattle.pec_outgoing.specs.Desk.{IsHalfOf};
-ghost use Rattle.pec_outgoing.specs.Needs.{Serves, needed};
+ghost use Rattle.pec_outgoing.specs.Needs.{FramedOf, Serves, needed};
 ghost use Rattle.pec_outgoing.specs.declared.faults.ComposeFault.TheVariants as faults;
 
 use crate::asking::asked_by;
@@ -34,6 +34,8 @@ pub fn framed<'a, S: Sealer>(
     ensures serves { OnOk result (Serves (world_at house.now) shelf.now.me shelf.now.half letter.now entry.now) }
     ensures changed { IsErrOf result faults.Changed
         → Serves (world_at house.now) shelf.now.me shelf.now.half letter.now entry.now → ⊥ }
+    // Of whatever entry this is, what is composed of it is framed.
+    ensures of { IfOk result (FramedOf (world_at house.now) shelf.now.me shelf.now.half letter.now entry.now) }
     // Of the entry that stands at the needed number of its journal, the frame is the one that is due.
     ensures frame { IfOk result (λ found. (journal : List SomeEntry) (number : ℕ)
         → IsHalfOf (world_at house.now) journal shelf.now

@@ -1,13 +1,11 @@
-ghost use Rattle.std.specs.Prelude.{◌≡◌, ℕ, List, Some, option_map, slice_get, IfOk, IsErrOf, OnOk};
-ghost use Rattle.std.specs.Option.{option_and_then};
+ghost use Rattle.std.specs.Prelude.{◌≡◌, ℕ, List, Some, option_map, slice_get, IfOk, IsErrOf, IsTrue, OnOk};
 ghost use Rattle.pec_types.specs.Bytes.{Bytes};
 ghost use Rattle.pec_records.specs.declared.entries.Entry.{Entry as SomeEntry};
 ghost use Rattle.pec_ledger.specs.Items.{item_text, refusal_by};
-ghost use Rattle.pec_ledger.specs.Lookups.{mailbox};
 ghost use Rattle.pec_ledger.specs.OfDirectory.{facts_in};
 ghost use Rattle.pec_trade.specs.Houses.{world_at};
 ghost use Rattle.pec_outgoing.specs.Desk.{IsHalfOf};
-ghost use Rattle.pec_outgoing.specs.Entries.{learned_in, took_in};
+ghost use Rattle.pec_outgoing.specs.Entries.{is_of_row, learned_in, took_in};
 ghost use Rattle.pec_outgoing.specs.ItemNeeds.{AnomalyWanted, IsShown, ReceiptWanted, ServesItem, needed_item};
 ghost use Rattle.pec_outgoing.specs.Needs.{receipt_on};
 ghost use Rattle.pec_outgoing.specs.Views.{own_shown, wanted_shown};
@@ -15,50 +13,48 @@ ghost use Rattle.pec_outgoing.specs.declared.faults.ComposeFault.TheVariants as 
 
 use crate::asking::Own;
 use crate::desks::Desk;
-use crate::entries::{anomaly_in, learned_in, took_in};
+use crate::entries::{anomaly_in, is_of_row, learned_in, took_in};
 use crate::faults::ComposeFault;
 use crate::notices::refusal_text;
 use crate::originals::accepted_original;
 use crate::texts::{anomaly_text, receipt_text};
-use crate::wanting::{Wanted, wanted_at};
+use crate::wanting::{Wanted, posted_wanted};
 use pec_receipts::Receipt;
 use pec_records::Entry;
 use pec_seal::Sealer;
-use pec_shelf::Shelf;
+use pec_shelf::{MessageRow, PostedRow, Shelf};
 use pec_trade::House;
 use pec_types::{Address, Kind, Moment, MsgId, NoMemory};
 use std::alloc::Global;
 
-/// The bytes of the item at a place of an account's mailbox, counted from 0, composed of an entry (RFC 6109, section 3,
-/// within this project's profile): an envelope as it was taken, a receipt of delivery or of an error as it came, and
-/// any other receipt, a notice and the envelope of an anomaly as this provider composes and seals it. An item of which
-/// the provider may compose nothing has no byte. `Changed` comes exactly where the entry isn't what the item is
-/// composed of, as where there is no such item (`needed_item`).
+/// The bytes of an item of a mailbox or of an archive, composed of an entry (RFC 6109, section 3, within this project's
+/// profile): an envelope as it was taken, a receipt of delivery or of an error as it came, and any other receipt, also
+/// the error of a virus, a notice and the envelope of an anomaly as this provider composes and seals it. An item of
+/// which the provider may compose nothing has no byte. `Changed` comes exactly where the entry isn't what the item is
+/// composed of, as where the provider has nothing for it (`needed_item`).
 pub fn item<S: Sealer>(
     alloc: Global,
     house: &House<'_, S>,
     shelf: &Shelf,
-    account: &Address,
-    place: u32,
+    posted: &PostedRow,
     entry: &Entry,
 ) -> Result<Vec<u8>, ComposeFault>
     ensures serves { OnOk result
-        (ServesItem (world_at house.now) shelf.now.me shelf.now.half account.now place entry.now) }
+        (ServesItem (world_at house.now) shelf.now.me shelf.now.half posted.now entry.now) }
     ensures changed { IsErrOf result faults.Changed
-        → ServesItem (world_at house.now) shelf.now.me shelf.now.half account.now place entry.now → ⊥ }
+        → ServesItem (world_at house.now) shelf.now.me shelf.now.half posted.now entry.now → ⊥ }
     // Of the entry that stands at the needed number of its journal, these are the item's bytes.
     ensures text { IfOk result (λ text. (journal : List SomeEntry) (number : ℕ)
         → IsHalfOf (world_at house.now) journal shelf.now
-        → needed_item shelf.now.half account.now place ≡ Some number → slice_get journal number ≡ Some entry.now
-        → option_and_then (item_text (world_at house.now) shelf.now.me journal)
-        (slice_get (mailbox shelf.now.half account.now) place) ≡ Some text.items) }
+        → needed_item shelf.now.half posted.now ≡ Some number → slice_get journal number ≡ Some entry.now
+        → item_text (world_at house.now) shelf.now.me journal posted.now ≡ Some text.items) }
 {
     let desk = Desk {
         alloc,
         house,
         shelf,
     };
-    let Some(wanted) = wanted_at(shelf, account, place) else {
+    let Some(wanted) = posted_wanted(shelf, posted) else {
         return Err(ComposeFault::Changed);
     };
     let text = text_of(&desk, &wanted, entry)?;
@@ -79,7 +75,7 @@ fn text_of<S: Sealer>(
     match wanted {
         Wanted::Envelope { id, .. } => envelope(desk, *id, entry),
         Wanted::Outcome { id, recipient, .. } => outcome(desk, *id, recipient, entry),
-        Wanted::Refusal { id, .. } => refusal(desk, *id, entry),
+        Wanted::Refusal { id, row, .. } => refusal(desk, *id, *row, entry),
         Wanted::Receipt {
             kind,
             id,
@@ -107,7 +103,7 @@ fn envelope<S: Sealer>(
     Ok(text)
 }
 
-/// The receipt of delivery or of an error from which an outcome was learned.
+/// The receipt of delivery or of an error, but for a virus, from which an outcome was learned.
 fn outcome<S: Sealer>(
     desk: &Desk<'_, S>,
     id: MsgId,
@@ -181,12 +177,22 @@ fn copied(alloc: Global, address: &Option<Address>) -> Result<Option<Address>, N
     Ok(Some(copy))
 }
 
-/// The notice that a message wasn't accepted.
-fn refusal<S: Sealer>(desk: &Desk<'_, S>, id: MsgId, entry: &Entry) -> Result<Vec<u8>, ComposeFault>
-    ensures shown { IfOk result (λ text. refusal_by (world_at desk.now.house.now) id entry.now ≡ Some text.items) }
+/// The notice that a message wasn't accepted, of an entry that has the moment and the sender of its row.
+fn refusal<S: Sealer>(
+    desk: &Desk<'_, S>,
+    id: MsgId,
+    row: Option<&MessageRow>,
+    entry: &Entry,
+) -> Result<Vec<u8>, ComposeFault>
+    ensures shown { IfOk result (λ text. IsTrue (is_of_row (option_map (λ found. found.now.message) row.entry) entry.now)
+        × (refusal_by (world_at desk.now.house.now) id entry.now ≡ Some text.items)) }
     ensures changed { IsErrOf result faults.Changed → (text : Bytes)
-        → refusal_by (world_at desk.now.house.now) id entry.now ≡ Some text → ⊥ }
+        → IsTrue (is_of_row (option_map (λ found. found.now.message) row.entry) entry.now)
+        × (refusal_by (world_at desk.now.house.now) id entry.now ≡ Some text) → ⊥ }
 {
+    if !is_of_row(row, entry) {
+        return Err(ComposeFault::Changed);
+    }
     let Some(text) = refusal_by(desk, id, entry)? else {
         return Err(ComposeFault::Changed);
     };
@@ -230,6 +236,9 @@ fn refusal_by<S: Sealer>(
         Entry::Acked { .. } => Ok(None),
         Entry::Ticked { .. } => Ok(None),
         Entry::Anomaly { .. } => Ok(None),
+        Entry::StartTwo { .. } => Ok(None),
+        Entry::Upgraded { .. } => Ok(None),
+        Entry::Archived { .. } => Ok(None),
     }
 }
 

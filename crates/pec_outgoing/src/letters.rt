@@ -5,6 +5,7 @@ ghost use Rattle.pec_receipts.specs.Receipts.{receipts_at};
 ghost use Rattle.pec_ledger.specs.Lookups.{outcome_kind};
 ghost use Rattle.pec_ledger.specs.OfDirectory.{facts_in};
 ghost use Rattle.pec_plays.specs.Frames.{unless_empty};
+ghost use Rattle.pec_plays.specs.Paths.{outcome_path};
 ghost use Rattle.pec_trade.specs.Houses.{world_at};
 ghost use Rattle.pec_outgoing.specs.Needs.{AckAsked, ChargeAsked, ComposedOf, EnvelopeAsked, Holds, OutcomeAsked, composed_from};
 ghost use Rattle.pec_outgoing.specs.Views.{asked_shown, own_shown};
@@ -20,7 +21,7 @@ use pec_receipts::Receipt;
 use pec_records::Entry;
 use pec_seal::Sealer;
 use pec_shelf::{FateRow, KnownRow, TakenRow};
-use pec_types::{Address, Decision, Kind, MsgId, NoMemory};
+use pec_types::{Address, Decision, Kind, MsgId, NoMemory, Refusal};
 use std::marker::Model;
 
 /// The path and the text of a letter. Contracts see both.
@@ -168,7 +169,8 @@ fn charge_with<S: Sealer>(
     Ok(letter)
 }
 
-/// The receipt on a pair that was decided here, to the message's sender.
+/// The letter on a pair that was decided here: to the message's sender, or where it is a virus to the sender's
+/// provider.
 fn outcome<S: Sealer>(
     desk: &Desk<'_, S>,
     id: MsgId,
@@ -201,7 +203,6 @@ fn outcome_with<S: Sealer>(
         (OutcomeAsked id recipient.now fate.now row.now) original.entry.bytes.now) }
 {
     let Original { facts, bytes } = original;
-    let path = path_to(desk.alloc, &facts.sender)?;
     let receipt = Receipt {
         kind: outcome_kind(fate.decision()),
         id,
@@ -211,7 +212,8 @@ fn outcome_with<S: Sealer>(
         recipient: Some(recipient.copy(desk.alloc)?),
     };
     let text = receipt_text(desk, &receipt, bytes)?;
-    Ok(unless_empty(path, text))
+    let letter = to_addressee(desk, id, fate.decision(), &receipt.facts.sender, text)?;
+    Ok(letter)
 }
 
 /// The acknowledgement of an outcome that is known here, to the recipient's provider.
@@ -262,6 +264,38 @@ fn acknowledgement_with<S: Sealer>(
     Ok(letter)
 }
 
+/// A letter of this text along the path of an outcome.
+fn to_addressee<S: Sealer>(
+    desk: &Desk<'_, S>,
+    id: MsgId,
+    decision: Decision,
+    sender: &Address,
+    text: Vec<u8>,
+) -> Result<Option<Outgoing>, NoMemory>
+    requires { 0 < length text.items → id.provider < length desk.now.house.now.directory.now }
+    ensures { IfOk result (λ found. found
+        ≡ unless_empty (outcome_path (world_at desk.now.house.now) id decision sender.now) text.items) }
+{
+    match decision {
+        Decision::Placed => to_sender(desk, sender, text),
+        Decision::Refused(Refusal::NoMailbox) => to_sender(desk, sender, text),
+        Decision::Refused(Refusal::MailboxFull) => to_sender(desk, sender, text),
+        Decision::Refused(Refusal::Virus) => to_provider(desk, id.provider, text),
+    }
+}
+
+/// A letter of this text to the sender of a message.
+fn to_sender<S: Sealer>(
+    desk: &Desk<'_, S>,
+    sender: &Address,
+    text: Vec<u8>,
+) -> Result<Option<Outgoing>, NoMemory>
+    ensures { IfOk result (λ found. found ≡ unless_empty (sender.now ∷ []) text.items) }
+{
+    let path = path_to(desk.alloc, sender)?;
+    Ok(unless_empty(path, text))
+}
+
 /// A letter of this text to the address for receipts of a provider, which is there where there is a text.
 fn to_provider<S: Sealer>(
     desk: &Desk<'_, S>,
@@ -291,12 +325,14 @@ fn unless_empty(path: Vec<Address>, text: Vec<u8>) -> Option<Outgoing>
     Some(Outgoing { path, text })
 }
 
-/// The kind of the receipt on a decision.
+/// The kind of the letter that tells a decision.
 fn outcome_kind(decision: Decision) -> Kind
     ensures { result ≡ outcome_kind decision }
 {
     match decision {
         Decision::Placed => Kind::Delivery,
-        Decision::Refused(refusal) => Kind::DeliveryError(refusal),
+        Decision::Refused(Refusal::NoMailbox) => Kind::DeliveryError(Refusal::NoMailbox),
+        Decision::Refused(Refusal::MailboxFull) => Kind::DeliveryError(Refusal::MailboxFull),
+        Decision::Refused(Refusal::Virus) => Kind::VirusFound,
     }
 }

@@ -24,4 +24,6 @@ pub use faults::ComposeFault;
 pub use framing::framed;
 pub use items::item;
 pub use laws::due_letters_have_the_due_frames;
+pub use notices::refused_facts;
+pub use originals::{facts_of, original_of};
 pub use wanting::needed_item;

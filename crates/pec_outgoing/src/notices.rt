@@ -53,7 +53,7 @@ pub(crate) fn refusal_text<S: Sealer>(
 /// What a notice says of a message that wasn't accepted, whatever its head is: the account, which answers go to, the
 /// path without repeats, and the subject and the reference of its head, where it has one.
 #[tactic(auto, unfolding(pec_trade::specs::Refused::text_in))]
-fn refused_facts(
+pub fn refused_facts(
     alloc: Global,
     account: &Address,
     path: &[Address],

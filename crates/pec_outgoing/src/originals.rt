@@ -1,4 +1,5 @@
-ghost use Rattle.std.specs.Prelude.{◌≡◌, if◌then◌else◌, Some, None, IfOk, IfSome, IsErrOf, option_map};
+ghost use Rattle.std.specs.Prelude.{◌≡◌, ℕ, List, if◌then◌else◌, Some, None, IfOk, IfSome, IsErrOf, option_map, slice_get};
+ghost use Rattle.std.specs.Option.{option_and_then};
 ghost use Rattle.std.specs.Result.{result_ok};
 ghost use Rattle.pec_types.specs.Bytes.{Bytes};
 ghost use Rattle.pec_directory.specs.Directory.{providers_of};
@@ -6,7 +7,9 @@ ghost use Rattle.pec_letters.specs.SeenReading.{view};
 ghost use Rattle.pec_letters.specs.Views.{view_shown};
 ghost use Rattle.pec_ledger.specs.OfDirectory.{facts_in};
 ghost use Rattle.pec_ledger.specs.Pairs.{same_id};
-ghost use Rattle.pec_plays.specs.Frames.{original_in};
+ghost use Rattle.pec_ledger.specs.Half.{Taken as TakenShown};
+ghost use Rattle.pec_plays.specs.Frames.{original_in, original_taken};
+ghost use Rattle.pec_records.specs.declared.entries.Entry.{Entry as SomeEntry};
 ghost use Rattle.pec_trade.specs.Houses.{world_at};
 ghost use Rattle.pec_trade.specs.Texts.{seen_in};
 ghost use Rattle.pec_outgoing.specs.Needs.{HoldsMessage, enveloped_in};
@@ -21,14 +24,73 @@ use crate::faults::ComposeFault;
 use pec_letters::{EnvelopeView, read_envelope};
 use pec_records::Entry;
 use pec_seal::Sealer;
-use pec_trade::an_envelope_is_seen_with_its_facts;
+use pec_shelf::Shelf;
+use pec_trade::{House, an_envelope_is_seen_with_its_facts};
 use pec_types::{Facts, LetterFault, MsgId, NoMemory};
+use std::alloc::Global;
 
 /// The original of a message that was taken, a slice of its envelope, and the facts of its head.
 #[derive(Drop)]
 pub(crate) struct Original<'a> {
     pub(crate) facts: Facts,
     pub(crate) bytes: &'a [u8],
+}
+
+/// The original of a message that was taken, a slice of the envelope that an entry holds (RFC 6109, section 3.3, within
+/// this project's profile). `Changed` comes exactly where the entry holds no envelope that is seen as one of this
+/// message.
+pub fn original_of<'a, S: Sealer>(
+    alloc: Global,
+    house: &House<'_, S>,
+    shelf: &Shelf,
+    id: MsgId,
+    entry: &'a Entry,
+) -> Result<&'a [u8], ComposeFault>
+    ensures holds { IfOk result (λ original. enveloped_in (world_at house.now) id entry.now ≡ Some original.now) }
+    ensures changed { IsErrOf result faults.Changed → (original : Bytes)
+        → enveloped_in (world_at house.now) id entry.now ≡ Some original → ⊥ }
+    // Of the entry that stands at the number of a row of its journal, it is the original that was taken.
+    ensures taken { IfOk result (λ original. (me : ℕ) (journal : List SomeEntry) (row : TakenShown)
+        → slice_get journal row.entry ≡ Some entry.now
+        → original_taken (world_at house.now) me journal id row ≡ Some original.now) }
+{
+    let desk = Desk {
+        alloc,
+        house,
+        shelf,
+    };
+    let found = taken_original(&desk, id, entry)?;
+    let Original { facts: _, bytes } = found;
+    Ok(bytes)
+}
+
+/// The facts of the original of a message that was taken, of the envelope that an entry holds. `Changed` comes as
+/// `original_of` has it.
+pub fn facts_of<S: Sealer>(
+    alloc: Global,
+    house: &House<'_, S>,
+    shelf: &Shelf,
+    id: MsgId,
+    entry: &Entry,
+) -> Result<Facts, ComposeFault>
+    ensures holds { IfOk result (λ facts. option_and_then (world_at house.now).facts
+        (enveloped_in (world_at house.now) id entry.now) ≡ Some facts) }
+    ensures changed { IsErrOf result faults.Changed → (original : Bytes)
+        → enveloped_in (world_at house.now) id entry.now ≡ Some original → ⊥ }
+    // Of the entry that stands at the number of a row of its journal, they are those of the original that was taken.
+    ensures taken { IfOk result (λ facts. (me : ℕ) (journal : List SomeEntry) (row : TakenShown)
+        → slice_get journal row.entry ≡ Some entry.now
+        → option_and_then (world_at house.now).facts (original_taken (world_at house.now) me journal id row)
+        ≡ Some facts) }
+{
+    let desk = Desk {
+        alloc,
+        house,
+        shelf,
+    };
+    let found = taken_original(&desk, id, entry)?;
+    let Original { facts, bytes: _ } = found;
+    Ok(facts)
 }
 
 /// The original of an accepted message, of the entry by which it was accepted.

@@ -1,18 +1,18 @@
-ghost use Rattle.std.specs.Prelude.{◌≡◌, List, IsNone, None, option_map, slice_get};
-ghost use Rattle.std.specs.Option.{option_and_then};
+ghost use Rattle.std.specs.Prelude.{◌≡◌, List, IsNone, None, option_map};
+ghost use Rattle.pec_types.specs.declared.receipts.Kind.TheVariants as kinds;
 ghost use Rattle.pec_records.specs.declared.entries.Entry.{Entry};
 ghost use Rattle.pec_ledger.specs.Items.{item_text};
 ghost use Rattle.pec_ledger.specs.Half.{EnvelopeItem};
-ghost use Rattle.pec_ledger.specs.Lookups.{accepted_at, mailbox};
+ghost use Rattle.pec_ledger.specs.Lookups.{accepted_at};
 ghost use Rattle.pec_ledger.specs.Trade.{Trade};
 ghost use Rattle.pec_shelf.specs.Rows.{item_shown};
 ghost use Rattle.pec_outgoing.specs.Desk.{IsHalfOf};
-ghost use Rattle.pec_outgoing.specs.ItemNeeds.{ReceiptWanted, item_wanted, needed_item, number_wanted, receipt_wanted, wanted_at};
+ghost use Rattle.pec_outgoing.specs.ItemNeeds.{ReceiptWanted, item_wanted, needed_item, number_wanted, posted_wanted, receipt_wanted};
 ghost use Rattle.pec_outgoing.specs.Views.{wanted_shown};
 
 use crate::asking::{Own, own_message};
-use pec_shelf::{Placed, Shelf, TakenRow};
-use pec_types::{Address, Kind, Moment, MsgId};
+use pec_shelf::{MessageRow, Placed, PostedRow, Shelf, TakenRow};
+use pec_types::{Address, Kind, Moment, MsgId, Refusal};
 
 /// An item with what it is composed of beside an entry.
 #[derive(Drop)]
@@ -22,16 +22,17 @@ pub(crate) enum Wanted<'a> {
         id: MsgId,
         row: &'a TakenRow,
     },
-    /// A receipt of delivery or of an error, as it came.
+    /// A receipt of delivery or of an error, but for a virus, as it came.
     Outcome {
         number: u64,
         id: MsgId,
         recipient: &'a Option<Address>,
     },
-    /// The notice that a message wasn't accepted.
+    /// The notice that a message wasn't accepted, with the message's row.
     Refusal {
         number: u64,
         id: MsgId,
+        row: Option<&'a MessageRow>,
     },
     /// Any other receipt, or a notice, on a message that was accepted.
     Receipt {
@@ -48,27 +49,26 @@ pub(crate) enum Wanted<'a> {
     },
 }
 
-/// The number of the entry of which the item at a place of an account's mailbox, counted from 0, is composed, from 0:
-/// an envelope of the entry by which its message was taken, a receipt of delivery or of an error, a notice of
-/// non-acceptance and an anomaly of that by which the item was placed, and any other receipt of the entry by which the
-/// message was accepted. `None` comes exactly where there is no such item, or the provider doesn't have what it needs;
-/// then there are no bytes of it. It takes no memory.
+/// The number of the entry of which an item of a mailbox or of an archive is composed, from 0: an envelope of the entry
+/// by which its message was taken, a receipt of delivery or of an error, a notice of non-acceptance and an anomaly of
+/// that by which the item was placed, and any other receipt, also the error of a virus, of the entry by which the
+/// message was accepted. `None` comes exactly where the provider doesn't have what the item needs; then there are no
+/// bytes of it. It takes no memory.
 #[tactic(auto, using(crate::proofs::ItemLemmas::nothing_wanted))]
-pub fn needed_item(shelf: &Shelf, account: &Address, place: u32) -> Option<u64>
-    ensures number { result ≡ needed_item shelf.now.half account.now place }
+pub fn needed_item(shelf: &Shelf, posted: &PostedRow) -> Option<u64>
+    ensures number { result ≡ needed_item shelf.now.half posted.now }
     ensures none { IsNone result → (trade : Trade) (journal : List Entry) → IsHalfOf trade journal shelf.now
-        → option_and_then (item_text trade shelf.now.me journal)
-        (slice_get (mailbox shelf.now.half account.now) place) ≡ None }
+        → item_text trade shelf.now.me journal posted.now ≡ None }
 {
-    let number = number_at(shelf, account, place);
+    let number = number_of(shelf, posted);
     number
 }
 
 #[tactic(auto, unfolding(crate::specs::ItemNeeds::needed_item))]
-fn number_at(shelf: &Shelf, account: &Address, place: u32) -> Option<u64>
-    ensures { result ≡ needed_item shelf.now.half account.now place }
+fn number_of(shelf: &Shelf, posted: &PostedRow) -> Option<u64>
+    ensures { result ≡ needed_item shelf.now.half posted.now }
 {
-    match wanted_at(shelf, account, place) {
+    match posted_wanted(shelf, posted) {
         Some(wanted) => Some(wanted.number()),
         None => None,
     }
@@ -89,12 +89,10 @@ impl Wanted<'_> {
     }
 }
 
-/// What the item at a place of an account's mailbox is composed of beside an entry, where there is one and the provider
-/// has it.
-pub(crate) fn wanted_at<'a>(shelf: &'a Shelf, account: &Address, place: u32) -> Option<Wanted<'a>>
-    ensures { option_map wanted_shown result ≡ wanted_at shelf.now.half account.now place }
+/// What an item is composed of beside an entry, where the provider has it.
+pub(crate) fn posted_wanted<'a>(shelf: &'a Shelf, posted: &'a PostedRow) -> Option<Wanted<'a>>
+    ensures { option_map wanted_shown result ≡ posted_wanted shelf.now.half posted.now }
 {
-    let posted = shelf.posted(account, place)?;
     item_wanted(shelf, posted.entry(), posted.item())
 }
 
@@ -141,18 +139,48 @@ fn receipt_wanted<'a>(
             id,
             recipient,
         }),
-        Kind::DeliveryError(_) => Some(Wanted::Outcome {
+        Kind::DeliveryError(refusal) => {
+            error_wanted(shelf, number, refusal, id, recipient, moment)
+        }
+        Kind::VirusFound => own_wanted(shelf, kind, id, recipient, moment),
+        Kind::NonAcceptance(_) => Some(Wanted::Refusal {
             number,
             id,
-            recipient,
+            row: shelf.message(id.number),
         }),
-        Kind::NonAcceptance(_) => Some(Wanted::Refusal { number, id }),
         Kind::Acceptance => own_wanted(shelf, kind, id, recipient, moment),
         Kind::Charge => own_wanted(shelf, kind, id, recipient, moment),
         Kind::Warning => own_wanted(shelf, kind, id, recipient, moment),
         Kind::Notice => own_wanted(shelf, kind, id, recipient, moment),
         Kind::LateNotice => own_wanted(shelf, kind, id, recipient, moment),
         Kind::Ack => own_wanted(shelf, kind, id, recipient, moment),
+    }
+}
+
+/// The same of a delivery error: that of a virus is composed by this provider, any other is shown as it came.
+fn error_wanted<'a>(
+    shelf: &'a Shelf,
+    number: u64,
+    refusal: Refusal,
+    id: MsgId,
+    recipient: &'a Option<Address>,
+    moment: Moment,
+) -> Option<Wanted<'a>>
+    ensures { option_map wanted_shown result
+        ≡ receipt_wanted shelf.now.half number (kinds.DeliveryError refusal) id recipient.now moment }
+{
+    match refusal {
+        Refusal::NoMailbox => Some(Wanted::Outcome {
+            number,
+            id,
+            recipient,
+        }),
+        Refusal::MailboxFull => Some(Wanted::Outcome {
+            number,
+            id,
+            recipient,
+        }),
+        Refusal::Virus => { own_wanted(shelf, Kind::DeliveryError(refusal), id, recipient, moment) }
     }
 }
 

@@ -83,6 +83,8 @@ module _ {D : Type 0} (old new : ChronicleState D) (before after : Seen) (owed :
     appends_err X (faults.ClockBack moment) none = absurd none
     appends_err X faults.NoAccount none = absurd none
     appends_err X faults.Full none = absurd none
+    appends_err X faults.OldJournal none = absurd none
+    appends_err X faults.NoNeed none = absurd none
     appends_err X faults.NoItem none = absurd none
     appends_err X (faults.Changed which) none = absurd none
     appends_err X faults.JournalFull full = (

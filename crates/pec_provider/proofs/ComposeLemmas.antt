@@ -1,32 +1,39 @@
 -- How frames are composed for one letter after another, and when the entry that was read isn't what is composed of it.
-use Rattle.std.proofs.Common.{◌≡◌, ℕ, ◌+◌, ◌<◌, ◌≤◌, List, [], ◌∷◌, ◌++◌, length, take, get_or, refl, ap, sym, subst, ◌∙◌, arith}
+use Rattle.std.proofs.Common.{◌≡◌, ℕ, ◌+◌, ◌<◌, ◌≤◌, ◌==◌, Bool, true, List, [], ◌∷◌, ◌++◌, length, take, get_or, refl, ap, append_assoc, sym, subst, ◌∙◌, arith}
 use Rattle.std.proofs.Common.{Global, Option, Some, None, Result, Ok, Err, Vec}
-use Rattle.std.specs.Prelude.{Contains, IfErr, IfOk, IsErrOf, slice_get}
+use Rattle.std.specs.Prelude.{Contains, IfErr, IfOk, IfSome, IsErrOf, IsSome, if◌then◌else◌, slice_get}
 use Rattle.std.specs.List.{filter_map}
-use Rattle.std.specs.Option.{option_to_list}
-use Rattle.std.proofs.lemmas.List.{length-append, take_all, take_more}
+use Rattle.std.specs.Option.{option_and_then, option_map, option_to_list}
+use Rattle.std.proofs.lemmas.Bool.{eq-eqb, false≢true}
+use Rattle.std.proofs.lemmas.List.{append-nil, length-append, take_all, take_more}
 use Rattle.std.proofs.lemmas.Option.{none-some, same_Some}
 use Rattle.pec_types.specs.Bytes.{Bytes}
+use Rattle.pec_types.specs.Message.{Id}
 use Rattle.pec_types.specs.declared.letters.Letter.{Letter}
+use Rattle.pec_types.specs.declared.letters.Letter.TheVariants as letters
 use Rattle.pec_types.specs.declared.turns.ProviderFault.{ProviderFault}
 use Rattle.pec_types.specs.declared.turns.ProviderFault.TheVariants as faults
 use Rattle.pec_outside.specs.DiskModel.{Sight}
 use Rattle.pec_records.specs.declared.entries.Entry.{Entry}
 use Rattle.pec_ledger.specs.Due.{due_letters}
-use Rattle.pec_ledger.specs.Half.{Half}
+use Rattle.pec_screen.specs.VerdictReading.{finds}
+use Rattle.pec_screen.specs.Verdicts.{Patterns}
+use Rattle.pec_ledger.specs.Half.{Half, Posted, Taken}
+use Rattle.pec_ledger.specs.Lookups.{taken_of}
 use Rattle.pec_ledger.specs.Steps.{half}
 use Rattle.pec_ledger.specs.Trade.{Trade}
-use Rattle.pec_plays.specs.Frames.{due_frames, frame_of}
+use Rattle.pec_plays.specs.Decisions.{finds_in, found_in_taken}
+use Rattle.pec_plays.specs.Frames.{due_frames, frame_of, original_taken}
 use Rattle.pec_chronicle.specs.Carrying.{CarriesOn, NothingMay}
 use Rattle.pec_chronicle.specs.CarryingLaws.{carries_and_then}
 use Rattle.pec_chronicle.specs.Chronicle.{ChronicleState, Stands}
 use Rattle.pec_outgoing.specs.Desk.{IsHalfOf}
 use Rattle.pec_outgoing.specs.ItemNeeds.{ServesItem, needed_item}
-use Rattle.pec_outgoing.specs.Needs.{Serves, needed}
+use Rattle.pec_outgoing.specs.Needs.{Asked, ChargeAsked, Holds, Serves, asked_by, enveloped_in, needed, number_of}
 use Rattle.pec_outgoing.specs.declared.faults.ComposeFault.{ComposeFault}
 use Rattle.pec_outgoing.specs.declared.faults.ComposeFault.TheVariants as compose
 use Rattle.pec_shelf.specs.Seen.{IsFor, Seen}
-use Rattle.pec_provider.specs.Reading.{IsAbsent, IsNotOf, ItemIsChanged, LetterIsChanged, OnChanged, ReadsOver, as_provider}
+use Rattle.pec_provider.specs.Reading.{AreFramed, IsAbsent, IsFramed, IsNotOf, LetterIsChanged, OnChanged, PostedIsChanged, ReadsOver, as_provider}
 use Rattle.pec_provider.proofs.ReadLemmas.{changed_weaker, reads_and_then, reads_as}
 
 -- one letter more has its frame behind those of the letters before
@@ -35,9 +42,35 @@ FramesMore = (trade : Trade) (me : ℕ) (journal : List Entry) (done : List Lett
     → filter_map (frame_of trade me journal) (done ++ letter ∷ [])
     ≡ filter_map (frame_of trade me journal) done ++ option_to_list (frame_of trade me journal letter)
 
+-- where a test is true its first branch is taken
+chosen_so : {X : Type 0} (test : Bool) (one other : X) → test ≡ true → (if test then one else other) ≡ one
+chosen_so test one other e = rw e refl
+
 one_at_most : {X : Type 0} (o : Option X) → length (option_to_list o) ≤ 1
 one_at_most None = omega arith
 one_at_most (Some x) = omega arith
+
+-- one letter more has its frame behind those of the letters before, of whatever entries they are composed
+framed_more : (trade : Trade) (me : ℕ) (h : Half) (letters : List Letter) (frames : List Bytes) (letter : Letter)
+    (found : Option Bytes)
+    → AreFramed trade me h letters frames → IsFramed trade me h letter found
+    → AreFramed trade me h (letters ++ letter ∷ []) (frames ++ option_to_list found)
+framed_more trade me h [] frames letter found are is = (
+  found,
+  [],
+  is,
+  refl,
+  ap (λ (f : List Bytes). f ++ option_to_list found) are ∙ sym
+      (append-nil (option_to_list found)),
+)
+framed_more trade me h (first ∷ letters) frames letter found are is = (
+  are.0,
+  are.1 ++ option_to_list found,
+  are.2,
+  framed_more trade me h letters are.1 letter found are.3 is,
+  ap (λ (f : List Bytes). f ++ option_to_list found) are.4
+      ∙ append_assoc (option_to_list are.0) are.1 (option_to_list found),
+)
 
 module _ {D : Type 0} (Tells : Type 0) (sight : D → Sight) (count : D → ℕ) (trade : Trade) (me : ℕ)
     (begun : ChronicleState D) (letters : List Letter) where
@@ -49,6 +82,7 @@ module _ {D : Type 0} (Tells : Type 0) (sight : D → Sight) (count : D → ℕ)
     pub few : length frames ≤ index
     pub are : Tells → Stands sight begun
         → frames ≡ filter_map (frame_of trade me begun.entries) (take index letters)
+    pub given : AreFramed trade me (half trade me begun.entries) (take index letters) frames
 
   pub frames_none : (Tells → CarriesOn sight NothingMay begun begun) → FramesSoFar 0 begun []
   frames_none rests = record {
@@ -57,6 +91,7 @@ module _ {D : Type 0} (Tells : Type 0) (sight : D → Sight) (count : D → ℕ)
     later = omega arith;
     few = omega arith;
     are = λ tells stands. refl;
+    given = refl;
   }
 
   module _ (index : ℕ) (letter : Letter) (now new : ChronicleState D) (frames : List Bytes)
@@ -71,8 +106,9 @@ module _ {D : Type 0} (Tells : Type 0) (sight : D → Sight) (count : D → ℕ)
     pub frames_more : FramesMore → (found : Option Bytes) (more : List Bytes) → ReadsOver now new (Ok found)
         → (Tells → CarriesOn sight NothingMay now new) → count now.disk ≤ count new.disk
         → (Tells → Stands sight now → found ≡ frame_of trade me now.entries letter)
+        → IsFramed trade me (half trade me now.entries) letter found
         → more ≡ frames ++ option_to_list found → FramesSoFar (index + 1) new more
-    frames_more law found more reads carries later due pushed =
+    frames_more law found more reads carries later due framed pushed =
         let one = one_at_most found in
         let size = length-append frames (option_to_list found) in
         let few = so_far.few in
@@ -91,6 +127,13 @@ module _ {D : Type 0} (Tells : Type 0) (sight : D → Sight) (count : D → ℕ)
               ∙ sym (law trade me begun.entries (take index letters) letter)
               ∙ ap (λ (l : List Letter). filter_map (frame_of trade me begun.entries) l)
               (ap (λ (x : Letter). take index letters ++ x ∷ []) is ∙ sym (take_more letters index letter l));
+          given =
+              let h = half trade me begun.entries in
+              subst (λ (f : List Bytes). AreFramed trade me h (take (index + 1) letters) f) (sym pushed)
+              (subst (λ (l : List Letter). AreFramed trade me h l (frames ++ option_to_list found))
+              (ap (λ (x : Letter). take index letters ++ x ∷ []) is ∙ sym (take_more letters index letter l))
+              (framed_more trade me h (take index letters) frames letter found so_far.given
+              (subst (λ (j : List Entry). IsFramed trade me (half trade me j) letter found) same_entries framed)));
         }
 
     -- the read for it fails
@@ -124,6 +167,12 @@ module _ {D : Type 0} (Tells : Type 0) (sight : D → Sight) (count : D → ℕ)
       so_far.are tells stands
       ∙ ap (λ (all : List Letter). filter_map (frame_of trade me begun.entries) all) (take_all index letters l)
 
+  pub frames_given : (index : ℕ) (now : ChronicleState D) (frames : List Bytes) → length letters ≤ index
+      → FramesSoFar index now frames → AreFramed trade me (half trade me begun.entries) letters frames
+  frames_given index now frames l so_far =
+      subst (λ (all : List Letter). AreFramed trade me (half trade me begun.entries) all frames)
+      (take_all index letters l) so_far.given
+
 -- ---- what has changed
 
 -- what is so of a shelf is so of the half that its entries come to
@@ -149,6 +198,8 @@ never_changed P (Err faults.Down) never = tt
 never_changed P (Err (faults.ClockBack moment)) never = tt
 never_changed P (Err faults.NoAccount) never = tt
 never_changed P (Err faults.Full) never = tt
+never_changed P (Err faults.OldJournal) never = tt
+never_changed P (Err faults.NoNeed) never = tt
 never_changed P (Err faults.NoItem) never = tt
 never_changed P (Err faults.JournalFull) never = tt
 
@@ -171,25 +222,83 @@ module _ (trade : Trade) (me : ℕ) (journal : List Entry) where
         (λ told is. subst (λ (n : ℕ). IsNotOf trade me journal letter n) (sym is.0)
         (record { needs = needs; serves = λ entry there serves. none-some entry (sym is.1 ∙ there) }))
 
-  module _ (account : Bytes) (place number : ℕ)
-      (needs : needed_item (half trade me journal) account place ≡ Some number) where
+  module _ (posted : Posted) (number : ℕ) (needs : needed_item (half trade me journal) posted ≡ Some number) where
     -- another entry than what an item is composed of was read for it
     pub other_item : (entry : Entry) → slice_get journal number ≡ Some entry
-        → (ServesItem trade me (half trade me journal) account place entry → ⊥)
-        → ItemIsChanged trade me journal account place number
+        → (ServesItem trade me (half trade me journal) posted entry → ⊥)
+        → PostedIsChanged trade me journal (Some posted) number
     other_item entry there not = record {
+      posted = posted;
+      there = refl;
       needs = needs;
       serves = λ other at serves. not
-          (subst (λ (e : Entry). ServesItem trade me (half trade me journal) account place e)
+          (subst (λ (e : Entry). ServesItem trade me (half trade me journal) posted e)
           (same_Some other entry (sym at ∙ there)) serves);
     }
 
     -- there was none
     pub no_item : (fault : ProviderFault) → OnChanged (IsAbsent journal number) fault
-        → OnChanged (ItemIsChanged trade me journal account place) fault
-    no_item = changed_weaker (IsAbsent journal number) (ItemIsChanged trade me journal account place)
-        (λ told is. subst (λ (n : ℕ). ItemIsChanged trade me journal account place n) (sym is.0)
-        (record { needs = needs; serves = λ entry there serves. none-some entry (sym is.1 ∙ there) }))
+        → OnChanged (PostedIsChanged trade me journal (Some posted)) fault
+    no_item = changed_weaker (IsAbsent journal number) (PostedIsChanged trade me journal (Some posted))
+        (λ told is. subst (λ (n : ℕ). PostedIsChanged trade me journal (Some posted) n) (sym is.0)
+        (record {
+          posted = posted;
+          there = refl;
+          needs = needs;
+          serves = λ entry there serves. none-some entry (sym is.1 ∙ there);
+        }))
+
+  -- ---- envelopes that are read for a decision
+
+  -- a message that was taken, by its row, and the number of its entry
+  pub record TakenAt (id : Id) (number : ℕ) : Type 0 where
+    pub row : Taken
+    pub taken : taken_of (half trade me journal) id ≡ Some row
+    pub entry : row.entry ≡ number
+
+  taken_by_row : (id : Id) (number : ℕ) (found : Option Taken) → taken_of (half trade me journal) id ≡ found
+      → IsSome found → IfSome found (λ row. row.entry ≡ number) → TakenAt id number
+  taken_by_row id number None is some entry = absurd (false≢true some)
+  taken_by_row id number (Some row) is some entry = record { row = row; taken = is; entry = entry }
+
+  -- a row of a shelf's half, whose entries these are
+  pub taken_at : (shelf : Seen) → shelf.me ≡ me → shelf.half ≡ half trade shelf.me journal → (id : Id) (number : ℕ)
+      → IsSome (taken_of shelf.half id) → IfSome (taken_of shelf.half id) (λ row. row.entry ≡ number)
+      → TakenAt id number
+  taken_at shelf is half_is id number some entry =
+      taken_by_row id number (taken_of (half trade me journal) id) refl
+      (over_half (λ n h. IsSome (taken_of h id)) trade shelf me journal is half_is some)
+      (over_half (λ n h. IfSome (taken_of h id) (λ row. row.entry ≡ number)) trade shelf me journal is half_is entry)
+
+  module _ (id : Id) (row : Taken) (taken : taken_of (half trade me journal) id ≡ Some row) where
+    charge_asked : asked_by me (half trade me journal) (letters.Charge id me) ≡ Some (ChargeAsked id row)
+    charge_asked =
+        chosen_so (me == me) (option_map (ChargeAsked id) (taken_of (half trade me journal) id)) None
+        (eq-eqb me me refl)
+        ∙ ap (option_map (ChargeAsked id)) taken
+
+    -- the entry of a charge is that by which the message was taken
+    pub charge_needs : needed me (half trade me journal) (letters.Charge id me) ≡ Some row.entry
+    unfolding needed
+    charge_needs = ap (option_map number_of) charge_asked
+
+    -- what a charge is composed of holds the original
+    pub charge_holds : (entry : Entry) → Serves trade me (half trade me journal) (letters.Charge id me) entry
+        → (original : Bytes) × (enveloped_in trade id entry ≡ Some original)
+    charge_holds entry serves =
+        let asked : serves.asked ≡ ChargeAsked id row =
+        same_Some serves.asked (ChargeAsked id row) (sym serves.has ∙ charge_asked) in
+        (serves.original, subst (λ (a : Asked). Holds trade a entry serves.original) asked serves.holds)
+
+    -- what screens find in the original is what they find in the message that was taken
+    pub found_there : (screens : List Patterns) (original : Bytes)
+        → original_taken trade me journal id row ≡ Some original
+        → finds screens original ≡ found_in_taken trade me screens journal id
+    unfolding found_in_taken
+    found_there screens original is =
+        sym (ap (λ (found : Option Taken). finds_in screens
+        (option_and_then (original_taken trade me journal id) found)) taken
+        ∙ ap (finds_in screens) is)
 
 -- ---- what is due
 
@@ -227,6 +336,17 @@ module _ (trade : Trade) (shelf : Seen) (me : ℕ) (journal : List Entry) (to ro
   few_so law (Ok frames) few =
       let e = ap (λ (all : List Letter). length all) due in
       let l = law trade shelf.me shelf.half to room owed in omega (arith, few, e, l)
+
+  -- of whatever entries they are composed, they are those of the due letters
+  pub given_so : (r : Result (Vec Bytes Global) ProviderFault)
+      → IfOk r (λ frames. AreFramed trade me (half trade me journal) letters frames.items)
+      → IfOk r (λ frames. AreFramed trade me (half trade me journal)
+      (due_letters trade me (half trade me journal) to room owed) frames.items)
+  given_so (Err fault) are = tt
+  given_so (Ok frames) are =
+      over_half (λ n h. AreFramed trade me (half trade me journal) (due_letters trade n h to room owed) frames.items)
+      trade shelf me journal is half_is
+      (subst (λ (all : List Letter). AreFramed trade me (half trade me journal) all frames.items) due are)
 
   -- a letter among them for which an entry has changed is one that is due
   pub due_changed : (r : Result (Vec Bytes Global) ProviderFault)

@@ -1,11 +1,16 @@
 -- What follows a provider's entries follows in the sense of the ledger.
-use Rattle.std.proofs.Common.{◌≡◌, ℕ, List, [], ◌∷◌, ◌++◌, sym, subst, Option, Some}
+use Rattle.std.proofs.Common.{◌≡◌, ℕ, ◌<◌, ◌≤◌, List, [], ◌∷◌, ◌++◌, length, sym, subst, Option, Some}
+use Rattle.std.specs.Prelude.{IsTrue}
 use Rattle.std.proofs.lemmas.List.Sums.{fold-append}
 use Rattle.std.proofs.lemmas.Option.{same_Some}
+use Rattle.pec_types.specs.Bytes.{Bytes}
+use Rattle.pec_types.specs.declared.moments.TheConstants.{END_OF_TIME}
 use Rattle.pec_outside.specs.DiskModel.{Sight}
 use Rattle.pec_records.specs.declared.entries.Entry.{Entry}
+use Rattle.pec_records.specs.declared.entries.Entry.TheVariants as entries
 use Rattle.pec_ledger.specs.Half.{Half, empty}
 use Rattle.pec_ledger.specs.Ledger.{Follows, Journals, Meets}
+use Rattle.pec_ledger.specs.Lookups.{mailbox}
 use Rattle.pec_ledger.specs.Network.{chosen, GoesOn as GoesOnInLedger}
 use Rattle.pec_ledger.specs.Steps.{half, step}
 use Rattle.pec_ledger.specs.Trade.{Trade}
@@ -88,3 +93,21 @@ only_inside {D} sight entry inside old view still =
     subst (λ (p : ProviderState D). CarriesOn sight (OnlyMay p.chronicle.entries entry) p.chronicle inside.chronicle)
     view
     (carries_nothing sight (OnlyMay inside.chronicle.entries entry) inside.chronicle inside.chronicle still)
+
+-- ---- archives, and journals of version 2
+
+-- an item that is archived may follow in the ledger of any journals
+pub archived_follows : (trade : Trade) (journals : Journals) (me now : ℕ) (list : List Entry)
+    → (half trade me list).last ≤ now → now < END_OF_TIME → (account : Bytes) (place : ℕ)
+    → (half trade me list).version ≡ 2 → IsTrue (trade.is_account me account)
+    → place < length (mailbox (half trade me list) account)
+    → Meets trade journals me (half trade me list) (entries.Archived now account place)
+archived_follows trade journals me now list late below account place version own item =
+    record { own = (version, own, item); in_time = late; in_range = below; joint = tt }
+
+-- so may a journal that is raised
+pub upgraded_follows : (trade : Trade) (journals : Journals) (me now : ℕ) (list : List Entry)
+    → (half trade me list).last ≤ now → now < END_OF_TIME → (half trade me list).version ≡ 1
+    → Meets trade journals me (half trade me list) (entries.Upgraded now)
+upgraded_follows trade journals me now list late below version =
+    record { own = version; in_time = late; in_range = below; joint = tt }

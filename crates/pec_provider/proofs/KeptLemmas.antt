@@ -2,12 +2,12 @@
 -- the original of an own message. In journals that are Fit an envelope that was taken is seen as one of its message.
 use Rattle.std.proofs.Common.{◌≡◌, ℕ, zero, suc, Bool, true, false, List, [], ◌∷◌, ◌++◌, length, refl, ap, sym, subst, ◌∙◌, append_assoc, arith}
 use Rattle.std.proofs.Common.{Option, Some, None}
-use Rattle.std.specs.Prelude.{All, IsSome, fold, if◌then◌else◌, slice_get, ◌&&◌, ◌==◌}
+use Rattle.std.specs.Prelude.{All, Contains, IsSome, fold, if◌then◌else◌, slice_get, ◌&&◌, ◌==◌}
 use Rattle.std.specs.Option.{option_and_then, option_map}
 use Rattle.std.specs.Str.{bytes_eq}
 use Rattle.std.proofs.lemmas.Bool.{and_from, eq-eqb}
 use Rattle.std.proofs.lemmas.List.{append-nil, length-append}
-use Rattle.std.proofs.lemmas.List.Elements.{All-append, All-cons, All-filter, All-map, All-nil, All-weaker}
+use Rattle.std.proofs.lemmas.List.Elements.{All-append, All-cons, All-map, All-nil, All-weaker}
 use Rattle.std.proofs.lemmas.Option.{get_or_from_slice_get, none-some, same_Some, slice_get_within}
 use Rattle.std.proofs.lemmas.Slice.Eq.{bytes_eq-Decides}
 use Rattle.pec_types.specs.Bytes.{Bytes, Path}
@@ -20,6 +20,7 @@ use Rattle.pec_types.specs.declared.messages.Cause.{Cause}
 use Rattle.pec_types.specs.declared.messages.Decision.{Decision}
 use Rattle.pec_types.specs.declared.messages.Decision.TheVariants.{Placed, Refused}
 use Rattle.pec_types.specs.declared.messages.Facts.{Facts}
+use Rattle.pec_types.specs.declared.messages.Refusal.TheVariants as refusals
 use Rattle.pec_types.specs.declared.receipts.Kind.{Kind}
 use Rattle.pec_types.specs.declared.receipts.Kind.TheVariants as kinds
 use Rattle.pec_records.specs.declared.entries.Entry.{Entry}
@@ -27,34 +28,41 @@ use Rattle.pec_records.specs.declared.entries.Entry.TheVariants as entries
 use Rattle.pec_ledger.specs.Half.{AnomalyItem, EnvelopeItem, Fate, Half, Item, Known, Message, Posted, ReceiptItem, Taken, empty}
 use Rattle.pec_ledger.specs.Items.{accepted_body, composed, item_text, original_at, refusal_by, taken_body, text_by}
 use Rattle.pec_ledger.specs.Ledger.{Fit, IsEnvelopeText, Journals, body_at, body_of, ledger}
-use Rattle.pec_ledger.specs.Lookups.{Accepted, accepted_at, accepted_of, decided_of, known_of, mailbox, outcome_kind, taken_of}
+use Rattle.pec_ledger.specs.Lookups.{Accepted, accepted_at, accepted_of, decided_of, known_of, receipt_kind, taken_of}
 use Rattle.pec_ledger.specs.Marks.{marks_from}
 use Rattle.pec_ledger.specs.Pairs.{pair_of, same_id}
 use Rattle.pec_ledger.specs.Steps.{anomaly_by, half, items_by, kind_of_due, messages_by, notice_by, placed_by, step}
 use Rattle.pec_ledger.specs.Trade.{SeenEnvelope, Trade}
 use Rattle.pec_plays.specs.Frames.{original_in}
-use Rattle.pec_outgoing.specs.Entries.{learned_in, took_in}
+use Rattle.pec_outgoing.specs.Entries.{is_of_row, learned_in, took_in}
 use Rattle.pec_outgoing.specs.ItemNeeds.{AnomalyWanted, EnvelopeWanted, IsShown, OutcomeWanted, ReceiptWanted, RefusalWanted, ServesItem, Wanted}
-use Rattle.pec_outgoing.specs.ItemNeeds.{item_wanted, needed_item, number_wanted, wanted_at}
+use Rattle.pec_outgoing.specs.ItemNeeds.{item_wanted, needed_item, number_wanted, posted_wanted}
 use Rattle.pec_outgoing.specs.Needs.{AckAsked, Asked, ChargeAsked, EnvelopeAsked, Holds, HoldsMessage, OutcomeAsked}
 use Rattle.pec_outgoing.specs.Needs.{asked_by, enveloped_in, needed, number_of}
-use Rattle.pec_provider.specs.Playing.{item_at}
-use Rattle.pec_provider.specs.Reading.{IsNotOf, ItemIsChanged, LetterIsChanged}
+use Rattle.pec_provider.specs.Reading.{EnvelopeIsChanged, IsNotOf, LetterIsChanged, PostedIsChanged}
 
 -- ---- lists and options
 
 found : {X : Type 0} (P : X → Type 0) (xs : List X) (k : ℕ) (x : X) → All P xs → slice_get xs k ≡ Some x → P x
 found P xs k x all e = subst P (get_or_from_slice_get xs k x x e) (all k x (slice_get_within xs k x e))
 
-stays : (front more : List Entry) (k : ℕ) (entry : Entry) → slice_get front k ≡ Some entry
-    → slice_get (front ++ more) k ≡ Some entry
-stays [] more k entry e = absurd (none-some entry e)
-stays (x ∷ front) more zero entry e = e
-stays (x ∷ front) more (suc k) entry e = stays front more k entry e
+-- what is so of each item is so of one of them
+found_among : {X : Type 0} (P : X → Type 0) (xs : List X) (x : X) → All P xs → Contains xs x → P x
+found_among P xs x all here = subst P here.2 (all here.0 x here.1)
 
-last_place : (front : List Entry) (entry : Entry) → slice_get (front ++ entry ∷ []) (length front) ≡ Some entry
-last_place [] entry = refl
-last_place (x ∷ front) entry = last_place front entry
+-- an item at a place is one of them
+pub among : {X : Type 0} (xs : List X) (k : ℕ) (x : X) → slice_get xs k ≡ Some x → Contains xs x
+among xs k x e = (k, slice_get_within xs k x e, get_or_from_slice_get xs k x x e)
+
+stays : {X : Type 0} (front more : List X) (k : ℕ) (x : X) → slice_get front k ≡ Some x
+    → slice_get (front ++ more) k ≡ Some x
+stays [] more k x e = absurd (none-some x e)
+stays (y ∷ front) more zero x e = e
+stays (y ∷ front) more (suc k) x e = stays front more k x e
+
+last_place : {X : Type 0} (front : List X) (x : X) → slice_get (front ++ x ∷ []) (length front) ≡ Some x
+last_place [] x = refl
+last_place (y ∷ front) x = last_place front x
 
 -- what was mapped
 mapped : {X Y : Type 0} (f : X → Y) (o : Option X) (y : Y) → option_map f o ≡ Some y → (x : X) × (o ≡ Some x) × (f x ≡ y)
@@ -106,14 +114,18 @@ pub record LearnedRow (journal : List Entry) (entry : ℕ) (id : Id) (recipient 
   pub message : Bytes
   pub there : slice_get journal entry ≡ Some (entries.Learned moment id address decision decided message)
 
--- a message wasn't accepted by this entry
-pub record RefusedRow (journal : List Entry) (entry : ℕ) : Type 0 where
+-- a message of this id wasn't accepted by this entry, at the moment and from the sender of its row
+pub record RefusedRow (journal : List Entry) (messages : List Message) (entry : ℕ) (id : Id) : Type 0 where
   pub moment : ℕ
   pub sender : Bytes
   pub cause : Cause
   pub path : Path
   pub message : Bytes
   pub there : slice_get journal entry ≡ Some (entries.NotAccepted moment sender cause path message)
+  pub row : Message
+  pub has : slice_get messages id.number ≡ Some row
+  pub moment_is : row.moment ≡ moment
+  pub sender_is : row.sender ≡ sender
 
 -- an anomaly came by this entry
 pub record AnomalyRow (journal : List Entry) (entry : ℕ) : Type 0 where
@@ -123,12 +135,16 @@ pub record AnomalyRow (journal : List Entry) (entry : ℕ) : Type 0 where
   pub there : slice_get journal entry ≡ Some (entries.Anomaly moment accounts message)
 
 -- what the entry by which an item was placed holds for it
-abbrev ItemRow : List Entry → ℕ → Item → Type 0
-ItemRow journal entry (ReceiptItem kinds.Delivery id recipient moment) = LearnedRow journal entry id recipient
-ItemRow journal entry (ReceiptItem (kinds.DeliveryError refusal) id recipient moment) = LearnedRow journal entry id recipient
-ItemRow journal entry (ReceiptItem (kinds.NonAcceptance cause) id recipient moment) = RefusedRow journal entry
-ItemRow journal entry (AnomalyItem moment) = AnomalyRow journal entry
-ItemRow journal entry _ = Unit {0}
+abbrev ItemRow : List Entry → List Message → ℕ → Item → Type 0
+ItemRow journal messages entry (ReceiptItem kinds.Delivery id recipient moment) = LearnedRow journal entry id recipient
+ItemRow journal messages entry (ReceiptItem (kinds.DeliveryError refusals.NoMailbox) id recipient moment) =
+    LearnedRow journal entry id recipient
+ItemRow journal messages entry (ReceiptItem (kinds.DeliveryError refusals.MailboxFull) id recipient moment) =
+    LearnedRow journal entry id recipient
+ItemRow journal messages entry (ReceiptItem (kinds.NonAcceptance cause) id recipient moment) =
+    RefusedRow journal messages entry id
+ItemRow journal messages entry (AnomalyItem moment) = AnomalyRow journal entry
+ItemRow journal messages entry _ = Unit {0}
 
 -- ---- with more entries behind them
 
@@ -144,26 +160,39 @@ learned_stays front more entry id recipient row = record {
   there = stays front more entry (entries.Learned row.moment id row.address row.decision row.decided row.message) row.there;
 }
 
-item_stays : (front more : List Entry) (entry : ℕ) (item : Item) → ItemRow front entry item → ItemRow (front ++ more) entry item
-item_stays front more entry (EnvelopeItem id) row = tt
-item_stays front more entry (ReceiptItem kinds.Acceptance id recipient moment) row = tt
-item_stays front more entry (ReceiptItem (kinds.NonAcceptance cause) id recipient moment) row = record {
+item_stays : (front more : List Entry) (messages further : List Message) (entry : ℕ) (item : Item)
+    → ItemRow front messages entry item → ItemRow (front ++ more) (messages ++ further) entry item
+item_stays front more messages further entry (EnvelopeItem id) row = tt
+item_stays front more messages further entry (ReceiptItem kinds.Acceptance id recipient moment) row = tt
+item_stays front more messages further entry (ReceiptItem (kinds.NonAcceptance cause) id recipient now) row = record {
   moment = row.moment;
   sender = row.sender;
   cause = row.cause;
   path = row.path;
   message = row.message;
   there = stays front more entry (entries.NotAccepted row.moment row.sender row.cause row.path row.message) row.there;
+  row = row.row;
+  has = stays messages further id.number row.row row.has;
+  moment_is = row.moment_is;
+  sender_is = row.sender_is;
 }
-item_stays front more entry (ReceiptItem kinds.Charge id recipient moment) row = tt
-item_stays front more entry (ReceiptItem kinds.Delivery id recipient moment) row = learned_stays front more entry id recipient row
-item_stays front more entry (ReceiptItem (kinds.DeliveryError refusal) id recipient moment) row =
+item_stays front more messages further entry (ReceiptItem kinds.Charge id recipient moment) row = tt
+item_stays front more messages further entry (ReceiptItem kinds.Delivery id recipient moment) row =
     learned_stays front more entry id recipient row
-item_stays front more entry (ReceiptItem kinds.Warning id recipient moment) row = tt
-item_stays front more entry (ReceiptItem kinds.Notice id recipient moment) row = tt
-item_stays front more entry (ReceiptItem kinds.LateNotice id recipient moment) row = tt
-item_stays front more entry (ReceiptItem kinds.Ack id recipient moment) row = tt
-item_stays front more entry (AnomalyItem moment) row = record {
+item_stays front more messages further entry (ReceiptItem (kinds.DeliveryError refusals.NoMailbox) id recipient moment)
+    row =
+    learned_stays front more entry id recipient row
+item_stays front more messages further entry (ReceiptItem (kinds.DeliveryError refusals.MailboxFull) id recipient
+    moment) row =
+    learned_stays front more entry id recipient row
+item_stays front more messages further entry (ReceiptItem (kinds.DeliveryError refusals.Virus) id recipient moment)
+    row = tt
+item_stays front more messages further entry (ReceiptItem kinds.VirusFound id recipient moment) row = tt
+item_stays front more messages further entry (ReceiptItem kinds.Warning id recipient moment) row = tt
+item_stays front more messages further entry (ReceiptItem kinds.Notice id recipient moment) row = tt
+item_stays front more messages further entry (ReceiptItem kinds.LateNotice id recipient moment) row = tt
+item_stays front more messages further entry (ReceiptItem kinds.Ack id recipient moment) row = tt
+item_stays front more messages further entry (AnomalyItem moment) row = record {
   moment = row.moment;
   accounts = row.accounts;
   message = row.message;
@@ -181,8 +210,8 @@ message_stays trade front more message row = λ facts e.
 
 -- ---- what an entry adds
 
-abbrev HasItemRow : List Entry → Posted → Type 0
-HasItemRow journal posted = ItemRow journal posted.entry posted.item
+abbrev HasItemRow : List Entry → List Message → Posted → Type 0
+HasItemRow journal messages posted = ItemRow journal messages posted.entry posted.item
 
 module _ (trade : Trade) (me : ℕ) where
   module _ (front : List Entry) (h : Half) (count : h.entries ≡ length front) where
@@ -220,34 +249,52 @@ module _ (trade : Trade) (me : ℕ) where
     message_rows (entries.Ticked moment) = All-nil (MessageRow trade (front ++ entries.Ticked moment ∷ []))
     message_rows (entries.Anomaly moment accounts message) =
         All-nil (MessageRow trade (front ++ entries.Anomaly moment accounts message ∷ []))
+    message_rows (entries.StartTwo provider digest) =
+        All-nil (MessageRow trade (front ++ entries.StartTwo provider digest ∷ []))
+    message_rows (entries.Upgraded moment) = All-nil (MessageRow trade (front ++ entries.Upgraded moment ∷ []))
+    message_rows (entries.Archived moment account place) =
+        All-nil (MessageRow trade (front ++ entries.Archived moment account place ∷ []))
 
-    one_item : (journal : List Entry) (posted : Posted) → HasItemRow journal posted → All (HasItemRow journal) (posted ∷ [])
-    one_item journal posted row = All-cons (HasItemRow journal) posted [] row (All-nil (HasItemRow journal))
+    one_item : (journal : List Entry) (messages : List Message) (posted : Posted) → HasItemRow journal messages posted
+        → All (HasItemRow journal messages) (posted ∷ [])
+    one_item journal messages posted row =
+        All-cons (HasItemRow journal messages) posted [] row (All-nil (HasItemRow journal messages))
 
-    placed_rows : (journal : List Entry) (id : Id) (recipient : Bytes) (decision : Decision)
-        → All (HasItemRow journal) (placed_by h id recipient decision)
-    placed_rows journal id recipient Placed =
-        one_item journal (record { account = recipient; item = EnvelopeItem id; entry = h.entries }) tt
-    placed_rows journal id recipient (Refused refusal) = All-nil (HasItemRow journal)
+    -- the messages behind an entry
+    abbrev messages_now : Entry → List Message
+    messages_now entry = h.messages ++ messages_by trade me h entry
 
-    outcome_row : (journal : List Entry) (id : Id) (recipient : Bytes) (moment : ℕ) (decision : Decision)
+    placed_rows : (journal : List Entry) (messages : List Message) (id : Id) (recipient : Bytes) (decision : Decision)
+        → All (HasItemRow journal messages) (placed_by h id recipient decision)
+    placed_rows journal messages id recipient Placed =
+        one_item journal messages (record { account = recipient; item = EnvelopeItem id; entry = h.entries }) tt
+    placed_rows journal messages id recipient (Refused refusal) = All-nil (HasItemRow journal messages)
+
+    outcome_row : (journal : List Entry) (messages : List Message) (id : Id) (recipient : Bytes) (moment : ℕ)
+        (decision : Decision)
         → LearnedRow journal h.entries id (Some recipient)
-        → ItemRow journal h.entries (ReceiptItem (outcome_kind decision) id (Some recipient) moment)
-    outcome_row journal id recipient moment Placed row = row
-    outcome_row journal id recipient moment (Refused refusal) row = row
+        → ItemRow journal messages h.entries (ReceiptItem (receipt_kind decision) id (Some recipient) moment)
+    outcome_row journal messages id recipient moment Placed row = row
+    outcome_row journal messages id recipient moment (Refused refusals.NoMailbox) row = row
+    outcome_row journal messages id recipient moment (Refused refusals.MailboxFull) row = row
+    outcome_row journal messages id recipient moment (Refused refusals.Virus) row = tt
 
-    notice_row : (journal : List Entry) (due : Due) (id : Id) (recipient : Option Bytes) (moment : ℕ)
-        → ItemRow journal h.entries (ReceiptItem (kind_of_due due) id recipient moment)
-    notice_row journal dues.Nothing id recipient moment = tt
-    notice_row journal dues.Warning id recipient moment = tt
-    notice_row journal dues.Notice id recipient moment = tt
-    notice_row journal dues.LateNotice id recipient moment = tt
+    notice_row : (journal : List Entry) (messages : List Message) (due : Due) (id : Id) (recipient : Option Bytes)
+        (moment : ℕ)
+        → ItemRow journal messages h.entries (ReceiptItem (kind_of_due due) id recipient moment)
+    notice_row journal messages dues.Nothing id recipient moment = tt
+    notice_row journal messages dues.Warning id recipient moment = tt
+    notice_row journal messages dues.Notice id recipient moment = tt
+    notice_row journal messages dues.LateNotice id recipient moment = tt
 
-    item_rows : (entry : Entry) → All (HasItemRow (front ++ entry ∷ [])) (items_by trade me h entry)
+    item_rows : (entry : Entry) → All (HasItemRow (front ++ entry ∷ []) (messages_now entry))
+        (items_by trade me h entry)
     item_rows (entries.Accepted moment sender message) =
-        one_item (front ++ entries.Accepted moment sender message ∷ []) _ tt
+        one_item (front ++ entries.Accepted moment sender message ∷ [])
+        (messages_now (entries.Accepted moment sender message)) _ tt
     item_rows (entries.NotAccepted moment sender cause path message) =
-        one_item (front ++ entries.NotAccepted moment sender cause path message ∷ []) _
+        one_item (front ++ entries.NotAccepted moment sender cause path message ∷ [])
+        (messages_now (entries.NotAccepted moment sender cause path message)) _
         (record {
           moment = moment;
           sender = sender;
@@ -255,12 +302,26 @@ module _ (trade : Trade) (me : ℕ) where
           path = path;
           message = message;
           there = here (entries.NotAccepted moment sender cause path message);
+          row = record {
+            moment = moment;
+            sender = sender;
+            facts = None;
+            cause = Some cause;
+            path = path;
+            entry = h.entries;
+          };
+          has = last_place h.messages _;
+          moment_is = refl;
+          sender_is = refl;
         })
     item_rows (entries.Decided moment id recipient decision) =
-        placed_rows (front ++ entries.Decided moment id recipient decision ∷ []) id recipient decision
+        placed_rows (front ++ entries.Decided moment id recipient decision ∷ [])
+        (messages_now (entries.Decided moment id recipient decision)) id recipient decision
     item_rows (entries.Learned moment id recipient decision decided message) =
-        one_item (front ++ entries.Learned moment id recipient decision decided message ∷ []) _
-        (outcome_row (front ++ entries.Learned moment id recipient decision decided message ∷ []) id recipient moment
+        one_item (front ++ entries.Learned moment id recipient decision decided message ∷ [])
+        (messages_now (entries.Learned moment id recipient decision decided message)) _
+        (outcome_row (front ++ entries.Learned moment id recipient decision decided message ∷ [])
+        (messages_now (entries.Learned moment id recipient decision decided message)) id recipient moment
         decision
         (record {
           address = recipient;
@@ -272,20 +333,37 @@ module _ (trade : Trade) (me : ℕ) where
           there = here (entries.Learned moment id recipient decision decided message);
         }))
     item_rows (entries.Ticked moment) =
-        All-map (HasItemRow (front ++ entries.Ticked moment ∷ [])) (notice_by h) (marks_from trade me h moment 0 h.messages)
-        (λ k d l. notice_row (front ++ entries.Ticked moment ∷ []) _ _ _ _)
+        All-map (HasItemRow (front ++ entries.Ticked moment ∷ []) (messages_now (entries.Ticked moment))) (notice_by h)
+        (marks_from trade me h moment 0 h.messages)
+        (λ k d l. notice_row (front ++ entries.Ticked moment ∷ []) (messages_now (entries.Ticked moment)) _ _ _ _)
     item_rows (entries.Anomaly moment accounts message) =
-        All-map (HasItemRow (front ++ entries.Anomaly moment accounts message ∷ [])) (anomaly_by h moment) accounts
+        All-map (HasItemRow (front ++ entries.Anomaly moment accounts message ∷ [])
+        (messages_now (entries.Anomaly moment accounts message))) (anomaly_by h moment) accounts
         (λ k d l. record {
           moment = moment;
           accounts = accounts;
           message = message;
           there = here (entries.Anomaly moment accounts message);
         })
-    item_rows (entries.Start provider digest) = All-nil (HasItemRow (front ++ entries.Start provider digest ∷ []))
-    item_rows (entries.Took moment id message) = All-nil (HasItemRow (front ++ entries.Took moment id message ∷ []))
-    item_rows (entries.Charged moment id by) = All-nil (HasItemRow (front ++ entries.Charged moment id by ∷ []))
-    item_rows (entries.Acked moment id recipient) = All-nil (HasItemRow (front ++ entries.Acked moment id recipient ∷ []))
+    item_rows (entries.Start provider digest) =
+        All-nil (HasItemRow (front ++ entries.Start provider digest ∷ [])
+        (messages_now (entries.Start provider digest)))
+    item_rows (entries.Took moment id message) =
+        All-nil (HasItemRow (front ++ entries.Took moment id message ∷ [])
+        (messages_now (entries.Took moment id message)))
+    item_rows (entries.Charged moment id by) =
+        All-nil (HasItemRow (front ++ entries.Charged moment id by ∷ []) (messages_now (entries.Charged moment id by)))
+    item_rows (entries.Acked moment id recipient) =
+        All-nil (HasItemRow (front ++ entries.Acked moment id recipient ∷ [])
+        (messages_now (entries.Acked moment id recipient)))
+    item_rows (entries.StartTwo provider digest) =
+        All-nil (HasItemRow (front ++ entries.StartTwo provider digest ∷ [])
+        (messages_now (entries.StartTwo provider digest)))
+    item_rows (entries.Upgraded moment) =
+        All-nil (HasItemRow (front ++ entries.Upgraded moment ∷ []) (messages_now (entries.Upgraded moment)))
+    item_rows (entries.Archived moment account place) =
+        All-nil (HasItemRow (front ++ entries.Archived moment account place ∷ [])
+        (messages_now (entries.Archived moment account place)))
 
   -- ---- all entries
 
@@ -293,7 +371,7 @@ module _ (trade : Trade) (me : ℕ) where
   pub record HaveEntries (journal : List Entry) (h : Half) : Type 0 where
     pub count : h.entries ≡ length journal
     pub messages : All (MessageRow trade journal) h.messages
-    pub items : All (HasItemRow journal) h.items
+    pub items : All (HasItemRow journal h.messages) h.items
 
   one_more : (front : List Entry) (h : Half) (entry : Entry) → HaveEntries front h
       → HaveEntries (front ++ entry ∷ []) (step trade me h entry)
@@ -305,9 +383,12 @@ module _ (trade : Trade) (me : ℕ) where
             (All-weaker (MessageRow trade front) (MessageRow trade (front ++ more))
             (λ message row. message_stays trade front more message row) h.messages have.messages)
             (message_rows front h have.count entry);
-        items = All-append (HasItemRow (front ++ more)) h.items (items_by trade me h entry)
-            (All-weaker (HasItemRow front) (HasItemRow (front ++ more))
-            (λ posted row. item_stays front more posted.entry posted.item row) h.items have.items)
+        items = All-append (HasItemRow (front ++ more) (messages_now front h have.count entry)) h.items
+            (items_by trade me h entry)
+            (All-weaker (HasItemRow front h.messages) (HasItemRow (front ++ more)
+            (messages_now front h have.count entry))
+            (λ posted row. item_stays front more h.messages (messages_by trade me h entry) posted.entry posted.item row)
+            h.items have.items)
             (item_rows front h have.count entry);
       }
 
@@ -324,7 +405,7 @@ module _ (trade : Trade) (me : ℕ) where
   have_entries journal = all_along [] empty journal (record {
     count = refl;
     messages = All-nil (MessageRow trade []);
-    items = All-nil (HasItemRow []);
+    items = All-nil (HasItemRow [] []);
   })
 
   -- ---- what is composed of an entry finds it
@@ -418,7 +499,7 @@ module _ (trade : Trade) (me : ℕ) where
                 own.body));
           })
 
-      item_there : (item : Item) (wanted : Wanted) → ItemRow journal number item
+      item_there : (item : Item) (wanted : Wanted) → ItemRow journal (half trade me journal).messages number item
           → item_wanted (half trade me journal) number item ≡ Some wanted → ItemThere (posted_as item) wanted
       unfolding item_text
       item_there (EnvelopeItem id) wanted row e =
@@ -438,20 +519,42 @@ module _ (trade : Trade) (me : ℕ) where
           subst (λ (w : Wanted). ItemThere (posted_as (ReceiptItem kinds.Delivery id recipient moment)) w)
           (same_Some (OutcomeWanted number id recipient) wanted e)
           (learned_there (ReceiptItem kinds.Delivery id recipient moment) id recipient row refl)
-      item_there (ReceiptItem (kinds.DeliveryError refusal) id recipient moment) wanted row e =
-          subst (λ (w : Wanted). ItemThere (posted_as (ReceiptItem (kinds.DeliveryError refusal) id recipient moment)) w)
+      item_there (ReceiptItem (kinds.DeliveryError refusals.NoMailbox) id recipient moment) wanted row e =
+          subst
+          (λ (w : Wanted). ItemThere (posted_as (ReceiptItem (kinds.DeliveryError refusals.NoMailbox) id recipient
+          moment)) w)
           (same_Some (OutcomeWanted number id recipient) wanted e)
-          (learned_there (ReceiptItem (kinds.DeliveryError refusal) id recipient moment) id recipient row refl)
+          (learned_there (ReceiptItem (kinds.DeliveryError refusals.NoMailbox) id recipient moment) id recipient row
+          refl)
+      item_there (ReceiptItem (kinds.DeliveryError refusals.MailboxFull) id recipient moment) wanted row e =
+          subst
+          (λ (w : Wanted). ItemThere (posted_as (ReceiptItem (kinds.DeliveryError refusals.MailboxFull) id recipient
+          moment)) w)
+          (same_Some (OutcomeWanted number id recipient) wanted e)
+          (learned_there (ReceiptItem (kinds.DeliveryError refusals.MailboxFull) id recipient moment) id recipient row
+          refl)
+      item_there (ReceiptItem (kinds.DeliveryError refusals.Virus) id recipient moment) wanted row e =
+          own_there (ReceiptItem (kinds.DeliveryError refusals.Virus) id recipient moment)
+          (kinds.DeliveryError refusals.Virus) id recipient moment wanted e refl
+      item_there (ReceiptItem kinds.VirusFound id recipient moment) wanted row e =
+          own_there (ReceiptItem kinds.VirusFound id recipient moment) kinds.VirusFound id recipient moment wanted e
+          refl
       item_there (ReceiptItem (kinds.NonAcceptance cause) id recipient moment) wanted row e =
           let entry = entries.NotAccepted row.moment row.sender row.cause row.path row.message in
           let text = trade.refusal_text id row.moment row.sender row.cause row.path row.message in
           subst (λ (w : Wanted). ItemThere (posted_as (ReceiptItem (kinds.NonAcceptance cause) id recipient moment)) w)
-          (same_Some (RefusalWanted number id) wanted e)
+          (same_Some (RefusalWanted number id (slice_get (half trade me journal).messages id.number)) wanted e)
           (record {
             entry = entry;
             there = row.there;
             text = text;
-            shown = refl;
+            shown = (
+              ap (λ (found : Option Message). is_of_row found entry) row.has
+                  ∙ and_from (row.row.moment == row.moment) (bytes_eq row.row.sender row.sender)
+                  (eq-eqb row.row.moment row.moment row.moment_is)
+                  ((bytes_eq-Decides row.row.sender row.sender).1 row.sender_is),
+              refl,
+            );
             has = some_by (text_by trade me journal number (ReceiptItem (kinds.NonAcceptance cause) id recipient moment)) text
                 (then_so (refusal_by trade id) (slice_get journal number) entry text row.there refl);
           })
@@ -482,36 +585,34 @@ module _ (trade : Trade) (me : ℕ) where
       item_there (ReceiptItem kinds.Ack id recipient moment) wanted row e =
           own_there (ReceiptItem kinds.Ack id recipient moment) kinds.Ack id recipient moment wanted e refl
 
-    -- the item at a place of a mailbox, where an entry is needed for it
-    pub record NeededThere (account : Bytes) (place number : ℕ) : Type 0 where
+    -- an item that was placed, where an entry is needed for it
+    pub record NeededThere (posted : Posted) (number : ℕ) : Type 0 where
       pub entry : Entry
       pub there : slice_get journal number ≡ Some entry
-      pub serves : ServesItem trade me (half trade me journal) account place entry
-      pub has : IsSome (item_at trade me journal account place)
+      pub serves : ServesItem trade me (half trade me journal) posted entry
+      pub has : IsSome (item_text trade me journal posted)
 
-    pub needed_there : HaveEnvelope → (account : Bytes) (place number : ℕ)
-        → needed_item (half trade me journal) account place ≡ Some number → NeededThere account place number
+    pub needed_there : HaveEnvelope → (posted : Posted) (number : ℕ) → Contains (half trade me journal).items posted
+        → needed_item (half trade me journal) posted ≡ Some number → NeededThere posted number
     unfolding needed_item
-    needed_there taken account place number e =
+    needed_there taken posted number placed e =
         let h = half trade me journal in
-        let needs = mapped number_wanted (wanted_at h account place) number e in
-        let posted = bound (λ (p : Posted). item_wanted h p.entry p.item) (slice_get (mailbox h account) place) needs.0 needs.1 in
-        let row = found (HasItemRow journal) (mailbox h account) place posted.0
-        (All-filter (λ (p : Posted). bytes_eq account p.account) (HasItemRow journal) h.items (have_entries journal).items)
-        posted.1 in
-        let is = item_there taken posted.0.account posted.0.entry posted.0.item needs.0 row posted.2 in
+        let needs = mapped number_wanted (posted_wanted h posted) number e in
+        let row = found_among (HasItemRow journal h.messages) h.items posted (have_entries journal).items placed in
+        let is = item_there taken posted.account posted.entry posted.item needs.0 row needs.1 in
         record {
           entry = is.entry;
           there = ap (slice_get journal) (sym needs.2) ∙ is.there;
           serves = record { wanted = needs.0; has = needs.1; text = is.text; shown = is.shown };
-          has = subst (λ (o : Option Posted). IsSome (option_and_then (item_text trade me journal) o)) (sym posted.1) is.has;
+          has = is.has;
         }
 
   -- so an item's entry is always what it is composed of
-  pub items_unchanged : HaveEnvelope → (journal : List Entry) (account : Bytes) (place number : ℕ)
-      → ItemIsChanged trade me journal account place number → ⊥
-  items_unchanged taken journal account place number changed =
-      let is = needed_there journal taken account place number changed.needs in
+  pub items_unchanged : HaveEnvelope → (journal : List Entry) (item : Option Posted) (number : ℕ)
+      → ((posted : Posted) → item ≡ Some posted → Contains (half trade me journal).items posted)
+      → PostedIsChanged trade me journal item number → ⊥
+  items_unchanged taken journal item number placed changed =
+      let is = needed_there journal taken changed.posted number (placed changed.posted changed.there) changed.needs in
       changed.serves is.entry is.there is.serves
 
 -- ---- letters
@@ -618,3 +719,7 @@ module _ (trade : Trade) (journals : Journals) (fit : Fit trade journals) (me : 
   pub letters_unchanged : (to room : ℕ) (owed : List Letter) (number : ℕ)
       → LetterIsChanged trade me journal to room owed number → ⊥
   letters_unchanged to room owed number changed = letter_unchanged changed.letter number changed.is
+
+  -- so is that of the envelope by which the first undecided pair is decided
+  pub envelopes_unchanged : (number : ℕ) → EnvelopeIsChanged trade me journal number → ⊥
+  envelopes_unchanged number changed = letter_unchanged (letters.Charge changed.pair.id me) number changed.is

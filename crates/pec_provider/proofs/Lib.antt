@@ -1,5 +1,6 @@
 mod AppendLemmas
 mod ComposeLemmas
+mod DecideLemmas
 mod FollowLemmas
 mod KeptLemmas
 mod LookLemmas

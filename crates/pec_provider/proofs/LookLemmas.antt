@@ -16,7 +16,7 @@ use Rattle.pec_points.specs.AdmissionReading.{admission_of, admission_with, admi
 use Rattle.pec_points.specs.Case.{Case}
 use Rattle.pec_points.specs.declared.admission.Admission.{Admission}
 use Rattle.pec_points.specs.declared.admission.Admission.TheVariants.{Accepted, Not}
-use Rattle.pec_trade.specs.TradeOf.{cause_in}
+use Rattle.pec_reception.specs.OfTrades.{cause_in}
 use Rattle.pec_records.specs.Entry.{IsWithinLimits, longest_message, most_addresses}
 use Rattle.pec_records.specs.declared.entries.Entry.{Entry}
 use Rattle.pec_provider.specs.Appending.{Appends, WorksAt}
@@ -58,6 +58,8 @@ module _ (X : Type 0) (case : Case) (before after : List ℕ) where
   still trade me now desk faults.NoMemory works e = absurd works
   still trade me now desk faults.NoAccount works e = absurd works
   still trade me now desk faults.Full works e = absurd works
+  still trade me now desk faults.OldJournal works e = absurd works
+  still trade me now desk faults.NoNeed works e = absurd works
   still trade me now desk faults.NoItem works e = absurd works
   still trade me now desk (faults.Changed which) works e = absurd works
 
@@ -71,6 +73,8 @@ module _ (X : Type 0) (case : Case) (before after : List ℕ) where
   behind trade me entry old new (faults.ClockBack moment) appends looked = absurd appends
   behind trade me entry old new faults.NoAccount appends looked = absurd appends
   behind trade me entry old new faults.Full appends looked = absurd appends
+  behind trade me entry old new faults.OldJournal appends looked = absurd appends
+  behind trade me entry old new faults.NoNeed appends looked = absurd appends
   behind trade me entry old new faults.NoItem appends looked = absurd appends
   behind trade me entry old new (faults.Changed which) appends looked = absurd appends
 

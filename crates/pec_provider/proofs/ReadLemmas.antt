@@ -1,7 +1,7 @@
 -- What reads leave of a provider, by what they leave of its entries over the disk.
 use Rattle.std.proofs.Common.{◌≡◌, ℕ, zero, suc, ◌+◌, ◌<◌, ◌≤◌, true, false, List, [], ◌∷◌, length, map, refl, ap, sym, ◌∙◌, arith}
 use Rattle.std.proofs.Common.{Some, None, Result, Ok, Err}
-use Rattle.std.specs.Prelude.{IfErr, not, slice_get}
+use Rattle.std.specs.Prelude.{IfErr, OnOk, not, slice_get}
 use Rattle.std.proofs.lemmas.Bool.{false≢true}
 use Rattle.std.proofs.lemmas.List.{length-map}
 use Rattle.std.proofs.lemmas.Option.{none-some, slice_get_within}
@@ -41,6 +41,8 @@ module _ {D : Type 0} where
   reads_and_then old mid new x (Err (faults.ClockBack moment)) first second = absurd second
   reads_and_then old mid new x (Err faults.NoAccount) first second = absurd second
   reads_and_then old mid new x (Err faults.Full) first second = absurd second
+  reads_and_then old mid new x (Err faults.OldJournal) first second = absurd second
+  reads_and_then old mid new x (Err faults.NoNeed) first second = absurd second
   reads_and_then old mid new x (Err faults.NoItem) first second = absurd second
   reads_and_then old mid new x (Err faults.JournalFull) first second = absurd second
 
@@ -54,6 +56,8 @@ module _ {D : Type 0} where
   reads_as X Y old new (faults.ClockBack moment) reads = absurd reads
   reads_as X Y old new faults.NoAccount reads = absurd reads
   reads_as X Y old new faults.Full reads = absurd reads
+  reads_as X Y old new faults.OldJournal reads = absurd reads
+  reads_as X Y old new faults.NoNeed reads = absurd reads
   reads_as X Y old new faults.NoItem reads = absurd reads
   reads_as X Y old new faults.JournalFull reads = absurd reads
 
@@ -92,6 +96,8 @@ module _ {D : Type 0} where
   entries_read old new (Err (faults.ClockBack moment)) reads = absurd reads
   entries_read old new (Err faults.NoAccount) reads = absurd reads
   entries_read old new (Err faults.Full) reads = absurd reads
+  entries_read old new (Err faults.OldJournal) reads = absurd reads
+  entries_read old new (Err faults.NoNeed) reads = absurd reads
   entries_read old new (Err faults.NoItem) reads = absurd reads
   entries_read old new (Err faults.JournalFull) reads = absurd reads
 
@@ -105,6 +111,8 @@ module _ {D : Type 0} where
   interrupted_read old new (Err (faults.ClockBack moment)) reads = absurd reads
   interrupted_read old new (Err faults.NoAccount) reads = absurd reads
   interrupted_read old new (Err faults.Full) reads = absurd reads
+  interrupted_read old new (Err faults.OldJournal) reads = absurd reads
+  interrupted_read old new (Err faults.NoNeed) reads = absurd reads
   interrupted_read old new (Err faults.NoItem) reads = absurd reads
   interrupted_read old new (Err faults.JournalFull) reads = absurd reads
 
@@ -123,8 +131,16 @@ module _ {D : Type 0} where
   up_read old new (Err (faults.ClockBack moment)) reads up = absurd reads
   up_read old new (Err faults.NoAccount) reads up = absurd reads
   up_read old new (Err faults.Full) reads up = absurd reads
+  up_read old new (Err faults.OldJournal) reads up = absurd reads
+  up_read old new (Err faults.NoNeed) reads up = absurd reads
   up_read old new (Err faults.NoItem) reads up = absurd reads
   up_read old new (Err faults.JournalFull) reads up = absurd reads
+
+  -- where a read is answered it is up as before
+  pub still_up : {X : Type 0} (old new : ChronicleState D) (r : Result X ProviderFault) → ReadsOver old new r
+      → old.down ≡ false → OnOk r (new.down ≡ false)
+  still_up old new (Ok x) reads up = ap (λ (c : ChronicleState D). c.down) reads ∙ up
+  still_up old new (Err fault) reads up = tt
 
   -- ---- a provider
 
@@ -139,6 +155,8 @@ module _ {D : Type 0} where
   unread_of old new (Err (faults.ClockBack moment)) reads = absurd reads
   unread_of old new (Err faults.NoAccount) reads = absurd reads
   unread_of old new (Err faults.Full) reads = absurd reads
+  unread_of old new (Err faults.OldJournal) reads = absurd reads
+  unread_of old new (Err faults.NoNeed) reads = absurd reads
   unread_of old new (Err faults.NoItem) reads = absurd reads
   unread_of old new (Err faults.JournalFull) reads = absurd reads
 
@@ -154,6 +172,8 @@ module _ {D : Type 0} where
   untold old new (Err (faults.ClockBack moment)) reads up number there = absurd reads
   untold old new (Err faults.NoAccount) reads up number there = absurd reads
   untold old new (Err faults.Full) reads up number there = absurd reads
+  untold old new (Err faults.OldJournal) reads up number there = absurd reads
+  untold old new (Err faults.NoNeed) reads up number there = absurd reads
   untold old new (Err faults.NoItem) reads up number there = absurd reads
   untold old new (Err faults.JournalFull) reads up number there = absurd reads
 
@@ -190,6 +210,8 @@ module _ {D : Type 0} where
   desk_reads old new (Err (faults.ClockBack moment)) up whole owed reads = absurd reads
   desk_reads old new (Err faults.NoAccount) up whole owed reads = absurd reads
   desk_reads old new (Err faults.Full) up whole owed reads = absurd reads
+  desk_reads old new (Err faults.OldJournal) up whole owed reads = absurd reads
+  desk_reads old new (Err faults.NoNeed) up whole owed reads = absurd reads
   desk_reads old new (Err faults.NoItem) up whole owed reads = absurd reads
   desk_reads old new (Err faults.JournalFull) up whole owed reads = absurd reads
 
@@ -205,6 +227,8 @@ changed_weaker P Q so faults.Down is = tt
 changed_weaker P Q so (faults.ClockBack moment) is = tt
 changed_weaker P Q so faults.NoAccount is = tt
 changed_weaker P Q so faults.Full is = tt
+changed_weaker P Q so faults.OldJournal is = tt
+changed_weaker P Q so faults.NoNeed is = tt
 changed_weaker P Q so faults.NoItem is = tt
 changed_weaker P Q so faults.JournalFull is = tt
 

@@ -3,12 +3,14 @@ use Rattle.std.proofs.Common.{◌≡◌, ℕ, List, length, refl, sym, ap, subst
 use Rattle.std.specs.Prelude.{Result}
 use Rattle.std.proofs.lemmas.Bool.{false≢true}
 use Rattle.std.proofs.lemmas.List.{append-nil}
+use Rattle.pec_types.specs.Bytes.{Bytes}
 use Rattle.pec_types.specs.declared.letters.Letter.{Letter}
 use Rattle.pec_types.specs.declared.turns.ProviderFault.{ProviderFault}
 use Rattle.pec_directory.specs.Directory.{Kept}
 use Rattle.pec_records.specs.declared.entries.Entry.{Entry}
 use Rattle.pec_ledger.specs.Half.{Half}
 use Rattle.pec_ledger.specs.Ledger.{Journals, Meets}
+use Rattle.pec_ledger.specs.Lookups.{mailbox}
 use Rattle.pec_ledger.specs.OfDirectory.{IsOf}
 use Rattle.pec_ledger.specs.Steps.{half}
 use Rattle.pec_ledger.specs.Trade.{Trade}
@@ -146,6 +148,23 @@ pub half_inside : {D : Type 0} {seals : Seals} (kept : List Kept) (me : ℕ) (in
 half_inside {D} kept me inside old view trade runs of =
     subst (λ (p : ProviderState D). p.shelf.half ≡ half trade p.shelf.me old.chronicle.entries) (sym view)
     (runs.agree.holds.is_half trade of)
+
+-- its journal is of this version, or of another one
+pub version_runs : {D : Type 0} {seals : Seals} (kept : List Kept) (me : ℕ) (inside old : ProviderState D)
+    → inside ≡ old
+    → (trade : Trade) → Runs kept seals me old → IsOf kept trade → (version : ℕ) → version ≡ inside.shelf.half.version
+    → version ≡ (half trade me old.chronicle.entries).version
+version_runs {D} kept me inside old view trade runs of version is =
+    is ∙ ap (λ (p : ProviderState D). p.shelf.half.version) view
+    ∙ ap (λ (h : Half). h.version) (half_runs kept me old trade runs of)
+
+-- its mailboxes are those of its entries
+pub items_runs : {D : Type 0} {seals : Seals} (kept : List Kept) (me : ℕ) (inside old : ProviderState D) → inside ≡ old
+    → (trade : Trade) → Runs kept seals me old → IsOf kept trade → (account : Bytes)
+    → mailbox inside.shelf.half account ≡ mailbox (half trade me old.chronicle.entries) account
+items_runs {D} kept me inside old view trade runs of account =
+    ap (λ (p : ProviderState D). mailbox p.shelf.half account) view
+    ∙ ap (λ (h : Half). mailbox h account) (half_runs kept me old trade runs of)
 
 -- each of its entries is a step of those before it
 pub steps_inside : {D : Type 0} {seals : Seals} (kept : List Kept) (me : ℕ) (inside old : ProviderState D) → inside ≡ old

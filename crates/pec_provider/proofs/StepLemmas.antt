@@ -4,6 +4,7 @@ use Rattle.pec_types.specs.Bytes.{Bytes, Path}
 use Rattle.pec_types.specs.Message.{Id}
 use Rattle.pec_types.specs.declared.messages.Decision.{Decision}
 use Rattle.pec_types.specs.declared.messages.Decision.TheVariants.{Placed, Refused}
+use Rattle.pec_types.specs.declared.messages.Refusal.TheVariants as refusals
 use Rattle.pec_types.specs.declared.receipts.Kind.{Kind}
 use Rattle.pec_types.specs.declared.receipts.Kind.TheVariants as kinds
 use Rattle.pec_records.specs.declared.entries.Entry.{Entry}
@@ -17,6 +18,7 @@ use Rattle.pec_plays.specs.Reception.{accounts_with_room, ack_fits, ack_rows, an
 use Rattle.pec_plays.specs.Reception.{by_outcome, by_receipt, by_seen, charge_fits, charge_rows, envelope_fits}
 use Rattle.pec_plays.specs.Reception.{envelope_rows, otherwise, outcome_fits, outcome_rows}
 use Rattle.pec_plays.specs.Steps.{Step}
+use Rattle.pec_reception.specs.Shows.{decide_as}
 use Rattle.pec_provider.specs.Doing.{is_full_for}
 
 module _ (trade : Trade) (me now : ℕ) (journal : List Entry) where
@@ -59,7 +61,8 @@ module _ (trade : Trade) (me now : ℕ) (journal : List Entry) where
       → IsSo (by_outcome trade me now journal framed receipt decision recipient)
   by_outcome_so framed receipt decision None = otherwise_so framed
   by_outcome_so framed receipt decision (Some recipient) =
-      outcome_so framed receipt recipient decision (outcome_fits trade me now journal framed receipt recipient)
+      outcome_so framed receipt recipient decision
+      (outcome_fits trade me now journal framed receipt recipient decision)
       (known_of (half trade me journal) (pair_of receipt.id recipient))
 
   by_ack_so : (framed : Framed) (receipt : Receipt) (recipient : Option Bytes)
@@ -75,8 +78,13 @@ module _ (trade : Trade) (me now : ℕ) (journal : List Entry) where
       charge_so framed receipt (charge_fits trade me now journal framed receipt)
       (charged_of (half trade me journal) receipt.id receipt.by)
   by_receipt_so framed receipt kinds.Delivery = by_outcome_so framed receipt Placed receipt.recipient
-  by_receipt_so framed receipt (kinds.DeliveryError refusal) = by_outcome_so framed receipt
-      (Refused refusal) receipt.recipient
+  by_receipt_so framed receipt (kinds.DeliveryError refusals.NoMailbox) =
+      by_outcome_so framed receipt (Refused refusals.NoMailbox) receipt.recipient
+  by_receipt_so framed receipt (kinds.DeliveryError refusals.MailboxFull) =
+      by_outcome_so framed receipt (Refused refusals.MailboxFull) receipt.recipient
+  by_receipt_so framed receipt (kinds.DeliveryError refusals.Virus) = otherwise_so framed
+  by_receipt_so framed receipt kinds.VirusFound =
+      by_outcome_so framed receipt (Refused refusals.Virus) receipt.recipient
   by_receipt_so framed receipt kinds.Ack = by_ack_so framed receipt receipt.recipient
   by_receipt_so framed receipt kinds.Acceptance = otherwise_so framed
   by_receipt_so framed receipt (kinds.NonAcceptance cause) = otherwise_so framed
@@ -98,6 +106,6 @@ module _ (trade : Trade) (me now : ℕ) (journal : List Entry) where
   unfolding arrive
   arrive_so frame = by_frame_so (trade.unframed frame)
 
-  pub decide_so : (pair : Pair) → IsSo (decide trade me now journal pair)
+  pub decide_so : (found : Bool) (pair : Pair) → IsSo (decide_as trade me now found journal pair)
   unfolding decide
-  decide_so pair = refl
+  decide_so found pair = refl

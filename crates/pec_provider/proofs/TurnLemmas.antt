@@ -1,5 +1,5 @@
 -- What a turn's calls do, by what they have to do.
-use Rattle.std.proofs.Common.{◌≡◌, ℕ, ◌<◌, ◌≤◌, Bool, false, not, List, [], ◌∷◌, ◌++◌, refl, sym, ap, subst, ◌∙◌, arith}
+use Rattle.std.proofs.Common.{◌≡◌, ℕ, ◌<◌, ◌≤◌, Bool, false, not, List, [], ◌∷◌, ◌++◌, inl, inr, refl, sym, ap, subst, ◌∙◌, arith}
 use Rattle.std.proofs.Common.{Option, Some, None, Result, Ok, Err}
 use Rattle.std.specs.Prelude.{IfSome, IsErrAnd, Contains}
 use Rattle.std.specs.Option.{option_to_list}
@@ -16,18 +16,21 @@ use Rattle.pec_records.specs.declared.entries.Entry.{Entry}
 use Rattle.pec_records.specs.declared.entries.Entry.TheVariants as entries
 use Rattle.pec_ledger.specs.Ledger.{Joint, Journals, Meets}
 use Rattle.pec_ledger.specs.OfDirectory.{IsOf}
-use Rattle.pec_ledger.specs.Own.{Own, decision_at}
+use Rattle.pec_ledger.specs.Own.{Own}
 use Rattle.pec_ledger.specs.Pairs.{Pair}
 use Rattle.pec_ledger.specs.Steps.{half, moment_of}
 use Rattle.pec_ledger.specs.Trade.{Trade}
-use Rattle.pec_plays.specs.Decisions.{decide, undecided}
+use Rattle.pec_screen.specs.Verdicts.{Patterns}
+use Rattle.pec_plays.specs.Decisions.{decide, decision_on, found_in_taken, undecided}
 use Rattle.pec_plays.specs.Steps.{Step}
-use Rattle.pec_reception.specs.Shows.{Shows, ShowsNext}
+use Rattle.pec_reception.specs.Shows.{Shows, decide_as}
 use Rattle.pec_reception.specs.declared.received.Received.{Received}
 use Rattle.pec_provider.specs.Appending.{Appends, MayEnter, WorksAt}
+use Rattle.pec_provider.specs.Deciding.{IsReady, IsUnready, ShowsNext}
 use Rattle.pec_provider.specs.Doing.{AppendsAny, is_full_for}
 use Rattle.pec_provider.specs.Provider.{Desk, ProviderState, desk_of}
-use Rattle.pec_provider.specs.Working.{DecidesFirst, Does, IsAtWork, Works, behind}
+use Rattle.pec_provider.specs.Reading.{Reads}
+use Rattle.pec_provider.specs.Working.{DecidesFirst, Does, IsAtWork, IsFound, IsUndecided, Works, behind}
 
 -- ---- one step
 
@@ -96,6 +99,8 @@ does_err trade me step old mid (Some entry) faults.Down same full appends = absu
 does_err trade me step old mid (Some entry) (faults.ClockBack moment) same full appends = absurd appends
 does_err trade me step old mid (Some entry) faults.NoAccount same full appends = absurd appends
 does_err trade me step old mid (Some entry) faults.Full same full appends = absurd appends
+does_err trade me step old mid (Some entry) faults.OldJournal same full appends = absurd appends
+does_err trade me step old mid (Some entry) faults.NoNeed same full appends = absurd appends
 does_err trade me step old mid (Some entry) faults.NoItem same full appends = absurd appends
 does_err trade me step old mid (Some entry) (faults.Changed which) same full appends = absurd appends
 
@@ -121,57 +126,105 @@ module _ (trade : Trade) (me now : ℕ) (old new : Desk) where
   works_step step (Err (faults.ClockBack moment)) works does = absurd does
   works_step step (Err faults.NoAccount) works does = absurd does
   works_step step (Err faults.Full) works does = absurd does
+  works_step step (Err faults.OldJournal) works does = absurd does
+  works_step step (Err faults.NoNeed) works does = absurd does
   works_step step (Err faults.NoItem) works does = absurd does
   works_step step (Err (faults.Changed which)) works does = absurd does
 
-  pub works_first : (pairs : List Pair) (answer : Result (Option Event) ProviderFault) → IsAtWork trade me now old
-      → DecidesFirst trade me now pairs old new answer
-      → Works trade me now (DecidesFirst trade me now pairs old new) old new answer
-  works_first [] (Ok None) works does = (works, does)
-  works_first [] (Ok (Some event)) works does = absurd does
-  works_first [] (Err faults.NoMemory) works does = (works, does)
-  works_first [] (Err faults.DiskFault) works does = absurd does
-  works_first [] (Err faults.JournalFull) works does = absurd does
-  works_first [] (Err faults.Down) works does = absurd does
-  works_first [] (Err (faults.ClockBack moment)) works does = absurd does
-  works_first [] (Err faults.NoAccount) works does = absurd does
-  works_first [] (Err faults.Full) works does = absurd does
-  works_first [] (Err faults.NoItem) works does = absurd does
-  works_first [] (Err (faults.Changed which)) works does = absurd does
-  works_first (pair ∷ pairs) (Ok answer) works does = (works, does)
-  works_first (pair ∷ pairs) (Err faults.NoMemory) works does = (works, does)
-  works_first (pair ∷ pairs) (Err faults.DiskFault) works does = (works, does)
-  works_first (pair ∷ pairs) (Err faults.JournalFull) works does = (works, does)
-  works_first (pair ∷ pairs) (Err faults.Down) works does = absurd does
-  works_first (pair ∷ pairs) (Err (faults.ClockBack moment)) works does = absurd does
-  works_first (pair ∷ pairs) (Err faults.NoAccount) works does = absurd does
-  works_first (pair ∷ pairs) (Err faults.Full) works does = absurd does
-  works_first (pair ∷ pairs) (Err faults.NoItem) works does = absurd does
-  works_first (pair ∷ pairs) (Err (faults.Changed which)) works does = absurd does
+  module _ (found : Bool) where
+    pub works_first : (pairs : List Pair) (answer : Result (Option Event) ProviderFault) → IsAtWork trade me now old
+        → DecidesFirst trade me now found pairs old new answer
+        → Works trade me now (DecidesFirst trade me now found pairs old new) old new answer
+    works_first [] (Ok None) works does = (works, does)
+    works_first [] (Ok (Some event)) works does = absurd does
+    works_first [] (Err faults.DiskFault) works does = absurd does
+    works_first [] (Err faults.JournalFull) works does = absurd does
+    works_first [] (Err faults.NoMemory) works does = (works, does)
+    works_first [] (Err faults.Down) works does = absurd does
+    works_first [] (Err (faults.ClockBack moment)) works does = absurd does
+    works_first [] (Err faults.NoAccount) works does = absurd does
+    works_first [] (Err faults.Full) works does = absurd does
+    works_first [] (Err faults.OldJournal) works does = absurd does
+    works_first [] (Err faults.NoNeed) works does = absurd does
+    works_first [] (Err faults.NoItem) works does = absurd does
+    works_first [] (Err (faults.Changed which)) works does = absurd does
+    works_first (pair ∷ pairs) (Ok None) works does = absurd does
+    works_first (pair ∷ pairs) (Ok (Some event)) works does = (works, does)
+    works_first (pair ∷ pairs) (Err faults.DiskFault) works does = (works, does)
+    works_first (pair ∷ pairs) (Err faults.JournalFull) works does = (works, does)
+    works_first (pair ∷ pairs) (Err faults.NoMemory) works does = (works, does)
+    works_first (pair ∷ pairs) (Err faults.Down) works does = absurd does
+    works_first (pair ∷ pairs) (Err (faults.ClockBack moment)) works does = absurd does
+    works_first (pair ∷ pairs) (Err faults.NoAccount) works does = absurd does
+    works_first (pair ∷ pairs) (Err faults.Full) works does = absurd does
+    works_first (pair ∷ pairs) (Err faults.OldJournal) works does = absurd does
+    works_first (pair ∷ pairs) (Err faults.NoNeed) works does = absurd does
+    works_first (pair ∷ pairs) (Err faults.NoItem) works does = absurd does
+    works_first (pair ∷ pairs) (Err (faults.Changed which)) works does = (works, does)
 
-  -- want of memory leaves the pairs as they are
-  pub first_unread : (pairs : List Pair) (result : Result (Option Event) ProviderFault)
-      → IsErrAnd result (λ f. f ≡ faults.NoMemory)
-      → new ≡ old → DecidesFirst trade me now pairs old new result
-  first_unread [] result is same =
-      let p = err_from_is_err_and result is in
-      subst (λ (r : Result (Option Event) ProviderFault). DecidesFirst trade me now [] old new r) (sym p.1)
-      (subst (λ (f : ProviderFault). DecidesFirst trade me now [] old new (Err f)) (sym p.2) same)
-  first_unread (pair ∷ pairs) result is same =
-      let p = err_from_is_err_and result is in
-      subst (λ (r : Result (Option Event) ProviderFault). DecidesFirst trade me now (pair ∷ pairs) old new r) (sym p.1)
-      (subst (λ (f : ProviderFault). DecidesFirst trade me now (pair ∷ pairs) old new (Err f)) (sym p.2) same)
+    -- a step that ended with a fault, whose envelope had been read
+    undecided_by : (pair : Pair) (step : Step) (fault : ProviderFault) → Does step old new (Err fault)
+        → IsUndecided trade me pair step old new fault
+    undecided_by pair step faults.DiskFault does = inr does
+    undecided_by pair step faults.JournalFull does = does
+    undecided_by pair step faults.NoMemory does = does
+    undecided_by pair step faults.Down does = absurd does
+    undecided_by pair step (faults.ClockBack moment) does = absurd does
+    undecided_by pair step faults.NoAccount does = absurd does
+    undecided_by pair step faults.Full does = absurd does
+    undecided_by pair step faults.OldJournal does = absurd does
+    undecided_by pair step faults.NoNeed does = absurd does
+    undecided_by pair step faults.NoItem does = absurd does
+    undecided_by pair step (faults.Changed which) does = absurd does
 
-  -- the first pair's step ended with a fault
-  pub first_handed : (pairs : List Pair) (pair : Pair) (rest : List Pair) → pairs ≡ pair ∷ rest
-      → (fault : ProviderFault)
-      (result : Result (Option Event) ProviderFault) → IsErrAnd result (λ f. f ≡ fault)
-      → Does (decide trade me now old.journal pair) old new (Err fault) → DecidesFirst trade me now pairs old new result
-  first_handed pairs pair rest first fault result is does =
-      let p = err_from_is_err_and result is in
-      subst (λ (l : List Pair). DecidesFirst trade me now l old new result) (sym first)
-      (subst (λ (r : Result (Option Event) ProviderFault). DecidesFirst trade me now (pair ∷ rest) old new r) (sym p.1)
-      (subst (λ (f : ProviderFault). DecidesFirst trade me now (pair ∷ rest) old new (Err f)) (sym p.2) does))
+    -- the first pair's step ended with a fault
+    pub first_handed : (pairs : List Pair) (pair : Pair) (rest : List Pair) → pairs ≡ pair ∷ rest
+        → (fault : ProviderFault)
+        (result : Result (Option Event) ProviderFault) → IsErrAnd result (λ f. f ≡ fault)
+        → Does (decide_as trade me now found old.journal pair) old new (Err fault)
+        → DecidesFirst trade me now found pairs old new result
+    first_handed pairs pair rest first fault result is does =
+        let p = err_from_is_err_and result is in
+        subst (λ (l : List Pair). DecidesFirst trade me now found l old new result) (sym first)
+        (subst (λ (r : Result (Option Event) ProviderFault). DecidesFirst trade me now found (pair ∷ rest) old new r)
+        (sym p.1)
+        (subst (λ (f : ProviderFault). DecidesFirst trade me now found (pair ∷ rest) old new (Err f)) (sym p.2)
+        (undecided_by pair (decide_as trade me now found old.journal pair) fault does)))
+
+    -- it isn't known what is to be done with the first pair
+    unready_first : (pairs : List Pair) (fault : ProviderFault) → IsUnready trade me pairs fault
+        → Reads {X = Option Received} old new (Err fault) → DecidesFirst trade me now found pairs old new (Err fault)
+    unready_first [] faults.DiskFault unready left = absurd unready
+    unready_first [] faults.JournalFull unready left = absurd unready
+    unready_first [] faults.NoMemory unready left = left
+    unready_first [] faults.Down unready left = absurd unready
+    unready_first [] (faults.ClockBack moment) unready left = absurd unready
+    unready_first [] faults.NoAccount unready left = absurd unready
+    unready_first [] faults.Full unready left = absurd unready
+    unready_first [] faults.OldJournal unready left = absurd unready
+    unready_first [] faults.NoNeed unready left = absurd unready
+    unready_first [] faults.NoItem unready left = absurd unready
+    unready_first [] (faults.Changed which) unready left = absurd unready
+    unready_first (pair ∷ pairs) faults.DiskFault unready left = inl (record { account = unready; stops = left })
+    unready_first (pair ∷ pairs) faults.JournalFull unready left = absurd unready
+    unready_first (pair ∷ pairs) faults.NoMemory unready left = left
+    unready_first (pair ∷ pairs) faults.Down unready left = absurd unready
+    unready_first (pair ∷ pairs) (faults.ClockBack moment) unready left = absurd unready
+    unready_first (pair ∷ pairs) faults.NoAccount unready left = absurd unready
+    unready_first (pair ∷ pairs) faults.Full unready left = absurd unready
+    unready_first (pair ∷ pairs) faults.OldJournal unready left = absurd unready
+    unready_first (pair ∷ pairs) faults.NoNeed unready left = absurd unready
+    unready_first (pair ∷ pairs) faults.NoItem unready left = absurd unready
+    unready_first (pair ∷ pairs) (faults.Changed which) unready left = record { account = unready; stops = left }
+
+    pub unready_handed : (pairs : List Pair) (fault : ProviderFault) (result : Result (Option Event) ProviderFault)
+        → IsErrAnd result (λ f. f ≡ fault) → IsUnready trade me pairs fault
+        → Reads {X = Option Received} old new (Err fault) → DecidesFirst trade me now found pairs old new result
+    unready_handed pairs fault result is unready left =
+        let p = err_from_is_err_and result is in
+        subst (λ (r : Result (Option Event) ProviderFault). DecidesFirst trade me now found pairs old new r) (sym p.1)
+        (subst (λ (f : ProviderFault). DecidesFirst trade me now found pairs old new (Err f)) (sym p.2)
+        (unready_first pairs fault unready left))
 
 -- a provider that isn't at work does nothing
 idles : (X Y : Type 0) (trade : Trade) (me now : ℕ) (Done : Result X ProviderFault → Type 0) (old : Desk)
@@ -183,6 +236,8 @@ idles X Y trade me now Done old faults.DiskFault works = absurd works
 idles X Y trade me now Done old faults.NoMemory works = absurd works
 idles X Y trade me now Done old faults.NoAccount works = absurd works
 idles X Y trade me now Done old faults.Full works = absurd works
+idles X Y trade me now Done old faults.OldJournal works = absurd works
+idles X Y trade me now Done old faults.NoNeed works = absurd works
 idles X Y trade me now Done old faults.NoItem works = absurd works
 idles X Y trade me now Done old (faults.Changed which) works = absurd works
 idles X Y trade me now Done old faults.JournalFull works = absurd works
@@ -214,19 +269,20 @@ step_may kept me now trade journal step (Some e) of same late own =
     }
 
 -- a decision may follow in the ledger of any journals
-pub decision_follows : (trade : Trade) (journals : Journals) (me now : ℕ) (journal : List Entry) (pair : Pair)
-    (entry : Entry)
+pub decision_follows : (trade : Trade) (journals : Journals) (me now : ℕ) (found : Bool) (journal : List Entry)
+    (pair : Pair) (entry : Entry)
     → (half trade me journal).last ≤ now → now < END_OF_TIME
     → Own trade me (half trade me journal) entry × (moment_of entry ≡ now)
-    → (decide trade me now journal pair).entry ≡ Some entry → Meets trade journals me (half trade me journal) entry
+    → (decide_as trade me now found journal pair).entry ≡ Some entry
+    → Meets trade journals me (half trade me journal) entry
 unfolding decide
-decision_follows trade journals me now journal pair entry late below own is = record {
+decision_follows trade journals me now found journal pair entry late below own is = record {
   own = own.0;
   in_time = subst (λ (n : ℕ). (half trade me journal).last ≤ n) (sym own.1) late;
   in_range = subst (λ (n : ℕ). n < END_OF_TIME) (sym own.1) below;
   joint = subst (λ (e : Entry). Joint trade journals me e)
       (same_Some (entries.Decided now pair.id pair.recipient
-      (decision_at trade me (half trade me journal) pair.recipient)) entry is) tt;
+      (decision_on trade me (half trade me journal) pair.recipient found)) entry is) tt;
 }
 
 -- the first of pairs is one of them
@@ -261,6 +317,8 @@ appends_as X Y trade me entry old new faults.Down appends = appends
 appends_as X Y trade me entry old new (faults.ClockBack moment) appends = appends
 appends_as X Y trade me entry old new faults.NoAccount appends = appends
 appends_as X Y trade me entry old new faults.Full appends = appends
+appends_as X Y trade me entry old new faults.OldJournal appends = appends
+appends_as X Y trade me entry old new faults.NoNeed appends = appends
 appends_as X Y trade me entry old new faults.NoItem appends = appends
 appends_as X Y trade me entry old new (faults.Changed which) appends = appends
 
@@ -278,36 +336,48 @@ any_handed X Y trade me some entry old new fault result same is appends =
 -- ---- the next pair
 
 -- this is to be done with the first undecided pair
-pub record IsFirst (trade : Trade) (me now : ℕ) (journal : List Entry) (received : Received) : Type 0 where
+pub record IsFirst (trade : Trade) (me now : ℕ) (found : Bool) (journal : List Entry)
+    (received : Received) : Type 0 where
   pub pair : Pair
   pub pairs : List Pair
   pub first : undecided trade me journal ≡ pair ∷ pairs
-  pub shows : Shows received (decide trade me now journal pair)
+  pub shows : Shows received (decide_as trade me now found journal pair)
 
-pub none_next : (trade : Trade) (me now : ℕ) (journal : List Entry) (next : Option Received)
-    → ShowsNext trade me now journal next
-    → next ≡ None → undecided trade me journal ≡ []
-none_next trade me now journal next shows none = subst (λ (o : Option Received). ShowsNext trade me now journal o) none
-    shows
+-- nothing is undecided
+none_of : (trade : Trade) (me now : ℕ) (found : Bool) (journal : List Entry) (pairs : List Pair)
+    → ShowsNext trade me now found journal pairs None → pairs ≡ []
+none_of trade me now found journal [] shows = refl
+none_of trade me now found journal (pair ∷ pairs) shows = absurd shows
 
-pub some_next : (trade : Trade) (me now : ℕ) (journal : List Entry) (next : Option Received) (received : Received)
-    → ShowsNext trade me now journal next → next ≡ Some received → IsFirst trade me now journal received
-some_next trade me now journal next received shows some =
-    let s : ShowsNext trade me now journal (Some received) = subst
-    (λ (o : Option Received). ShowsNext trade me now journal o) some shows in
-    record { pair = s.0; pairs = s.1; first = s.2; shows = s.3 }
+some_of : (trade : Trade) (me now : ℕ) (found : Bool) (journal : List Entry) (pairs : List Pair) (received : Received)
+    → ShowsNext trade me now found journal pairs (Some received)
+    → (pair : Pair) × (rest : List Pair) × (pairs ≡ pair ∷ rest)
+    × Shows received (decide_as trade me now found journal pair)
+some_of trade me now found journal [] received shows = absurd shows
+some_of trade me now found journal (pair ∷ pairs) received shows = (pair, pairs, refl, shows)
 
--- want of memory decides nothing
-no_memory_first : (trade : Trade) (me now : ℕ) (desk : Desk) (pairs : List Pair)
-    → DecidesFirst trade me now pairs desk desk (Err faults.NoMemory)
-no_memory_first trade me now desk [] = refl
-no_memory_first trade me now desk (pair ∷ pairs) = refl
+module _ (Stood : Type 0) (trade : Trade) (me now : ℕ) (screens : List Patterns) (journal : List Entry) where
+  pub none_next : (next : Option Received) (ready : IsReady Stood trade me now screens journal next) → next ≡ None
+      → undecided trade me journal ≡ []
+  none_next next ready none = none_of trade me now ready.found journal (undecided trade me journal)
+      (subst (λ (o : Option Received). ShowsNext trade me now ready.found journal (undecided trade me journal) o) none
+      ready.shows)
 
-pub no_memory_handed : (trade : Trade) (me now : ℕ) (desk : Desk) (pairs : List Pair)
-    (result : Result (Option Event) ProviderFault)
-    → IsErrAnd result (λ f. f ≡ faults.NoMemory) → DecidesFirst trade me now pairs desk desk result
-no_memory_handed trade me now desk pairs result is =
-    let p = err_from_is_err_and result is in
-    subst (λ (r : Result (Option Event) ProviderFault). DecidesFirst trade me now pairs desk desk r) (sym p.1)
-    (subst (λ (f : ProviderFault). DecidesFirst trade me now pairs desk desk (Err f)) (sym p.2)
-    (no_memory_first trade me now desk pairs))
+  pub some_next : (next : Option Received) (received : Received)
+      (ready : IsReady Stood trade me now screens journal next)
+      → next ≡ Some received → IsFirst trade me now ready.found journal received
+  some_next next received ready some =
+      let s = some_of trade me now ready.found journal (undecided trade me journal) received
+      (subst (λ (o : Option Received). ShowsNext trade me now ready.found journal (undecided trade me journal) o) some
+      ready.shows) in
+      record { pair = s.0; pairs = s.1; first = s.2; shows = s.3 }
+
+-- what screens find for the first of these pairs, if there is one
+abbrev pub found_of : Trade → ℕ → List Patterns → List Entry → List Pair → Bool
+found_of trade me screens journal [] = false
+found_of trade me screens journal (pair ∷ pairs) = found_in_taken trade me screens journal pair.id
+
+-- that is what they find
+pub found_so : (trade : Trade) (me : ℕ) (screens : List Patterns) (journal : List Entry)
+    → IsFound trade me screens journal (found_of trade me screens journal (undecided trade me journal))
+found_so trade me screens journal pair pairs first = ap (found_of trade me screens journal) first

@@ -1,11 +1,12 @@
 -- What the parts of a provider's calls do: whether it is at work, what it makes of a submission, and what the append of
 -- an entry leaves. This project's profile.
-use Rattle.std.specs.Prelude.{◌≡◌, ℕ, ◌<◌, Bool, true, false, List, ◌∷◌, [], ◌++◌, Result, Ok, Err}
+use Rattle.std.specs.Prelude.{◌≡◌, ℕ, ◌<◌, true, false, List, ◌∷◌, [], ◌++◌, Result, Ok, Err}
 use Rattle.pec_types.specs.Bytes.{Bytes, Path}
 use Rattle.pec_types.specs.declared.turns.ProviderFault.{ProviderFault}
 use Rattle.pec_types.specs.declared.turns.ProviderFault.TheVariants as faults
 use Rattle.pec_types.specs.declared.turns.Submitted.{Submitted}
 use Rattle.pec_records.specs.declared.entries.Entry.{Entry}
+use Rattle.pec_screen.specs.Verdicts.{Patterns}
 use Rattle.pec_ledger.specs.Network.{Site, site_at}
 use Rattle.pec_ledger.specs.OfDirectory.{IsOf}
 use Rattle.pec_ledger.specs.Steps.{half}
@@ -52,24 +53,25 @@ Appends trade me entry old new (Err _) = ⊥
 
 -- ---- what a command comes to
 
--- The command appends this entry, and is then answered so.
-abbrev pub ComesTo : (Luck → List Site → Played) → Trade → ℕ → Desk → Entry → Answer → Type 0
-ComesTo play trade me desk entry answer =
-    (sites : List Site) (waiting : List (List Bytes)) → site_at sites me ≡ site_of desk waiting
+-- The command of a provider with these screens appends this entry, and is then answered so.
+abbrev pub ComesTo : (Luck → List Site → Played) → Trade → ℕ → List Patterns → Desk → Entry → Answer → Type 0
+ComesTo play trade me screens desk entry answer =
+    (sites : List Site) (waiting : List (List Bytes)) → site_at sites me ≡ site_of desk screens waiting
     → (luck : Luck) → play luck sites ≡ append trade luck sites me entry answer
 
 -- The command is refused; want of memory is no answer of one.
-abbrev pub IsRefused : (Luck → List Site → Played) → ℕ → Desk → ProviderFault → Type 0
-IsRefused play me desk faults.NoMemory = Unit {0}
-IsRefused play me desk faults.DiskFault = ⊥
-IsRefused play me desk fault =
-    (sites : List Site) (waiting : List (List Bytes)) → site_at sites me ≡ site_of desk waiting
+abbrev pub IsRefused : (Luck → List Site → Played) → ℕ → List Patterns → Desk → ProviderFault → Type 0
+IsRefused play me screens desk faults.NoMemory = Unit {0}
+IsRefused play me screens desk faults.DiskFault = ⊥
+IsRefused play me screens desk fault =
+    (sites : List Site) (waiting : List (List Bytes)) → site_at sites me ≡ site_of desk screens waiting
     → play (luck_of false) sites ≡ answers sites (Refuses fault)
 
--- What is made of a submission: an entry and its answer, or a refusal.
-abbrev pub Admits : Trade → ℕ → ℕ → Bytes → Path → Bytes → Bool → Desk → Result (Entry × Submitted) ProviderFault → Type 0
-Admits trade me moment sender path message found desk (Ok made) =
-    ComesTo (λ luck sites. played trade luck sites (Submit me moment sender path message found)) trade me desk made.0
+-- What is made of a submission, by what these screens find: an entry and its answer, or a refusal.
+abbrev pub Admits : Trade → ℕ → ℕ → Bytes → Path → Bytes → List Patterns → Desk
+    → Result (Entry × Submitted) ProviderFault → Type 0
+Admits trade me moment sender path message screens desk (Ok made) =
+    ComesTo (λ luck sites. played trade luck sites (Submit me moment sender path message)) trade me screens desk made.0
     (Submits made.1)
-Admits trade me moment sender path message found desk (Err fault) =
-    IsRefused (λ luck sites. played trade luck sites (Submit me moment sender path message found)) me desk fault
+Admits trade me moment sender path message screens desk (Err fault) =
+    IsRefused (λ luck sites. played trade luck sites (Submit me moment sender path message)) me screens desk fault

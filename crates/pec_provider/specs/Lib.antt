@@ -1,10 +1,16 @@
 pub mod Appending
+pub mod Archiving
+pub mod Deciding
 pub mod Doing
 pub mod Following
+pub mod Keeping
 pub mod Looking
+pub mod OfTrades
 pub mod Playing
 pub mod Provider
 pub mod Reading
 pub mod Summing
+pub mod Swapping
+pub mod Telling
 pub mod Ticking
 pub mod Working

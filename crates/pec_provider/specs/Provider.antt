@@ -5,13 +5,14 @@ use Rattle.pec_types.specs.Bytes.{Bytes}
 use Rattle.pec_types.specs.declared.letters.Letter.{Letter}
 use Rattle.pec_directory.specs.Directory.{Kept}
 use Rattle.pec_records.specs.declared.entries.Entry.{Entry}
+use Rattle.pec_screen.specs.Verdicts.{Patterns}
 use Rattle.pec_ledger.specs.Network.{Site}
 use Rattle.pec_seal.specs.Seals.{Seals}
 use Rattle.pec_shelf.specs.Seen.{Seen}
 use Rattle.pec_chronicle.specs.Chronicle.{ChronicleState}
 use Rattle.pec_seal.specs.declared.sealers.Sealer.{Ghosts}
 use Rattle.pec_stock.specs.Stock.{Agree}
-use Rattle.pec_trade.specs.declared.houses.House.{House}
+use Rattle.pec_reception.specs.OfTrades.{House}
 
 -- Its entries over its disk, its half of the ledger, and the answers that it owes in this turn, in the order in which
 -- they arose.
@@ -47,10 +48,15 @@ desk_of provider = record {
   interrupted = provider.chronicle.interrupted;
 }
 
--- the provider among others, with the frames that wait for it
-abbrev pub site_of : Desk → List (List Bytes) → Site
-site_of desk waiting =
-    record { journal = desk.journal; up = desk.up; interrupted = desk.interrupted; waiting = waiting }
+-- the provider among others, with the patterns of its screens and the frames that wait for it
+abbrev pub site_of : Desk → List Patterns → List (List Bytes) → Site
+site_of desk screens waiting = record {
+  journal = desk.journal;
+  up = desk.up;
+  interrupted = desk.interrupted;
+  screens = screens;
+  waiting = waiting;
+}
 
 -- up, over these entries, and nothing is owed
 abbrev pub fresh : List Entry → Desk

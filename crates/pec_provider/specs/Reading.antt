@@ -1,19 +1,27 @@
 -- What the calls of a provider that read its disk leave (`Reads`), why they answer nothing (`IsUnread`), and when an entry
--- isn't what a letter or an item is composed of (`LetterIsChanged`, `ItemIsChanged`). This project's profile.
-use Rattle.std.specs.Prelude.{◌≡◌, ℕ, ◌<◌, ◌≤◌, Bool, true, false, List, slice_get, Contains, Some, None, Result, Ok, Err}
+-- isn't what a letter or an item is composed of, or what is decided on (`LetterIsChanged`, `ItemIsChanged`,
+-- `VaultItemIsChanged`, `EnvelopeIsChanged`); of what frames are composed over any disk (`AreFramed`). This project's
+-- profile.
+use Rattle.std.specs.Prelude.{◌≡◌, ◌⊎◌, ℕ, ◌<◌, ◌≤◌, Bool, true, false, List, [], ◌∷◌, ◌++◌, slice_get, Contains, Option, Some, None, Result, Ok, Err}
+use Rattle.std.specs.Option.{option_to_list}
 use Rattle.pec_types.specs.Bytes.{Bytes}
 use Rattle.pec_types.specs.declared.letters.Letter.{Letter}
+use Rattle.pec_types.specs.declared.letters.Letter.TheVariants as letters
 use Rattle.pec_types.specs.declared.turns.ProviderFault.{ProviderFault}
 use Rattle.pec_types.specs.declared.turns.ProviderFault.TheVariants as faults
 use Rattle.pec_records.specs.declared.entries.Entry.{Entry}
 use Rattle.pec_ledger.specs.Due.{due_letters}
+use Rattle.pec_ledger.specs.Half.{Half, Posted}
+use Rattle.pec_ledger.specs.Lookups.{archive, mailbox}
+use Rattle.pec_ledger.specs.Pairs.{Pair}
 use Rattle.pec_ledger.specs.Steps.{half}
 use Rattle.pec_ledger.specs.Trade.{Trade}
+use Rattle.pec_plays.specs.Decisions.{undecided}
 use Rattle.pec_chronicle.specs.Chronicle.{ChronicleState}
 use Rattle.pec_outgoing.specs.declared.faults.ComposeFault.{ComposeFault}
 use Rattle.pec_outgoing.specs.declared.faults.ComposeFault.TheVariants as compose
 use Rattle.pec_outgoing.specs.ItemNeeds.{ServesItem, needed_item}
-use Rattle.pec_outgoing.specs.Needs.{Serves, needed}
+use Rattle.pec_outgoing.specs.Needs.{FramedOf, Serves, needed}
 use Rattle.pec_provider.specs.Provider.{Desk, stopped}
 
 -- ---- what is left
@@ -86,9 +94,45 @@ module _ (trade : Trade) (me : ℕ) (journal : List Entry) where
     pub due : Contains (due_letters trade me (half trade me journal) to room owed) letter
     pub is : IsNotOf letter number
 
-  -- Of the entry of this number the item at a place of an account's mailbox is to be composed, and it isn't what that is
+  -- The first undecided pair is decided by what screens find in the envelope that was taken, which is read from the
+  -- entry of this number, and that holds none that is seen as one of its message: it isn't what a charge of it is
   -- composed of.
-  pub record ItemIsChanged (account : Bytes) (place : ℕ) (number : ℕ) : Type 0 where
-    pub needs : needed_item (half trade me journal) account place ≡ Some number
+  pub record EnvelopeIsChanged (number : ℕ) : Type 0 where
+    pub pair : Pair
+    pub pairs : List Pair
+    pub next : undecided trade me journal ≡ pair ∷ pairs
+    pub is : IsNotOf (letters.Charge pair.id me) number
+
+  -- Of the entry of this number an item, where there is one, is to be composed, and it isn't what that is composed of.
+  pub record PostedIsChanged (item : Option Posted) (number : ℕ) : Type 0 where
+    pub posted : Posted
+    pub there : item ≡ Some posted
+    pub needs : needed_item (half trade me journal) posted ≡ Some number
     pub serves : (entry : Entry) → slice_get journal number ≡ Some entry
-        → ServesItem trade me (half trade me journal) account place entry → ⊥
+        → ServesItem trade me (half trade me journal) posted entry → ⊥
+
+  -- So it is for the item at a place of an account's mailbox.
+  abbrev pub ItemIsChanged : Bytes → ℕ → ℕ → Type 0
+  ItemIsChanged account place number =
+      PostedIsChanged (slice_get (mailbox (half trade me journal) account) place) number
+
+  -- So it is for the item at a place of its archive.
+  abbrev pub VaultItemIsChanged : Bytes → ℕ → ℕ → Type 0
+  VaultItemIsChanged account place number =
+      PostedIsChanged (slice_get (archive (half trade me journal) account) place) number
+
+-- ---- what frames are composed of
+
+module _ (trade : Trade) (me : ℕ) (half : Half) where
+  -- The frame of a letter, if there is one: none where the half doesn't have what the letter needs; and else what is
+  -- composed of some entry, which is what the letter is composed of.
+  abbrev pub IsFramed : Letter → Option Bytes → Type 0
+  IsFramed letter found =
+      ((needed me half letter ≡ None) × (found ≡ None)) ⊎ ((entry : Entry) × FramedOf trade me half letter entry found)
+
+  -- So are these the frames of letters, in their order.
+  abbrev pub AreFramed : List Letter → List Bytes → Type 0
+  AreFramed [] frames = frames ≡ []
+  AreFramed (letter ∷ letters) frames =
+      (found : Option Bytes) × (rest : List Bytes) × IsFramed letter found × AreFramed letters rest
+      × (frames ≡ option_to_list found ++ rest)

@@ -9,7 +9,7 @@ ghost use Rattle.pec_ledger.specs.Steps.{half, marks_by};
 ghost use Rattle.pec_ledger.specs.Trade.{Trade};
 ghost use Rattle.pec_plays.specs.Commands.{told_mark};
 ghost use Rattle.pec_seal.specs.Seals.{Seals};
-ghost use Rattle.pec_trade.specs.Houses.{world_at};
+ghost use Rattle.pec_reception.specs.OfTrades.{world_at};
 ghost use Rattle.pec_chronicle.specs.Carrying.{CarriesOn};
 ghost use Rattle.pec_shelf.specs.Looked.{Looked};
 ghost use Rattle.pec_stock.specs.Entering.{OnlyMay};
@@ -18,10 +18,10 @@ ghost use Rattle.pec_provider.specs.Provider.{Runs, RunsIn, desk_of};
 
 use crate::provider::Provider;
 use pec_outside::Disk;
+use pec_reception::House;
 use pec_seal::Sealer;
 use pec_shelf::Draft;
 use pec_stock::enter;
-use pec_trade::House;
 use pec_types::{Mark, Moment, ProviderFault, Steps};
 use std::alloc::Global;
 

@@ -12,13 +12,12 @@ ghost use Rattle.pec_points.specs.Admission.{Looked};
 ghost use Rattle.pec_points.specs.Case.{case_at};
 ghost use Rattle.pec_points.specs.declared.admission.Admission.TheVariants as admissions;
 ghost use Rattle.pec_screen.specs.VerdictReading.{finds};
-ghost use Rattle.pec_trade.specs.Houses.{world_at};
-ghost use Rattle.pec_trade.specs.TradeOf.{cause_at, cause_in};
+ghost use Rattle.pec_reception.specs.OfTrades.{cause_at, cause_in, world_at};
 ghost use Rattle.pec_chronicle.specs.Carrying.{CarriesOn};
 ghost use Rattle.pec_provider.specs.Appending.{Admits};
 ghost use Rattle.pec_provider.specs.Following.{MayFollow};
 ghost use Rattle.pec_provider.specs.Looking.{Looks};
-ghost use Rattle.pec_provider.specs.Playing.{Plays};
+ghost use Rattle.pec_provider.specs.Playing.{Plays, PlaysWith};
 ghost use Rattle.pec_provider.specs.Provider.{RunsIn, desk_of};
 ghost use Rattle.pec_provider.specs.Ticking.{Ticks};
 
@@ -26,12 +25,12 @@ use crate::provider::Provider;
 use pec_outside::Disk;
 use pec_plays::what_a_provider_does_may_follow;
 use pec_points::{Admission, a_message_has_one_answer, admit};
+use pec_reception::{House, a_house_is_a_trade};
 use pec_records::Entry;
 use pec_screen::Judge;
 use pec_seal::Sealer;
 use pec_shelf::Draft;
 use pec_stock::stands_still;
-use pec_trade::{House, a_house_is_a_trade};
 use pec_types::{
     Address, Items, Mark, Moment, MsgId, NoMemory, ProviderFault, Steps, Submitted, Text8,
 };
@@ -57,11 +56,10 @@ impl<D: Disk> Provider<D> {
         requires path { (0 < length path.now) × (length path.now ≤ most_addresses) }
         requires message { length message.now ≤ longest_message }
 
-        // It is played as the command.
-        ensures plays { Plays Submits (λ luck sites.
-            played (world_at house.now) luck sites
-            (Submit house.now.me moment sender.now path.now message.now (finds (J.patterns screens.old) message.now)))
-            house.now.me (desk_of self.old) (desk_of self.new) result }
+        // It is played as the command, by what these screens find.
+        ensures plays { PlaysWith Submits (λ luck sites. played (world_at house.now) luck sites
+            (Submit house.now.me moment sender.now path.now message.now)) house.now.me (J.patterns screens.old)
+            (desk_of self.old) (desk_of self.new) result }
         // Each screen has looked once exactly where the message came to the screens, also where it is refused then.
         ensures looked { Looks (case_at (providers_of house.now.directory.now) house.now.me sender.now path.now
             message.now (finds (J.patterns screens.old) message.now)) (J.seen screens.old) (J.seen screens.new) result }
@@ -134,7 +132,7 @@ impl<D> Provider<D> {
         requires path { (0 < length path.now) × (length path.now ≤ most_addresses) }
         requires message { length message.now ≤ longest_message }
         ensures admits { Admits (world_at house.now) house.now.me moment
-            sender.now path.now message.now (finds (J.patterns screens.old) message.now) (desk_of self.now) result }
+            sender.now path.now message.now (J.patterns screens.old) (desk_of self.now) result }
         ensures looked { Looks (case_at (providers_of house.now.directory.now) house.now.me sender.now path.now
             message.now (finds (J.patterns screens.old) message.now)) (J.seen screens.old) (J.seen screens.new) result }
         ensures patterns { J.patterns screens.new ≡ J.patterns screens.old }

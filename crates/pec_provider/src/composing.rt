@@ -7,24 +7,25 @@ ghost use Rattle.pec_types.specs.declared.turns.ProviderFault.TheVariants as fau
 ghost use Rattle.pec_outside.specs.Flow.{HasRisen};
 ghost use Rattle.pec_journal.specs.JournalFile.{places_of};
 ghost use Rattle.pec_records.specs.Entry.{entry_text};
+ghost use Rattle.pec_ledger.specs.Items.{item_text};
+ghost use Rattle.pec_ledger.specs.Steps.{half};
 ghost use Rattle.pec_plays.specs.Frames.{frame_of};
-ghost use Rattle.pec_trade.specs.Houses.{world_at};
+ghost use Rattle.pec_reception.specs.OfTrades.{world_at};
 ghost use Rattle.pec_outgoing.specs.ItemNeeds.{needed_item};
 ghost use Rattle.pec_chronicle.specs.Carrying.{CarriesOn, NothingMay};
 ghost use Rattle.pec_chronicle.specs.Chronicle.{Stands};
 ghost use Rattle.pec_stock.specs.Stock.{Agree};
-ghost use Rattle.pec_provider.specs.Playing.{item_at};
-ghost use Rattle.pec_provider.specs.Reading.{GivesUp, IsAbsent, IsNotOf, ItemIsChanged, OnChanged, ReadsOver, as_provider};
+ghost use Rattle.pec_provider.specs.Reading.{AreFramed, GivesUp, IsAbsent, IsFramed, IsNotOf, OnChanged, PostedIsChanged, ReadsOver, as_provider};
 
 use pec_chronicle::{Chronicle, ReadFault};
 use pec_outgoing::{ComposeFault, due_letters_have_the_due_frames, framed, item, needed};
 use pec_outside::Disk;
+use pec_reception::{House, a_house_is_a_trade};
 use pec_records::Entry;
 use pec_seal::Sealer;
-use pec_shelf::Shelf;
+use pec_shelf::{PostedRow, Shelf};
 use pec_stock::stands_still;
-use pec_trade::{House, a_house_is_a_trade};
-use pec_types::{Address, Frame, Letter, NoMemory, Place, ProviderFault};
+use pec_types::{Frame, Letter, NoMemory, Place, ProviderFault};
 use std::alloc::Global;
 
 /// The frames of letters, one after another, where there is one, each composed of the entry that is read for it.
@@ -40,6 +41,9 @@ pub(crate) fn frames_of<D: Disk, S: Sealer>(
     requires is { shelf.now.me ≡ house.now.me }
     ensures frames { D.tells → Stands D.sight chronicle.old → IfOk result (λ frames. frames.items
         ≡ filter_map (frame_of (world_at house.now) house.now.me chronicle.old.entries) letters.now) }
+    // Over any disk they are composed of entries that are what the letters are composed of, and no letter is left out.
+    ensures given { IfOk result (λ frames. AreFramed (world_at house.now) house.now.me
+        (half (world_at house.now) house.now.me chronicle.old.entries) letters.now frames.items) }
     ensures few { IfOk result (λ frames. length frames.items ≤ length letters.now) }
     ensures changed { D.tells → Stands D.sight chronicle.old → IfErr result (OnChanged (λ number. (letter : SomeLetter)
         × Contains letters.now letter
@@ -83,6 +87,8 @@ fn frame_for<D: Disk, S: Sealer>(
     requires is { shelf.now.me ≡ house.now.me }
     ensures frame { D.tells → Stands D.sight chronicle.old → IfOk result (λ found. found
         ≡ frame_of (world_at house.now) house.now.me chronicle.old.entries letter.now) }
+    ensures given { IfOk result (IsFramed (world_at house.now) house.now.me
+        (half (world_at house.now) house.now.me chronicle.old.entries) letter.now) }
     ensures changed { D.tells → Stands D.sight chronicle.old → IfErr result (OnChanged
         (IsNotOf (world_at house.now) house.now.me chronicle.old.entries letter.now)) }
     ensures reads { ReadsOver chronicle.old chronicle.new result }
@@ -109,18 +115,17 @@ pub(crate) fn bytes_of<D: Disk, S: Sealer>(
     house: &House<'_, S>,
     chronicle: &mut Chronicle<D>,
     shelf: &Shelf,
-    account: &Address,
-    place: u32,
+    posted: &PostedRow,
     number: u64,
 ) -> Result<Vec<u8>, ProviderFault>
     requires up { chronicle.old.down ≡ false }
     requires agree { Agree house.now.directory.now chronicle.old shelf.now }
     requires is { shelf.now.me ≡ house.now.me }
-    requires needs { needed_item shelf.now.half account.now place ≡ Some number }
+    requires needs { needed_item shelf.now.half posted.now ≡ Some number }
     ensures shown { D.tells → Stands D.sight chronicle.old → IfOk result (λ bytes.
-        item_at (world_at house.now) house.now.me chronicle.old.entries account.now place ≡ Some bytes.items) }
+        item_text (world_at house.now) house.now.me chronicle.old.entries posted.now ≡ Some bytes.items) }
     ensures changed { D.tells → Stands D.sight chronicle.old → IfErr result (OnChanged
-        (ItemIsChanged (world_at house.now) house.now.me chronicle.old.entries account.now place)) }
+        (PostedIsChanged (world_at house.now) house.now.me chronicle.old.entries (Some posted.now))) }
     ensures reads { ReadsOver chronicle.old chronicle.new result }
     ensures carries { D.tells → CarriesOn D.sight NothingMay chronicle.old chronicle.new }
     ensures disk_fault { IsErrOf result faults.DiskFault
@@ -129,7 +134,7 @@ pub(crate) fn bytes_of<D: Disk, S: Sealer>(
 {
     a_house_is_a_trade(house);
     let entry = read(alloc, chronicle, shelf, number)?;
-    match item(alloc, house, shelf, account, place, &entry) {
+    match item(alloc, house, shelf, posted, &entry) {
         Ok(bytes) => Ok(bytes),
         Err(fault) => Err(given_up(chronicle, number, fault)),
     }
@@ -137,7 +142,7 @@ pub(crate) fn bytes_of<D: Disk, S: Sealer>(
 
 /// The entry of a number. Where the shelf has no place for it, it is told as changed, as one whose bytes aren't its
 /// own.
-fn read<D: Disk>(
+pub(crate) fn read<D: Disk>(
     alloc: Global,
     chronicle: &mut Chronicle<D>,
     shelf: &Shelf,
@@ -194,7 +199,7 @@ pub(crate) fn read_at<D: Disk>(
 }
 
 /// Why nothing was composed of the entry of a number. Where the entry isn't what was needed, nothing is read any more.
-fn given_up<D: Disk>(
+pub(crate) fn given_up<D: Disk>(
     chronicle: &mut Chronicle<D>,
     number: u64,
     fault: ComposeFault,

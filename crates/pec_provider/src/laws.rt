@@ -8,9 +8,12 @@ ghost use Rattle.pec_ledger.specs.Trade.{Trade};
 ghost use Rattle.pec_ledger.specs.TradeLaws.{IsTrade};
 ghost use Rattle.pec_chronicle.specs.Carrying.{GoesOn};
 ghost use Rattle.pec_provider.specs.Following.{MayFollow};
-ghost use Rattle.pec_provider.specs.Reading.{ItemIsChanged, LetterIsChanged};
+ghost use Rattle.pec_provider.specs.Reading.{EnvelopeIsChanged, ItemIsChanged, LetterIsChanged, VaultItemIsChanged};
 
-use pec_ledger::{a_taken_message_has_its_envelope, rows_have_their_texts, texts_are_seen};
+use pec_ledger::{
+    a_taken_message_has_its_envelope, boxes_hold_what_was_placed, rows_have_their_texts,
+    texts_are_seen,
+};
 
 /// A list of entries that goes on from a provider's, each by what may follow, goes on in the sense of the ledger.
 pub fn what_follows_goes_on()
@@ -21,15 +24,20 @@ pub fn what_follows_goes_on()
 {}
 
 /// The entry of which a letter is to be composed is what the letter is composed of, in the ledger of journals that are
-/// Fit, and in any journal so is that of an item. So over a disk that tells what it holds, and on which what is kept
-/// stands, `Changed` never comes.
+/// Fit, so is that of the envelope by which a pair is decided, and in any journal so is that of an item of a mailbox or
+/// of an archive. So over a disk that tells what it holds, and on which what is kept stands, `Changed` never comes.
 pub fn nothing_has_changed()
     ensures letters { (trade : Trade) → IsTrade trade → (journals : Journals) → Fit trade journals
         → (me to room : ℕ) (owed : List Letter) (number : ℕ)
         → LetterIsChanged trade me (journals me) to room owed number → ⊥ }
+    ensures envelopes { (trade : Trade) → IsTrade trade → (journals : Journals) → Fit trade journals
+        → (me number : ℕ) → EnvelopeIsChanged trade me (journals me) number → ⊥ }
     ensures items { (trade : Trade) (me : ℕ) (journal : List Entry) (account : Bytes) (place number : ℕ)
         → ItemIsChanged trade me journal account place number → ⊥ }
+    ensures vaults { (trade : Trade) (me : ℕ) (journal : List Entry) (account : Bytes) (place number : ℕ)
+        → VaultItemIsChanged trade me journal account place number → ⊥ }
 {
+    boxes_hold_what_was_placed();
     rows_have_their_texts();
     texts_are_seen();
     a_taken_message_has_its_envelope();

@@ -21,16 +21,17 @@ ghost use Rattle.pec_provider.specs.Provider.{Runs, RunsIn, desk_of, fresh, stop
 use crate::provider::Provider;
 use pec_chronicle::{Chronicle, CreateFault};
 use pec_outside::{Depot, Disk};
+use pec_reception::House;
 use pec_seal::Sealer;
 use pec_shelf::Shelf;
 use pec_stock::{ReopenFault, begin, open, restart};
-use pec_trade::House;
 use std::alloc::Global;
 
 impl<D: Disk> Provider<D> {
-    /// A provider on an empty disk: its journal is made, with its Start. A crash during the call may leave a disk that
-    /// holds bytes and is no journal, but no more of them than that journal has, or than it may have left before. With
-    /// a fault the disk comes back; one that was empty may hold bytes then, no more than these.
+    /// A provider on an empty disk: its journal is made, of version 2, with its Start. A crash during the call may
+    /// leave a disk that holds bytes and is no journal, but no more of them than that journal has, or than it may
+    /// have left before. With a fault the disk comes back; one that was empty may hold bytes then, no more than
+    /// these.
     pub fn create<S: Sealer>(
         alloc: Global,
         house: &House<'_, S>,
@@ -39,7 +40,7 @@ impl<D: Disk> Provider<D> {
         requires { house.now.me < length house.now.directory.now }
         ensures runs { IfOk result (RunsIn house.now) }
         ensures created { IfOk result (λ provider. desk_of provider
-            ≡ fresh (entries.Start house.now.me (digest_of (providers_of house.now.directory.now)) ∷ [])) }
+            ≡ fresh (entries.StartTwo house.now.me (digest_of (providers_of house.now.directory.now)) ∷ [])) }
         ensures stands { D.tells → IfOk result (λ provider. Stands D.sight provider.chronicle) }
 
         // Not empty exactly where the disk holds a byte, unless the size can't be told; it then stays as it is.

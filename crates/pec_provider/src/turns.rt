@@ -1,37 +1,44 @@
-ghost use Rattle.std.specs.Prelude.{◌≡◌, ℕ, ◌<◌, ◌≤◌, ◌++◌, List, length, false, not, Some, IsErrOf, IfErr, IfOk, IfSome};
+ghost use Rattle.std.specs.Prelude.{◌≡◌, ℕ, ◌<◌, ◌≤◌, ◌++◌, List, length, false, not, None, Some, IsErrOf, IfErr, IfOk, IfSome, OnOk};
 ghost use Rattle.std.specs.Option.{option_to_list};
 ghost use Rattle.pec_types.specs.declared.turns.ProviderFault.TheVariants as faults;
 ghost use Rattle.pec_outside.specs.Flow.{HasRisen};
 ghost use Rattle.pec_records.specs.Entry.{IsWithinLimits};
+ghost use Rattle.pec_ledger.specs.Due.{due_letters};
 ghost use Rattle.pec_ledger.specs.Ledger.{Fit, Journals};
 ghost use Rattle.pec_ledger.specs.Network.{IsGenuine};
 ghost use Rattle.pec_ledger.specs.OfDirectory.{IsOf};
+ghost use Rattle.pec_ledger.specs.Steps.{half};
 ghost use Rattle.pec_ledger.specs.Trade.{Trade};
+ghost use Rattle.pec_plays.specs.Decisions.{undecided};
 ghost use Rattle.pec_plays.specs.Frames.{due_frames};
 ghost use Rattle.pec_plays.specs.Steps.{Step};
-ghost use Rattle.pec_trade.specs.Houses.{world_at};
+ghost use Rattle.pec_reception.specs.OfTrades.{world_at};
 ghost use Rattle.pec_chronicle.specs.Carrying.{CarriesOn, NothingMay};
 ghost use Rattle.pec_chronicle.specs.Chronicle.{Stands};
 ghost use Rattle.pec_stock.specs.Entering.{OnlyMay};
+ghost use Rattle.pec_reception.specs.Shows.{IsLimited};
 ghost use Rattle.pec_provider.specs.Appending.{MayEnter};
+ghost use Rattle.pec_provider.specs.Deciding.{IsReady, IsUnready};
 ghost use Rattle.pec_provider.specs.Doing.{AppendsAny, Undertakes};
 ghost use Rattle.pec_provider.specs.Following.{MayFollow};
+ghost use Rattle.pec_provider.specs.Looking.{LooksNext};
 ghost use Rattle.pec_provider.specs.Provider.{RunsIn, desk_of};
-ghost use Rattle.pec_provider.specs.Reading.{IsUnread, LetterIsChanged, OnChanged, Reads};
-ghost use Rattle.pec_provider.specs.Working.{Arrives, Decides, Does};
+ghost use Rattle.pec_provider.specs.Reading.{AreFramed, EnvelopeIsChanged, IsUnread, LetterIsChanged, OnChanged, Reads};
+ghost use Rattle.pec_provider.specs.Working.{Arrives, DecidesBy, Does};
 
 use crate::composing::frames_of;
+use crate::deciding::next_decision;
 use crate::provider::Provider;
 use pec_outgoing::{due_letters, due_letters_have_the_due_frames};
 use pec_outside::Disk;
 use pec_plays::{
     a_turn_puts_what_is_due, what_a_provider_does_is_its_own, what_a_provider_does_may_follow,
 };
-use pec_reception::{Received, decide, receive};
+use pec_reception::{House, Received, a_house_is_a_trade, receive};
+use pec_screen::Judge;
 use pec_seal::Sealer;
 use pec_shelf::Draft;
 use pec_stock::stands_still;
-use pec_trade::{House, a_house_is_a_trade};
 use pec_types::{Event, Frame, Letter, Moment, ProviderFault, Steps};
 use std::alloc::Global;
 
@@ -74,16 +81,32 @@ impl<D: Disk> Provider<D> {
     }
 
     /// Decides on the first taken pair, in order of taking and of recipients, that isn't decided (RFC 6109, section
-    /// 3.3, within this project's profile); `None` says that there is none. The refusals are those of `arrive`.
-    pub fn decide_next<S: Sealer>(
+    /// 3.3, within this project's profile); `None` says that there is none. Where the recipient is an account, the
+    /// envelope is read, and the screens, which are this provider's, look at its original once. The first of these
+    /// refusals that applies is answered: `Down`; `ClockBack`; `NoMemory`; `DiskFault` by the read, or `Changed` with
+    /// the number of an entry that holds no envelope of the message, and then the provider is down and no screen has
+    /// looked; `JournalFull`; `DiskFault` by the append.
+    pub fn decide_next<S: Sealer, J: Judge>(
         &mut self,
         alloc: Global,
         house: &House<'_, S>,
         moment: Moment,
+        screens: &mut J,
     ) -> Result<Option<Event>, ProviderFault>
         requires runs { RunsIn house.now self.old }
-        ensures decides { Decides (world_at house.now) house.now.me moment
-            (desk_of self.old) (desk_of self.new) result }
+
+        // Over a disk that tells what it holds, and on which what is kept stands, they look at the original that was
+        // taken.
+        ensures decides { DecidesBy (world_at house.now) house.now.me moment
+            (D.tells × Stands D.sight self.old.chronicle)
+            (J.patterns screens.old) (desk_of self.old) (desk_of self.new) result }
+        ensures changed { D.tells → Stands D.sight self.old.chronicle → IfErr result (OnChanged (EnvelopeIsChanged
+            (world_at house.now) house.now.me self.old.chronicle.entries)) }
+        // Each screen has looked once exactly where the pair came to them, also where its entry isn't appended then.
+        ensures looked { LooksNext (world_at house.now) house.now.me
+            (undecided (world_at house.now) house.now.me self.old.chronicle.entries) self.new.chronicle.interrupted
+            (J.seen screens.old) (J.seen screens.new) result }
+        ensures patterns { J.patterns screens.new ≡ J.patterns screens.old }
         ensures runs { RunsIn house.now self.new }
         ensures carries { D.tells → (journals : Journals) → CarriesOn D.sight
             (MayFollow (world_at house.now) journals house.now.me) self.old.chronicle self.new.chronicle }
@@ -95,11 +118,51 @@ impl<D: Disk> Provider<D> {
         what_a_provider_does_is_its_own();
         stands_still(&self.chronicle);
         self.at_work(moment)?;
-        let Some(received) = decide(alloc, house.directory, &self.shelf, moment)? else {
+        let Some(received) = self.ready(alloc, house, moment, screens)? else {
             return Ok(None);
         };
         let event = self.undertake(alloc, house, received)?;
         Ok(Some(event))
+    }
+
+    /// What is to be done with the next pair, by what screens find in the envelope that is read for it.
+    fn ready<S: Sealer, J: Judge>(
+        &mut self,
+        alloc: Global,
+        house: &House<'_, S>,
+        moment: Moment,
+        screens: &mut J,
+    ) -> Result<Option<Received>, ProviderFault>
+        requires up { self.old.chronicle.down ≡ false }
+        requires runs { RunsIn house.now self.old }
+        ensures ready { IfOk result (IsReady (D.tells × Stands D.sight self.old.chronicle) (world_at house.now)
+            house.now.me moment (J.patterns screens.old) self.old.chronicle.entries) }
+        ensures limits { IfOk result (λ next. IfSome next IsLimited) }
+        ensures unready { IfErr result (IsUnready (world_at house.now) house.now.me
+            (undecided (world_at house.now) house.now.me self.old.chronicle.entries)) }
+        ensures changed { D.tells → Stands D.sight self.old.chronicle → IfErr result (OnChanged (EnvelopeIsChanged
+            (world_at house.now) house.now.me self.old.chronicle.entries)) }
+        ensures looked { LooksNext (world_at house.now) house.now.me
+            (undecided (world_at house.now) house.now.me self.old.chronicle.entries) None
+            (J.seen screens.old) (J.seen screens.new) result }
+        ensures patterns { J.patterns screens.new ≡ J.patterns screens.old }
+        ensures reads { Reads (desk_of self.old) (desk_of self.new) result }
+        ensures whole { self.new.chronicle.interrupted ≡ None }
+        ensures up { OnOk result (self.new.chronicle.down ≡ false) }
+        ensures runs { RunsIn house.now self.new }
+        ensures carries { D.tells → CarriesOn D.sight NothingMay self.old.chronicle self.new.chronicle }
+        ensures disk_fault { IsErrOf result faults.DiskFault → HasRisen (D.faults self.old.chronicle.disk)
+            (D.faults self.new.chronicle.disk) }
+        ensures later { D.faults self.old.chronicle.disk ≤ D.faults self.new.chronicle.disk }
+    {
+        next_decision(
+            alloc,
+            house,
+            &mut self.chronicle,
+            &self.shelf,
+            moment,
+            screens,
+        )
     }
 
     /// Does what is to be done: appends the entry, if there is one, and owes the answer, if there is one.
@@ -181,6 +244,12 @@ impl<D: Disk> Provider<D> {
         // Over a disk that tells what it holds, and on which what is kept stands, they are exactly those.
         ensures due { D.tells → Stands D.sight self.old.chronicle → IfOk result (λ frames. frames.items
             ≡ due_frames (world_at house.now) house.now.me self.old.chronicle.entries to room self.old.owed) }
+        // Over any disk they are composed of entries that are what the due letters are composed of, and none of these
+        // is left out for which the provider has what it needs.
+        ensures given { IfOk result (λ frames. AreFramed (world_at house.now) house.now.me
+            (half (world_at house.now) house.now.me self.old.chronicle.entries)
+            (due_letters (world_at house.now) house.now.me
+            (half (world_at house.now) house.now.me self.old.chronicle.entries) to room self.old.owed) frames.items) }
         ensures few { IfOk result (λ frames. length frames.items ≤ room) }
         ensures refused { IfErr result (IsUnread (not self.old.chronicle.down)) }
         ensures changed { D.tells → Stands D.sight self.old.chronicle → IfErr result (OnChanged (LetterIsChanged

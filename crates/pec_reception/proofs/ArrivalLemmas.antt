@@ -5,6 +5,7 @@ use Rattle.pec_types.specs.Bytes.{Bytes, Path}
 use Rattle.pec_types.specs.Message.{Id}
 use Rattle.pec_types.specs.declared.letters.Letter.{Letter}
 use Rattle.pec_types.specs.declared.letters.Letter.TheVariants as letters
+use Rattle.pec_types.specs.declared.messages.Decision.{Decision}
 use Rattle.pec_records.specs.declared.entries.Entry.{Entry}
 use Rattle.pec_directory.specs.Directory.{Kept}
 use Rattle.pec_seal.specs.Seals.{Seals}
@@ -15,7 +16,7 @@ use Rattle.pec_ledger.specs.OfDirectory.{IsOf}
 use Rattle.pec_ledger.specs.Pairs.{pair_of}
 use Rattle.pec_ledger.specs.Steps.{half}
 use Rattle.pec_ledger.specs.Trade.{Framed, Receipt, Trade}
-use Rattle.pec_plays.specs.Reception.{has_pair, has_pairs_at, is_senders_path, same_path}
+use Rattle.pec_plays.specs.Reception.{has_pair, has_pairs_at, is_outcome_path, same_path}
 use Rattle.pec_plays.specs.TableSight.{a_charge, an_ack, an_envelope, an_outcome}
 use Rattle.pec_trade.specs.TradeOf.{trade_of}
 use Rattle.pec_reception.specs.Standings.{unasked}
@@ -97,16 +98,16 @@ module _ (trade : Trade) (me : ℕ) (journal : List Entry) (framed : Framed) (h 
     accounts_with_room = 0;
   }
 
-  pub outcome_seen : (receipt : Receipt) (recipient copy : Bytes) (by provider number : ℕ) (home : Option ℕ)
-      (fits there had : Bool)
+  pub outcome_seen : (receipt : Receipt) (recipient copy : Bytes) (decision : Decision) (by provider number : ℕ)
+      (home : Option ℕ) (fits there had : Bool)
       → copy ≡ recipient → by ≡ receipt.by → provider ≡ receipt.id.provider → number ≡ receipt.id.number
       → home ≡ trade.home recipient
-      → fits ≡ is_senders_path framed.path (accepted_at h number) → there ≡ has_pair trade recipient
-      (accepted_at h number)
+      → fits ≡ is_outcome_path trade receipt.id decision framed.path (accepted_at h receipt.id.number)
+      → there ≡ has_pair trade recipient (accepted_at h number)
       → had ≡ is_some (known_of h (pair_of receipt.id recipient))
       → named_in (letters.Outcome receipt.id copy) by provider home fits there had
-      ≡ unasked (an_outcome trade me journal framed receipt (Some recipient))
-  outcome_seen receipt recipient copy by provider number home fits there had c b p n w x y z = rw
+      ≡ unasked (an_outcome trade me journal framed receipt decision (Some recipient))
+  outcome_seen receipt recipient copy decision by provider number home fits there had c b p n w x y z = rw
       (w, x, y, z, c, b, p, n, is) refl
 
   pub ack_seen : (receipt : Receipt) (recipient copy : Bytes) (by provider : ℕ) (home : Option ℕ)

@@ -90,14 +90,15 @@ is_foreign_by rows true true e = absurd (cc)
 
 pub no_letter : (trade : Trade) (me now : ℕ) (journal : List Entry) (framed : Framed) (receipt : Receipt) (kind : Kind)
     → (kind ≡ kinds.Charge → ⊥) → (kind ≡ kinds.Delivery → ⊥)
-    → ((refusal : Refusal) → kind ≡ kinds.DeliveryError refusal → ⊥) → (kind ≡ kinds.Ack → ⊥)
+    → ((refusal : Refusal) → kind ≡ kinds.DeliveryError refusal → ⊥) → (kind ≡ kinds.VirusFound → ⊥) → (kind ≡ kinds.Ack → ⊥)
     → by_receipt trade me now journal framed receipt kind ≡ otherwise trade me now journal framed
-no_letter trade me now journal framed receipt kinds.Acceptance a b c d = refl
-no_letter trade me now journal framed receipt (kinds.NonAcceptance cause) a b c d = refl
-no_letter trade me now journal framed receipt kinds.Charge a b c d = absurd (a refl)
-no_letter trade me now journal framed receipt kinds.Delivery a b c d = absurd (b refl)
-no_letter trade me now journal framed receipt (kinds.DeliveryError refusal) a b c d = absurd (c refusal refl)
-no_letter trade me now journal framed receipt kinds.Warning a b c d = refl
-no_letter trade me now journal framed receipt kinds.Notice a b c d = refl
-no_letter trade me now journal framed receipt kinds.LateNotice a b c d = refl
-no_letter trade me now journal framed receipt kinds.Ack a b c d = absurd (d refl)
+no_letter trade me now journal framed receipt kinds.Acceptance a b c d e = refl
+no_letter trade me now journal framed receipt (kinds.NonAcceptance cause) a b c d e = refl
+no_letter trade me now journal framed receipt kinds.Charge a b c d e = absurd (a refl)
+no_letter trade me now journal framed receipt kinds.Delivery a b c d e = absurd (b refl)
+no_letter trade me now journal framed receipt (kinds.DeliveryError refusal) a b c d e = absurd (c refusal refl)
+no_letter trade me now journal framed receipt kinds.Warning a b c d e = refl
+no_letter trade me now journal framed receipt kinds.Notice a b c d e = refl
+no_letter trade me now journal framed receipt kinds.LateNotice a b c d e = refl
+no_letter trade me now journal framed receipt kinds.VirusFound a b c d e = absurd (d refl)
+no_letter trade me now journal framed receipt kinds.Ack a b c d e = absurd (e refl)

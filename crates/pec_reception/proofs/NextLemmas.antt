@@ -19,16 +19,16 @@ use Rattle.pec_records.specs.declared.entries.Entry.TheVariants as entries
 use Rattle.pec_ledger.specs.Along.{AllAlong}
 use Rattle.pec_ledger.specs.Half.{Half, Taken, empty}
 use Rattle.pec_ledger.specs.Lookups.{at_home, decided_of}
-use Rattle.pec_ledger.specs.Own.{Own, decision_at}
+use Rattle.pec_ledger.specs.Own.{Own}
 use Rattle.pec_ledger.specs.Pairs.{Pair, pair_of, same_id, same_pair}
 use Rattle.pec_ledger.specs.Steps.{half, step, taken_by}
 use Rattle.pec_ledger.specs.Trade.{Trade}
-use Rattle.pec_plays.specs.Decisions.{decide, is_open, is_recipient_of, pairs_taken, undecided}
+use Rattle.pec_plays.specs.Decisions.{decide, decision_on, is_open, is_recipient_of, pairs_taken, undecided}
 use Rattle.pec_plays.specs.Reception.{each_once}
 use Rattle.pec_shelf.specs.Prepared.{AreSteps, IsStep}
 use Rattle.pec_shelf.specs.Undecided.{next_undecided}
 use Rattle.pec_reception.proofs.PairLemmas.{address_there, contains_cases, contains_here, contains_none, contains_there}
-use Rattle.pec_reception.specs.Shows.{Shows}
+use Rattle.pec_reception.specs.Shows.{IsFirstOf, Shows, decide_as}
 use Rattle.pec_reception.specs.declared.received.Received.{Received}
 
 -- ---- no id was taken twice
@@ -86,6 +86,9 @@ module _ (trade : Trade) (me : ℕ) where
   plain_added h (entries.Acked moment id recipient) plain own = plain_still h.taken plain
   plain_added h (entries.Ticked moment) plain own = plain_still h.taken plain
   plain_added h (entries.Anomaly moment accounts message) plain own = plain_still h.taken plain
+  plain_added h (entries.StartTwo number digest) plain own = plain_still h.taken plain
+  plain_added h (entries.Upgraded moment) plain own = plain_still h.taken plain
+  plain_added h (entries.Archived moment account place) plain own = plain_still h.taken plain
 
   plain_stepped : (h : Half) (entry : Entry) → IsPlain h.taken → Own trade me h entry
       → IsPlain (step trade me h entry).taken
@@ -232,14 +235,14 @@ first_open h plain =
     ∙ found_alike (is_open h) (is_undecided h) (pairs_taken h.taken) (open_alike h plain)
 
 module _ (trade : Trade) (me : ℕ) (journal : List Entry) (steps : AreSteps trade me journal) where
-  pub none_is_next : (h : Half) → h ≡ half trade me journal → None ≡ next_undecided h → undecided trade me journal ≡ []
+  none_is_next : (h : Half) → h ≡ half trade me journal → None ≡ next_undecided h → undecided trade me journal ≡ []
   unfolding undecided
   none_is_next h e none =
       let now = half trade me journal
       in none_in (is_open now) (each_once same_pair (pairs_taken now.taken))
       (first_open now (plain_half trade me journal steps) ∙ sym (none ∙ ap next_undecided e))
 
-  pub one_is_next : (h : Half) (pair : Pair) → h ≡ half trade me journal → Some pair ≡ next_undecided h
+  one_is_next : (h : Half) (pair : Pair) → h ≡ half trade me journal → Some pair ≡ next_undecided h
       → (pairs : List Pair) × (undecided trade me journal ≡ pair ∷ pairs)
   unfolding undecided
   one_is_next h pair e found =
@@ -247,21 +250,28 @@ module _ (trade : Trade) (me : ℕ) (journal : List Entry) (steps : AreSteps tra
       in found_in (is_open now) (each_once same_pair (pairs_taken now.taken)) pair
       (first_open now (plain_half trade me journal steps) ∙ sym (found ∙ ap next_undecided e))
 
+  -- what is found is the first of the undecided pairs
+  pub is_next : (h : Half) (found : Option Pair) → h ≡ half trade me journal → found ≡ next_undecided h
+      → IsFirstOf (undecided trade me journal) found
+  is_next h None e found = none_is_next h e found
+  is_next h (Some pair) e found = one_is_next h pair e found
+
 -- what is to be done is the decision
-pub shows_decision : (trade : Trade) (me moment : ℕ) (journal : List Entry) (pair : Pair) (h : Half)
+pub shows_decision : (trade : Trade) (me moment : ℕ) (found : Bool) (journal : List Entry) (pair : Pair) (h : Half)
     → h ≡ half trade me journal
     → (received : Received)
     → received ≡ (let given : Received = record {
-      entry = Some (entries.Decided moment pair.id pair.recipient (decision_at trade me h pair.recipient));
-      event = events.Decided pair.id pair.recipient (decision_at trade me h pair.recipient);
+      entry = Some (entries.Decided moment pair.id pair.recipient (decision_on trade me h pair.recipient found));
+      event = events.Decided pair.id pair.recipient (decision_on trade me h pair.recipient found);
       owed = None;
     } in given)
-    → Shows received (decide trade me moment journal pair)
+    → Shows received (decide_as trade me moment found journal pair)
 unfolding decide
-shows_decision trade me moment journal pair h e received is =
-    subst (λ (r : Received). Shows r (decide trade me moment journal pair)) (sym is)
-    (let same : decision_at trade me h pair.recipient ≡ decision_at trade me (half trade me journal) pair.recipient =
-    ap (λ (x : Half). decision_at trade me x pair.recipient) e
+shows_decision trade me moment found journal pair h e received is =
+    subst (λ (r : Received). Shows r (decide_as trade me moment found journal pair)) (sym is)
+    (let same : decision_on trade me h pair.recipient found
+    ≡ decision_on trade me (half trade me journal) pair.recipient found =
+    ap (λ (x : Half). decision_on trade me x pair.recipient found) e
     in (
       ap (λ (x : Decision). Some (entries.Decided moment pair.id pair.recipient x)) same,
       ap (λ (x : Decision). events.Decided pair.id pair.recipient x) same,

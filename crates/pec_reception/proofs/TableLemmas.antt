@@ -6,6 +6,7 @@ use Rattle.std.proofs.lemmas.Bool.{eq-eqb, eqb-true}
 use Rattle.std.proofs.lemmas.Bool.Decides.{same_from_decides}
 use Rattle.pec_types.specs.Bytes.{Bytes}
 use Rattle.pec_types.specs.Message.{Id}
+use Rattle.pec_types.specs.declared.messages.Decision.{Decision}
 use Rattle.pec_records.specs.declared.entries.Entry.{Entry}
 use Rattle.pec_points.specs.Reception.{FrameRow, KnownAck, KnownCharge, KnownEnvelope, KnownOutcome, NewAck, NewCharge}
 use Rattle.pec_points.specs.Reception.{NewEnvelope, NewOutcome, NoRoom, received_by}
@@ -16,7 +17,7 @@ use Rattle.pec_ledger.specs.Lookups.{accepted_at, charged_of, decided_of, is_ack
 use Rattle.pec_ledger.specs.Pairs.{pair_of}
 use Rattle.pec_ledger.specs.Steps.{half}
 use Rattle.pec_ledger.specs.Trade.{Framed, Receipt, Trade}
-use Rattle.pec_plays.specs.Reception.{ack_fits, charge_fits, envelope_fits, has_pair, is_senders_path, outcome_fits}
+use Rattle.pec_plays.specs.Reception.{ack_fits, charge_fits, envelope_fits, has_pair, is_outcome_path, outcome_fits}
 use Rattle.pec_plays.specs.Reception.{same_path}
 use Rattle.pec_plays.specs.TableSight.{a_charge, an_ack, an_envelope, an_outcome}
 use Rattle.pec_reception.specs.Standings.{standing_of, unasked}
@@ -90,17 +91,17 @@ module _ (trade : Trade) (me : ℕ) (journal : List Entry) (framed : Framed) whe
       ((receipt.by == receipt.by) && charge_fits trade me now journal framed receipt) had
       ∙ ap (λ fits. stands_as fits had) (same_number receipt.by (charge_fits trade me now journal framed receipt))
 
-  outcome_table : (now : ℕ) (receipt : Receipt) (recipient : Bytes)
-      → standing_of (reception_of me (unasked (an_outcome trade me journal framed receipt (Some recipient))))
-      ≡ stands_as (outcome_fits trade me now journal framed receipt recipient)
+  outcome_table : (now : ℕ) (receipt : Receipt) (recipient : Bytes) (decision : Decision)
+      → standing_of (reception_of me (unasked (an_outcome trade me journal framed receipt decision (Some recipient))))
+      ≡ stands_as (outcome_fits trade me now journal framed receipt recipient decision)
       (is_some (known_of (half trade me journal) (pair_of receipt.id recipient)))
   unfolding reception_of
-  outcome_table now receipt recipient =
+  outcome_table now receipt recipient decision =
       let had = is_some (known_of (half trade me journal) (pair_of receipt.id recipient))
       in let ours = receipt.id.provider == me
       in let home = points.is_home receipt.by (trade.home recipient)
       in let message = accepted_at (half trade me journal) receipt.id.number
-      in let there = has_pair trade recipient message && is_senders_path framed.path message
+      in let there = has_pair trade recipient message && is_outcome_path trade receipt.id decision framed.path message
       in rows_are NewOutcome KnownOutcome refl refl (home && (ours && there)) had
       ∙ ap (λ fits. stands_as fits had) (exchanged home ours there
       ∙ ap (λ t. ours && (t && there)) (home_turned receipt.by (trade.home recipient)))
@@ -136,17 +137,17 @@ module _ (trade : Trade) (me : ℕ) (journal : List Entry) (framed : Framed) whe
       (is_some (charged_of (half trade me journal) receipt.id receipt.by))) number me a
       (unasked (a_charge trade me journal framed receipt)) (charge_table now receipt) n e is
 
-  pub outcome_stands : (now : ℕ) (receipt : Receipt) (recipient : Bytes) (s : Standing) (number : ℕ) (a : Arrived)
+  pub outcome_stands : (now : ℕ) (receipt : Receipt) (recipient : Bytes) (decision : Decision) (s : Standing) (number : ℕ) (a : Arrived)
       → number ≡ me
-      → a ≡ unasked (an_outcome trade me journal framed receipt (Some recipient))
+      → a ≡ unasked (an_outcome trade me journal framed receipt decision (Some recipient))
       → s ≡ standing_of (reception_of number a)
-      → s ≡ stands_as (outcome_fits trade me now journal framed receipt recipient)
+      → s ≡ stands_as (outcome_fits trade me now journal framed receipt recipient decision)
       (is_some (known_of (half trade me journal) (pair_of receipt.id recipient)))
-  outcome_stands now receipt recipient s number a n e is =
-      stands_there s (stands_as (outcome_fits trade me now journal framed receipt recipient)
+  outcome_stands now receipt recipient decision s number a n e is =
+      stands_there s (stands_as (outcome_fits trade me now journal framed receipt recipient decision)
       (is_some (known_of (half trade me journal) (pair_of receipt.id recipient)))) number me a
-      (unasked (an_outcome trade me journal framed receipt (Some recipient)))
-      (outcome_table now receipt recipient) n e is
+      (unasked (an_outcome trade me journal framed receipt decision (Some recipient)))
+      (outcome_table now receipt recipient decision) n e is
 
   pub ack_stands : (now : ℕ) (receipt : Receipt) (recipient : Bytes) (s : Standing) (number : ℕ) (a : Arrived)
       → number ≡ me

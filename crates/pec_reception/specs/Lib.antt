@@ -1,3 +1,4 @@
+pub mod OfTrades
 pub mod Shows
 pub mod Standings
 pub mod Views

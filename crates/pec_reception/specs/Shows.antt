@@ -1,12 +1,13 @@
--- What is to be done, beside the steps of pec_plays: `Shows` for one step, `ShowsNext` for the next pair that has to be
--- decided, `Answers` for what may be a letter. RFC 6109, sections 3.1 to 3.3, within this project's profile.
-use Rattle.std.specs.Prelude.{◌≡◌, ℕ, List, [], ◌∷◌, Option, Some, None, IfSome}
+-- What is to be done, beside the steps of pec_plays: `Shows` for one step, `decide_as` for a pair that has to be decided,
+-- `IsFirstOf` for the next one, `Answers` for what may be a letter. RFC 6109, sections 3.1 to 3.3, within this project's
+-- profile.
+use Rattle.std.specs.Prelude.{◌≡◌, ℕ, Bool, List, [], ◌∷◌, Option, Some, None, IfSome}
 use Rattle.std.specs.Option.{option_to_list}
 use Rattle.pec_records.specs.Entry.{IsWithinLimits}
 use Rattle.pec_records.specs.declared.entries.Entry.{Entry}
 use Rattle.pec_ledger.specs.Pairs.{Pair}
 use Rattle.pec_ledger.specs.Trade.{Framed, Trade}
-use Rattle.pec_plays.specs.Decisions.{decide, undecided}
+use Rattle.pec_plays.specs.Decisions.{decide}
 use Rattle.pec_plays.specs.Reception.{otherwise}
 use Rattle.pec_plays.specs.Steps.{Step}
 use Rattle.pec_reception.specs.declared.received.Received.{Received}
@@ -17,12 +18,14 @@ abbrev pub Shows : Received → Step → Type 0
 Shows received step =
     (received.entry ≡ step.entry) × (received.event ≡ step.event) × (option_to_list received.owed ≡ step.owed)
 
--- Nothing is undecided; or this is done with the first undecided pair.
-abbrev pub ShowsNext : Trade → ℕ → ℕ → List Entry → Option Received → Type 0
-ShowsNext trade me moment journal None = undecided trade me journal ≡ []
-ShowsNext trade me moment journal (Some received) =
-    (pair : Pair) × (pairs : List Pair) × (undecided trade me journal ≡ pair ∷ pairs)
-    × Shows received (decide trade me moment journal pair)
+-- What a provider does with a pair, as some screen found a rule in its message or none did: it decides it.
+abbrev pub decide_as : Trade → ℕ → ℕ → Bool → List Entry → Pair → Step
+decide_as trade me moment found journal pair = decide trade me moment (λ entries one. found) journal pair
+
+-- Of these pairs there is none; or this is the first.
+abbrev pub IsFirstOf : List Pair → Option Pair → Type 0
+IsFirstOf pairs None = pairs ≡ []
+IsFirstOf pairs (Some pair) = (rest : List Pair) × (pairs ≡ pair ∷ rest)
 
 -- What is to be done is what the step does; where nothing is answered, the step is that of anything else.
 abbrev pub Answers : Trade → ℕ → ℕ → List Entry → Framed → Step → Option Received → Type 0

@@ -13,12 +13,12 @@ ghost use Rattle.pec_reception.specs.Standings.{unasked};
 ghost use Rattle.pec_reception.specs.Views.{framed_shown, stated};
 
 use crate::framed::Framed;
-use crate::paths::{is_for, is_to_receipts, is_to_sender};
+use crate::paths::{is_for, is_to_addressee, is_to_receipts};
 use pec_directory::Directory;
 use pec_points::Arrived;
 use pec_receipts::ReceiptView;
 use pec_shelf::Shelf;
-use pec_types::{Address, Letter, MsgId, NoMemory};
+use pec_types::{Address, Decision, Letter, MsgId, NoMemory};
 use std::alloc::Global;
 
 /// What is seen of the envelope of a message that names these addresses. Here and below nobody asks which accounts have
@@ -78,7 +78,7 @@ pub(crate) fn charge(
     }
 }
 
-/// What is seen of an outcome for a recipient.
+/// What is seen of an outcome for a recipient, which says what was decided.
 pub(crate) fn outcome(
     alloc: Global,
     directory: &Directory,
@@ -86,13 +86,14 @@ pub(crate) fn outcome(
     framed: &Framed<'_>,
     view: &ReceiptView,
     recipient: &Address,
+    decision: Decision,
 ) -> Result<Arrived, NoMemory>
     requires homes { (trade : Trade) → IsOf directory.now trade → IsFor trade shelf.now }
     ensures { (seals : Seals) (journal : List Entry) →
         let trade = trade_of directory.now seals in
         shelf.now.half ≡ half trade shelf.now.me journal
         → IfOk result (λ arrived. arrived ≡ unasked (an_outcome trade shelf.now.me journal (framed_shown framed.now)
-        (stated view.now) (Some recipient.now))) }
+        (stated view.now) decision (Some recipient.now))) }
 {
     Ok(Arrived {
         letter: Some(Letter::Outcome {
@@ -102,7 +103,7 @@ pub(crate) fn outcome(
         sealer: view.by,
         id_provider: view.id.provider,
         recipient_home: directory.home_of(recipient),
-        path_fits: is_to_sender(shelf, view.id.number, framed.path.as_slice()),
+        path_fits: is_to_addressee(directory, shelf, view.id, decision, framed.path.as_slice()),
         row_there: has_pair(directory, shelf, view.id.number, recipient),
         done: shelf.known(view.id, recipient).is_some(),
         accounts_with_room: 0,

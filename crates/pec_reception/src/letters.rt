@@ -1,6 +1,7 @@
 ghost use Rattle.std.specs.Prelude.{◌≡◌, List, Option, None, Some, IfOk, option_map};
 ghost use Rattle.pec_types.specs.declared.turns.Event.TheVariants as events;
 ghost use Rattle.pec_types.specs.declared.letters.Letter.TheVariants as letters;
+ghost use Rattle.pec_types.specs.declared.receipts.Kind.TheVariants as kinds;
 ghost use Rattle.pec_records.specs.declared.entries.Entry.{Entry as SomeEntry};
 ghost use Rattle.pec_records.specs.declared.entries.Entry.TheVariants as entries;
 ghost use Rattle.pec_ledger.specs.Lookups.{charged_of, taken_of};
@@ -24,7 +25,7 @@ use pec_directory::Directory;
 use pec_receipts::ReceiptView;
 use pec_records::Entry;
 use pec_shelf::{Draft, Shelf, recipients_named};
-use pec_types::{Address, Decision, Event, Kind, Letter, Moment, MsgId, NoMemory, Text8};
+use pec_types::{Address, Decision, Event, Kind, Letter, Moment, MsgId, NoMemory, Refusal, Text8};
 use std::alloc::Global;
 
 /// What is done with a letter. Here and below `None` says that it is none for this provider.
@@ -148,7 +149,11 @@ fn receipt(
             Ok(found)
         }
         Kind::DeliveryError(refusal) => {
-            let decision = Decision::Refused(refusal);
+            let found = refused(alloc, directory, shelf, moment, framed, view, refusal)?;
+            Ok(found)
+        }
+        Kind::VirusFound => {
+            let decision = Decision::Refused(Refusal::Virus);
             let found = outcome(alloc, directory, shelf, moment, framed, view, decision)?;
             Ok(found)
         }
@@ -157,6 +162,41 @@ fn receipt(
             Ok(found)
         }
         _ => Ok(None),
+    }
+}
+
+/// What is done with a delivery error: that of a virus is for the sender alone, and no letter.
+fn refused(
+    alloc: Global,
+    directory: &Directory,
+    shelf: &Shelf,
+    moment: Moment,
+    framed: &Framed<'_>,
+    view: &ReceiptView,
+    refusal: Refusal,
+) -> Result<Option<Received>, NoMemory>
+    requires homes { (trade : Trade) → IsOf directory.now trade → IsFor trade shelf.now }
+    requires within { IsWithin (framed_shown framed.now) }
+    ensures exact { (seals : Seals) (journal : List SomeEntry) →
+        let trade = trade_of directory.now seals in
+        shelf.now.half ≡ half trade shelf.now.me journal
+        → IfOk result (Answers trade shelf.now.me moment journal (framed_shown framed.now)
+        (by_receipt trade shelf.now.me moment journal (framed_shown framed.now) (stated view.now)
+        (kinds.DeliveryError refusal))) }
+    ensures limits { IfOk result AreLimited }
+{
+    match refusal {
+        Refusal::NoMailbox => {
+            let decision = Decision::Refused(Refusal::NoMailbox);
+            let found = outcome(alloc, directory, shelf, moment, framed, view, decision)?;
+            Ok(found)
+        }
+        Refusal::MailboxFull => {
+            let decision = Decision::Refused(Refusal::MailboxFull);
+            let found = outcome(alloc, directory, shelf, moment, framed, view, decision)?;
+            Ok(found)
+        }
+        Refusal::Virus => Ok(None),
     }
 }
 
@@ -217,7 +257,7 @@ fn outcome(
     let Some(recipient) = &view.recipient else {
         return Ok(None);
     };
-    let arrived = arrivals::outcome(alloc, directory, shelf, framed, view, recipient)?;
+    let arrived = arrivals::outcome(alloc, directory, shelf, framed, view, recipient, decision)?;
     match stands(shelf.me(), &arrived) {
         Standing::New => {
             let received = learned(alloc, moment, framed.message, view, recipient, decision)?;

@@ -14,6 +14,9 @@ mod receiving;
 mod sights;
 mod standing;
 
-pub use deciding::decide;
+pub use deciding::{decide, next};
+pub use pec_trade::{
+    House, a_house_is_a_trade, a_trade_says_what_its_parts_say, sealer_of, the_texts_are_a_trade,
+};
 pub use received::Received;
 pub use receiving::receive;

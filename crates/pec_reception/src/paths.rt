@@ -2,11 +2,13 @@ ghost use Rattle.std.specs.Prelude.{◌≡◌, [], ◌∷◌, ◌&&◌, length, 
 ghost use Rattle.pec_directory.specs.Directory.{providers_of};
 ghost use Rattle.pec_receipts.specs.Receipts.{receipts_at};
 ghost use Rattle.pec_ledger.specs.Lookups.{accepted_at};
-ghost use Rattle.pec_plays.specs.Reception.{is_senders_path, same_path};
+ghost use Rattle.pec_plays.specs.Reception.{is_outcome_path, same_path};
+ghost use Rattle.pec_seal.specs.Seals.{Seals};
+ghost use Rattle.pec_trade.specs.TradeOf.{trade_of};
 
 use pec_directory::Directory;
 use pec_shelf::Shelf;
-use pec_types::Address;
+use pec_types::{Address, Decision, MsgId, Refusal};
 
 /// The path is this list, and there is somebody in it.
 pub(crate) fn is_for(path: &[Address], them: &[Address]) -> bool
@@ -45,17 +47,30 @@ pub(crate) fn is_to_receipts(directory: &Directory, number: u32, path: &[Address
     }
 }
 
-/// The path is the account that submitted the accepted message of a number.
-pub(crate) fn is_to_sender(shelf: &Shelf, number: u64, path: &[Address]) -> bool
-    ensures { result ≡ is_senders_path path.now (accepted_at shelf.now.half number) }
+/// The path is the one along which an outcome of an accepted message goes: to the account that submitted it, or for a
+/// virus to the address for receipts of its provider.
+pub(crate) fn is_to_addressee(
+    directory: &Directory,
+    shelf: &Shelf,
+    id: MsgId,
+    decision: Decision,
+    path: &[Address],
+) -> bool
+    ensures { (seals : Seals)
+        → result ≡ is_outcome_path (trade_of directory.now seals) id decision path.now (accepted_at shelf.now.half id.number) }
 {
-    let Some(row) = shelf.message(number) else {
+    let Some(row) = shelf.message(id.number) else {
         return false;
     };
     if row.facts().is_none() {
         return false;
     }
-    is_alone(path, row.sender().bytes())
+    match decision {
+        Decision::Placed => is_alone(path, row.sender().bytes()),
+        Decision::Refused(Refusal::NoMailbox) => is_alone(path, row.sender().bytes()),
+        Decision::Refused(Refusal::MailboxFull) => is_alone(path, row.sender().bytes()),
+        Decision::Refused(Refusal::Virus) => is_to_receipts(directory, id.provider, path),
+    }
 }
 
 /// The path is this address alone.

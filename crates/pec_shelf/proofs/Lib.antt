@@ -1,4 +1,5 @@
 pub mod AcceptanceLemmas
+pub mod ArchiveLemmas
 pub mod BookLemmas
 pub mod CursorLemmas
 pub mod DrawerLemmas
@@ -8,6 +9,7 @@ pub mod ListLemmas
 pub mod LookLemmas
 pub mod LoopLemmas
 pub mod MarkLemmas
+pub mod MoveLemmas
 pub mod OwnLemmas
 pub mod PairLemmas
 pub mod PairingLemmas

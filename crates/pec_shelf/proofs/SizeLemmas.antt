@@ -160,6 +160,25 @@ pub ticked_size : (moment : ℕ) → size_of (entries.Ticked moment) ≡ 14
 unfolding size_of
 ticked_size moment = omega (arith, number_64_long moment)
 
+pub start_two_size : (provider : ℕ) (digest : Bytes) → size_of (entries.StartTwo provider digest) ≡ 10 + length digest
+unfolding size_of
+start_two_size provider digest = omega (arith, long (number_32 provider) digest 4 (length digest) (number_32_long provider) refl)
+
+pub upgraded_size : (moment : ℕ) → size_of (entries.Upgraded moment) ≡ 14
+unfolding size_of
+upgraded_size moment = omega (arith, number_64_long moment)
+
+pub archived_size : (moment : ℕ) (account : Bytes) (place : ℕ) → size_of (entries.Archived moment account place) ≡ 20 + length account
+unfolding size_of
+archived_size moment account place = omega (
+  arith,
+  length-append (number_64 moment) (address_field account ++ number_32 place),
+  length-append (address_field account) (number_32 place),
+  number_64_long moment,
+  address_long account,
+  number_32_long place,
+)
+
 pub anomaly_size : (moment : ℕ) (accounts : Path) (message : Bytes)
     → size_of (entries.Anomaly moment accounts message) ≡ 22 + length (flat_map address_field accounts) + length message
 unfolding size_of

@@ -13,7 +13,7 @@ use Rattle.pec_ledger.specs.Half.{Half, Message}
 use Rattle.pec_ledger.specs.Lookups.{Accepted, accepted_at, accepted_of}
 use Rattle.pec_ledger.specs.OfDirectory.{IsOf, facts_in}
 use Rattle.pec_ledger.specs.Own.{Own}
-use Rattle.pec_ledger.specs.Steps.{messages_by, moment_of, size_of}
+use Rattle.pec_ledger.specs.Steps.{messages_by, moment_of, size_of, version_by}
 use Rattle.pec_ledger.specs.Trade.{Trade}
 use Rattle.pec_types.specs.Looks.{AtLeast, AtMost}
 use Rattle.pec_types.specs.Passed.{passing}
@@ -54,17 +54,18 @@ facts_are entry moment sender message facts is read = by (facts_in message) refl
     by None f e = cc
     by (Some found) f e = f ∙ ap Some (same_facts found facts e)
 
-figures : (ready : Prepared) (moment size : ℕ) → moment ≡ ready.adds.moment → size ≡ ready.adds.size
-    → record ready { adds = record ready.adds { moment = moment; size = size } } ≡ ready
-figures ready moment size m s = rw (m, s) refl
+figures : (ready : Prepared) (moment version size : ℕ) → moment ≡ ready.adds.moment → version ≡ ready.adds.version → size ≡ ready.adds.size
+    → record ready { adds = record ready.adds { moment = moment; version = version; size = size } } ≡ ready
+figures ready moment version size m v s = rw (m, v, s) refl
 
-pub ready_is : (kept : List Kept) (trade : Trade) (me : ℕ) (half : Half) (entry : Entry) (rows ready : Prepared) (moment size : ℕ) (place : Place) → IsOf kept trade
-    → AreRows (settled kept trade) me half entry rows → ready ≡ record rows { adds = record rows.adds { moment = moment; size = size }; place = place }
-    → moment ≡ moment_of entry → size ≡ size_of entry → ready ≡ prepared trade me half entry place
-ready_is kept trade me half entry rows ready moment size place of are is m s =
+pub ready_is : (kept : List Kept) (trade : Trade) (me : ℕ) (half : Half) (entry : Entry) (rows ready : Prepared) (moment version size : ℕ) (place : Place) → IsOf kept trade
+    → AreRows (settled kept trade) me half entry rows
+    → ready ≡ record rows { adds = record rows.adds { moment = moment; version = version; size = size }; place = place }
+    → moment ≡ moment_of entry → version ≡ version_by entry → size ≡ size_of entry → ready ≡ prepared trade me half entry place
+ready_is kept trade me half entry rows ready moment version size place of are is m v s =
     let own = from_settled kept trade (λ (t : Trade). AreRows t me half entry rows) of are in
-    is ∙ ap (λ (r : Prepared). record r { adds = record r.adds { moment = moment; size = size }; place = place }) own
-    ∙ figures (prepared trade me half entry place) moment size m s
+    is ∙ ap (λ (r : Prepared). record r { adds = record r.adds { moment = moment; version = version; size = size }; place = place }) own
+    ∙ figures (prepared trade me half entry place) moment version size m v s
 
 -- an entry is drafted where it is one's own
 pub drafts_own : (kept : List Kept) (trade : Trade) (me : ℕ) (half : Half) (entry draft : Entry) (own : Bool) → IsOf kept trade
@@ -100,6 +101,9 @@ few_after trade me half (entries.Learned moment id recipient decision decided me
 few_after trade me half (entries.Acked moment id recipient) own few = omega (arith, few)
 few_after trade me half (entries.Ticked moment) own few = omega (arith, few)
 few_after trade me half (entries.Anomaly moment accounts message) own few = omega (arith, few)
+few_after trade me half (entries.StartTwo number digest) own few = omega (arith, few)
+few_after trade me half (entries.Upgraded moment) own few = omega (arith, few)
+few_after trade me half (entries.Archived moment account place) own few = omega (arith, few)
 
 -- ---- a shelf of which acceptances were looked up
 
@@ -164,6 +168,9 @@ looked_is trade shelf (entries.Ticked moment) looks steps later result for so th
       least = λ ok. subst (λ (ms : List ℕ). AtLeast (passing shelf.ticked moment ms) steps later) same (so.least (through ok));
     }
 looked_is trade shelf (entries.Anomaly moment accounts message) looks steps later result for so through = so
+looked_is trade shelf (entries.StartTwo provider digest) looks steps later result for so through = so
+looked_is trade shelf (entries.Upgraded moment) looks steps later result for so through = so
+looked_is trade shelf (entries.Archived moment account place) looks steps later result for so through = so
 
 -- only look-ups were made
 pub holds_looked : (old now : Seen) → now ≡ record old { looks = now.looks } → HoldsAs old now
@@ -195,6 +202,7 @@ room_for now new ready rows more within room entries bytes = record {
     decided = omega (arith, within.decided);
     acked = omega (arith, within.acked);
     items = omega (arith, within.items);
+    moves = omega (arith, within.moves);
     place = omega (arith, within.place);
   };
   entries = omega (arith, ap (λ (s : Seen). s.half.entries) more);

@@ -1,10 +1,10 @@
 -- What is counted row by row is the summary of the ledger, where the homes that are kept are the trade's.
-use Rattle.std.proofs.Common.{◌≡◌, ℕ, suc, ◌+◌, ◌*◌, ◌<◌, ◌≤◌, Bool, true, false, cond, List, [], ◌∷◌, ◌++◌, length, map, drop, refl, sym, ap, subst, ◌∙◌, arith, Option, Some, None, is_some, slice_get}
+use Rattle.std.proofs.Common.{◌≡◌, ℕ, suc, ◌+◌, ◌*◌, ◌<◌, ◌≤◌, Bool, true, false, cond, if◌then◌else◌, List, [], ◌∷◌, ◌++◌, length, map, drop, refl, sym, ap, subst, ◌∙◌, arith, Option, Some, None, is_some, slice_get}
 use Rattle.std.specs.List.{cons_option, filter, filter_map}
 use Rattle.std.specs.Option.{option_map}
 use Rattle.std.proofs.Math.ListN.{drop_of_length-le}
 use Rattle.std.proofs.lemmas.List.{length-append}
-use Rattle.std.proofs.lemmas.Option.{get_or_from_slice_get, slice_get_within}
+use Rattle.std.proofs.lemmas.Option.{get_or_from_slice_get, slice_get-map, slice_get_within}
 use Rattle.pec_types.specs.Message.{Id}
 use Rattle.pec_types.specs.declared.messages.Facts.{Facts}
 use Rattle.pec_types.specs.declared.messages.Recipient.{Recipient}
@@ -15,8 +15,8 @@ use Rattle.pec_ledger.specs.Pairs.{Pair, id_of, pair_of}
 use Rattle.pec_ledger.specs.Trade.{Trade}
 use Rattle.pec_shelf.specs.Seen.{certified_at, certified_by, certified_in, certified_of}
 use Rattle.pec_shelf.specs.Sides.{Kept, certified_of_rows, messages_of}
-use Rattle.pec_shelf.specs.Summaries.{IsUpTo, all_pairs, is_accepted, is_delivered, is_noticed, is_turned_away, is_unknown, most_pairs, nothing_yet, pairs_from, pairs_of, summary_of}
-use Rattle.pec_shelf.specs.SummariesReading.{more_if, with_accepted, with_message, with_messages, with_pair, with_pairs}
+use Rattle.pec_shelf.specs.Summaries.{IsUpTo, all_pairs, half_within, is_accepted, is_delivered, is_noticed, is_turned_away, is_unknown, is_within, most_pairs, nothing_yet, pairs_from, pairs_of, summary_of, summary_within, within}
+use Rattle.pec_shelf.specs.SummariesReading.{kept_within, more_if, with_accepted, with_message, with_messages, with_pair, with_pairs}
 use Rattle.pec_shelf.specs.declared.certified.Certified.{Certified}
 use Rattle.pec_shelf.specs.declared.summing.Summary.{Summary}
 use Rattle.pec_types.specs.Timetable.{greatest}
@@ -304,3 +304,104 @@ pub messages_done : (me : ℕ) (half : Half) (rows : List Kept) (n : ℕ) (summa
     → with_messages me half summary n (drop n rows) ≡ whole → summary ≡ whole
 messages_done me half rows n summary whole past before =
     sym (ap (with_messages me half summary n) (drop_of_length-le rows past)) ∙ before
+
+-- ---- a range
+
+-- a row that isn't of the range adds nothing, and one that is adds what it has
+pub none_of_range : (half : Half) (id : Id) (s : Summary) (from upto : ℕ) (row : Kept)
+    → is_within from upto row.message.moment ≡ false → s ≡ with_message half id s (kept_within from upto row)
+none_of_range half id s from upto row out = rw out refl
+
+pub one_of_range : (half : Half) (id : Id) (s : Summary) (from upto : ℕ) (row : Kept)
+    → is_within from upto row.message.moment ≡ true
+    → with_message half id s row ≡ with_message half id s (kept_within from upto row)
+one_of_range half id s from upto row is_in = rw is_in refl
+
+pub range_more : (me : ℕ) (half : Half) (from upto : ℕ) (rows : List Kept) (n : ℕ) (row : Kept) (old new whole : Summary)
+    → Some row ≡ slice_get rows n → new ≡ with_message half (id_of me n) old (kept_within from upto row)
+    → with_messages me half old n (drop n (map (kept_within from upto) rows)) ≡ whole
+    → with_messages me half new (n + 1) (drop (n + 1) (map (kept_within from upto) rows)) ≡ whole
+range_more me half from upto rows n row old new whole there is before =
+    message_more me half (map (kept_within from upto) rows) n (kept_within from upto row) old new whole
+    (ap (option_map (kept_within from upto)) there ∙ sym (slice_get-map (kept_within from upto) rows n))
+    is before
+
+module _ (from upto : ℕ) where
+  -- what is counted doesn't ask which messages were accepted
+  pairs_alike : (half : Half) (id : Id) (s : Summary) (certified : List Certified)
+      → with_pairs half id s certified ≡ with_pairs (half_within from upto half) id s certified
+  pairs_alike half id s [] = refl
+  pairs_alike half id s (one ∷ others) = pairs_alike half id (with_pair half s (pair_of id one.address)) others
+
+  messages_alike : (me : ℕ) (half : Half) (s : Summary) (number : ℕ) (rows : List Kept)
+      → with_messages me half s number rows ≡ with_messages me (half_within from upto half) s number rows
+  messages_alike me half s number [] = refl
+  messages_alike me half s number (row ∷ rows) =
+      ap (λ t. with_messages me half t (number + 1) rows)
+      (pairs_alike half (id_of me number) (with_accepted s row) row.certified)
+      ∙ messages_alike me half (with_message (half_within from upto half) (id_of me number) s row) (number + 1) rows
+
+  -- no more pairs than there are
+  fewer : (size : ℕ) (row : Kept) (b : Bool)
+      → suc (length (if b then row else record { message = record row.message { facts = None }; certified = [] }).certified) + size
+      ≤ suc (length row.certified) + size
+  fewer size row true = omega arith
+  fewer size row false = omega arith
+
+  size_within : (rows : List Kept) → size_of (map (kept_within from upto) rows) ≤ size_of rows
+  size_within [] = omega arith
+  size_within (row ∷ rows) =
+      omega (arith, fewer (size_of (map (kept_within from upto) rows)) row (is_within from upto row.message.moment), size_within rows)
+
+  message_within : (row : Kept) (b : Bool)
+      → (if b then row else record { message = record row.message { facts = None }; certified = [] }).message
+      ≡ if b then row.message else record row.message { facts = None }
+  message_within row true = refl
+  message_within row false = refl
+
+  messages_within : (rows : List Kept) → messages_of (map (kept_within from upto) rows) ≡ map (within from upto) (messages_of rows)
+  messages_within [] = refl
+  messages_within (row ∷ rows) =
+      ap (λ m. m ∷ messages_of (map (kept_within from upto) rows)) (message_within row (is_within from upto row.message.moment))
+      ∙ ap (λ ms. within from upto row.message ∷ ms) (messages_within rows)
+
+  one_certified : (trade : Trade) (row : Kept) (b : Bool) → row.certified ≡ certified_by trade row.message
+      → (if b then row else record { message = record row.message { facts = None }; certified = [] }).certified
+      ≡ certified_by trade (if b then row.message else record row.message { facts = None })
+  one_certified trade row true is = is
+  one_certified trade row false is = refl
+
+  certified_within : (trade : Trade) (rows : List Kept) → certified_of_rows rows ≡ map (certified_by trade) (messages_of rows)
+      → certified_of_rows (map (kept_within from upto) rows) ≡ map (certified_by trade) (map (within from upto) (messages_of rows))
+  certified_within trade [] is = refl
+  certified_within trade (row ∷ rows) is =
+      let both = same_heads row.certified (certified_by trade row.message) (certified_of_rows rows) (map (certified_by trade) (messages_of rows)) is in
+      ap (λ c. c ∷ certified_of_rows (map (kept_within from upto) rows))
+      (one_certified trade row (is_within from upto row.message.moment) both.0)
+      ∙ ap (λ cs. certified_by trade (within from upto row.message) ∷ cs) (certified_within trade rows both.1)
+
+  pub within_is : (trade : Trade) (me : ℕ) (half : Half) (rows : List Kept) → length rows ≤ 1000000
+      → length (pairs_in 0 rows) ≤ 1000 * length rows
+      → messages_of rows ≡ half.messages → certified_of_rows rows ≡ map (certified_by trade) half.messages
+      → with_messages me half nothing_yet 0 (map (kept_within from upto) rows) ≡ summary_within trade me from upto half
+  within_is trade me half rows few full messages certified =
+      let below = few_enough rows few full in
+      let smaller = size_within rows in
+      let other = half_within from upto half in
+      messages_alike me half nothing_yet 0 (map (kept_within from upto) rows)
+      ∙ (messages_same me other nothing_yet 0 (map (kept_within from upto) rows) 0 none_up (omega (arith, below, smaller))
+      ∙ exact_is trade me other (map (kept_within from upto) rows)
+      (messages_within rows ∙ ap (map (within from upto)) messages)
+      (certified_within trade rows (certified ∙ ap (map (certified_by trade)) (sym messages))
+      ∙ ap (λ ms. map (certified_by trade) (map (within from upto) ms)) messages))
+
+  pub within_few : (me : ℕ) (half : Half) (rows : List Kept) (summary : Summary) → length rows ≤ 1000000
+      → length (pairs_in 0 rows) ≤ 1000 * length rows
+      → summary ≡ with_messages me half nothing_yet 0 (map (kept_within from upto) rows) → IsUpTo summary most_pairs
+  within_few me half rows summary few full is =
+      let below = few_enough rows few full in
+      let smaller = size_within rows in
+      let kept = map (kept_within from upto) rows in
+      rw (is, messages_same me half nothing_yet 0 kept 0 none_up (omega (arith, below, smaller)))
+      (higher_up (exact_messages me half nothing_yet 0 kept) (0 + size_of kept) most_pairs (omega (arith, below, smaller))
+      (messages_up me half nothing_yet 0 kept 0 none_up))

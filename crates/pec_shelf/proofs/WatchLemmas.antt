@@ -317,6 +317,9 @@ accepted_by trade me half (entries.Learned moment id recipient decision decided 
 accepted_by trade me half (entries.Acked moment id recipient) number rows e = none_more number rows moment e
 accepted_by trade me half (entries.Ticked moment) number rows e = none_more number rows moment e
 accepted_by trade me half (entries.Anomaly moment accounts message) number rows e = none_more number rows moment e
+accepted_by trade me half (entries.StartTwo provider digest) number rows e = none_more number rows 0 e
+accepted_by trade me half (entries.Upgraded moment) number rows e = none_more number rows moment e
+accepted_by trade me half (entries.Archived moment account place) number rows e = none_more number rows moment e
 
 -- an entry is a clock call, or moves no cursor
 clock_or_none : (trade : Trade) (half : Half) (entry : Entry) → ((now : ℕ) × (entry ≡ entries.Ticked now)) ⊎ (clock_by trade half entry ≡ None)
@@ -330,6 +333,9 @@ clock_or_none trade half (entries.Learned moment id recipient decision decided m
 clock_or_none trade half (entries.Acked moment id recipient) = inr refl
 clock_or_none trade half (entries.Ticked moment) = inl (moment, refl)
 clock_or_none trade half (entries.Anomaly moment accounts message) = inr refl
+clock_or_none trade half (entries.StartTwo provider digest) = inr refl
+clock_or_none trade half (entries.Upgraded moment) = inr refl
+clock_or_none trade half (entries.Archived moment account place) = inr refl
 
 module _ (trade : Trade) (me : ℕ) (half : Half) (entry : Entry) (ready : Prepared) (old new : Sent) (watch set : Watch)
     (more : List Kept) (charges : List Charge) (notices : List Mark) (outcomes : List Known)
@@ -457,3 +463,6 @@ full_by trade me half (entries.Learned moment id recipient decision decided mess
 full_by trade me half (entries.Acked moment id recipient) number rows own e c = none_full number rows e
 full_by trade me half (entries.Ticked moment) number rows own e c = none_full number rows e
 full_by trade me half (entries.Anomaly moment accounts message) number rows own e c = none_full number rows e
+full_by trade me half (entries.StartTwo provider digest) number rows own e c = none_full number rows e
+full_by trade me half (entries.Upgraded moment) number rows own e c = none_full number rows e
+full_by trade me half (entries.Archived moment account place) number rows own e c = none_full number rows e

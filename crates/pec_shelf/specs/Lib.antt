@@ -6,6 +6,7 @@ pub mod Keys
 pub mod Lines
 pub mod Looked
 pub mod Longest
+pub mod Moves
 pub mod PairRows
 pub mod Prepared
 pub mod Rows

@@ -72,6 +72,7 @@ abbrev pub nothing : Prepared
 nothing = record {
   adds = record {
     moment = 0;
+    version = 0;
     size = 0;
     messages = [];
     charged = [];
@@ -81,16 +82,17 @@ nothing = record {
     decided = [];
     acked = [];
     items = [];
+    moves = [];
   };
   certified = [];
   clock = None;
   place = nowhere;
 }
 
--- the rows alone, without a moment, without bytes and without a place
+-- the rows alone, without a moment, a version, bytes and a place
 abbrev pub rows_of : Prepared → Prepared
 rows_of ready = record {
-  adds = record ready.adds { moment = 0; size = 0 };
+  adds = record ready.adds { moment = 0; version = 0; size = 0 };
   certified = ready.certified;
   clock = ready.clock;
   place = nowhere;
@@ -122,6 +124,7 @@ pub record AreWithin (ready : Prepared) (room : ℕ) : Type 0 where
   pub decided : length ready.adds.decided ≤ room
   pub acked : length ready.adds.acked ≤ room
   pub items : length ready.adds.items ≤ room
+  pub moves : length ready.adds.moves ≤ room
   pub place : 0 < room
 
 -- The shelf has memory for what was prepared, and its figures stay below 2 to the 64.

@@ -1,6 +1,7 @@
--- What has become of a provider's own messages, in numbers: `summary_of`, over its accepted messages and their pairs; and
--- the same of all providers of a network, `total_of`. This project's profile.
-use Rattle.std.specs.Prelude.{ℕ, ◌+◌, ◌≤◌, Bool, true, false, List, [], ◌∷◌, ◌++◌, map, Option, None, Some, is_none, is_some}
+-- What has become of a provider's own messages, in numbers: `summary_of`, over its accepted messages and their pairs, and
+-- `summary_within`, over those of a range of moments; and the same of all providers of a network, `total_of`. This
+-- project's profile.
+use Rattle.std.specs.Prelude.{ℕ, ◌+◌, ◌≤◌, nat_le, Bool, true, false, ◌&&◌, if◌then◌else◌, List, [], ◌∷◌, ◌++◌, map, Option, None, Some, is_none, is_some}
 use Rattle.std.specs.Option.{option_map}
 use Rattle.pec_types.specs.Message.{Id}
 use Rattle.pec_types.specs.declared.messages.Decision.{Decision}
@@ -80,6 +81,23 @@ summary_of trade provider half = record {
   unknown = times (is_unknown half) (all_pairs trade provider half);
   noticed = times (is_noticed half) (all_pairs trade provider half);
 }
+
+-- a moment of this range, whose ends belong to it
+abbrev pub is_within : (from upto : ℕ) → ℕ → Bool
+is_within from upto moment = nat_le from moment && nat_le moment upto
+
+-- a message that was submitted in a range, and any other as one that wasn't accepted
+abbrev pub within : (from upto : ℕ) → Message → Message
+within from upto message =
+    if is_within from upto message.moment then message else record message { facts = None }
+
+-- A half, as if no message had been accepted but those of a range.
+abbrev pub half_within : (from upto : ℕ) → Half → Half
+half_within from upto half = record half { messages = map (within from upto) half.messages }
+
+-- What has become of the messages that a provider accepted in a range of moments.
+abbrev pub summary_within : Trade → ℕ → (from upto : ℕ) → Half → Summary
+summary_within trade provider from upto half = summary_of trade provider (half_within from upto half)
 
 -- two summaries in one
 abbrev pub plus : Summary → Summary → Summary

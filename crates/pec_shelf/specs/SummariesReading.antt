@@ -1,12 +1,12 @@
 -- A provider's messages and their pairs, counted one after another, over the rows that a shelf keeps: what the code
 -- follows. It comes to the summary of `Summaries` where the homes that are kept are the trade's.
-use Rattle.std.specs.Prelude.{ℕ, ◌+◌, Bool, List, [], ◌∷◌, if◌then◌else◌}
+use Rattle.std.specs.Prelude.{ℕ, ◌+◌, Bool, List, [], ◌∷◌, None, if◌then◌else◌}
 use Rattle.pec_types.specs.Message.{Id}
 use Rattle.pec_types.specs.Timetable.{raised}
 use Rattle.pec_ledger.specs.Half.{Half}
 use Rattle.pec_ledger.specs.Pairs.{Pair, id_of, pair_of}
 use Rattle.pec_shelf.specs.Sides.{Kept}
-use Rattle.pec_shelf.specs.Summaries.{is_accepted, is_delivered, is_noticed, is_unknown, is_turned_away}
+use Rattle.pec_shelf.specs.Summaries.{is_accepted, is_delivered, is_noticed, is_unknown, is_turned_away, is_within}
 use Rattle.pec_shelf.specs.declared.certified.Certified.{Certified}
 use Rattle.pec_shelf.specs.declared.summing.Summary.{Summary}
 
@@ -42,3 +42,9 @@ abbrev pub with_messages : ℕ → Half → Summary → ℕ → List Kept → Su
 with_messages me half summary number [] = summary
 with_messages me half summary number (row ∷ rows) =
     with_messages me half (with_message half (id_of me number) summary row) (number + 1) rows
+
+-- a row as it is counted for a range of moments: one that isn't of it has no message that was accepted, and no pair
+abbrev pub kept_within : (from upto : ℕ) → Kept → Kept
+kept_within from upto row =
+    if is_within from upto row.message.moment then row
+    else record { message = record row.message { facts = None }; certified = [] }

@@ -1,17 +1,16 @@
-ghost use Rattle.std.specs.Prelude.{◌≡◌, ◌≤◌, ◌++◌, [], ◌∷◌, Some, length, filter, map, option_map, slice_get, IfOk, OnOk};
+ghost use Rattle.std.specs.Prelude.{◌≡◌, ◌≤◌, ◌++◌, [], Some, length, filter, option_map, slice_get, OnOk};
 ghost use Rattle.std.specs.Str.{bytes_eq};
 ghost use Rattle.pec_ledger.specs.Along.{times};
-ghost use Rattle.pec_ledger.specs.Books.{item_line};
 ghost use Rattle.pec_ledger.specs.Half.{Posted};
 ghost use Rattle.pec_ledger.specs.Lookups.{takes_room};
 
 use crate::drawers::{Drawers, Owned};
 use crate::rows::PostedRow;
-use pec_types::{Address, ItemLine, NoMemory};
+use pec_types::{Address, NoMemory};
 use std::alloc::Global;
 use std::marker::Model;
 
-/// The mailboxes of a provider: all items that were ever placed, in order.
+/// All items that were ever placed in the mailboxes of a provider, in order.
 #[derive(Drop)]
 pub(crate) struct Boxes {
     items: Drawers<PostedRow>,
@@ -67,7 +66,8 @@ impl Boxes {
         self.items.append(rows);
     }
 
-    /// How many items of an account take room: envelopes and anomalies. It takes no memory.
+    /// How many of the items that were ever placed with an account take room: envelopes and anomalies. It takes no
+    /// memory.
     pub(crate) fn counted(&self, account: &Address) -> u64
         ensures { result ≡ times (λ (posted : Posted). takes_room posted.item)
             (filter (λ (posted : Posted). bytes_eq account.now posted.account) self.now.items) }
@@ -75,34 +75,18 @@ impl Boxes {
         self.items.counted(account)
     }
 
-    /// The item at a place of an account's mailbox. It takes no memory.
-    pub(crate) fn at(&self, account: &Address, place: u32) -> Option<&PostedRow>
+    /// How many items were ever placed with an account. It takes no memory.
+    pub(crate) fn count(&self, account: &Address) -> u64
+        ensures { result ≡ length (filter (λ (posted : Posted). bytes_eq account.now posted.account) self.now.items) }
+    {
+        self.items.count(account)
+    }
+
+    /// The item of a rank, from 0, among all that were ever placed with an account. It takes no memory.
+    pub(crate) fn at(&self, account: &Address, rank: u64) -> Option<&PostedRow>
         ensures { option_map (λ row. row.now) result
-            ≡ slice_get (filter (λ (posted : Posted). bytes_eq account.now posted.account) self.now.items) place }
+            ≡ slice_get (filter (λ (posted : Posted). bytes_eq account.now posted.account) self.now.items) rank }
     {
-        self.items.nth(account, place as u64)
+        self.items.nth(account, rank)
     }
-
-    /// The lines of an account's mailbox, in order of placing.
-    pub(crate) fn lines(&self, alloc: Global, account: &Address) -> Result<Vec<ItemLine>, NoMemory>
-        ensures { IfOk result (λ lines. lines.items ≡ map (λ (posted : Posted). item_line posted.item)
-            (filter (λ (posted : Posted). bytes_eq account.now posted.account) self.now.items)) }
-    {
-        let mut lines = Vec::new(alloc);
-        for rank in 0..self.items.count(account) {
-            let Some(row) = self.items.nth(account, rank) else {
-                return Ok(lines);
-            };
-            push_line(alloc, &mut lines, row)?;
-        }
-        Ok(lines)
-    }
-}
-
-/// Adds the line of an item.
-fn push_line(alloc: Global, lines: &mut Vec<ItemLine>, row: &PostedRow) -> Result<(), NoMemory>
-    ensures { OnOk result (lines.new.items ≡ lines.old.items ++ item_line row.now.item ∷ []) }
-{
-    lines.push(row.line(alloc)?)?;
-    Ok(())
 }

@@ -6,6 +6,7 @@ ghost use Rattle.pec_shelf.specs.Prepared.{Drafts, IsStepOf};
 ghost use Rattle.pec_shelf.specs.Seen.{IsFor};
 ghost use Rattle.pec_shelf.specs.Settled.{settled};
 
+use crate::archives::{may_archive, may_upgrade};
 use crate::conditions::{
     is_start, may_accept, may_acknowledge, may_charge, may_decide_on, may_learn, may_place_anomaly,
     may_refuse, may_take,
@@ -60,6 +61,11 @@ fn is_own(shelf: &Shelf, directory: &Directory, draft: &Draft) -> Result<bool, N
         Entry::Ticked { .. } => Ok(true),
         Entry::Anomaly { accounts, .. } => {
             Ok(may_place_anomaly(shelf, directory, accounts.as_slice()))
+        }
+        Entry::StartTwo { provider, digest } => is_start(shelf, directory, *provider, digest),
+        Entry::Upgraded { .. } => Ok(may_upgrade(shelf)),
+        Entry::Archived { account, place, .. } => {
+            Ok(may_archive(shelf, directory, account, *place))
         }
     }
 }

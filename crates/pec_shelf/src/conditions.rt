@@ -26,7 +26,7 @@ use pec_types::{Address, Decision, MESSAGES, MsgId, NoMemory};
 /// How many addresses a message's facts, or a path, may have.
 const MOST_ADDRESSES: usize = 1_000;
 
-/// Start: the first entry, with the provider's number and the directory's digest.
+/// Start, of either version: the first entry, with the provider's number and the directory's digest.
 pub(crate) fn is_start(
     shelf: &Shelf,
     directory: &Directory,

@@ -11,6 +11,13 @@ impl Shelf {
         self.entries
     }
 
+    /// The version of their journal: 1, or 2 where an entry made it so; 0 before the first entry.
+    pub fn version(&self) -> u64
+        ensures { result ≡ self.now.half.version }
+    {
+        self.version
+    }
+
     /// Where their journal ends, in bytes.
     pub fn end(&self) -> u64
         ensures { result ≡ self.now.half.end }

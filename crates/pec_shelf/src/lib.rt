@@ -4,6 +4,7 @@
 
 mod accounts;
 mod anomalies;
+mod archives;
 mod booking;
 mod boxes;
 mod certified;
@@ -19,7 +20,9 @@ mod inbox;
 mod keys;
 mod laws;
 mod lookups;
+mod mailboxes;
 mod marking;
+mod moves;
 mod outbox;
 mod owing;
 mod pair_rows;

@@ -2,7 +2,7 @@ ghost use Rattle.std.specs.Prelude.{◌≡◌, ◌<◌, ◌≤◌, [], length, o
 ghost use Rattle.std.specs.List.{list_any};
 ghost use Rattle.pec_types.specs.declared.messages.TheConstants.{MESSAGES};
 ghost use Rattle.pec_ledger.specs.Half.{Message};
-ghost use Rattle.pec_ledger.specs.Lookups.{Accepted, HasPair, HasPairsAt, accepted_at, at_home, charged_of, counted, decided_of, has_room, is_acked, known_of, mailbox, notice_of, taken_of, warning_of};
+ghost use Rattle.pec_ledger.specs.Lookups.{Accepted, HasPair, HasPairsAt, accepted_at, archive, at_home, charged_of, counted, decided_of, has_room, is_acked, known_of, mailbox, notice_of, taken_of, warning_of};
 ghost use Rattle.pec_ledger.specs.OfDirectory.{IsOf};
 ghost use Rattle.pec_ledger.specs.Pairs.{id_of, pair_of};
 ghost use Rattle.pec_ledger.specs.Trade.{Trade};
@@ -125,6 +125,13 @@ impl Shelf {
         self.boxes.at(account, place)
     }
 
+    /// The item at a place of an account's archive, counted from 0.
+    pub fn vault_posted(&self, account: &Address, place: u32) -> Option<&PostedRow>
+        ensures { option_map (λ row. row.now) result ≡ slice_get (archive self.now.half account.now) place }
+    {
+        self.boxes.vault_at(account, place)
+    }
+
     /// Whether the provider of the message said that it knows the outcome of a pair.
     pub fn is_acked(&self, id: MsgId, recipient: &Address) -> bool
         ensures { result ≡ is_acked self.now.half (pair_of id recipient.now) }
@@ -167,7 +174,8 @@ impl Shelf {
         is_certified(recipient, self.certified(number))
     }
 
-    /// Whether the address is an account of this provider, and fewer of its items take room than its quota allows.
+    /// Whether the address is an account of this provider, and fewer items of its mailbox take room than its quota
+    /// allows.
     pub fn has_room(&self, directory: &Directory, account: &Address) -> bool
         ensures { (trade : Trade) → IsOf directory.now trade
             → result ≡ has_room trade self.now.me self.now.half account.now }

@@ -1,13 +1,14 @@
 ghost use Rattle.std.specs.Prelude.{◌≡◌, ◌<◌, IfOk};
 ghost use Rattle.pec_types.specs.declared.moments.TheConstants.{END_OF_TIME};
 ghost use Rattle.pec_ledger.specs.Trade.{Trade};
-ghost use Rattle.pec_ledger.specs.Steps.{moment_of};
+ghost use Rattle.pec_ledger.specs.Steps.{moment_of, version_by};
 ghost use Rattle.pec_shelf.specs.Looked.{acceptances_seen, clock_seen};
 ghost use Rattle.pec_shelf.specs.Prepared.{AreRows, IsStepOf};
 ghost use Rattle.pec_shelf.specs.Seen.{IsFor};
 ghost use Rattle.pec_shelf.specs.Settled.{settled};
 
 use crate::anomalies::anomaly;
+use crate::archives::archived;
 use crate::deadlines::Clock;
 use crate::drafts::Draft;
 use crate::marking::ticked;
@@ -20,8 +21,8 @@ use pec_directory::Directory;
 use pec_records::Entry;
 use pec_types::NoMemory;
 
-/// What an entry that is a step adds, without its moment, its size and its place. It is told where the cursors stand
-/// behind a clock call.
+/// What an entry that is a step adds, without its moment, its version, its size and its place. It is told where the
+/// cursors stand behind a clock call.
 pub(crate) fn rows_of(
     shelf: &Shelf,
     directory: &Directory,
@@ -78,6 +79,13 @@ pub(crate) fn rows_of(
             accounts,
             ..
         } => anomaly(shelf, *moment, accounts.as_slice()),
+        Entry::StartTwo { .. } => Ok(Ready::nothing(shelf.alloc)),
+        Entry::Upgraded { .. } => Ok(Ready::nothing(shelf.alloc)),
+        Entry::Archived { account, place, .. } => archived(
+            shelf,
+            shared(directory, account),
+            *place,
+        ),
     }
 }
 
@@ -97,5 +105,20 @@ pub fn moment_of(entry: &Entry) -> u64
         Entry::Acked { moment, .. } => moment.seconds(),
         Entry::Ticked { moment } => moment.seconds(),
         Entry::Anomaly { moment, .. } => moment.seconds(),
+        Entry::StartTwo { .. } => 0,
+        Entry::Upgraded { moment } => moment.seconds(),
+        Entry::Archived { moment, .. } => moment.seconds(),
+    }
+}
+
+/// The version that a journal has from an entry on, where the entry says one, and otherwise 0. It takes no memory.
+pub(crate) fn version_by(entry: &Entry) -> u64
+    ensures { result ≡ version_by entry.now }
+{
+    match entry {
+        Entry::Start { .. } => 1,
+        Entry::StartTwo { .. } => 2,
+        Entry::Upgraded { .. } => 2,
+        _ => 0,
     }
 }

@@ -1,10 +1,12 @@
 ghost use Rattle.std.specs.Prelude.{◌≡◌, [], ◌∷◌, ◌++◌, map, Some, OnOk};
+ghost use Rattle.std.specs.Option.{option_to_list};
 ghost use Rattle.pec_shelf.specs.Prepared.{AreWithin, nothing, told};
 ghost use Rattle.pec_shelf.specs.Longest.{IsLongest};
 ghost use Rattle.pec_shelf.specs.Sides.{certified_of_rows, messages_of};
 
 use crate::deadlines::Clock;
 use crate::inbox::ReceivedRows;
+use crate::moves::MoveRow;
 use crate::outbox::SentRows;
 use crate::rows::{
     AckedRow, ChargeRow, FateRow, KnownRow, MarkRow, MessageRow, PostedRow, TakenRow,
@@ -16,10 +18,12 @@ use std::marker::Model;
 /// An entry that was prepared: contracts see what it adds to the half of a provider.
 pub struct Ready {
     pub(crate) moment: u64,
+    pub(crate) version: u64,
     pub(crate) size: u64,
     pub(crate) sent: SentRows,
     pub(crate) received: ReceivedRows,
     pub(crate) items: Vec<PostedRow>,
+    pub(crate) moved: Option<MoveRow>,
     pub(crate) answer: Vec<Mark>,
     /// How many certified recipients its messages have.
     pub(crate) pairs: usize,
@@ -29,6 +33,7 @@ pub struct Ready {
 
 impl Model for Ready {
     ghost use Rattle.std.specs.Prelude.{◌≡◌, length, map};
+    ghost use Rattle.std.specs.Option.{option_to_list};
     ghost use Rattle.pec_shelf.specs.Prepared.{Prepared, all_of, told};
     ghost use Rattle.pec_shelf.specs.Sides.{certified_of_rows, messages_of};
 
@@ -37,6 +42,7 @@ impl Model for Ready {
     ghost view = { λ ready. record {
       adds = record {
         moment = ready.moment;
+        version = ready.version;
         size = ready.size;
         messages = messages_of ready.sent.messages.items;
         charged = ready.sent.charged.items;
@@ -46,6 +52,7 @@ impl Model for Ready {
         decided = ready.received.decided.items;
         acked = ready.received.acked.items;
         items = ready.items.items;
+        moves = option_to_list ready.moved;
       };
       certified = certified_of_rows ready.sent.messages.items;
       clock = ready.clock;
@@ -64,10 +71,12 @@ impl Drop for Ready {
     fn drop(self) {
         let Ready {
             moment: _,
+            version: _,
             size: _,
             sent: _,
             received: _,
             items: _,
+            moved: _,
             answer: _,
             pairs: _,
             clock: _,
@@ -83,6 +92,7 @@ impl Ready {
     {
         Ready {
             moment: 0,
+            version: 0,
             size: 0,
             sent: SentRows {
                 messages: Vec::new(alloc),
@@ -96,6 +106,7 @@ impl Ready {
                 acked: Vec::new(alloc),
             },
             items: Vec::new(alloc),
+            moved: None,
             answer: Vec::new(alloc),
             pairs: 0,
             clock: None,
@@ -187,18 +198,45 @@ impl Ready {
         self
     }
 
-    /// At a moment, in seconds, of so many bytes in the journal, and at this place. It takes no memory.
-    pub(crate) fn with_figures(mut self, moment: u64, size: u64, place: Place) -> Ready
-        ensures { result ≡ record self { adds = record self.adds { moment = moment; size = size }; place = place } }
+    /// With the move of an item into an archive. It takes no memory.
+    pub(crate) fn with_move(mut self, row: MoveRow) -> Ready
+        ensures { result ≡ record self { adds = record self.adds { moves = row ∷ [] } } }
+    {
+        self.moved = Some(row);
+        self
+    }
+
+    /// At a moment, in seconds, with the version that it makes of the journal, of so many bytes there, and at this
+    /// place. It takes no memory.
+    pub(crate) fn with_figures(
+        mut self,
+        moment: u64,
+        version: u64,
+        size: u64,
+        place: Place,
+    ) -> Ready
+        ensures { result ≡ record self {
+          adds = record self.adds { moment = moment; version = version; size = size };
+          place = place;
+        } }
     {
         self.moment = moment;
+        self.version = version;
         self.size = size;
         self.place = place;
         self
     }
 
-    /// Its lists: the rows of both sides, the items, and the answer. It takes no memory.
-    pub(crate) fn taken_apart(self) -> (SentRows, ReceivedRows, Vec<PostedRow>, Vec<Mark>)
+    /// Its lists: the rows of both sides, the items, the answer, and the move. It takes no memory.
+    pub(crate) fn taken_apart(
+        self,
+    ) -> (
+        SentRows,
+        ReceivedRows,
+        Vec<PostedRow>,
+        Vec<Mark>,
+        Option<MoveRow>,
+    )
         ensures messages { messages_of result.0.messages.items ≡ self.adds.messages }
         ensures certified { certified_of_rows result.0.messages.items ≡ self.certified }
         ensures charged { result.0.charged.items ≡ self.adds.charged }
@@ -209,23 +247,27 @@ impl Ready {
         ensures acked { result.1.acked.items ≡ self.adds.acked }
         ensures items { result.2.items ≡ self.adds.items }
         ensures answer { result.3.items ≡ map told self.adds.marks }
+        ensures moves { option_to_list result.4 ≡ self.adds.moves }
     {
         let Ready {
             moment: _,
+            version: _,
             size: _,
             sent,
             received,
             items,
+            moved,
             answer,
             pairs: _,
             clock: _,
             place: _,
         } = self;
-        (sent, received, items, answer)
+        (sent, received, items, answer, moved)
     }
 
-    /// The length of its longest list, the number of its pairs, or 1 for its place, whichever is most. It takes no
-    /// memory.
+    /// The length of its longest list, the number of its pairs, or 1 for its place and a move, whichever is most. It
+    /// takes no memory.
+    #[tactic(auto, using(crate::proofs::ArchiveLemmas::one_at_most))]
     pub(crate) fn rows(&self) -> usize
         ensures { AreWithin self.now result }
     {

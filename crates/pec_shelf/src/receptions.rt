@@ -2,7 +2,7 @@ ghost use Rattle.std.specs.Prelude.{◌≡◌, ◌++◌, ℕ, [], ◌∷◌, sli
 ghost use Rattle.pec_types.specs.Bytes.{Bytes};
 ghost use Rattle.pec_records.specs.declared.entries.Entry.TheVariants as entries;
 ghost use Rattle.pec_ledger.specs.Half.{Message, ReceiptItem};
-ghost use Rattle.pec_ledger.specs.Lookups.{outcome_kind, submitter};
+ghost use Rattle.pec_ledger.specs.Lookups.{receipt_kind, submitter};
 ghost use Rattle.pec_ledger.specs.OfDirectory.{recipients_named};
 ghost use Rattle.pec_ledger.specs.Pairs.{pair_of};
 ghost use Rattle.pec_ledger.specs.Steps.{placed_by};
@@ -137,7 +137,7 @@ fn learn(
         known = record { pair = pair_of id recipient.now; decision = decision; decided = decided; moment = moment } ∷ [];
         items = record {
           account = submitter shelf.now.half id.number;
-          item = ReceiptItem (outcome_kind decision) id (Some recipient.now) moment;
+          item = ReceiptItem (receipt_kind decision) id (Some recipient.now) moment;
           entry = shelf.now.half.entries;
         } ∷ [];
       };
@@ -147,7 +147,7 @@ fn learn(
     let item = receipt(
         shelf,
         account,
-        outcome_kind(decision),
+        receipt_kind(decision),
         id,
         Some(named),
         moment,
@@ -165,8 +165,8 @@ fn learn(
 }
 
 /// The kind of the receipt on a decision.
-fn outcome_kind(decision: Decision) -> Kind
-    ensures { result ≡ outcome_kind decision }
+fn receipt_kind(decision: Decision) -> Kind
+    ensures { result ≡ receipt_kind decision }
 {
     match decision {
         Decision::Placed => Kind::Delivery,

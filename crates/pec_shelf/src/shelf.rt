@@ -1,9 +1,9 @@
 ghost use Rattle.std.specs.Prelude.{◌≡◌, ◌+◌, ◌^◌, ◌<◌, ◌≤◌, ◌↔◌, [], map, option_map, slice_get, IfOk, IsSome, OnOk};
 ghost use Rattle.std.specs.Option.{option_and_then};
-ghost use Rattle.pec_ledger.specs.Books.{book, mailbox_lines};
+ghost use Rattle.pec_ledger.specs.Books.{archive_lines, book, mailbox_lines};
 ghost use Rattle.pec_ledger.specs.Due.{due_letters};
 ghost use Rattle.pec_ledger.specs.Half.{Message, Posted, Taken};
-ghost use Rattle.pec_ledger.specs.Lookups.{counted, mailbox, taken_of};
+ghost use Rattle.pec_ledger.specs.Lookups.{archive, counted, mailbox, taken_of};
 ghost use Rattle.pec_ledger.specs.OfDirectory.{IsOf};
 ghost use Rattle.pec_ledger.specs.Pairs.{pair_of};
 ghost use Rattle.pec_ledger.specs.Steps.{moment_of, size_of};
@@ -14,14 +14,14 @@ ghost use Rattle.pec_shelf.specs.Seen.{HoldsAs, IsFor, IsNew};
 ghost use Rattle.pec_shelf.specs.Undecided.{next_undecided};
 
 use crate::booking::book_lines;
-use crate::boxes::Boxes;
 use crate::deadlines::{Clock, Deadlines};
 use crate::drafts::Draft;
 use crate::entry_places::EntryPlaces;
 use crate::inbox::Inbox;
+use crate::mailboxes::Mailboxes;
 use crate::outbox::Outbox;
 use crate::owing::owed;
-use crate::preparing::{moment_of, rows_of};
+use crate::preparing::{moment_of, rows_of, version_by};
 use crate::ready::Ready;
 use crate::sizes::size_of;
 use pec_directory::Directory;
@@ -36,10 +36,11 @@ pub struct Shelf {
     pub(crate) me: u32,
     pub(crate) entries: u64,
     pub(crate) last: u64,
+    pub(crate) version: u64,
     pub(crate) end: u64,
     pub(crate) outbox: Outbox,
     pub(crate) inbox: Inbox,
-    pub(crate) boxes: Boxes,
+    pub(crate) boxes: Mailboxes,
     pub(crate) deadlines: Deadlines,
     pub(crate) places: EntryPlaces,
 }
@@ -58,6 +59,7 @@ impl Model for Shelf {
       half = record {
         entries = shelf.entries;
         last = shelf.last;
+        version = shelf.version;
         end = shelf.end;
         messages = messages_of shelf.outbox.messages;
         charged = shelf.outbox.charged;
@@ -67,6 +69,7 @@ impl Model for Shelf {
         decided = shelf.inbox.decided;
         acked = shelf.inbox.acked;
         items = shelf.boxes.items;
+        moves = shelf.boxes.moves;
       };
       certified = certified_of_rows shelf.outbox.messages;
       room = min shelf.outbox.room (min shelf.inbox.room (min shelf.boxes.room (min shelf.deadlines.room shelf.places.room)));
@@ -92,6 +95,7 @@ impl Drop for Shelf {
             me: _,
             entries: _,
             last: _,
+            version: _,
             end: _,
             outbox: _,
             inbox: _,
@@ -112,10 +116,11 @@ impl Shelf {
             me,
             entries: 0,
             last: 0,
+            version: 0,
             end: 8,
             outbox: Outbox::new(alloc, me),
             inbox: Inbox::new(alloc),
-            boxes: Boxes::new(alloc),
+            boxes: Mailboxes::new(alloc),
             deadlines: Deadlines::new(alloc),
             places: EntryPlaces::new(alloc),
         }
@@ -161,15 +166,16 @@ impl Shelf {
     {
         self.entries += 1;
         self.last = self.last.max(ready.moment);
+        self.version = self.version.max(ready.version);
         self.end += ready.size;
         self.deadlines.set(ready.clock);
         let first = self.outbox.messages().len();
         self.places.push(ready.place);
-        let (sent, received, items, answer) = ready.taken_apart();
+        let (sent, received, items, answer, moved) = ready.taken_apart();
         self.deadlines.add(first, sent.messages.as_slice());
         self.outbox.add(sent);
         self.inbox.add(received);
-        self.boxes.add(items);
+        self.boxes.add(items, moved);
         answer
     }
 
@@ -189,7 +195,7 @@ impl Shelf {
         self.outbox.message(number)?.facts()
     }
 
-    /// How many items of an account take room: envelopes and anomalies. It takes no memory.
+    /// How many items of an account's mailbox take room: envelopes and anomalies. It takes no memory.
     pub fn counted(&self, account: &Address) -> u64
         ensures { result ≡ counted self.now.half account.now }
     {
@@ -218,6 +224,15 @@ impl Shelf {
         ensures { result ≡ option_map (λ (posted : Posted). posted.entry) (slice_get (mailbox self.now.half account.now) place) }
     {
         let row = self.posted(account, place)?;
+        Some(row.entry())
+    }
+
+    /// The number of the entry by which the item at a place of an account's archive, counted from 0, was placed in its
+    /// mailbox. It takes no memory.
+    pub fn vault_source(&self, account: &Address, place: u32) -> Option<u64>
+        ensures { result ≡ option_map (λ (posted : Posted). posted.entry) (slice_get (archive self.now.half account.now) place) }
+    {
+        let row = self.vault_posted(account, place)?;
         Some(row.entry())
     }
 
@@ -258,6 +273,15 @@ impl Shelf {
         Ok(lines)
     }
 
+    /// The lines of an account's archive, in the order in which the items were moved there.
+    #[tactic(auto, unfolding(pec_ledger::specs::Books::archive_lines))]
+    pub fn vault(&self, account: &Address) -> Result<Vec<ItemLine>, NoMemory>
+        ensures { IfOk result (λ lines. lines.items ≡ archive_lines self.now.half account.now) }
+    {
+        let lines = self.boxes.vault_lines(self.alloc, account)?;
+        Ok(lines)
+    }
+
     /// Where the cursors stand behind an entry, if it is a clock call whose moment isn't before the greatest one.
     fn look(&mut self, entry: &Entry, steps: &mut Steps) -> Option<Clock>
         ensures clock { self.old.half.last ≤ moment_of entry.now → result ≡ clock_seen (acceptances_seen self.old) entry.now }
@@ -291,9 +315,10 @@ impl Shelf {
         ensures bytes { IfOk result (λ ready. self.now.half.end + ready.adds.size < 2 ^ 64) }
     {
         let moment = moment_of(draft.entry());
+        let version = version_by(draft.entry());
         let size = self.size(draft.entry())?;
         let rows = rows_of(self, directory, draft, clock)?;
-        Ok(rows.with_figures(moment, size, place))
+        Ok(rows.with_figures(moment, version, size, place))
     }
 
     /// How many bytes longer an entry makes the journal, as long as 64 bits tell its length and its entries: no memory

@@ -7,7 +7,7 @@ use pec_records::Entry;
 use pec_types::{Address, Text8};
 
 /// How many bytes longer an entry makes its journal, where 64 bits can tell it.
-#[tactic(auto, using(crate::proofs::SizeLemmas::start_size, crate::proofs::SizeLemmas::accepted_size, crate::proofs::SizeLemmas::refused_size, crate::proofs::SizeLemmas::took_size, crate::proofs::SizeLemmas::decided_size, crate::proofs::SizeLemmas::charged_size, crate::proofs::SizeLemmas::learned_size, crate::proofs::SizeLemmas::acked_size, crate::proofs::SizeLemmas::ticked_size, crate::proofs::SizeLemmas::anomaly_size))]
+#[tactic(auto, using(crate::proofs::SizeLemmas::start_size, crate::proofs::SizeLemmas::accepted_size, crate::proofs::SizeLemmas::refused_size, crate::proofs::SizeLemmas::took_size, crate::proofs::SizeLemmas::decided_size, crate::proofs::SizeLemmas::charged_size, crate::proofs::SizeLemmas::learned_size, crate::proofs::SizeLemmas::acked_size, crate::proofs::SizeLemmas::ticked_size, crate::proofs::SizeLemmas::anomaly_size, crate::proofs::SizeLemmas::start_two_size, crate::proofs::SizeLemmas::upgraded_size, crate::proofs::SizeLemmas::archived_size))]
 pub(crate) fn size_of(entry: &Entry) -> Option<u64>
     ensures { IfSome result (λ size. size ≡ size_of entry.now) }
 {
@@ -47,6 +47,9 @@ pub(crate) fn size_of(entry: &Entry) -> Option<u64>
             let size = accounts.checked_add(22 + message_bytes(message))?;
             Some(size)
         }
+        Entry::StartTwo { digest, .. } => Some(10 + digest.as_slice().len() as u64),
+        Entry::Upgraded { .. } => Some(14),
+        Entry::Archived { account, .. } => Some(20 + address_bytes(account)),
     }
 }
 

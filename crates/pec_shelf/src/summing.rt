@@ -1,17 +1,17 @@
-ghost use Rattle.std.specs.Prelude.{◌≡◌, ◌+◌, ◌^◌, ◌<◌, ◌≤◌, length, is_some};
+ghost use Rattle.std.specs.Prelude.{◌≡◌, ◌+◌, ◌^◌, ◌<◌, ◌≤◌, length, map, is_some};
 ghost use Rattle.std.specs.Option.{option_map};
 ghost use Rattle.pec_types.specs.declared.messages.TheConstants.{MESSAGES};
 ghost use Rattle.pec_ledger.specs.Pairs.{pair_of};
 ghost use Rattle.pec_ledger.specs.Trade.{Trade};
 ghost use Rattle.pec_shelf.specs.Seen.{IsFor};
-ghost use Rattle.pec_shelf.specs.Summaries.{IsUpTo, decision_on, is_noticed, is_placed, is_refused, most_pairs, nothing_yet, plus, summary_of};
-ghost use Rattle.pec_shelf.specs.SummariesReading.{more_if, with_accepted, with_message, with_messages, with_pair, with_pairs};
+ghost use Rattle.pec_shelf.specs.Summaries.{IsUpTo, decision_on, is_noticed, is_placed, is_refused, is_within, most_pairs, nothing_yet, plus, summary_of, summary_within};
+ghost use Rattle.pec_shelf.specs.SummariesReading.{kept_within, more_if, with_accepted, with_message, with_messages, with_pair, with_pairs};
 
 use crate::certified::Certified;
 use crate::outbox::Outbox;
 use crate::rows::MessageRow;
 use crate::shelf::Shelf;
-use pec_types::{Address, Decision, MsgId};
+use pec_types::{Address, Decision, Moment, MsgId};
 
 /// What has become of messages, in numbers: how many were accepted, and how many of their pairs, each a message and a
 /// certified recipient, are known to be placed, are known to be refused, aren't known, and had a notice, in time or
@@ -77,6 +77,59 @@ impl Shelf {
     {
         summary_of(self, self.me, &self.outbox)
     }
+
+    /// What has become of the messages that this provider accepted in a range of moments, whose ends belong to it, in
+    /// numbers. It takes no memory.
+    pub fn summary_within(&self, from: Moment, upto: Moment) -> Summary
+        ensures is { (trade : Trade) → IsFor trade self.now
+            → result ≡ summary_within trade self.now.me from upto self.now.half }
+        ensures few { IsUpTo result most_pairs }
+    {
+        summary_within(self, self.me, &self.outbox, from, upto)
+    }
+}
+
+/// The summary of the messages of a range of moments on the sender's side of this shelf.
+fn summary_within(shelf: &Shelf, me: u32, outbox: &Outbox, from: Moment, upto: Moment) -> Summary
+    requires { length outbox.now.messages ≤ MESSAGES }
+    ensures { result ≡ with_messages me shelf.now.half nothing_yet 0 (map (kept_within from upto) outbox.now.messages) }
+{
+    let mut summary = Summary::new();
+    for number in 0..outbox.messages().len() {
+        let Some(row) = outbox.message(number) else {
+            return summary;
+        };
+        let id = MsgId {
+            provider: me,
+            number,
+        };
+        summary = with_message_within(shelf, summary, id, row, from, upto);
+    }
+    summary
+}
+
+/// With a message and its pairs, where it is of a range of moments.
+fn with_message_within(
+    shelf: &Shelf,
+    summary: Summary,
+    id: MsgId,
+    row: &MessageRow,
+    from: Moment,
+    upto: Moment,
+) -> Summary
+    ensures { result ≡ with_message shelf.now.half id summary (kept_within from upto row.now) }
+{
+    if !is_within(from, upto, row.moment()) {
+        return summary;
+    }
+    with_message(shelf, summary, id, row)
+}
+
+/// Whether a moment is of a range, whose ends belong to it.
+fn is_within(from: Moment, upto: Moment, moment: Moment) -> bool
+    ensures { result ≡ is_within from upto moment }
+{
+    from.seconds() <= moment.seconds() && moment.seconds() <= upto.seconds()
 }
 
 /// The summary of all messages on the sender's side of this shelf.

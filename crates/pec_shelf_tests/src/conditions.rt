@@ -84,12 +84,37 @@ anomaly 1704186000 alice@alfa.example # an account of another
 anomaly 1704186000 nobody@beta.example # no account
 anomaly 1704186000 bob@beta.example,carl@beta.example # one has no room
 anomaly 1704185999 bob@beta.example # at an earlier moment
+archived 1704186000 bob@beta.example 0 # a journal of version 1
+upgraded 1704185999 # at an earlier moment
+start-two 0 1 two # not the first entry
+";
+
+/// What is no step behind a Start of version 2 and an envelope for carl, of which the item is archived, and why.
+const NOT_ARCHIVED: &str = "\
+upgraded 1704186000 # of version 2
+start 0 1 two # not the first entry
+archived 1704186000 carl@beta.example 0 # the mailbox is empty again
+archived 1704186000 bob@beta.example 0 # nothing was placed
+archived 1704186000 alice@alfa.example 0 # an account of another
+archived 1704186000 nobody@beta.example 0 # no account
+";
+
+/// A provider of version 2 with an archived item.
+const ARCHIVED: &str = "\
+start-two 0 1 two
+took 1704186000 0/0 alice@alfa.example carl@beta.example -
+decided 1704186000 0/0 carl@beta.example delivered
+archived 1704186000 carl@beta.example 0
 ";
 
 /// What is no first step of alfa, and why.
 const NOT_FIRST: &str = "\
 start 0 1 two # of another provider
 start 0 0 one # of another directory
+start-two 0 1 two # of another provider
+start-two 0 0 one # of another directory
+upgraded 1704186000 # without a Start
+archived 1704186000 alice@alfa.example 0 # without a Start
 ";
 
 #[test]
@@ -97,6 +122,13 @@ fn an_entry_that_misses_a_condition_is_no_step(rt: HostRuntime) -> Result<(), Fa
     no_step(rt.alloc(), 0, "", NOT_FIRST)?;
     no_step(rt.alloc(), 0, "start 0 0 two", "start 0 0 two # twice")?;
     no_step(rt.alloc(), 0, SENT, NOT_SENT)?;
+    no_step(rt.alloc(), 1, ARCHIVED, NOT_ARCHIVED)?;
+    no_step(
+        rt.alloc(),
+        1,
+        "start-two 0 1 two",
+        "start-two 0 1 two # twice",
+    )?;
     no_step(rt.alloc(), 1, RECEIVED, NOT_RECEIVED)
 }
 

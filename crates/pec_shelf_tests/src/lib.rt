@@ -16,6 +16,8 @@ mod plain;
 #[cfg(test)]
 mod plain_answers;
 #[cfg(test)]
+mod plain_boxes;
+#[cfg(test)]
 mod playing;
 #[cfg(test)]
 mod random;

@@ -146,17 +146,6 @@ impl Plain {
         false
     }
 
-    /// How many messages were placed with an account.
-    pub(crate) fn counted(&self, account: &str) -> u64 {
-        let mut count = 0u64;
-        for done in &self.done {
-            if is_placed(done, account) {
-                count = count.saturating_add(1);
-            }
-        }
-        count
-    }
-
     // What may follow.
 
     fn follows(&self, moment: u64, act: &Act) -> bool {
@@ -164,7 +153,11 @@ impl Plain {
             return false;
         }
         match *act {
-            Act::Starts(provider, _) => self.done.is_empty() && provider == self.me,
+            Act::Starts(provider, _) | Act::StartsTwo(provider, _) => {
+                self.done.is_empty() && provider == self.me
+            }
+            Act::Upgrades => self.version() == 1,
+            Act::Archives(account, place) => self.may_archive(account, place),
             Act::Accepts(sender, message) => {
                 is_account_of(self.me, sender) && sender == message.from
             }
@@ -228,6 +221,12 @@ impl Plain {
 
     fn may_ack(&self, id: Id, recipient: &str) -> bool {
         self.decided(id, recipient).is_some() && !self.is_acked(id, recipient)
+    }
+
+    fn may_archive(&self, account: &str, place: u32) -> bool {
+        self.version() == 2
+            && is_account_of(self.me, account)
+            && (place as usize) < self.boxes(account).mailbox.len()
     }
 
     /// This provider's message of an id.

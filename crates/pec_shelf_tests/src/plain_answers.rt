@@ -2,9 +2,9 @@
 
 use crate::lines::Log;
 use crate::messages::{MOST, class, goes_to, home, is_named, recipient};
-use crate::plain::{Came, Done, Plain, is_placed};
+use crate::plain::{Came, Plain};
+use crate::plain_boxes::Item;
 use crate::steps::{Act, Id, Message, Question};
-use pec_types::Decision;
 
 impl Plain {
     /// Adds the lines of an answer.
@@ -13,12 +13,14 @@ impl Plain {
             Question::Due(to, room) => self.add_due(log, to, room),
             Question::Book(account) => self.add_book(log, account),
             Question::Items(account) => self.add_items(log, account),
+            Question::Vault(account) => self.add_vault(log, account),
             Question::Undecided => self.add_undecided(log),
             Question::Row(id, recipient) => self.add_row(log, id, recipient),
             Question::Counted(account) => log.add_found(Some(self.counted(account))),
             Question::Own(number) => log.add_found(entry_of(self.sent(number))),
             Question::Took(id) => log.add_found(entry_of(self.taken(id))),
-            Question::Facts(_) | Question::Source(_, _) => {}
+            Question::Version => log.add_found(Some(self.version())),
+            Question::Facts(_) | Question::Source(_, _) | Question::VaultSource(_, _) => {}
         }
     }
 
@@ -227,59 +229,29 @@ impl Plain {
         log.end();
     }
 
-    /// The items of an account, in order of placing.
+    /// The items of an account's mailbox, in order of placing.
     fn add_items(&self, log: &mut Log, account: &str) {
-        let mut number = 0u64;
-        let mut place = 0u64;
-        for done in &self.done {
-            if self.add_item(log, done, account, number, place) {
-                place = place.saturating_add(1);
-            }
-            if matches!(done.act, Act::Accepts(_, _)) {
-                number = number.saturating_add(1);
-            }
-        }
+        let boxes = self.boxes(account);
+        self.add_box(log, &boxes.mailbox);
         log.add(b"mailbox");
-        log.add_number(place);
+        log.add_number(boxes.mailbox.len() as u64);
         log.end();
     }
 
-    /// The item that an act placed with an account, where it placed one; `number` is that of the next own message.
-    fn add_item(&self, log: &mut Log, done: &Done, account: &str, number: u64, place: u64) -> bool {
-        match done.act {
-            Act::Accepts(sender, _) => {
-                if sender != account {
-                    return false;
-                }
-                self.add_item_line(log, place, b"acceptance", (self.me, number), "-");
-            }
-            Act::Learns(id, recipient, decision, _) => {
-                if !self.is_by(id, account) {
-                    return false;
-                }
-                self.add_item_line(log, place, kind(decision).as_bytes(), id, recipient);
-            }
-            Act::Decides(id, _, _) => {
-                if !is_placed(done, account) {
-                    return false;
-                }
-                self.add_item_line(log, place, b"envelope", id, "-");
-            }
-            _ => return false,
-        }
-        true
+    /// The items of its archive, in the order in which they were moved there.
+    fn add_vault(&self, log: &mut Log, account: &str) {
+        let boxes = self.boxes(account);
+        self.add_box(log, &boxes.vault);
+        log.add(b"vault");
+        log.add_number(boxes.vault.len() as u64);
+        log.end();
     }
 
-    fn is_by(&self, id: Id, account: &str) -> bool {
-        match self.own(id) {
-            Some(message) => message.from == account,
-            None => false,
+    fn add_box(&self, log: &mut Log, items: &[Item]) {
+        for (place, item) in items.iter().enumerate() {
+            log.add_number(place as u64);
+            self.add_pair_line(log, item.kind.as_bytes(), item.id, item.recipient);
         }
-    }
-
-    fn add_item_line(&self, log: &mut Log, place: u64, kind: &[u8], id: Id, recipient: &str) {
-        log.add_number(place);
-        self.add_pair_line(log, kind, id, recipient);
     }
 
     fn add_pair_line(&self, log: &mut Log, kind: &[u8], id: Id, recipient: &str) {
@@ -319,12 +291,5 @@ fn entry_of(came: Option<Came>) -> Option<u64> {
     match came {
         Some(came) => Some(came.entry),
         None => None,
-    }
-}
-
-fn kind(decision: Decision) -> &'static str {
-    match decision {
-        Decision::Placed => "delivery",
-        Decision::Refused(_) => "delivery-error",
     }
 }

@@ -9,7 +9,7 @@ use crate::reading::step_of;
 use crate::steps::{Act, Id, Question, Step, address_of, entry_of, id_of};
 use pec_directory::Directory;
 use pec_records::Entry;
-use pec_script::{book_text, items_text, marks_text};
+use pec_script::{book_text, items_text, marks_text, vault_text};
 use pec_shelf::{DraftFault, Shelf, a_directory_has_a_trade, drafted, what_is_kept_goes_on};
 use pec_trial::two;
 use pec_types::{Address, Mark, NoMemory, Place, Steps};
@@ -129,10 +129,13 @@ impl Desk {
             Question::Facts(number) => self.add_facts(log, number),
             Question::Own(number) => log.add_found(self.shelf.own(number)),
             Question::Took(id) => self.add_took(log, id),
+            Question::Version => log.add_found(Some(self.shelf.version())),
             Question::Book(account)
             | Question::Items(account)
             | Question::Counted(account)
             | Question::Source(account, _)
+            | Question::Vault(account)
+            | Question::VaultSource(account, _)
             | Question::Row(_, account) => self.answer_of(log, account, question),
         }
     }
@@ -150,6 +153,10 @@ impl Desk {
             Question::Book(_) => self.add_book(log, account),
             Question::Items(_) => self.add_items(log, account),
             Question::Source(_, place) => log.add_found(self.shelf.source(account, place)),
+            Question::Vault(_) => self.add_vault(log, account),
+            Question::VaultSource(_, place) => {
+                log.add_found(self.shelf.vault_source(account, place))
+            }
             Question::Row(id, _) => self.add_row(log, id, account),
             _ => log.add_found(Some(self.shelf.counted(account))),
         }
@@ -179,6 +186,13 @@ impl Desk {
     fn add_items(&self, log: &mut Log, account: &Address) {
         match self.shelf.items(account) {
             Ok(lines) => log.put_text(items_text(self.alloc, &self.directory, &lines)),
+            Err(_) => log.fail(),
+        }
+    }
+
+    fn add_vault(&self, log: &mut Log, account: &Address) {
+        match self.shelf.vault(account) {
+            Ok(lines) => log.put_text(vault_text(self.alloc, &self.directory, &lines)),
             Err(_) => log.fail(),
         }
     }

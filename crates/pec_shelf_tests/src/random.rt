@@ -112,6 +112,7 @@ impl Chance {
             4 | 5 => Act::Charges(self.id(), self.provider()),
             6 | 7 => self.learns(),
             8 | 9 => Act::Acks(self.id(), self.recipient_here()),
+            10 => Act::Archives(self.recipient_here(), self.below(12) as u32),
             _ => Act::Decides(self.id(), self.recipient_here(), self.decision()),
         }
     }
@@ -168,9 +169,10 @@ impl Chance {
 
     /// A question whose answer has many lines.
     fn long_question(&mut self) -> Question {
-        match self.below(4) {
+        match self.below(5) {
             0 => Question::Book(senders()[self.below(4) as usize]),
             1 => Question::Items(self.recipient()),
+            2 => Question::Vault(self.recipient()),
             _ => Question::Due(self.provider(), 64),
         }
     }
@@ -210,7 +212,7 @@ fn play(desk: &mut Desk, log: &mut Log, plain: &mut Plain, lines: &mut Log) {
     let mut chance = Chance {
         state: 1_704_186_000,
     };
-    let start = Step::Enter(1_704_186_000, Act::Starts(0, two()));
+    let start = Step::Enter(1_704_186_000, Act::StartsTwo(0, two()));
     desk.step(log, &start);
     plain.play(lines, &start);
     for number in 0..STEPS {

@@ -25,6 +25,9 @@ enum Entry {
     Acked,
     Decided,
     Learned,
+    StartTwo,
+    Upgraded,
+    Archived,
 }
 
 /// The kinds of questions.
@@ -40,9 +43,12 @@ enum Asked {
     Own,
     Taken,
     Source,
+    Vault,
+    VaultSource,
+    Version,
 }
 
-static KINDS: [(&str, Kind); 20] = [
+static KINDS: [(&str, Kind); 26] = [
     ("start", Kind::Enters(Entry::Start)),
     ("accepted", Kind::Enters(Entry::Accepted)),
     ("refused", Kind::Enters(Entry::Refused)),
@@ -63,6 +69,12 @@ static KINDS: [(&str, Kind); 20] = [
     ("own", Kind::Asks(Asked::Own)),
     ("taken", Kind::Asks(Asked::Taken)),
     ("source", Kind::Asks(Asked::Source)),
+    ("start-two", Kind::Enters(Entry::StartTwo)),
+    ("upgraded", Kind::Enters(Entry::Upgraded)),
+    ("archived", Kind::Enters(Entry::Archived)),
+    ("vault", Kind::Asks(Asked::Vault)),
+    ("vault-source", Kind::Asks(Asked::VaultSource)),
+    ("version", Kind::Asks(Asked::Version)),
 ];
 
 fn kinds() -> &'static [(&'static str, Kind)] {
@@ -106,6 +118,9 @@ fn plain_act_of(entry: Entry, line: &'static str) -> Act {
         Entry::Took => Act::Takes(id(line, 2), message(line, 3)),
         Entry::Charged => Act::Charges(id(line, 2), small(line, 3)),
         Entry::Acked => Act::Acks(id(line, 2), word(line, 3)),
+        Entry::StartTwo => Act::StartsTwo(small(line, 2), directory(line)),
+        Entry::Upgraded => Act::Upgrades,
+        Entry::Archived => Act::Archives(word(line, 2), small(line, 3)),
         Entry::Tick | Entry::Decided | Entry::Learned => Act::Ticks,
     }
 }
@@ -132,6 +147,9 @@ fn question_of(asked: Asked, line: &'static str) -> Question {
         Asked::Own => Question::Own(number(line, 1)),
         Asked::Row => Question::Row(id(line, 1), word(line, 2)),
         Asked::Taken => Question::Took(id(line, 1)),
+        Asked::Vault => Question::Vault(word(line, 1)),
+        Asked::VaultSource => Question::VaultSource(word(line, 1), small(line, 2)),
+        Asked::Version => Question::Version,
     }
 }
 

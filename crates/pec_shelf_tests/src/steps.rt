@@ -39,6 +39,11 @@ pub(crate) enum Act {
     Acks(Id, &'static str),
     Ticks,
     Anomaly(&'static str),
+    /// The same as `Starts`, of a journal of version 2.
+    StartsTwo(u32, &'static str),
+    Upgrades,
+    /// The item at a place of an account's mailbox, from 0, goes to its archive.
+    Archives(&'static str, u32),
 }
 
 #[derive(Clone, Copy)]
@@ -54,6 +59,9 @@ pub(crate) enum Question {
     Own(u64),
     Took(Id),
     Source(&'static str, u32),
+    Vault(&'static str),
+    VaultSource(&'static str, u32),
+    Version,
 }
 
 /// The entry that an act at a moment stands for: none where something that it names isn't so, or for want of memory.
@@ -72,12 +80,29 @@ pub(crate) fn entry_of(alloc: Global, seconds: u64, act: &Act) -> Option<Entry> 
         Act::Acks(id, recipient) => acked(alloc, moment, id, recipient),
         Act::Ticks => Some(Entry::Ticked { moment }),
         Act::Anomaly(accounts) => anomaly(alloc, moment, accounts),
+        Act::StartsTwo(provider, directory) => start_two(alloc, provider, directory),
+        Act::Upgrades => Some(Entry::Upgraded { moment }),
+        Act::Archives(account, place) => archived(alloc, moment, account, place),
     }
 }
 
 fn start(alloc: Global, provider: u32, directory: &str) -> Option<Entry> {
     let digest = digest(alloc, directory)?;
     Some(Entry::Start { provider, digest })
+}
+
+fn start_two(alloc: Global, provider: u32, directory: &str) -> Option<Entry> {
+    let digest = digest(alloc, directory)?;
+    Some(Entry::StartTwo { provider, digest })
+}
+
+fn archived(alloc: Global, moment: Moment, account: &str, place: u32) -> Option<Entry> {
+    let account = address_of(alloc, account)?;
+    Some(Entry::Archived {
+        moment,
+        account,
+        place,
+    })
 }
 
 fn digest(alloc: Global, directory: &str) -> Option<[u8; 32]> {

@@ -162,6 +162,75 @@ due 3
 > due 0 1
 outcome pec.0000000@alfa.example carl@beta.example
 due 1
+= 1 an item that is archived makes room, and those behind it move one place down
+> start-two 0 1 two
+> version
+2
+> accepted 1704186000 carl@beta.example carl@beta.example alice@alfa.example -
+> took 1704186002 0/0 alice@alfa.example carl@beta.example -
+> took 1704186002 0/1 alice@alfa.example carl@beta.example -
+> decided 1704186002 0/0 carl@beta.example delivered
+> vault carl@beta.example
+vault 0
+> archived 1704186003 carl@beta.example 1
+> counted carl@beta.example
+0
+> mailbox carl@beta.example
+0 acceptance pec.0000000@beta.example -
+mailbox 1
+> vault carl@beta.example
+0 envelope pec.0000000@alfa.example -
+vault 1
+> decided 1704186003 0/1 carl@beta.example mailbox-full
+not-a-step
+> decided 1704186003 0/1 carl@beta.example delivered
+> counted carl@beta.example
+1
+> archived 1704186004 carl@beta.example 2
+not-a-step
+> archived 1704186004 carl@beta.example 0
+> mailbox carl@beta.example
+0 envelope pec.0000001@alfa.example -
+mailbox 1
+> vault carl@beta.example
+0 envelope pec.0000000@alfa.example -
+1 acceptance pec.0000000@beta.example -
+vault 2
+> source carl@beta.example 0
+6
+> source carl@beta.example 1
+-
+> vault-source carl@beta.example 0
+4
+> vault-source carl@beta.example 1
+1
+> vault-source carl@beta.example 2
+-
+> counted carl@beta.example
+1
+> vault bob@beta.example
+vault 0
+= 1 a journal of version 1 knows archives once it is upgraded
+> version
+0
+> start 0 1 two
+> version
+1
+> took 1704186002 0/0 alice@alfa.example bob@beta.example -
+> decided 1704186002 0/0 bob@beta.example delivered
+> archived 1704186002 bob@beta.example 0
+not-a-step
+> upgraded 1704186002
+> upgraded 1704186002
+not-a-step
+> version
+2
+> archived 1704186002 bob@beta.example 0
+> mailbox bob@beta.example
+mailbox 0
+> vault bob@beta.example
+0 envelope pec.0000000@alfa.example -
+vault 1
 = 0 an envelope is due until its provider is heard of, by a charge or by one outcome
 > start 0 0 two
 > accepted 1704186000 alice@alfa.example alice@alfa.example bob@beta.example -

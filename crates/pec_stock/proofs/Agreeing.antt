@@ -61,6 +61,9 @@ tick_behind trade half last (entries.Learned moment id recipient decision decide
 tick_behind trade half last (entries.Acked moment id recipient) = refl
 tick_behind trade half last (entries.Ticked moment) = refl
 tick_behind trade half last (entries.Anomaly moment accounts message) = refl
+tick_behind trade half last (entries.StartTwo provider digest) = refl
+tick_behind trade half last (entries.Upgraded moment) = refl
+tick_behind trade half last (entries.Archived moment account place) = refl
 
 -- the shelf took in what an entry was prepared as
 pub holds_more : (kept : List Kept) (old new : Seen) (entries : List Entry) (entry : Entry) (place : Place) (some : Trade)
@@ -104,6 +107,9 @@ own_begins (entries.Learned moment id recipient decision decided message ∷ res
 own_begins (entries.Acked moment id recipient ∷ rest) entry none = absurd none
 own_begins (entries.Ticked moment ∷ rest) entry none = absurd none
 own_begins (entries.Anomaly moment accounts message ∷ rest) entry none = absurd none
+own_begins (entries.StartTwo number digest ∷ rest) entry begins = tt
+own_begins (entries.Upgraded moment ∷ rest) entry none = absurd none
+own_begins (entries.Archived moment account place ∷ rest) entry none = absurd none
 
 along_push : (trade : Trade) (me : ℕ) (from : Half) (entries : List Entry) (entry : Entry)
     → AllAlong (step trade me) (IsStep trade me) from entries → IsStep trade me (fold (step trade me) from entries) entry
@@ -188,6 +194,8 @@ module _ {D : Type 0} (kept : List Kept) (old new : ChronicleState D) (before af
     agree_failed faults.NoAccount none holds = absurd none
     agree_failed faults.Full none holds = absurd none
     agree_failed faults.NoItem none holds = absurd none
+    agree_failed faults.OldJournal none holds = absurd none
+    agree_failed faults.NoNeed none holds = absurd none
     agree_failed faults.JournalFull full holds = agree_still full.same holds
     agree_failed faults.NoMemory same holds = agree_still same holds
     agree_failed (faults.Changed number) none holds = absurd none
@@ -251,6 +259,8 @@ module _ {D : Type 0} (old mid new : ChronicleState D) (encoded entry : Entry) (
   failed_from faults.NoAccount none = absurd none
   failed_from faults.Full none = absurd none
   failed_from faults.NoItem none = absurd none
+  failed_from faults.OldJournal none = absurd none
+  failed_from faults.NoNeed none = absurd none
   failed_from faults.JournalFull full = record {
     same = same_and old mid new same full.same;
     full = subst (λ (e : Entry). longest_journal < old.end + size_of e) is

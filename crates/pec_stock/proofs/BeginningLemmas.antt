@@ -43,13 +43,13 @@ holds_new kept me shelf new = record {
 
 module _ (kept : List Kept) (me : ℕ) (shelf : Seen) (new : IsNew me shelf) (trade : Trade) (of : IsOf kept trade) (digest : Bytes)
     (is : digest ≡ digest_of (providers_of kept)) where
-  start_of : IsStep trade me empty (entries.Start me digest)
+  start_of : IsStep trade me empty (entries.StartTwo me digest)
   start_of = record { own = (refl, refl, is ∙ sym of.digest); in_time = omega arith }
 
-  pub start_step : IsStep trade shelf.me shelf.half (entries.Start me digest)
+  pub start_step : IsStep trade shelf.me shelf.half (entries.StartTwo me digest)
   start_step = rw (new.0, new.1) start_of
 
-  pub start_own : IsOwn trade me (entries.Start me digest ∷ [])
+  pub start_own : IsOwn trade me (entries.StartTwo me digest ∷ [])
   start_own = record { begins = tt; steps = (start_of, tt) }
 
 without : (list : List Entry) (choice : Bool) (P : List Entry → Type 0) → P list → P (list ++ chosen choice None)

@@ -26,6 +26,9 @@ looked_none trade shelf (entries.Acked moment id recipient) steps result never =
 looked_none trade shelf (entries.Ticked moment) steps result never =
     record { alike = λ l s. refl; most = λ l. omega arith; least = λ ok. absurd (never ok) }
 looked_none trade shelf (entries.Anomaly moment accounts message) steps result never = (refl, refl)
+looked_none trade shelf (entries.StartTwo provider digest) steps result never = (refl, refl)
+looked_none trade shelf (entries.Upgraded moment) steps result never = (refl, refl)
+looked_none trade shelf (entries.Archived moment account place) steps result never = (refl, refl)
 
 -- what was looked up is so for an answer that comes later
 pub looked_through : {X Y Z W : Type 0} (trade : Trade) (shelf : Seen) (entry : Entry) (looks steps later : ℕ) (first : Result X Y) (second : Result Z W)
@@ -41,3 +44,6 @@ looked_through trade shelf (entries.Acked moment id recipient) looks steps later
 looked_through trade shelf (entries.Ticked moment) looks steps later first second so looked =
     record { alike = looked.alike; most = looked.most; least = λ ok. looked.least (so ok) }
 looked_through trade shelf (entries.Anomaly moment accounts message) looks steps later first second so looked = looked
+looked_through trade shelf (entries.StartTwo provider digest) looks steps later first second so looked = looked
+looked_through trade shelf (entries.Upgraded moment) looks steps later first second so looked = looked
+looked_through trade shelf (entries.Archived moment account place) looks steps later first second so looked = looked

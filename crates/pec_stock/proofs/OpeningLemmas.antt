@@ -1,5 +1,5 @@
 -- Why a journal that is opened again is refused, and that a provider's own never is.
-use Rattle.std.proofs.Common.{◌≡◌, ℕ, zero, suc, ◌+◌, ◌<◌, ◌⊎◌, Bool, true, false, not, List, [], ◌∷◌, ◌++◌, length, map, fold, take, get_or, inl, inr, refl, sym, ap, subst, ◌∙◌, arith, Some, Result, Ok, Err}
+use Rattle.std.proofs.Common.{◌≡◌, ℕ, zero, suc, ◌+◌, ◌<◌, ◌⊎◌, Bool, true, false, not, List, [], ◌∷◌, ◌++◌, length, map, fold, take, get_or, inl, inr, refl, sym, ap, subst, ◌∙◌, arith, Some, None, Result, Ok, Err}
 use Rattle.std.specs.Prelude.{◌≢◌, IfErr, slice_get}
 use Rattle.std.specs.Str.{bytes_eq}
 use Rattle.std.proofs.lemmas.Bool.{false≢true}
@@ -15,7 +15,9 @@ use Rattle.pec_records.specs.declared.entries.Entry.TheVariants as entries
 use Rattle.pec_directory.specs.Directory.{Kept}
 use Rattle.pec_ledger.specs.Along.{AllAlong}
 use Rattle.pec_ledger.specs.Half.{Half, empty}
+use Rattle.pec_ledger.specs.Ledger.{Begins}
 use Rattle.pec_ledger.specs.OfDirectory.{IsOf}
+use Rattle.pec_ledger.specs.Own.{Own}
 use Rattle.pec_ledger.specs.Steps.{half, step}
 use Rattle.pec_ledger.specs.Trade.{Trade}
 use Rattle.pec_chronicle.specs.Carrying.{with_entry}
@@ -27,7 +29,7 @@ use Rattle.pec_shelf.specs.Prepared.{AreSteps, IsStep}
 use Rattle.pec_shelf.specs.Seen.{Seen}
 use Rattle.pec_stock.specs.declared.faults.ReopenFault.{ReopenFault}
 use Rattle.pec_stock.specs.declared.faults.ReopenFault.TheVariants as faults
-use Rattle.pec_stock.specs.Opening.{IsBad, IsElsewhere, IsHere, IsOutside, IsUnfit, NotOwn, ReadsTo, StopsAt, as_reopened}
+use Rattle.pec_stock.specs.Opening.{IsBad, IsElsewhere, IsOutside, IsUnfit, NotOwn, ReadsTo, StopsAt, as_reopened, digest_in, digest_kept}
 use Rattle.pec_stock.specs.Stock.{Holds, IsOwn}
 use Rattle.pec_stock.specs.Stocking.{AllSteps}
 use Rattle.pec_stock.proofs.Agreeing.{steps_push}
@@ -50,10 +52,28 @@ not_bad : (trade : Trade) (me : ℕ) (list : List Entry) (number : ℕ) → IsOw
 not_bad trade me list number own (inl none) = none.1 own.begins
 not_bad trade me list number own (inr stops) = no_stop_in trade me list number own stops.1
 
+-- the digest that a provider's own entries keep is that of the directory
+digest_first : (trade : Trade) (me : ℕ) (first : Entry) (kept : Bytes) → Own trade me empty first → digest_in first ≡ Some kept → trade.digest ≡ kept
+digest_first trade me (entries.Start number digest) kept own e = sym own.2 ∙ same_Some digest kept e
+digest_first trade me (entries.StartTwo number digest) kept own e = sym own.2 ∙ same_Some digest kept e
+digest_first trade me (entries.Accepted moment sender message) kept own e = absurd (none-some kept e)
+digest_first trade me (entries.NotAccepted moment sender cause path message) kept own e = absurd (none-some kept e)
+digest_first trade me (entries.Took moment id message) kept own e = absurd (none-some kept e)
+digest_first trade me (entries.Decided moment id recipient decision) kept own e = absurd (none-some kept e)
+digest_first trade me (entries.Charged moment id by) kept own e = absurd (none-some kept e)
+digest_first trade me (entries.Learned moment id recipient decision decided message) kept own e = absurd (none-some kept e)
+digest_first trade me (entries.Acked moment id recipient) kept own e = absurd (none-some kept e)
+digest_first trade me (entries.Ticked moment) kept own e = absurd (none-some kept e)
+digest_first trade me (entries.Anomaly moment accounts message) kept own e = absurd (none-some kept e)
+digest_first trade me (entries.Upgraded moment) kept own e = absurd (none-some kept e)
+digest_first trade me (entries.Archived moment account place) kept own e = absurd (none-some kept e)
+
+digest_is : (trade : Trade) (me : ℕ) (list : List Entry) (kept : Bytes) → IsOwn trade me list → digest_kept list ≡ Some kept → trade.digest ≡ kept
+digest_is trade me [] kept own e = absurd (none-some kept e)
+digest_is trade me (first ∷ rest) kept own e = digest_first trade me first kept own.steps.0.own e
+
 not_elsewhere : (trade : Trade) (me : ℕ) (list : List Entry) (kept given : Bytes) → IsOwn trade me list → IsElsewhere trade list kept given → ⊥
-not_elsewhere trade me list kept given own is =
-    let steps : AreSteps trade me (entries.Start is.number kept ∷ is.rest) = subst (λ (l : List Entry). AreSteps trade me l) is.is own.steps in
-    is.differs (steps.0.own.2 ∙ sym is.given_is)
+not_elsewhere trade me list kept given own is = is.differs (sym (digest_is trade me list kept own is.is) ∙ sym is.given_is)
 
 pub own_is_taken : (trade : Trade) (me : ℕ) (list : List Entry) (fault : ReopenFault) → IsOwn trade me list → NotOwn trade me list fault → IsOutside fault
 own_is_taken trade me list faults.DiskFault own none = tt
@@ -102,28 +122,21 @@ unfit_cut_off trade me bytes list number texts file stops own = (
 
 -- ---- the first entry
 
--- a Start with another digest
-pub elsewhere_at : (trade : Trade) (list : List Entry) (e : Entry) (number : ℕ) (kept given : Bytes) → slice_get list 0 ≡ Some e
-    → e ≡ entries.Start number kept → given ≡ trade.digest → (kept ≡ given → ⊥) → IsElsewhere trade list kept given
-elsewhere_at trade [] e number kept given first is digest differs = absurd (none-some e first)
-elsewhere_at trade (x ∷ rest) e number kept given first is digest differs = record {
-  number = number;
-  rest = rest;
-  is = ap (λ (y : Entry). y ∷ rest) (same_Some x e first ∙ is);
-  given_is = digest;
-  differs = differs;
-}
-
--- a Start with this digest
-pub here_at : (trade : Trade) (list : List Entry) (e : Entry) (number : ℕ) (kept given : Bytes) → slice_get list 0 ≡ Some e
-    → e ≡ entries.Start number kept → given ≡ trade.digest → kept ≡ given → IsHere trade list
-here_at trade [] e number kept given first is digest same = absurd (none-some e first)
-here_at trade (x ∷ rest) e number kept given first is digest same = record {
-  number = number;
-  rest = rest;
-  is = ap (λ (y : Entry). y ∷ rest)
-      (same_Some x e first ∙ is ∙ ap (λ (d : Bytes). entries.Start number d) (same ∙ digest));
-}
+-- entries that begin with none that keeps a digest begin with no Start
+pub no_digest : (entry : Entry) → digest_in entry ≡ None → Begins (entry ∷ []) → ⊥
+no_digest (entries.Start number digest) e begins = none-some digest (sym e)
+no_digest (entries.StartTwo number digest) e begins = none-some digest (sym e)
+no_digest (entries.Accepted moment sender message) e begins = begins
+no_digest (entries.NotAccepted moment sender cause path message) e begins = begins
+no_digest (entries.Took moment id message) e begins = begins
+no_digest (entries.Decided moment id recipient decision) e begins = begins
+no_digest (entries.Charged moment id by) e begins = begins
+no_digest (entries.Learned moment id recipient decision decided message) e begins = begins
+no_digest (entries.Acked moment id recipient) e begins = begins
+no_digest (entries.Ticked moment) e begins = begins
+no_digest (entries.Anomaly moment accounts message) e begins = begins
+no_digest (entries.Upgraded moment) e begins = begins
+no_digest (entries.Archived moment account place) e begins = begins
 
 not_false : (b : Bool) → not b ≡ false → b ≡ true
 not_false true e = refl

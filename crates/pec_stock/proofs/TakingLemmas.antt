@@ -28,7 +28,7 @@ use Rattle.pec_chronicle.specs.declared.faults.OpenFault.TheVariants as opening
 use Rattle.pec_directory.specs.Directory.{Kept}
 use Rattle.pec_shelf.specs.Prepared.{AreSteps, IsStep}
 use Rattle.pec_shelf.specs.Seen.{Seen}
-use Rattle.pec_stock.specs.Opening.{IsBad, IsElsewhere, IsHere, IsNoEntry, IsOutside, IsUnfit, NotOwn, ReadsTo, StopsAt, as_reopened}
+use Rattle.pec_stock.specs.Opening.{IsBad, IsElsewhere, IsHere, IsNoEntry, IsOutside, IsUnfit, NotOwn, ReadsTo, StopsAt, as_reopened, digest_in, digest_kept}
 use Rattle.pec_stock.specs.Stock.{Holds, IsOwn}
 use Rattle.pec_stock.specs.Stocking.{HasTaken}
 use Rattle.pec_stock.proofs.Agreeing.{steps_push}
@@ -132,19 +132,37 @@ stops_here trade me before e more steps none = record {
 }
 
 -- entries that begin with a Start begin with it whatever comes behind
+kept_more : (list more : List Entry) (kept : Bytes) → digest_kept list ≡ Some kept → digest_kept (list ++ more) ≡ Some kept
+kept_more [] more kept e = absurd (none-some kept e)
+kept_more (first ∷ rest) more kept e = e
+
 pub here_more : (trade : Trade) (list more : List Entry) → IsHere trade list → IsHere trade (list ++ more)
-here_more trade list more here = record {
-  number = here.number;
-  rest = here.rest ++ more;
-  is = ap (λ (l : List Entry). l ++ more) here.is;
-}
+here_more trade list more here = kept_more list more trade.digest here
+
+begins_in : (first : Entry) (rest : List Entry) (kept : Bytes) → digest_in first ≡ Some kept → Begins (first ∷ rest)
+begins_in (entries.Start number digest) rest kept e = tt
+begins_in (entries.StartTwo number digest) rest kept e = tt
+begins_in (entries.Accepted moment sender message) rest kept e = none-some kept e
+begins_in (entries.NotAccepted moment sender cause path message) rest kept e = none-some kept e
+begins_in (entries.Took moment id message) rest kept e = none-some kept e
+begins_in (entries.Decided moment id recipient decision) rest kept e = none-some kept e
+begins_in (entries.Charged moment id by) rest kept e = none-some kept e
+begins_in (entries.Learned moment id recipient decision decided message) rest kept e = none-some kept e
+begins_in (entries.Acked moment id recipient) rest kept e = none-some kept e
+begins_in (entries.Ticked moment) rest kept e = none-some kept e
+begins_in (entries.Anomaly moment accounts message) rest kept e = none-some kept e
+begins_in (entries.Upgraded moment) rest kept e = none-some kept e
+begins_in (entries.Archived moment account place) rest kept e = none-some kept e
+
+-- they begin with a Start where they keep a digest
+begins_kept : (list : List Entry) (kept : Bytes) → digest_kept list ≡ Some kept → Begins list
+begins_kept [] kept e = none-some kept e
+begins_kept (first ∷ rest) kept e = begins_in first rest kept e
 
 elsewhere_more : (trade : Trade) (list more : List Entry) (kept given : Bytes) → IsElsewhere trade list kept given
     → IsElsewhere trade (list ++ more) kept given
 elsewhere_more trade list more kept given is = record {
-  number = is.number;
-  rest = is.rest ++ more;
-  is = ap (λ (l : List Entry). l ++ more) is.is;
+  is = kept_more list more kept is.is;
   given_is = is.given_is;
   differs = is.differs;
 }
@@ -165,6 +183,9 @@ begins_less (entries.Learned moment id recipient decision decided message) more 
 begins_less (entries.Acked moment id recipient) more none = absurd none
 begins_less (entries.Ticked moment) more none = absurd none
 begins_less (entries.Anomaly moment accounts message) more none = absurd none
+begins_less (entries.StartTwo number digest) more begins = tt
+begins_less (entries.Upgraded moment) more none = absurd none
+begins_less (entries.Archived moment account place) more none = absurd none
 
 -- what is wrong with the first entry is wrong whatever comes behind
 bad_more : (trade : Trade) (me : ℕ) (e : Entry) (more : List Entry) (number : ℕ) → IsBad trade me (e ∷ []) number → IsBad trade me (e ∷ more) number
@@ -218,7 +239,7 @@ module _ (kept : List Kept) (me : ℕ) (before : Seen) (read : List Entry) (was 
 
   -- behind the Start of this directory they are the provider's own
   pub own_read : (trade : Trade) → IsOf kept trade → IsHere trade read → IsOwn trade me read
-  own_read trade of here = record { begins = subst Begins (sym here.is) tt; steps = was.steps trade of }
+  own_read trade of here = record { begins = begins_kept read trade.digest here; steps = was.steps trade of }
 
 -- ---- why it is refused
 

@@ -46,6 +46,9 @@ own_so kept one other me half (entries.Learned moment id recipient decision deci
 own_so kept one other me half (entries.Acked moment id recipient) own = own
 own_so kept one other me half (entries.Ticked moment) own = own
 own_so kept one other me half (entries.Anomaly moment accounts message) own = own
+own_so kept one other me half (entries.StartTwo provider digest) own = own
+own_so kept one other me half (entries.Upgraded moment) own = own
+own_so kept one other me half (entries.Archived moment account place) own = own
 
 pub same_step : (kept : List Kept) (one other : Trade) → IsOf kept one → IsOf kept other → (me : ℕ) (half : Half) (entry : Entry)
     → IsStep one me half entry → IsStep other me half entry

@@ -1,6 +1,6 @@
 -- Why the entries on a disk are no provider's own: `IsUnfit`, what is refused when a journal is opened again. This
 -- project's profile.
-use Rattle.std.specs.Prelude.{◌≡◌, ◌≢◌, ◌⊎◌, ℕ, List, [], ◌∷◌, ◌++◌, length, map, take, slice_get, Some}
+use Rattle.std.specs.Prelude.{◌≡◌, ◌≢◌, ◌⊎◌, ℕ, List, [], ◌∷◌, ◌++◌, length, map, take, slice_get, Option, Some, None}
 use Rattle.std.specs.List.{All}
 use Rattle.pec_types.specs.Bytes.{Bytes}
 use Rattle.pec_journal.specs.JournalFile.{IsBroken, IsFile}
@@ -41,19 +41,26 @@ pub record StopsAt (trade : Trade) (me number : ℕ) (list : List Entry) : Type 
   pub is : slice_get list number ≡ Some entry
   pub none : IsStep trade me (half trade me (take number list)) entry → ⊥
 
+-- the digest of a directory that a Start, of either version, keeps
+abbrev pub digest_in : Entry → Option Bytes
+digest_in (entries.Start number digest) = Some digest
+digest_in (entries.StartTwo number digest) = Some digest
+digest_in _ = None
+
+-- the digest of the directory that entries were made with, where they begin with a Start
+abbrev pub digest_kept : List Entry → Option Bytes
+digest_kept [] = None
+digest_kept (entry ∷ rest) = digest_in entry
+
 -- They begin with the Start of another directory, whose digest is the kept one.
 pub record IsElsewhere (trade : Trade) (list : List Entry) (kept given : Bytes) : Type 0 where
-  pub number : ℕ
-  pub rest : List Entry
-  pub is : list ≡ entries.Start number kept ∷ rest
+  pub is : digest_kept list ≡ Some kept
   pub given_is : given ≡ trade.digest
   pub differs : kept ≢ given
 
 -- They begin with a Start of this directory.
-pub record IsHere (trade : Trade) (list : List Entry) : Type 0 where
-  pub number : ℕ
-  pub rest : List Entry
-  pub is : list ≡ entries.Start number trade.digest ∷ rest
+abbrev pub IsHere : Trade → List Entry → Type 0
+IsHere trade list = digest_kept list ≡ Some trade.digest
 
 -- They have no Start; or they begin with one of this directory, and one of them is no step.
 abbrev pub IsBad : Trade → ℕ → List Entry → ℕ → Type 0

@@ -44,4 +44,4 @@ pub record Agree {D : Type 0} (kept : List Kept) (chronicle : ChronicleState D) 
 
 -- how many bytes the journal of a provider of this directory has as it is made, with its Start alone
 abbrev pub size_made : List Kept → ℕ → ℕ
-size_made kept me = made_size (entries.Start me (digest_of (providers_of kept)))
+size_made kept me = made_size (entries.StartTwo me (digest_of (providers_of kept)))

@@ -1,4 +1,4 @@
-ghost use Rattle.std.specs.Prelude.{◌≡◌, ◌≢◌, ℕ, ◌≤◌, List, [], ◌∷◌, false, length, None, IsErrOf, IfOk, OnOk, IfErr};
+ghost use Rattle.std.specs.Prelude.{◌≡◌, ◌≢◌, ℕ, ◌≤◌, List, [], ◌∷◌, false, length, option_map, None, IsErrOf, IfOk, OnOk, IfErr};
 ghost use Rattle.pec_outside.specs.DiskModel.{GrowsTo, Rests, Stays};
 ghost use Rattle.pec_outside.specs.Flow.{HasRisen};
 ghost use Rattle.pec_directory.specs.Canonical.{digest_of};
@@ -12,7 +12,7 @@ ghost use Rattle.pec_ledger.specs.Trade.{Trade};
 ghost use Rattle.pec_chronicle.specs.Chronicle.{IsJournalOf, Stands};
 ghost use Rattle.pec_chronicle.specs.Opening.{Opens, Reads, place_behind};
 ghost use Rattle.pec_chronicle.specs.declared.faults.CreateFault.TheVariants as create;
-ghost use Rattle.pec_stock.specs.Opening.{IsHere, IsOutside, IsUnfit, NotOwn};
+ghost use Rattle.pec_stock.specs.Opening.{IsHere, IsOutside, IsUnfit, NotOwn, digest_in};
 ghost use Rattle.pec_stock.specs.Stock.{Agree, Holds, IsOwn, size_made};
 ghost use Rattle.pec_stock.specs.Stocking.{HasTaken};
 ghost use Rattle.pec_stock.specs.declared.faults.ReopenFault.TheVariants as reopen;
@@ -30,16 +30,16 @@ use std::alloc::Global;
 // Where the bytes of a journal's first entry stand: behind the header and its framing.
 const FIRST_PLACE: u64 = 13;
 
-/// The stock of a provider on an empty disk: its journal is made, with its Start. A crash during the call may leave a
-/// disk that holds bytes and is no journal, but no more of them than that journal has, or than it may have left before.
-/// With a fault the disk comes back; one that was empty may hold bytes then, no more than these.
+/// The stock of a provider on an empty disk: its journal is made, of version 2, with its Start. A crash during the call
+/// may leave a disk that holds bytes and is no journal, but no more of them than that journal has, or than it may have
+/// left before. With a fault the disk comes back; one that was empty may hold bytes then, no more than these.
 pub fn begin<D: Disk>(
     alloc: Global,
     directory: &Directory,
     me: u32,
     disk: D,
 ) -> Result<(Chronicle<D>, Shelf), (CreateFault, D)>
-    ensures created { IfOk result (λ made. (made.0.entries ≡ entries.Start me (digest_of (providers_of directory.now)) ∷ [])
+    ensures created { IfOk result (λ made. (made.0.entries ≡ entries.StartTwo me (digest_of (providers_of directory.now)) ∷ [])
         × (made.0.interrupted ≡ None) × (made.0.down ≡ false)) }
     ensures agree { IfOk result (λ made. (made.1.me ≡ me) × Agree directory.now made.0 made.1) }
     ensures stands { D.tells → IfOk result (λ made. Stands D.sight made.0) }
@@ -71,14 +71,14 @@ pub fn begin<D: Disk>(
 
 /// The first entry of a provider's journal, and the half behind it.
 fn started(alloc: Global, directory: &Directory, me: u32) -> Result<(Draft, Shelf), NoMemory>
-    ensures start { IfOk result (λ made. made.0 ≡ entries.Start me (digest_of (providers_of directory.now))) }
+    ensures start { IfOk result (λ made. made.0 ≡ entries.StartTwo me (digest_of (providers_of directory.now))) }
     ensures me { IfOk result (λ made. made.1.me ≡ me) }
     ensures holds { IfOk result (λ made. Holds directory.now made.1 (made.0 ∷ [])) }
     ensures own { IfOk result (λ made. (trade : Trade) → IsOf directory.now trade → IsOwn trade me (made.0 ∷ [])) }
 {
     a_directory_has_a_trade();
     let digest = directory.digest(alloc)?;
-    let start = Draft::plain(Entry::Start {
+    let start = Draft::plain(Entry::StartTwo {
         provider: me,
         digest,
     });
@@ -254,7 +254,7 @@ fn begins(alloc: Global, directory: &Directory, entry: &Entry) -> Result<(), Reo
     ensures not_own { (trade : Trade) (me : ℕ) → IsOf directory.now trade → IfErr result (NotOwn trade me (entry.now ∷ [])) }
     ensures no_disk_fault { IfErr result (λ fault. fault ≢ reopen.DiskFault) }
 {
-    let Entry::Start { digest, .. } = entry else {
+    let Some(digest) = digest_in(entry) else {
         return Err(ReopenFault::BadEntry(0));
     };
     let given = directory.digest(alloc)?;
@@ -262,4 +262,15 @@ fn begins(alloc: Global, directory: &Directory, entry: &Entry) -> Result<(), Reo
         return Err(ReopenFault::OtherDirectory(*digest, given));
     }
     Ok(())
+}
+
+/// The digest of a directory that a Start, of either version, keeps.
+fn digest_in(entry: &Entry) -> Option<&[u8; 32]>
+    ensures { option_map (λ digest. digest.now) result ≡ digest_in entry.now }
+{
+    match entry {
+        Entry::Start { digest, .. } => Some(digest),
+        Entry::StartTwo { digest, .. } => Some(digest),
+        _ => None,
+    }
 }

@@ -7,6 +7,6 @@ use Rattle.pec_outgoing.proofs.items.item.Goals as goal
 
 pub returns-clause-text : goal.returns-clause-text
 returns-clause-text g c journal number is need at =
-    text_so (world_at c.args.house.now) c.args.shelf.now c.args.account.now c.args.place journal c.args.entry.now number
+    text_so (world_at c.args.house.now) c.args.shelf.now c.args.posted.now journal c.args.entry.now number
     (wanted_shown c.in-Some.wanted) c.in_ok-text.text.items is need at (sym c.in-Some.ensures)
     c.in_ok-text.ensures.shown

@@ -4,7 +4,7 @@ use Rattle.pec_directory.specs.Directory.{providers_of}
 use Rattle.pec_screen.specs.VerdictReading.{finds}
 use Rattle.pec_points.specs.AdmissionReading.{admission_of}
 use Rattle.pec_points.specs.Case.{case_at, unscreened}
-use Rattle.pec_trade.specs.TradeOf.{cause_at, cause_in}
+use Rattle.pec_reception.specs.OfTrades.{cause_at, cause_in}
 use Rattle.pec_provider.proofs.LookLemmas.{accepted_facts, cause_screened}
 use Rattle.pec_provider.proofs.commands.admission_at.Goals as goal
 

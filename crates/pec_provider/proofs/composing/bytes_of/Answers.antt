@@ -1,15 +1,12 @@
 use Rattle.std.proofs.Common.{ℕ, Global, Vec, ◌≡◌, Some, arith, ap, Err}
-use Rattle.std.specs.Option.{option_and_then}
-use Rattle.std.specs.Prelude.{slice_get}
 use Rattle.std.proofs.lemmas.Result.{err_from_is_err_and}
 use Rattle.pec_records.specs.declared.entries.Entry.{Entry}
 use Rattle.pec_ledger.specs.Items.{item_text}
-use Rattle.pec_ledger.specs.Lookups.{mailbox}
 use Rattle.pec_chronicle.specs.Carrying.{NothingMay}
 use Rattle.pec_chronicle.specs.CarryingLaws.{carries_and_then}
 use Rattle.pec_outgoing.specs.ItemNeeds.{ServesItem, needed_item}
-use Rattle.pec_trade.specs.Houses.{world_at}
-use Rattle.pec_provider.specs.Reading.{ItemIsChanged}
+use Rattle.pec_reception.specs.OfTrades.{world_at}
+use Rattle.pec_provider.specs.Reading.{PostedIsChanged}
 use Rattle.pec_provider.proofs.ComposeLemmas.{changed_by, no_item, other_item, over_half}
 use Rattle.pec_provider.proofs.ReadLemmas.{given_up_over, gives_count, reads_as}
 use Rattle.pec_provider.proofs.composing.bytes_of.Goals as goal
@@ -27,8 +24,8 @@ returns-in_err-entry-clause-changed g c = λ tells stands.
     let p = err_from_is_err_and c.from_residual.result c.from_residual.ensures.1 in
     let trade = world_at c.args.house.now in
     let journal = c.args.chronicle.now.entries in
-    rw (p.1, p.2) (no_item trade c.args.house.now.me journal c.args.account.now c.args.place c.args.number
-    (over_half (λ n h. needed_item h c.args.account.now c.args.place ≡ Some c.args.number) trade c.args.shelf.now
+    rw (p.1, p.2) (no_item trade c.args.house.now.me journal c.args.posted.now c.args.number
+    (over_half (λ n h. needed_item h c.args.posted.now ≡ Some c.args.number) trade c.args.shelf.now
     c.args.house.now.me journal c.requires.is
     (c.requires.agree.holds.is_half trade c.a_house_is_a_trade.ensures.of) c.requires.needs)
     _ (c.in_err-entry.ensures.changed tells stands))
@@ -38,8 +35,8 @@ returns-in-Ok-clause-shown g c = λ tells stands.
     let trade = world_at c.args.house.now in
     let of = c.a_house_is_a_trade.ensures.of in
     let journal = c.args.chronicle.now.entries in
-    over_half (λ n h. option_and_then (item_text trade n journal) (slice_get (mailbox h c.args.account.now) c.args.place)
-    ≡ Some c.in-Ok.bytes.items) trade c.args.shelf.now c.args.house.now.me journal c.requires.is
+    over_half (λ n h. item_text trade n journal c.args.posted.now ≡ Some c.in-Ok.bytes.items) trade c.args.shelf.now
+    c.args.house.now.me journal c.requires.is
     (c.requires.agree.holds.is_half trade of)
     (c.in-Ok.ensures.text journal c.args.number
     (record { half_is = c.requires.agree.holds.is_half trade of; homes = c.requires.agree.holds.homes trade of })
@@ -51,13 +48,13 @@ returns-clause-changed g c = λ tells stands.
     let journal = c.args.chronicle.now.entries in
     let half_is = c.requires.agree.holds.is_half trade c.a_house_is_a_trade.ensures.of in
     rw c.given_up.ensures.fault
-    (changed_by (ItemIsChanged trade c.args.house.now.me journal c.args.account.now c.args.place) c.args.number
+    (changed_by (PostedIsChanged trade c.args.house.now.me journal (Some c.args.posted.now)) c.args.number
     c.in-Err.fault (λ is.
-    other_item trade c.args.house.now.me journal c.args.account.now c.args.place c.args.number
-    (over_half (λ n h. needed_item h c.args.account.now c.args.place ≡ Some c.args.number) trade c.args.shelf.now
+    other_item trade c.args.house.now.me journal c.args.posted.now c.args.number
+    (over_half (λ n h. needed_item h c.args.posted.now ≡ Some c.args.number) trade c.args.shelf.now
     c.args.house.now.me journal c.requires.is half_is c.requires.needs)
     c.in_ok-entry.entry (c.in_ok-entry.ensures.entry tells stands)
-    (over_half (λ n h. ServesItem trade n h c.args.account.now c.args.place c.in_ok-entry.entry → ⊥) trade
+    (over_half (λ n h. ServesItem trade n h c.args.posted.now c.in_ok-entry.entry → ⊥) trade
     c.args.shelf.now c.args.house.now.me journal c.requires.is half_is (c.in-Err.ensures.changed (ap (λ fault. Err fault) is)))))
 
 pub returns-clause-reads : goal.returns-clause-reads

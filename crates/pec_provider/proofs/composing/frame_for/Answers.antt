@@ -1,12 +1,12 @@
-use Rattle.std.proofs.Common.{ℕ, Option, refl, sym, subst, ◌≡◌, None, Some, Err, arith, ap}
+use Rattle.std.proofs.Common.{ℕ, Option, inl, inr, refl, sym, subst, ◌≡◌, None, Some, Err, arith, ap}
 use Rattle.std.proofs.lemmas.Result.{err_from_is_err_and}
 use Rattle.pec_types.specs.Bytes.{Bytes}
 use Rattle.pec_records.specs.declared.entries.Entry.{Entry}
 use Rattle.pec_chronicle.specs.Carrying.{NothingMay}
 use Rattle.pec_chronicle.specs.CarryingLaws.{carries_and_then}
 use Rattle.pec_plays.specs.Frames.{frame_of}
-use Rattle.pec_outgoing.specs.Needs.{Serves, needed}
-use Rattle.pec_trade.specs.Houses.{world_at}
+use Rattle.pec_outgoing.specs.Needs.{FramedOf, Serves, needed}
+use Rattle.pec_reception.specs.OfTrades.{world_at}
 use Rattle.pec_provider.specs.Reading.{IsNotOf}
 use Rattle.pec_provider.proofs.ComposeLemmas.{changed_by, no_letter, other_letter, over_half}
 use Rattle.pec_provider.proofs.ReadLemmas.{given_up_over, gives_count, reads_as}
@@ -79,3 +79,23 @@ returns-clause-later g c =
     let second = gives_count g.D.Counted.faults c.read.new.chronicle c.given_up.new.chronicle c.in-Err.fault
     c.given_up.ensures.over in
     omega (arith, first, second)
+
+pub returns-in_default-clause-given : goal.returns-in_default-clause-given
+returns-in_default-clause-given g c =
+    let trade = world_at c.args.house.now in
+    inl (
+      over_half (λ n h. needed n h c.args.letter.now ≡ None) trade c.args.shelf.now c.args.house.now.me
+          c.args.chronicle.now.entries c.requires.is
+          (c.requires.agree.holds.is_half trade c.a_house_is_a_trade.ensures.of) (sym c.in_default.ensures.number),
+      refl,
+    )
+
+pub returns-in-Ok-clause-given : goal.returns-in-Ok-clause-given
+returns-in-Ok-clause-given g c =
+    let trade = world_at c.args.house.now in
+    inr (
+      c.in_ok-entry.entry,
+      over_half (λ n h. FramedOf trade n h c.args.letter.now c.in_ok-entry.entry c.in-Ok.frame) trade c.args.shelf.now
+          c.args.house.now.me c.args.chronicle.now.entries c.requires.is
+          (c.requires.agree.holds.is_half trade c.a_house_is_a_trade.ensures.of) c.in-Ok.ensures.of,
+    )

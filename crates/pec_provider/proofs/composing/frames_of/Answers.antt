@@ -2,8 +2,8 @@ use Rattle.std.proofs.Common.{List, Option, Ok, ap, ◌∙◌, arith}
 use Rattle.std.proofs.lemmas.Result.{err_from_is_err_and}
 use Rattle.pec_types.specs.Bytes.{Bytes}
 use Rattle.pec_chronicle.specs.Chronicle.{ChronicleState}
-use Rattle.pec_trade.specs.Houses.{world_at}
-use Rattle.pec_provider.proofs.ComposeLemmas.{fails_carries, fails_changed, fails_reads, frames_all, frames_more, frames_none}
+use Rattle.pec_reception.specs.OfTrades.{world_at}
+use Rattle.pec_provider.proofs.ComposeLemmas.{fails_carries, fails_changed, fails_reads, frames_all, frames_given, frames_more, frames_none}
 use Rattle.pec_provider.proofs.RunLemmas.{agree_read}
 use Rattle.pec_provider.proofs.composing.frames_of.Goals as goal
 
@@ -28,7 +28,7 @@ loop-letter-preserved g c =
     c.frame_for.new.chronicle c.loop-letter.frames.items c.loop-letter-test.true c.letter-item.is c.loop-letter.invariant
     c.due_letters_have_the_due_frames.ensures.more c.in_ok-found.found c.push.new.frames.items
     c.in_ok-found.ensures.reads c.in_ok-found.ensures.carries c.in_ok-found.ensures.later c.in_ok-found.ensures.frame
-    c.in_ok-push.ensures
+    c.in_ok-found.ensures.given c.in_ok-push.ensures
 
 pub returns-in_err-found-clause-reads : goal.returns-in_err-found-clause-reads
 returns-in_err-found-clause-reads g c =
@@ -64,4 +64,11 @@ pub returns-clause-frames : goal.returns-clause-frames
 returns-clause-frames g c =
     frames_all g.D.Disk.tells g.D.Disk.sight g.D.Counted.faults (world_at c.args.house.now) c.args.house.now.me
     c.args.chronicle.now c.args.letters.now c.loop-letter.letter-index c.loop-letter.chronicle c.loop-letter.frames.items
+    (omega (arith, c.loop-letter-test.false)) c.loop-letter.invariant
+
+pub returns-clause-given : goal.returns-clause-given
+returns-clause-given g c =
+    frames_given g.D.Disk.tells g.D.Disk.sight g.D.Counted.faults (world_at c.args.house.now) c.args.house.now.me
+    c.args.chronicle.now c.args.letters.now c.loop-letter.letter-index c.loop-letter.chronicle
+    c.loop-letter.frames.items
     (omega (arith, c.loop-letter-test.false)) c.loop-letter.invariant

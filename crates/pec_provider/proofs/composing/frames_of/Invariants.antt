@@ -1,4 +1,4 @@
-use Rattle.pec_trade.specs.Houses.{world_at}
+use Rattle.pec_reception.specs.OfTrades.{world_at}
 use Rattle.pec_provider.proofs.ComposeLemmas.{FramesSoFar}
 use Rattle.pec_provider.proofs.composing.frames_of.Given as goal
 

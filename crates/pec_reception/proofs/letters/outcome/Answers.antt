@@ -22,9 +22,9 @@ returns-in-New-clause-exact c = λ seals. λ journal. λ is.
     in let receipt = stated c.args.view.now
     in let recipient = c.in-Some.recipient
     in let rows = outcome_rows trade me now journal framed receipt recipient c.args.decision
-    in let fits = outcome_fits trade me now journal framed receipt recipient
+    in let fits = outcome_fits trade me now journal framed receipt recipient c.args.decision
     in let found = known_of (half trade me journal) (pair_of receipt.id recipient)
-    in let stands = outcome_stands trade me journal framed now receipt recipient New c.me.result
+    in let stands = outcome_stands trade me journal framed now receipt recipient c.args.decision New c.me.result
     c.in_ok-arrived.arrived c.me.ensures (c.in_ok-arrived.ensures seals journal is) c.in-New.ensures
     in subst (λ (o : Option Bytes). Shows c.in_ok-received-in-New.received
     (by_outcome trade me now journal framed receipt c.args.decision o)) (sym c.in-Some.is)
@@ -40,9 +40,9 @@ returns-in-Known-clause-exact c = λ seals. λ journal. λ is.
     in let receipt = stated c.args.view.now
     in let recipient = c.in-Some.recipient
     in let rows = outcome_rows trade me now journal framed receipt recipient c.args.decision
-    in let fits = outcome_fits trade me now journal framed receipt recipient
+    in let fits = outcome_fits trade me now journal framed receipt recipient c.args.decision
     in let found = known_of (half trade me journal) (pair_of receipt.id recipient)
-    in let stands = outcome_stands trade me journal framed now receipt recipient Known c.me.result
+    in let stands = outcome_stands trade me journal framed now receipt recipient c.args.decision Known c.me.result
     c.in_ok-arrived.arrived c.me.ensures (c.in_ok-arrived.ensures seals journal is) c.in-Known.ensures
     in subst (λ (o : Option Bytes). Shows c.in_ok-received-in-Known.received
     (by_outcome trade me now journal framed receipt c.args.decision o)) (sym c.in-Some.is)
@@ -58,9 +58,9 @@ returns-clause-exact c = λ seals. λ journal. λ is.
     in let receipt = stated c.args.view.now
     in let recipient = c.in-Some.recipient
     in let rows = outcome_rows trade me now journal framed receipt recipient c.args.decision
-    in let fits = outcome_fits trade me now journal framed receipt recipient
+    in let fits = outcome_fits trade me now journal framed receipt recipient c.args.decision
     in let found = known_of (half trade me journal) (pair_of receipt.id recipient)
-    in let stands = outcome_stands trade me journal framed now receipt recipient Foreign c.me.result
+    in let stands = outcome_stands trade me journal framed now receipt recipient c.args.decision Foreign c.me.result
     c.in_ok-arrived.arrived c.me.ensures (c.in_ok-arrived.ensures seals journal is) c.in-Foreign.ensures
     in subst (λ (o : Option Bytes). by_outcome trade me now journal framed receipt c.args.decision o
     ≡ otherwise trade me now journal framed) (sym c.in-Some.is) (is_foreign rows fits found stands)

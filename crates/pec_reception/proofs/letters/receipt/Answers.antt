@@ -20,4 +20,4 @@ returns-in_default-clause-exact c = λ seals. λ journal. λ is.
     no_letter (trade_of c.args.directory.now seals) c.args.shelf.now.me c.args.moment journal
     (framed_shown c.args.framed.now) (stated c.args.view.now)
     c.args.view.now.kind c.in_default.not-Charge c.in_default.not-Delivery c.in_default.not-DeliveryError
-    c.in_default.not-Ack
+    c.in_default.not-VirusFound c.in_default.not-Ack

@@ -12,9 +12,10 @@ returns c = λ trade. λ of.
     in let recipient = c.args.recipient.now
     in let account = c.is_account_of-account.ensures.value
     ∙ ap (λ (me : ℕ). is_account_of providers me recipient) c.me.ensures
-    in sym ((c.decisions_are_the_table.ensures trade c.args.shelf.now.me half recipient c.decide.result).1
+    in sym ((c.decisions_are_the_table.ensures.table trade c.args.shelf.now.me half recipient c.args.virus
+    c.decide.result).1
     (subst (λ (m : Mailbox). IsDecision m c.decide.result)
     (mailbox_is c.args.directory.now trade of c.args.shelf.now.me half recipient c.is_account_of-account.result
-    c.counted-count.result c.quota-quota.result
+    c.args.virus c.counted-count.result c.quota-quota.result
     account c.counted-count.ensures c.quota-quota.ensures)
     c.decide.ensures.row))

@@ -17,6 +17,17 @@ returns-in-Start c = λ trade for.
     subst (λ (e : Entry). IfOk c.is_start.result (λ own. IsTrue own ↔ Own (settled c.args.directory.now trade) c.args.shelf.now.me c.args.shelf.now.half e))
     (sym (sym c.entry.ensures ∙ c.in-Start.is)) (c.is_start.ensures trade)
 
+pub returns-in-StartTwo : goal.returns-in-StartTwo
+returns-in-StartTwo c = λ trade for.
+    subst (λ (e : Entry). IfOk c.is_start-in-StartTwo.result (λ own. IsTrue own ↔ Own (settled c.args.directory.now trade) c.args.shelf.now.me c.args.shelf.now.half e))
+    (sym (sym c.entry.ensures ∙ c.in-StartTwo.is)) (c.is_start-in-StartTwo.ensures trade)
+
+pub returns-in-Upgraded : goal.returns-in-Upgraded
+returns-in-Upgraded c = λ trade for. own_at (settled c.args.directory.now trade) c.args.shelf.now.me c.args.shelf.now.half c.args.draft.now _ c.may_upgrade.result (sym c.entry.ensures ∙ c.in-Upgraded.is) (c.may_upgrade.ensures (settled c.args.directory.now trade) c.in-Upgraded.moment)
+
+pub returns-in-Archived : goal.returns-in-Archived
+returns-in-Archived c = λ trade for. own_at (settled c.args.directory.now trade) c.args.shelf.now.me c.args.shelf.now.half c.args.draft.now _ c.may_archive.result (sym c.entry.ensures ∙ c.in-Archived.is) (c.may_archive.ensures trade c.in-Archived.moment)
+
 pub returns-in-Accepted : goal.returns-in-Accepted
 returns-in-Accepted c = λ trade for. own_at (settled c.args.directory.now trade) c.args.shelf.now.me c.args.shelf.now.half c.args.draft.now _ c.may_accept.result (sym c.entry.ensures ∙ c.in-Accepted.is) (c.may_accept.ensures trade c.in-Accepted.moment c.in-Accepted.message (c.read.ensures ∙ ap read_in (sym c.entry.ensures ∙ c.in-Accepted.is)))
 

@@ -72,3 +72,6 @@ returns-in-Ticked c = λ trade for. at_entry (settled c.args.directory.now trade
 
 pub returns-in-Anomaly : goal.returns-in-Anomaly
 returns-in-Anomaly c = λ trade for. at_entry (settled c.args.directory.now trade) c.args.shelf.now.me c.args.shelf.now.half c.args.draft.now _ c.anomaly.result (sym c.entry.ensures ∙ c.in-Anomaly.is ∙ ap (λ (p : Path). entries.Anomaly c.in-Anomaly.moment p c.in-Anomaly.message) (sym c.as_slice-in-Anomaly.ensures)) (c.anomaly.ensures (settled c.args.directory.now trade) c.in-Anomaly.message)
+
+pub returns-in-Archived : goal.returns-in-Archived
+returns-in-Archived c = λ trade for. at_entry (settled c.args.directory.now trade) c.args.shelf.now.me c.args.shelf.now.half c.args.draft.now _ c.archived.result (sym c.entry.ensures ∙ c.in-Archived.is ∙ ap (λ (r : Bytes). entries.Archived c.in-Archived.moment r c.in-Archived.place) (sym c.shared-in-Archived.ensures)) (c.archived.ensures (settled c.args.directory.now trade) c.in-Archived.moment)

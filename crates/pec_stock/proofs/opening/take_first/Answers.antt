@@ -7,6 +7,7 @@ use Rattle.pec_records.specs.Entry.{CanBeWritten, entry_text}
 use Rattle.pec_records.specs.declared.entries.Entry.{Entry}
 use Rattle.pec_chronicle.specs.Carrying.{with_entry}
 use Rattle.pec_chronicle.specs.Opening.{StopsAtBad}
+use Rattle.pec_stock.specs.Opening.{IsHere}
 use Rattle.pec_stock.proofs.OpeningLemmas.{outside_by}
 use Rattle.pec_stock.proofs.TakingLemmas.{no_text, own_empty, own_starts, unfit_empty, unfit_first, unfit_start}
 use Rattle.pec_stock.proofs.opening.take_first.Goals as goal
@@ -62,3 +63,12 @@ returns-in_err-take_start-clause-outside g c = λ tells list opens trade of own.
     let one = c.texts_are_of_one_list.ensures list c.next.new.self.read now.rest now.is opens.written now.written in
     rw (p.1, p.2) (own_starts trade c.args.shelf.now.me list one.0 entry own (one.1 ∙ ap (λ (l : List Entry). l ++ one.0) more)
     c.in_err-take_start.field-0.0 (c.in_err-take_start.ensures.not_own trade of))
+
+-- what was read is that entry alone
+pub returns-clause-here : goal.returns-clause-here
+returns-clause-here g c = λ trade of.
+    let entry = c.in-Some.entry in
+    let some : c.next.new.self.read ≡ with_entry c.args.opening.now.read entry =
+    subst (λ o. IfSome o (λ next. c.next.new.self.read ≡ with_entry c.args.opening.now.read next.0)) c.in-Some.is c.in_ok-entry.ensures.some in
+    let one = some ∙ ap (λ (l : List Entry). l ++ entry ∷ []) c.requires.fresh in
+    subst (λ (l : List Entry). IsHere trade l) (sym one) (c.in_ok-take_start.ensures.here trade of)

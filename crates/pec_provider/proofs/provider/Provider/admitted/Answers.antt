@@ -5,7 +5,7 @@ use Rattle.pec_types.specs.declared.turns.Submitted.{Submitted}
 use Rattle.pec_directory.specs.Directory.{providers_of}
 use Rattle.pec_records.specs.Entry.{IsWithinLimits}
 use Rattle.pec_points.specs.Case.{case_at}
-use Rattle.pec_trade.specs.Houses.{world_at}
+use Rattle.pec_reception.specs.OfTrades.{cause_in, trade_of, world_at}
 use Rattle.pec_provider.specs.Looking.{Looks}
 use Rattle.pec_provider.proofs.LookLemmas.{handed, still, within_limits}
 use Rattle.pec_records.specs.declared.entries.Entry.{Entry}
@@ -14,7 +14,6 @@ use Rattle.pec_ledger.specs.Pairs.{id_of}
 use Rattle.pec_ledger.specs.Steps.{half}
 use Rattle.pec_plays.specs.Commands.{Submit, Submits, entry_by, played, screened_cause, told_by}
 use Rattle.pec_screen.specs.VerdictReading.{finds}
-use Rattle.pec_trade.specs.TradeOf.{cause_in, trade_of}
 use Rattle.pec_provider.specs.Appending.{ComesTo}
 use Rattle.pec_provider.specs.Provider.{desk_of}
 use Rattle.pec_provider.proofs.PlayLemmas.{admits_handed, comes_to, no_account, no_number}
@@ -24,8 +23,8 @@ use Rattle.pec_provider.proofs.provider.Provider.admitted.Goals as goal
 pub returns-then-not-is_account_of-clause-admits : goal.returns-then-not-is_account_of-clause-admits
 returns-then-not-is_account_of-clause-admits g c =
     no_account (Entry × Submitted) (world_at c.args.house.now) c.args.house.now.me
-    c.args.moment (desk_of c.args.self.now) c.args.sender.now c.args.path.now c.args.message.now
-    (finds (g.J.Judge.patterns c.args.screens.now) c.args.message.now)
+    c.args.moment (g.J.Judge.patterns c.args.screens.now) (desk_of c.args.self.now) c.args.sender.now c.args.path.now
+    c.args.message.now
     (sym c.is_account_of.ensures.value ∙ c.if-not-is_account_of.true)
 
 pub returns-in_err-at_work-clause-admits : goal.returns-in_err-at_work-clause-admits
@@ -33,9 +32,8 @@ returns-in_err-at_work-clause-admits g c =
     let kept = c.args.house.now.directory.now in
     let me = c.args.house.now.me in
     let trade = trade_of kept (g.S.Sealer.seals c.args.house.now.sealer.now) in
-    let found = finds (g.J.Judge.patterns c.args.screens.now) c.args.message.now in
     admits_handed trade me c.args.moment (desk_of c.args.self.now) c.args.sender.now c.args.path.now c.args.message.now
-    found
+    (g.J.Judge.patterns c.args.screens.now)
     (sym c.is_account_of.ensures.value ∙ c.if-not-is_account_of.false)
     c.in_err-at_work.field-0.0 c.from_residual.result c.from_residual.ensures.1
     (c.in_err-at_work.ensures.works kept (g.S.Sealer.seals c.args.house.now.sealer.now) me trade c.requires.runs c.a_house_is_a_trade.ensures.of)
@@ -45,10 +43,10 @@ returns-in_default-clause-admits g c =
     let kept = c.args.house.now.directory.now in
     let me = c.args.house.now.me in
     let trade = trade_of kept (g.S.Sealer.seals c.args.house.now.sealer.now) in
-    let found = finds (g.J.Judge.patterns c.args.screens.now) c.args.message.now in
     let of = c.a_house_is_a_trade.ensures.of in
-    no_number (Entry × Submitted) trade me c.args.moment (desk_of c.args.self.now) c.args.sender.now c.args.path.now
-    c.args.message.now found
+    no_number (Entry × Submitted) trade me c.args.moment (g.J.Judge.patterns c.args.screens.now)
+    (desk_of c.args.self.now)
+    c.args.sender.now c.args.path.now c.args.message.now
     (sym c.is_account_of.ensures.value ∙ c.if-not-is_account_of.false)
     (c.in_ok-at_work.ensures.works kept (g.S.Sealer.seals c.args.house.now.sealer.now) me trade c.requires.runs of)
     (subst (λ (n : ℕ). MESSAGES ≤ n) (count_runs kept me _ c.args.self.now c.self.view_is trade c.requires.runs of)
@@ -78,16 +76,18 @@ returns-clause-admits g c =
     ∙ ap (λ cause. entry_by cause c.args.moment c.args.sender.now c.args.path.now c.args.message.now)
     c.in_ok-admission.ensures.cause in
     subst (λ (e : Entry). ComesTo (λ luck sites. played trade luck sites
-    (Submit me c.args.moment c.args.sender.now c.args.path.now c.args.message.now found))
-    trade me (desk_of c.args.self.now) e (Submits c.told_by-answer.result)) (sym entry)
+    (Submit me c.args.moment c.args.sender.now c.args.path.now c.args.message.now))
+    trade me (g.J.Judge.patterns c.args.screens.now) (desk_of c.args.self.now) e (Submits c.told_by-answer.result))
+    (sym entry)
     (subst (λ (s : Submitted). ComesTo (λ luck sites. played trade luck sites
-    (Submit me c.args.moment c.args.sender.now c.args.path.now c.args.message.now found))
-    trade me (desk_of c.args.self.now)
+    (Submit me c.args.moment c.args.sender.now c.args.path.now c.args.message.now))
+    trade me (g.J.Judge.patterns c.args.screens.now) (desk_of c.args.self.now)
     (entry_by (screened_cause found (trade.cause me c.args.sender.now c.args.path.now c.args.message.now)) c.args.moment c.args.sender.now
     c.args.path.now c.args.message.now)
     (Submits s)) (sym submitted)
-    (comes_to (Entry × Submitted) trade me c.args.moment (desk_of c.args.self.now) c.args.sender.now c.args.path.now
-    c.args.message.now found
+    (comes_to (Entry × Submitted) trade me c.args.moment (g.J.Judge.patterns c.args.screens.now)
+    (desk_of c.args.self.now)
+    c.args.sender.now c.args.path.now c.args.message.now
     (sym c.is_account_of.ensures.value ∙ c.if-not-is_account_of.false)
     (c.in_ok-at_work.ensures.works kept (g.S.Sealer.seals c.args.house.now.sealer.now) me trade c.requires.runs of)
     (subst (λ (n : ℕ). n < MESSAGES) count c.in-Some.ensures.0)))

@@ -2,8 +2,7 @@ use Rattle.std.proofs.Common.{ℕ, Ok, refl, subst, sym, ◌∙◌}
 use Rattle.pec_types.specs.declared.turns.Event.{Event}
 use Rattle.pec_types.specs.declared.turns.ProviderFault.TheVariants as faults
 use Rattle.pec_plays.specs.Reception.{arrive}
-use Rattle.pec_trade.specs.Houses.{world_at}
-use Rattle.pec_trade.specs.TradeOf.{trade_of}
+use Rattle.pec_reception.specs.OfTrades.{trade_of, world_at}
 use Rattle.pec_reception.specs.Shows.{Shows}
 use Rattle.pec_provider.specs.Provider.{desk_of}
 use Rattle.pec_provider.specs.Working.{Does}

@@ -1,8 +1,8 @@
 use Rattle.std.proofs.Common.{Bool, not, subst, sym, ◌∙◌}
 use Rattle.std.specs.Prelude.{IfErr}
-use Rattle.pec_trade.specs.Houses.{world_at}
+use Rattle.pec_reception.specs.OfTrades.{world_at}
 use Rattle.pec_provider.specs.Reading.{IsUnread}
-use Rattle.pec_provider.proofs.ComposeLemmas.{due_changed, due_so, few_so}
+use Rattle.pec_provider.proofs.ComposeLemmas.{due_changed, due_so, few_so, given_so}
 use Rattle.pec_provider.proofs.ReadLemmas.{unread_of}
 use Rattle.pec_provider.proofs.RunLemmas.{desk_read, runs_inside, runs_read, up_inside}
 use Rattle.pec_provider.proofs.provider.Provider.put_due.Goals as goal
@@ -31,6 +31,18 @@ returns-clause-due g c =
     c.deref-2.result.now runs.is (runs.agree.holds.is_half trade of) (c.deref-2.ensures.value ∙ rw c.deref.ensures.value at c.in_ok-letters.ensures)
     c.due_letters_have_the_due_frames.ensures.due (runs.agree.holds.homes trade of) c.frames_of.result
     (c.frames_of.ensures.frames tells stands))
+
+pub returns-clause-given : goal.returns-clause-given
+returns-clause-given g c =
+    let trade = world_at c.args.house.now in
+    let inside = c.self.inside in
+    let runs = runs_inside c.args.house.now.directory.now c.args.house.now.me _ c.args.self.now c.self.view_is
+    c.requires.runs in
+    rw (← c.self.view_is)
+    (given_so trade inside.shelf c.args.house.now.me inside.chronicle.entries c.args.to c.args.room inside.owed.items
+    c.deref-2.result.now runs.is (runs.agree.holds.is_half trade c.a_house_is_a_trade.ensures.of)
+    (c.deref-2.ensures.value ∙ rw c.deref.ensures.value at c.in_ok-letters.ensures) c.frames_of.result
+    c.frames_of.ensures.given)
 
 pub returns-clause-few : goal.returns-clause-few
 returns-clause-few g c =

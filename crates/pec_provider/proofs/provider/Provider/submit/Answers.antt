@@ -4,12 +4,11 @@ use Rattle.pec_types.specs.declared.turns.ProviderFault.{ProviderFault}
 use Rattle.pec_types.specs.declared.turns.Submitted.{Submitted}
 use Rattle.pec_directory.specs.Directory.{providers_of}
 use Rattle.pec_points.specs.Case.{case_at}
-use Rattle.pec_trade.specs.Houses.{world_at}
+use Rattle.pec_reception.specs.OfTrades.{trade_of, world_at}
 use Rattle.pec_provider.specs.Looking.{Looks}
 use Rattle.pec_provider.proofs.LookLemmas.{behind, handed}
 use Rattle.pec_plays.specs.Commands.{Submit, Submits, played}
 use Rattle.pec_screen.specs.VerdictReading.{finds}
-use Rattle.pec_trade.specs.TradeOf.{trade_of}
 use Rattle.pec_provider.specs.Provider.{desk_of}
 use Rattle.pec_provider.proofs.FollowLemmas.{carries_entry, carries_still}
 use Rattle.pec_provider.proofs.PlayLemmas.{plays_done, plays_handed, plays_torn}
@@ -23,7 +22,7 @@ returns-in_err-entry-clause-plays g c =
     let desk = desk_of c.args.self.now in
     plays_handed (λ (told : Submitted). Submits told)
     (λ luck sites. played trade luck sites (Submit me c.args.moment c.args.sender.now c.args.path.now
-    c.args.message.now (finds (g.J.Judge.patterns c.args.screens.now) c.args.message.now))) trade me desk desk
+    c.args.message.now)) trade me (g.J.Judge.patterns c.args.screens.now) desk desk
     c.in_err-entry.field-0.0 c.from_residual.result c.from_residual.ensures.1 c.in_err-entry.ensures.admits refl
 
 pub returns-in_err-entry-clause-carries : goal.returns-in_err-entry-clause-carries
@@ -44,7 +43,7 @@ returns-in_err-append-clause-plays g c =
     let trade = world_at c.args.house.now in
     plays_torn (λ (told : Submitted). Submits told)
     (λ luck sites. played trade luck sites (Submit me c.args.moment c.args.sender.now c.args.path.now
-    c.args.message.now (finds (g.J.Judge.patterns c.args.screens.now) c.args.message.now))) trade me
+    c.args.message.now)) trade me (g.J.Judge.patterns c.args.screens.now)
     (desk_of c.args.self.now) (desk_of c.append.new.self) c.in_ok-entry.entry (Submits c.in_ok-entry.answer)
     (Vec Mark Global)
     c.in_err-append.field-0.0 c.from_residual-in_err-append.result c.from_residual-in_err-append.ensures.1
@@ -64,7 +63,7 @@ returns-clause-plays g c =
     let trade = world_at c.args.house.now in
     plays_done (λ (told : Submitted). Submits told)
     (λ luck sites. played trade luck sites (Submit me c.args.moment c.args.sender.now c.args.path.now
-    c.args.message.now (finds (g.J.Judge.patterns c.args.screens.now) c.args.message.now))) trade me
+    c.args.message.now)) trade me (g.J.Judge.patterns c.args.screens.now)
     (desk_of c.args.self.now) (desk_of c.append.new.self) c.in_ok-entry.entry (Submits c.in_ok-entry.answer)
     c.in_ok-entry.answer
     c.in_ok-entry.ensures.admits (c.in_ok-append.ensures.appends trade c.a_house_is_a_trade.ensures.of) refl

@@ -3,8 +3,7 @@ use Rattle.pec_types.specs.declared.mailboxes.Mark.{Mark}
 use Rattle.pec_records.specs.declared.entries.Entry.{Entry}
 use Rattle.pec_records.specs.declared.entries.Entry.TheVariants as entries
 use Rattle.pec_plays.specs.Commands.{Marks, Tick, played}
-use Rattle.pec_trade.specs.Houses.{world_at}
-use Rattle.pec_trade.specs.TradeOf.{trade_of}
+use Rattle.pec_reception.specs.OfTrades.{trade_of, world_at}
 use Rattle.pec_provider.specs.Appending.{Appends}
 use Rattle.pec_provider.specs.Provider.{desk_of}
 use Rattle.pec_provider.proofs.FollowLemmas.{carries_entry, carries_still}
@@ -14,15 +13,15 @@ use Rattle.pec_provider.proofs.TickLemmas.{counted_later, counted_of, never_ok, 
 use Rattle.pec_provider.proofs.provider.Provider.tick.Goals as goal
 
 pub returns-in_err-at_work-clause-plays : goal.returns-in_err-at_work-clause-plays
-returns-in_err-at_work-clause-plays g c =
+returns-in_err-at_work-clause-plays g c = λ screens.
     let kept = c.args.house.now.directory.now in
     let me = c.args.house.now.me in
     let trade = trade_of kept (g.S.Sealer.seals c.args.house.now.sealer.now) in
     let desk = desk_of c.args.self.now in
     plays_handed (λ (marks : Vec Mark Global). Marks marks.items) (λ luck sites. played trade luck sites
-    (Tick me c.args.moment)) trade me desk desk
+    (Tick me c.args.moment)) trade me screens desk desk
     c.in_err-at_work.field-0.0 c.from_residual.result c.from_residual.ensures.1
-    (tick_refused (Vec Mark Global) trade me c.args.moment desk c.in_err-at_work.field-0.0
+    (tick_refused (Vec Mark Global) trade me c.args.moment screens desk c.in_err-at_work.field-0.0
     (c.in_err-at_work.ensures.works kept (g.S.Sealer.seals c.args.house.now.sealer.now) me trade c.requires c.a_house_is_a_trade.ensures.of)) refl
 
 pub returns-in_err-at_work-clause-carries : goal.returns-in_err-at_work-clause-carries
@@ -43,18 +42,19 @@ append-requires-clause-step g c =
     c.at_work.ensures.in_range))
 
 pub returns-in_err-marks-clause-plays : goal.returns-in_err-marks-clause-plays
-returns-in_err-marks-clause-plays g c =
+returns-in_err-marks-clause-plays g c = λ screens.
     let kept = c.args.house.now.directory.now in
     let me = c.args.house.now.me in
     let trade = trade_of kept (g.S.Sealer.seals c.args.house.now.sealer.now) in
     let of = c.a_house_is_a_trade.ensures.of in
     let desk = desk_of c.args.self.now in
     plays_torn (λ (marks : Vec Mark Global). Marks marks.items) (λ luck sites. played trade luck sites
-    (Tick me c.args.moment)) trade me desk
+    (Tick me c.args.moment)) trade me screens desk
     (desk_of c.append.new.self) (entries.Ticked c.args.moment) _ (Vec Mark Global) c.in_err-marks.field-0.0
     c.from_residual-in_err-marks.result
     c.from_residual-in_err-marks.ensures.1
-    (tick_comes trade me c.args.moment desk (c.in_ok-at_work.ensures.works kept (g.S.Sealer.seals c.args.house.now.sealer.now) me trade c.requires of))
+    (tick_comes trade me c.args.moment screens desk (c.in_ok-at_work.ensures.works kept
+    (g.S.Sealer.seals c.args.house.now.sealer.now) me trade c.requires of))
     (subst (λ (e : Entry). Appends {X = Vec Mark Global} trade me e desk (desk_of c.append.new.self) (Err c.in_err-marks.field-0.0)) c.plain-entry.ensures
     (c.in_err-marks.ensures.appends trade of))
 
@@ -71,16 +71,17 @@ returns-in_err-marks-clause-carries g c = λ tells journals.
     c.at_work.ensures.in_range) (rw c.plain-entry.ensures at (c.append.ensures.carries tells))
 
 pub returns-clause-plays : goal.returns-clause-plays
-returns-clause-plays g c =
+returns-clause-plays g c = λ screens.
     let kept = c.args.house.now.directory.now in
     let me = c.args.house.now.me in
     let trade = trade_of kept (g.S.Sealer.seals c.args.house.now.sealer.now) in
     let of = c.a_house_is_a_trade.ensures.of in
     let desk = desk_of c.args.self.now in
     plays_done (λ (marks : Vec Mark Global). Marks marks.items) (λ luck sites. played trade luck sites
-    (Tick me c.args.moment)) trade me desk
+    (Tick me c.args.moment)) trade me screens desk
     (desk_of c.append.new.self) (entries.Ticked c.args.moment) _ c.in_ok-marks.marks
-    (tick_comes trade me c.args.moment desk (c.in_ok-at_work.ensures.works kept (g.S.Sealer.seals c.args.house.now.sealer.now) me trade c.requires of))
+    (tick_comes trade me c.args.moment screens desk (c.in_ok-at_work.ensures.works kept
+    (g.S.Sealer.seals c.args.house.now.sealer.now) me trade c.requires of))
     (rw c.plain-entry.ensures at (c.in_ok-marks.ensures.appends trade of)) (ap (λ l. Marks l) (rw c.plain-entry.ensures at (c.in_ok-marks.ensures.marks trade of)))
 
 pub returns-clause-carries : goal.returns-clause-carries

@@ -1,10 +1,14 @@
 -- The deadlines stay those of the pairs, and messages stay few enough.
-use Rattle.std.proofs.Common.{ℕ, ◌+◌, ◌<◌, ◌≤◌, max, arith, [], ◌∷◌, length, length-append, sym, ap, subst, ◌∙◌}
+use Rattle.std.proofs.Common.{ℕ, ◌+◌, ◌<◌, ◌≤◌, max, arith, List, [], ◌∷◌, length, length-append, sym, ap, subst, ◌∙◌}
 use Rattle.std.proofs.lemmas.List.{length-map}
+use Rattle.std.specs.Option.{IfSome}
+use Rattle.pec_ledger.specs.Half.{Move, Posted}
 use Rattle.pec_shelf.specs.Deadlines.{IsSideOf, IsWatched, Watch, pairs_in, set_by}
+use Rattle.pec_shelf.specs.Moves.{boxes_at}
 use Rattle.pec_shelf.specs.Prepared.{Prepared, all_of}
 use Rattle.pec_shelf.specs.Seen.{Seen}
 use Rattle.pec_shelf.specs.Sides.{Kept, Sent}
+use Rattle.pec_shelf.proofs.ArchiveLemmas.{may_move}
 use Rattle.pec_shelf.proofs.PairingLemmas.{pairs_joined}
 use Rattle.pec_shelf.proofs.StepLemmas.{few_after}
 use Rattle.pec_shelf.proofs.WatchLemmas.{full_by, pairs_counted, rising_more, set_room, watched_on}
@@ -43,6 +47,19 @@ add-requires c =
           watched side came.step came.is homes c.taken_apart-sent.ensures.messages setting c.len-first.result;
       below = below;
     })
+
+-- an item that is archived stands in its mailbox
+pub add-requires-4-clause-there : goal.add-requires-4-clause-there
+add-requires-4-clause-there c =
+    let came = c.requires.came in
+    let half = c.args.self.now.half in
+    let moved = c.taken_apart-sent.result.4 in
+    subst (λ (xs : List Posted). IfSome moved (λ (row : Move). row.place < length (boxes_at row.account xs c.self.inside.boxes.moves).mailbox))
+    (sym (ap (λ (s : Seen). s.half.items) c.self.view_is))
+    (subst (λ (ms : List Move). IfSome moved (λ (row : Move). row.place < length (boxes_at row.account half.items ms).mailbox))
+    (sym (ap (λ (s : Seen). s.half.moves) c.self.view_is))
+    (may_move came.trade c.args.self.now.me half came.entry moved came.step.own
+    (c.taken_apart-sent.ensures.moves ∙ ap (λ (p : Prepared). p.adds.moves) came.is)))
 
 pub invariant_of-self : goal.invariant_of-self
 invariant_of-self c =

@@ -1,0 +1,87 @@
+-- The envelope is read at the entry by which the message was taken.
+use Rattle.std.proofs.Common.{ℕ, Option, Some, Err, arith, ap, ◌∙◌}
+use Rattle.std.specs.Prelude.{slice_get}
+use Rattle.std.specs.Option.{option_and_then}
+use Rattle.std.proofs.lemmas.Result.{err_from_is_err_and}
+use Rattle.pec_types.specs.declared.letters.Letter.TheVariants as letters
+use Rattle.pec_types.specs.declared.messages.Facts.{Facts}
+use Rattle.pec_records.specs.declared.entries.Entry.{Entry}
+use Rattle.pec_chronicle.specs.Carrying.{NothingMay}
+use Rattle.pec_chronicle.specs.CarryingLaws.{carries_and_then}
+use Rattle.pec_ledger.specs.Half.{Taken}
+use Rattle.pec_plays.specs.Frames.{original_taken}
+use Rattle.pec_reception.specs.OfTrades.{world_at}
+use Rattle.pec_provider.specs.Reading.{IsNotOf}
+use Rattle.pec_provider.proofs.ComposeLemmas.{changed_by, charge_holds, charge_needs, no_letter, other_letter, taken_at}
+use Rattle.pec_provider.proofs.ReadLemmas.{given_up_over, gives_count, reads_as}
+use Rattle.pec_provider.proofs.telling.facts_taken.Goals as goal
+
+pub read-requires-clause-places : goal.read-requires-clause-places
+read-requires-clause-places g c = c.requires.agree.holds.places
+
+pub returns-in_err-entry-clause-reads : goal.returns-in_err-entry-clause-reads
+returns-in_err-entry-clause-reads g c =
+    let p = err_from_is_err_and c.from_residual.result c.from_residual.ensures.1 in
+    rw (p.1, p.2) (reads_as Entry Facts c.args.chronicle.now c.read.new.chronicle _ c.in_err-entry.ensures.reads)
+
+pub returns-in_err-entry-clause-changed : goal.returns-in_err-entry-clause-changed
+returns-in_err-entry-clause-changed g c = λ tells stands.
+    let p = err_from_is_err_and c.from_residual.result c.from_residual.ensures.1 in
+    let trade = world_at c.args.house.now in
+    let me = c.args.house.now.me in
+    let journal = c.args.chronicle.now.entries in
+    let row = taken_at trade me journal c.args.shelf.now c.requires.is
+    (c.requires.agree.holds.is_half trade c.a_house_is_a_trade.ensures.of) c.args.id c.args.number
+    c.requires.taken c.requires.number in
+    rw (p.1, p.2) (no_letter trade me journal (letters.Charge c.args.id me) c.args.number
+    (charge_needs trade me journal c.args.id row.row row.taken ∙ ap Some row.entry)
+    _ (c.in_err-entry.ensures.changed tells stands))
+
+pub returns-in-Ok-clause-told : goal.returns-in-Ok-clause-told
+returns-in-Ok-clause-told g c = λ tells stands.
+    let trade = world_at c.args.house.now in
+    let me = c.args.house.now.me in
+    let journal = c.args.chronicle.now.entries in
+    let row = taken_at trade me journal c.args.shelf.now c.requires.is
+    (c.requires.agree.holds.is_half trade c.a_house_is_a_trade.ensures.of) c.args.id c.args.number
+    c.requires.taken c.requires.number in
+    ap (λ (found : Option Taken).
+    option_and_then (λ (taken : Taken). option_and_then trade.facts (original_taken trade me journal c.args.id taken)) found)
+    row.taken
+    ∙ c.in-Ok.ensures.taken me journal row.row
+    (ap (λ (n : ℕ). slice_get journal n) row.entry ∙ c.in_ok-entry.ensures.entry tells stands)
+
+pub returns-clause-changed : goal.returns-clause-changed
+returns-clause-changed g c = λ tells stands.
+    let trade = world_at c.args.house.now in
+    let me = c.args.house.now.me in
+    let journal = c.args.chronicle.now.entries in
+    let row = taken_at trade me journal c.args.shelf.now c.requires.is
+    (c.requires.agree.holds.is_half trade c.a_house_is_a_trade.ensures.of) c.args.id c.args.number
+    c.requires.taken c.requires.number in
+    rw c.given_up.ensures.fault
+    (changed_by (IsNotOf trade me journal (letters.Charge c.args.id me)) c.args.number c.in-Err.fault (λ is.
+    other_letter trade me journal (letters.Charge c.args.id me) c.args.number
+    (charge_needs trade me journal c.args.id row.row row.taken ∙ ap Some row.entry)
+    c.in_ok-entry.entry (c.in_ok-entry.ensures.entry tells stands)
+    (λ serves.
+    let holds = charge_holds trade me journal c.args.id row.row row.taken c.in_ok-entry.entry serves in
+    c.in-Err.ensures.changed (ap (λ fault. Err fault) is) holds.0 holds.1)))
+
+pub returns-clause-reads : goal.returns-clause-reads
+returns-clause-reads g c =
+    rw c.given_up.ensures.fault
+    (given_up_over {X = Entry} Facts c.args.chronicle.now c.read.new.chronicle c.given_up.new.chronicle
+    c.in_ok-entry.entry c.args.number c.in-Err.fault c.in_ok-entry.ensures.reads c.given_up.ensures.over)
+
+pub returns-clause-carries : goal.returns-clause-carries
+returns-clause-carries g c = λ tells.
+    carries_and_then g.D.Disk.sight NothingMay c.args.chronicle.now c.read.new.chronicle c.given_up.new.chronicle
+    (c.in_ok-entry.ensures.carries tells) (c.given_up.ensures.carries tells)
+
+pub returns-clause-later : goal.returns-clause-later
+returns-clause-later g c =
+    let first = c.in_ok-entry.ensures.later in
+    let second = gives_count g.D.Counted.faults c.read.new.chronicle c.given_up.new.chronicle c.in-Err.fault
+    c.given_up.ensures.over in
+    omega (arith, first, second)
