@@ -1,5 +1,5 @@
 -- Providers that begin one after another, and the network that they make.
-use Rattle.std.proofs.Common.{◌≡◌, ℕ, suc, ◌+◌, ◌<◌, ◌≤◌, List, [], ◌∷◌, ◌++◌, length, map, replicate, get_or, refl, ap, sym, subst, ◌∙◌, arith, inl, inr, Option, None}
+use Rattle.std.proofs.Common.{◌≡◌, ℕ, zero, suc, ◌+◌, ◌<◌, ◌≤◌, List, [], ◌∷◌, ◌++◌, length, replicate, get_or, refl, ap, sym, subst, ◌∙◌, arith, inl, inr, Option, None}
 use Rattle.std.proofs.Math.Seq.{get_or-append_seam}
 use Rattle.std.proofs.lemmas.Bool.{cases_eq, cases_lt}
 use Rattle.std.proofs.lemmas.List.{get_or-replicate, get_or_append_left, length-append, length-map, length-replicate}
@@ -10,11 +10,13 @@ use Rattle.pec_directory.specs.Lawful.{IsLawful}
 use Rattle.pec_ledger.specs.Network.{Site}
 use Rattle.pec_posts.specs.Arrivals.{Waiting, waiting_for}
 use Rattle.pec_provider.specs.Provider.{Desk, ProviderState, Runs, desk_of, fresh, site_of}
+use Rattle.pec_records.specs.declared.entries.Entry.{Entry}
+use Rattle.pec_screen.specs.Verdicts.{Patterns}
 use Rattle.pec_seal.specs.Seals.{Seals}
-use Rattle.pec_trade.specs.Houses.{Fits}
-use Rattle.pec_network.specs.Beginning.{AllBegun, IsAbout, IsBegun, IsRefused, NoneFell, all_rested, journals_had, rested}
+use Rattle.pec_provider.specs.OfTrades.{Fits}
+use Rattle.pec_network.specs.Beginning.{AllBegun, IsAbout, IsBegun, IsRefused, NoneFell, all_rested, all_rested_of, journals_had, rested}
 use Rattle.pec_network.specs.Homes.{AllAt}
-use Rattle.pec_network.specs.Network.{IsOfDirectory, sites_of}
+use Rattle.pec_network.specs.Network.{IsOfDirectory, behind_first, first_of, of_first, sites_of}
 use Rattle.pec_network.specs.Starting.{AllRun}
 use Rattle.pec_network.specs.declared.faults.StartFault.TheVariants as faults
 use Rattle.pec_network.specs.declared.opening.Form.{Form}
@@ -96,30 +98,44 @@ module _ {D : Type 0} (front : List (ProviderState D)) (me : ℕ) (here : length
 
 -- ---- the network that they make
 
+-- lists past the last provider's are of no consequence
+rested_first : (screens : List (List Patterns)) (journals : List (List Entry)) (count many : ℕ) → length journals ≡ many
+    → all_rested_of count (of_first many screens) journals ≡ all_rested_of count screens journals
+rested_first screens [] count many size = refl
+rested_first screens (journal ∷ journals) count zero size = absurd (omega (arith, size))
+rested_first screens (journal ∷ journals) count (suc many) size =
+    ap (λ (more : List Site). rested count (first_of screens) journal ∷ more)
+    (rested_first (behind_first screens) journals count many (omega (arith, size)))
+
 module _ {D : Type 0} where
-  rested_one_by_one : (providers : List (ProviderState D)) (count : ℕ)
+  rested_one_by_one : (providers : List (ProviderState D)) (count : ℕ) (screens : List (List Patterns))
       → ((number : ℕ) (other : ProviderState D) → number < length providers
       → desk_of (get_or providers number other) ≡ fresh (get_or providers number other).chronicle.entries)
-      → sites_of providers (replicate (length providers) (replicate count [])) ≡ map (rested count) (journals_had providers)
-  rested_one_by_one [] count desks = refl
-  rested_one_by_one (provider ∷ providers) count desks =
-      ap (λ (d : Desk). site_of d (replicate count []) ∷ sites_of providers (replicate (length providers) (replicate count [])))
+      → sites_of providers screens (replicate (length providers) (replicate count []))
+      ≡ all_rested_of count screens (journals_had providers)
+  rested_one_by_one [] count screens desks = refl
+  rested_one_by_one (provider ∷ providers) count screens desks =
+      ap (λ (d : Desk). site_of d (first_of screens) (replicate count [])
+      ∷ sites_of providers (behind_first screens) (replicate (length providers) (replicate count [])))
       (desks 0 provider (omega arith))
-      ∙ ap (λ (more : List Site). rested count provider.chronicle.entries ∷ more)
-      (rested_one_by_one providers count (λ number other l. desks (suc number) other (omega arith)))
+      ∙ ap (λ (more : List Site). rested count (first_of screens) provider.chronicle.entries ∷ more)
+      (rested_one_by_one providers count (behind_first screens) (λ number other l. desks (suc number) other (omega arith)))
 
-  pub sites_rested : (providers : List (ProviderState D)) (waiting : List Waiting) (count : ℕ) → length providers ≡ count
+  pub sites_rested : (providers : List (ProviderState D)) (screens had : List (List Patterns)) (waiting : List Waiting)
+      (count : ℕ) → length providers ≡ count → screens ≡ of_first count had
       → waiting ≡ replicate count (replicate count [])
       → ((number : ℕ) (other : ProviderState D) → number < length providers
       → desk_of (get_or providers number other) ≡ fresh (get_or providers number other).chronicle.entries)
-      → sites_of providers waiting ≡ all_rested (journals_had providers)
-  sites_rested providers waiting count size links desks =
+      → sites_of providers screens waiting ≡ all_rested had (journals_had providers)
+  sites_rested providers screens had waiting count size boxes links desks =
       let all : length (journals_had providers) ≡ count =
       length-map providers (λ (p : ProviderState D). p.chronicle.entries) ∙ size in
-      ap (λ (w : List Waiting). sites_of providers w) links
-      ∙ ap (λ (n : ℕ). sites_of providers (replicate n (replicate count []))) (sym size)
-      ∙ rested_one_by_one providers count desks
-      ∙ ap (λ (n : ℕ). map (rested n) (journals_had providers)) (sym all)
+      ap (λ (w : List Waiting). sites_of providers screens w) links
+      ∙ ap (λ (n : ℕ). sites_of providers screens (replicate n (replicate count []))) (sym size)
+      ∙ rested_one_by_one providers count screens desks
+      ∙ ap (λ (s : List (List Patterns)). all_rested_of count s (journals_had providers)) boxes
+      ∙ rested_first had (journals_had providers) count count all
+      ∙ ap (λ (n : ℕ). all_rested_of n had (journals_had providers)) (sym all)
 
   pub of_directory : {seals : Seals} (kept : List Kept) (providers : List (ProviderState D)) (waiting : List Waiting) (count : ℕ)
       → Fits seals (providers_of kept) → count ≡ length kept

@@ -14,9 +14,10 @@ use Rattle.pec_posts.specs.Arrivals.{Waiting, waiting_for}
 use Rattle.pec_chronicle.specs.Carrying.{CarriesOn, NothingMay}
 use Rattle.pec_chronicle.specs.Chronicle.{ChronicleState, Stands}
 use Rattle.pec_provider.specs.Following.{MayFollow}
-use Rattle.pec_provider.specs.Playing.{Plays}
+use Rattle.pec_provider.specs.Playing.{Plays, PlaysWith}
 use Rattle.pec_provider.specs.Provider.{ProviderState, Runs, desk_of, site_of}
 use Rattle.pec_provider.specs.Ticking.{Ticks}
+use Rattle.pec_screen.specs.Verdicts.{Patterns}
 use Rattle.pec_seal.specs.Seals.{Seals}
 use Rattle.pec_network.specs.Carrying.{AllCarryOn, AllStand, NoneFalls}
 use Rattle.pec_network.specs.Changing.{HasRisenAt, StandsAt}
@@ -87,21 +88,36 @@ module _ {D : Type 0} (providers : List (ProviderState D)) (number : ℕ) (old n
   pub stands_of_all : (sight : D → Sight) → AllStand sight providers → Stands sight old.chronicle
   stands_of_all sight all = subst (λ (p : ProviderState D). Stands sight p.chronicle) (at_old old) (all number old within)
 
-  pub entries_from : (waiting : List Waiting) → length waiting ≡ length providers
-      → length (journal_at (sites_of providers waiting) number) ≡ length old.chronicle.entries
-  entries_from waiting count =
-      ap (λ (s : Site). length s.journal) (site_is providers waiting number old within count
-      ∙ ap (λ (p : ProviderState D). site_of (desk_of p) (waiting_for waiting number)) (sym here))
+  -- its site
+  pub there_from : (screens : List (List Patterns)) (waiting : List Waiting)
+      → site_at (sites_of providers screens waiting) number
+      ≡ site_of (desk_of old) (get_or screens number []) (waiting_for waiting number)
+  there_from screens waiting =
+      site_is providers screens waiting number old within
+      ∙ ap (λ (p : ProviderState D). site_of (desk_of p) (get_or screens number []) (waiting_for waiting number)) (sym here)
 
-  -- what is played on the provider is played on the network
-  pub plays_from : {X : Type 0} (tells : X → Answer) (play : Luck → List Site → Played) (waiting : List Waiting)
-      → length waiting ≡ length providers → (r : Result X ProviderFault) → Plays tells play number (desk_of old) (desk_of new) r
-      → IsPlayed tells (λ (luck : Luck). play luck (sites_of providers waiting)) (sites_of providers waiting)
-      (sites_of (set providers number new) waiting) r
-  plays_from tells play waiting count r plays =
-      let all = sites_of providers waiting in
+  pub entries_from : (screens : List (List Patterns)) (waiting : List Waiting)
+      → length (journal_at (sites_of providers screens waiting) number) ≡ length old.chronicle.entries
+  entries_from screens waiting =
+      ap (λ (s : Site). length s.journal) (there_from screens waiting)
+
+  -- what is played on the provider, with its screens, is played on the network
+  pub plays_with : {X : Type 0} (tells : X → Answer) (play : Luck → List Site → Played) (screens : List (List Patterns))
+      (waiting : List Waiting) (r : Result X ProviderFault)
+      → PlaysWith tells play number (get_or screens number []) (desk_of old) (desk_of new) r
+      → IsPlayed tells (λ (luck : Luck). play luck (sites_of providers screens waiting)) (sites_of providers screens waiting)
+      (sites_of (set providers number new) screens waiting) r
+  plays_with tells play screens waiting r plays =
+      let all = sites_of providers screens waiting in
       let links = waiting_for waiting number in
-      let there : site_at all number ≡ site_of (desk_of old) links =
-      site_is providers waiting number old within count ∙ ap (λ (p : ProviderState D). site_of (desk_of p) links) (sym here) in
-      played_so tells (λ (luck : Luck). play luck all) all (sites_of (set providers number new) waiting) number (site_of (desk_of new) links) r
-      (provider_changes providers waiting number new within count) (plays all links there)
+      played_so tells (λ (luck : Luck). play luck all) all (sites_of (set providers number new) screens waiting) number
+      (site_of (desk_of new) (get_or screens number []) links) r
+      (provider_changes providers screens waiting number new within) (plays all links (there_from screens waiting))
+
+  -- and whatever its screens are
+  pub plays_from : {X : Type 0} (tells : X → Answer) (play : Luck → List Site → Played) (screens : List (List Patterns))
+      (waiting : List Waiting) (r : Result X ProviderFault) → Plays tells play number (desk_of old) (desk_of new) r
+      → IsPlayed tells (λ (luck : Luck). play luck (sites_of providers screens waiting)) (sites_of providers screens waiting)
+      (sites_of (set providers number new) screens waiting) r
+  plays_from tells play screens waiting r plays =
+      plays_with tells play screens waiting r (plays (get_or screens number []))

@@ -26,9 +26,11 @@ pub concerns_one : {D S X : Type 0} (was : NetworkState D S) (number : ℕ) (old
     → CarriesOn sight (MayFollow (world_of seals was) journals number) old.chronicle new.chronicle)
     → (IsErrOf result refusals.DiskFault → HasRisen (count old.chronicle.disk) (count new.chronicle.disk))
     → count old.chronicle.disk ≤ count new.chronicle.disk
-    → ConcernsOne sight count tells seals number was (record was { providers = set was.providers number new }) result
-concerns_one was number old new within here sight count tells seals result rests carries risen later = record {
-  others = changes_only was number new within;
+    → (looks : List (List ℕ))
+    → ConcernsOne sight count tells seals number was
+    (record was { providers = set was.providers number new; looks = looks }) result
+concerns_one was number old new within here sight count tells seals result rests carries risen later looks = record {
+  others = changes_only was number new looks within;
   carries = λ told journals. carries_from was.providers number old new within here sight (world_of seals was) journals
       (rests told) (carries told journals);
   disk_fault = λ failed. risen_from was.providers number old new within here count (risen failed);
@@ -41,7 +43,7 @@ pub concerns_nobody : {D S X : Type 0} (was : NetworkState D S) (number : ℕ)
     → (tells → (state : ChronicleState D) → CarriesOn sight NothingMay state state)
     → ConcernsOne {X = X} sight count tells seals number was was (Err refusals.NoAccount)
 concerns_nobody {D} {S} was number sight count tells seals rests = record {
-  others = λ other. ap (λ (p : List (ProviderState D)). (let n : NetworkState D S = record was { providers = p } in n))
+  others = λ other. ap (λ (p : List (ProviderState D)). (let n : NetworkState D S = record was { providers = p; looks = was.looks } in n))
       (sym (set-get_or was.providers number other));
   carries = λ told journals k other l. carries_nothing sight (MayFollow (world_of seals was) journals k)
       (get_or was.providers k other).chronicle (get_or was.providers k other).chronicle

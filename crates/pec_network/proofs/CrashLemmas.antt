@@ -10,6 +10,7 @@ use Rattle.pec_ledger.specs.Network.{Site, chosen, is_up, site_at}
 use Rattle.pec_ledger.specs.Trade.{Trade}
 use Rattle.pec_plays.specs.Commands.{Crash, Crashed, IsUp, Luck, Played, Refuses, Restart, Restarted, answers, played, restarted, stopped_site, with_site}
 use Rattle.pec_posts.specs.Arrivals.{Waiting, waiting_for}
+use Rattle.pec_screen.specs.Verdicts.{Patterns}
 use Rattle.pec_provider.specs.Playing.{luck_of}
 use Rattle.pec_provider.specs.Provider.{Desk, ProviderState, desk_of, fresh, site_of, stopped}
 use Rattle.pec_outside.specs.DiskModel.{Only, Sight}
@@ -20,7 +21,7 @@ use Rattle.pec_network.specs.Changing.{ChangesOnly, CrashedAt, IsCrashedDisk, Sa
 use Rattle.pec_network.specs.Network.{NetworkState, sites_of}
 use Rattle.pec_network.specs.Restarting.{IsFit, IsNotRestarted, IsRestarted, IsUpAt, luck_told, restarted_as}
 use Rattle.pec_network.specs.declared.faults.RestartFault.TheVariants as faults
-use Rattle.pec_network.proofs.ChangeLemmas.{at_new, at_old}
+use Rattle.pec_network.proofs.ChangeLemmas.{at_new, at_old, there_from}
 use Rattle.pec_network.proofs.SiteLemmas.{provider_changes, site_again, site_is}
 
 -- ---- lists
@@ -50,10 +51,12 @@ told_found journal (Some entry) false =
 
 -- ---- one provider
 
-pub changes_only : {D S : Type 0} (network : NetworkState D S) (number : ℕ) (new : ProviderState D) → number < length network.providers
-    → ChangesOnly number network (record network { providers = set network.providers number new })
-changes_only {D} {S} network number new within = λ other.
-    ap (λ (p : ProviderState D). (let n : NetworkState D S = record network { providers = set network.providers number p } in n))
+pub changes_only : {D S : Type 0} (network : NetworkState D S) (number : ℕ) (new : ProviderState D) (looks : List (List ℕ))
+    → number < length network.providers
+    → ChangesOnly number network (record network { providers = set network.providers number new; looks = looks })
+changes_only {D} {S} network number new looks within = λ other.
+    ap (λ (p : ProviderState D). (let n : NetworkState D S =
+    record network { providers = set network.providers number p; looks = looks } in n))
     (sym (get_or-set_same network.providers number new other within))
 
 -- a provider that is down is stopped
@@ -66,22 +69,28 @@ stays_stopped old down =
       interrupted = old.chronicle.interrupted;
     } in d)) (sym down)
 
-module _ {D : Type 0} (trade : Trade) (providers : List (ProviderState D)) (waiting : List Waiting) (me : ℕ) (old new : ProviderState D)
-    (within : me < length providers) (count : length waiting ≡ length providers) (here : old ≡ get_or providers me old) where
+module _ {D : Type 0} (trade : Trade) (providers : List (ProviderState D)) (screens : List (List Patterns))
+    (waiting : List Waiting) (me : ℕ) (old new : ProviderState D)
+    (within : me < length providers) (here : old ≡ get_or providers me old) where
   abbrev all : List Site
-  all = sites_of providers waiting
+  all = sites_of providers screens waiting
 
   abbrev after : List Site
-  after = sites_of (set providers me new) waiting
+  after = sites_of (set providers me new) screens waiting
+
+  abbrev boxes : List Patterns
+  boxes = get_or screens me []
 
   abbrev links : Waiting
   links = waiting_for waiting me
 
-  is_there : site_at all me ≡ site_of (desk_of old) links
-  is_there = site_is providers waiting me old within count ∙ ap (λ (p : ProviderState D). site_of (desk_of p) links) (sym here)
+  is_there : site_at all me ≡ site_of (desk_of old) boxes links
+  is_there = there_from providers me old new within here screens waiting
 
-  goes_to : (desk : Desk) → desk_of new ≡ desk → with_site all me (site_of desk links) ≡ after
-  goes_to desk is = ap (λ (d : Desk). with_site all me (site_of d links)) (sym is) ∙ sym (provider_changes providers waiting me new within count)
+  goes_to : (desk : Desk) → desk_of new ≡ desk → with_site all me (site_of desk boxes links) ≡ after
+  goes_to desk is =
+      ap (λ (d : Desk). with_site all me (site_of d boxes links)) (sym is)
+      ∙ sym (provider_changes providers screens waiting me new within)
 
   -- nothing but the room has changed
   pub stays_there : desk_of new ≡ desk_of old → after ≡ all
@@ -94,7 +103,7 @@ module _ {D : Type 0} (trade : Trade) (providers : List (ProviderState D)) (wait
       ap (λ (s : Site). (let p : Played = record { answer = Crashed; after = with_site all me (stopped_site s) } in p)) is_there
       ∙ ap (λ (s : List Site). (let p : Played = record { answer = Crashed; after = s } in p)) (goes_to (stopped (desk_of old)) is)
 
-  restart_is : (luck : Luck) → played trade luck all (Restart me) ≡ restarted luck all me (site_of (desk_of old) links)
+  restart_is : (luck : Luck) → played trade luck all (Restart me) ≡ restarted luck all me (site_of (desk_of old) boxes links)
   unfolding played
   restart_is luck = ap (λ (s : Site). restarted luck all me s) is_there
 
@@ -119,16 +128,16 @@ module _ {D : Type 0} (trade : Trade) (providers : List (ProviderState D)) (wait
       ∙ restarts luck refl down
       ∙ ap (λ (l : List Entry). (let p : Played = record {
         answer = Restarted (length l);
-        after = with_site all me (site_of (fresh l) links);
+        after = with_site all me (site_of (fresh l) boxes links);
       } in p)) journal
       ∙ ap (λ (s : List Site). (let p : Played = record { answer = Restarted (length new.chronicle.entries); after = s } in p))
       (goes_to (fresh new.chronicle.entries) up)
     where
       restarts : (luck : Luck) → luck.fails ≡ false → old.chronicle.down ≡ true
-          → restarted luck all me (site_of (desk_of old) links)
+          → restarted luck all me (site_of (desk_of old) boxes links)
           ≡ record {
             answer = Restarted (length (old.chronicle.entries ++ chosen luck.found old.chronicle.interrupted));
-            after = with_site all me (site_of (fresh (old.chronicle.entries ++ chosen luck.found old.chronicle.interrupted)) links);
+            after = with_site all me (site_of (fresh (old.chronicle.entries ++ chosen luck.found old.chronicle.interrupted)) boxes links);
           }
       restarts luck works down = rw (down, works) refl
 
@@ -149,18 +158,19 @@ module _ {D : Type 0} (trade : Trade) (providers : List (ProviderState D)) (wait
 
 -- ---- what else is said of the call
 
-pub down_there : {D : Type 0} (providers : List (ProviderState D)) (waiting : List Waiting) (me : ℕ) (old : ProviderState D)
-    → me < length providers → length waiting ≡ length providers → old ≡ get_or providers me old → old.chronicle.down ≡ true
-    → is_up (sites_of providers waiting) me ≡ false
-down_there providers waiting me old within count here down =
-    ap (λ (s : Site). s.up) (site_is providers waiting me old within count)
+pub down_there : {D : Type 0} (providers : List (ProviderState D)) (screens : List (List Patterns)) (waiting : List Waiting)
+    (me : ℕ) (old : ProviderState D)
+    → me < length providers → old ≡ get_or providers me old → old.chronicle.down ≡ true
+    → is_up (sites_of providers screens waiting) me ≡ false
+down_there providers screens waiting me old within here down =
+    ap (λ (s : Site). s.up) (site_is providers screens waiting me old within)
     ∙ ap (λ (p : ProviderState _). not p.chronicle.down) (sym here)
     ∙ ap not down
 
 pub changes_nothing : {D S : Type 0} (network : NetworkState D S) (number : ℕ) → number < length network.providers
     → ChangesOnly number network network
 changes_nothing {D} {S} network number within = λ other.
-    ap (λ (l : List (ProviderState D)). (let n : NetworkState D S = record network { providers = l } in n))
+    ap (λ (l : List (ProviderState D)). (let n : NetworkState D S = record network { providers = l; looks = network.looks } in n))
     (sym (set-get_or network.providers number other))
 
 module _ {D : Type 0} (providers : List (ProviderState D)) (number : ℕ) (old new : ProviderState D) (within : number < length providers)

@@ -14,18 +14,21 @@ use Rattle.pec_outside.specs.Flow.{HasRisen}
 use Rattle.pec_records.specs.declared.entries.Entry.{Entry}
 use Rattle.pec_ledger.specs.Network.{Site}
 use Rattle.pec_ledger.specs.Trade.{Trade}
-use Rattle.pec_plays.specs.Decisions.{undecided}
-use Rattle.pec_plays.specs.Possible.{IsOfRead, TellsCut, cut_by}
+use Rattle.pec_plays.specs.Decisions.{kept_looks, undecided}
+use Rattle.pec_screen.specs.Verdicts.{Patterns}
+use Rattle.pec_plays.specs.Possible.{IsOfKept, IsOfRead, MayCut, TellsCut, cut_by}
 use Rattle.pec_plays.specs.Rounds.{sent_from}
-use Rattle.pec_plays.specs.Turns.{Cut, Fails, Full, Other, Turned, Whole, frames_in, puts_from, that_fit}
+use Rattle.pec_plays.specs.Turns.{Cut, Fails, Other, Turned, Whole, cut_turn, frames_in, looks_by, puts_from, that_fit}
 use Rattle.pec_provider.specs.Appending.{WorksAt}
 use Rattle.pec_provider.specs.Provider.{Desk, site_of, stopped}
 use Rattle.pec_provider.specs.Working.{IsAtWork}
-use Rattle.pec_network.specs.Turning.{EndsSo, Far, IsFront, NoneIsChanged, Puts, StopsShort, Took, Waiting, told_of, turn_of}
+use Rattle.pec_network.specs.Turning.{Breaks, Ends, IsForFew, IsFront, Leads, NoneIsChanged, Puts, StopsShort, Took}
+use Rattle.pec_network.specs.Turning.{Waiting, told_of, turn_of}
 use Rattle.pec_network.specs.declared.turns.Taken.{Taken}
-use Rattle.pec_network.proofs.FrameLemmas.{puts_count}
-use Rattle.pec_network.proofs.StepLemmas.{Joins, all_room, other_of, short_of, took_at_work, took_down, took_late}
-use Rattle.pec_network.proofs.StepLemmas.{unread_may, unread_of, whole_of}
+use Rattle.pec_network.proofs.CutLemmas.{all_done, all_honest, front_of, other_of, took_by, took_down, took_late}
+use Rattle.pec_network.proofs.CutLemmas.{took_not_done, unread_all, unread_of, whole_of}
+use Rattle.pec_network.proofs.FrameLemmas.{none_taken, puts_count}
+use Rattle.pec_network.proofs.StepLemmas.{Joins}
 
 abbrev ended_turn : Site → List Event → ProviderFault → Turned
 ended_turn site events fault = record { site = site; events = events; out = []; ended = Some fault }
@@ -83,159 +86,189 @@ unread_told faults.Full is number = absurd is
 unread_told faults.NoItem is number = absurd is
 unread_told (faults.Changed which) is number = refl
 unread_told faults.JournalFull is number = absurd is
+unread_told faults.OldJournal is number = absurd is
+unread_told faults.NoNeed is number = absurd is
 unread_told faults.NoMemory is number = absurd is
 
-module _ (Stood : Type 0) (trade : Trade) (me now : ℕ) (rooms : ℕ → ℕ) (begun : Desk) (waiting : Waiting) where
+module _ (Stood : Type 0) (trade : Trade) (me now : ℕ) (screens : List Patterns) (rooms : ℕ → ℕ) (begun : Desk)
+    (waiting : Waiting) where
+  abbrev old : Site
+  old = site_of begun screens waiting
+
   -- a turn that didn't begin
   pub took_refused : (fault : ProviderFault) → WorksAt {X = Unit {0}} trade me now begun (Err fault)
-      → Took Stood trade me now rooms (site_of begun waiting) (ended_turn (site_of begun waiting) [] fault)
-  took_refused faults.Down down = took_down trade me now Stood rooms (site_of begun waiting) down
-  took_refused (faults.ClockBack moment) late = took_late trade me now Stood rooms
-      (site_of begun waiting) moment late.0 late.1 late.2
+      → Took Stood trade me now rooms old (ended_turn old [] fault)
+  took_refused faults.Down down = took_down Stood trade me now rooms old down
+  took_refused (faults.ClockBack moment) late = took_late Stood trade me now rooms old moment late.0 late.1 late.2
   took_refused faults.DiskFault none = absurd none
   took_refused faults.NoAccount none = absurd none
   took_refused faults.Full none = absurd none
   took_refused faults.NoItem none = absurd none
   took_refused (faults.Changed which) none = absurd none
   took_refused faults.JournalFull none = absurd none
+  took_refused faults.OldJournal none = absurd none
+  took_refused faults.NoNeed none = absurd none
   took_refused faults.NoMemory none = absurd none
 
   -- a turn that ended early
-  pub took_ended : (new : Desk) (left : Waiting) (events : List Event) (fault : ProviderFault)
-      → IsAtWork trade me now begun
-      → EndsSo trade me now (site_of begun waiting) new left events fault → (fault ≡ faults.NoMemory → ⊥)
-      → Took Stood trade me now rooms (site_of begun waiting) (ended_turn (site_of new left) events fault)
-  took_ended new left events faults.DiskFault works ends other =
-      took_at_work trade me now Stood rooms (site_of begun waiting)
-      (ended_turn (site_of new left) events faults.DiskFault) (Fails (length events) faults.DiskFault) works.up
-      works.in_time refl (ends.is rooms) ends.may (λ stood. tt) tt (λ stood journals fit here number is. cc)
-  took_ended new left events faults.JournalFull works ends other =
-      took_at_work trade me now Stood rooms (site_of begun waiting)
-      (ended_turn (site_of new left) events faults.JournalFull) (Full (length events)) works.up works.in_time refl
-      (ends.is rooms) ends.may (λ stood. tt) tt (λ stood journals fit here number is. cc)
-  took_ended new left events faults.NoMemory works ends other = absurd (other refl)
-  took_ended new left events faults.Down works ends other = absurd ends
-  took_ended new left events (faults.ClockBack moment) works ends other = absurd ends
-  took_ended new left events faults.NoAccount works ends other = absurd ends
-  took_ended new left events faults.Full works ends other = absurd ends
-  took_ended new left events faults.NoItem works ends other = absurd ends
-  took_ended new left events (faults.Changed which) works ends other = absurd ends
+  took_breaks : (joins : Joins trade me now) (last new : Desk) (waits left : Waiting) (events : List Event)
+      (fault : ProviderFault) → IsAtWork trade me now begun
+      → Leads Stood trade me now screens begun waiting [] last waits events
+      → Breaks Stood trade me now screens last waits fault new left → (fault ≡ faults.NoMemory → ⊥)
+      → Took Stood trade me now rooms old (ended_turn (site_of new screens left) events fault)
+  took_breaks joins last new waits left events faults.DiskFault works leads breaks other =
+      took_not_done Stood trade me now screens begun last waiting waits events leads joins new left faults.DiskFault
+      breaks works rooms
+  took_breaks joins last new waits left events (faults.Changed which) works leads breaks other =
+      took_not_done Stood trade me now screens begun last waiting waits events leads joins new left
+      (faults.Changed which) breaks works rooms
+  took_breaks joins last new waits left events faults.JournalFull works leads breaks other =
+      took_not_done Stood trade me now screens begun last waiting waits events leads joins new left faults.JournalFull
+      breaks works rooms
+  took_breaks joins last new waits left events faults.NoMemory works leads breaks other = absurd (other refl)
+  took_breaks joins last new waits left events faults.Down works leads breaks other = absurd breaks
+  took_breaks joins last new waits left events (faults.ClockBack moment) works leads breaks other = absurd breaks
+  took_breaks joins last new waits left events faults.NoAccount works leads breaks other = absurd breaks
+  took_breaks joins last new waits left events faults.Full works leads breaks other = absurd breaks
+  took_breaks joins last new waits left events faults.NoItem works leads breaks other = absurd breaks
+  took_breaks joins last new waits left events faults.OldJournal works leads breaks other = absurd breaks
+  took_breaks joins last new waits left events faults.NoNeed works leads breaks other = absurd breaks
 
   -- ---- all steps were done
 
   module _ (joins : Joins trade me now) (fit : Fit) (desk new : Desk) (left : Waiting) (events : List Event) (count : ℕ)
       (works : IsAtWork trade me now begun) (owed : begun.owed ≡ []) (all : count ≡ trade.providers)
-      (far : Far trade me now begun waiting desk left events) (none : frames_in left ≡ [])
+      (far : Leads Stood trade me now screens begun waiting [] desk left events) (none : frames_in left ≡ [])
       (decided : undecided trade me desk.journal ≡ []) where
     abbrev due : List (List Bytes)
     due = puts_from trade me desk.journal rooms desk.owed 0 count
 
     abbrev put_turn : Option ProviderFault → List (List Bytes) → Turned
-    put_turn ended out = record { site = site_of new left; events = events; out = out; ended = ended }
+    put_turn ended out = record { site = site_of new screens left; events = events; out = out; ended = ended }
+
+    -- it was cut so, with these steps
+    took_steps : (turn : Turned) (cut : Cut) → looks_by trade me screens cut ≡ kept_looks trade me screens
+        → TellsCut turn.ended (length turn.events) cut
+        → cut_turn trade me rooms old far.steps cut ≡ turn
+        → MayCut trade me far.steps cut → (Stood → IsOfKept cut) → IsForFew trade.providers cut
+        → (Stood → NoneIsChanged trade me turn.site.journal turn.ended)
+        → Took Stood trade me now rooms old turn
+    took_steps turn cut plain tells is may kept few unchanged =
+        took_by Stood trade me now rooms screens begun waiting turn cut far.steps
+        (far.sees (kept_looks trade me screens)) plain
+        (all_done Stood trade me now screens begun desk waiting left events far none decided)
+        (all_honest Stood trade me now screens begun desk waiting left events far none decided) works tells is may kept
+        few unchanged
 
     -- the frames that are due were put
-    took_due : new ≡ desk → (out : List (List Bytes)) → out ≡ due
-        → Took Stood trade me now rooms (site_of begun waiting) (put_turn None out)
+    took_due : new ≡ desk → (out : List (List Bytes)) → out ≡ due → Took Stood trade me now rooms old (put_turn None out)
     took_due same out is =
-        took_at_work trade me now Stood rooms (site_of begun waiting) (put_turn None out) Whole works.up works.in_time
-        refl
-        (whole_of trade me now begun desk waiting left events far none decided owed rooms
+        took_steps (put_turn None out) Whole refl refl
+        (whole_of Stood trade me now screens begun desk waiting left events far none decided owed rooms
         ∙ ap (λ (k : ℕ). record {
-          site = site_of desk left;
+          site = site_of desk screens left;
           events = events;
           out = puts_from trade me desk.journal rooms desk.owed 0 k;
           ended = None;
         }) (sym all)
-        ∙ ap (λ (o : List (List Bytes)). record { site = site_of desk left; events = events; out = o; ended = None })
+        ∙ ap (λ (o : List (List Bytes)). record { site = site_of desk screens left; events = events; out = o; ended = None })
         (sym is)
-        ∙ ap (λ (d : Desk). record { site = site_of d left; events = events; out = out; ended = None }) (sym same))
-        (all_room trade me now begun desk waiting left events far none decided) (λ stood. tt) tt
-        (λ stood journals fit here number is. cc)
+        ∙ ap (λ (d : Desk). record { site = site_of d screens left; events = events; out = out; ended = None }) (sym same))
+        far.room (λ stood. tt) tt (λ stood journals fit here number is. cc)
 
     -- others were
     took_other : new ≡ desk → (out : List (List Bytes)) → (out ≡ due → ⊥) → (Stood → out ≡ due)
         → length out ≡ length due → ((to : ℕ) → length (get_or out to []) ≤ rooms to)
-        → Took Stood trade me now rooms (site_of begun waiting) (put_turn None out)
+        → Took Stood trade me now rooms old (put_turn None out)
     took_other same out apart kept many fits =
         let size = puts_count trade me desk.journal rooms desk.owed 0 count in
-        took_at_work trade me now Stood rooms (site_of begun waiting) (put_turn None out) (Other out) works.up
-        works.in_time refl
-        (other_of trade me now begun desk waiting left events far none decided rooms out (fit rooms out fits)
-        ∙ ap (λ (d : Desk). record { site = site_of d left; events = events; out = out; ended = None }) (sym same))
-        (all_room trade me now begun desk waiting left events far none decided)
-        (λ stood. apart (kept stood)) (omega (arith, many, size, all)) (λ stood journals fit here number is. cc)
+        took_steps (put_turn None out) (Other out) refl refl
+        (other_of Stood trade me now screens begun desk waiting left events far none decided rooms out (fit rooms out fits)
+        ∙ ap (λ (d : Desk). record { site = site_of d screens left; events = events; out = out; ended = None }) (sym same))
+        far.room (λ stood. apart (kept stood)) (omega (arith, many, size, all))
+        (λ stood journals fit here number is. cc)
 
     -- a read failed
     took_unread : new ≡ stopped desk → desk.interrupted ≡ None → (fault : ProviderFault) → IsOfRead fault
         → (Stood → NoneIsChanged trade me desk.journal (Some fault))
-        → Took Stood trade me now rooms (site_of begun waiting) (put_turn (Some fault) [])
+        → Took Stood trade me now rooms old (put_turn (Some fault) [])
     took_unread same whole fault is unchanged =
-        took_at_work trade me now Stood rooms (site_of begun waiting) (put_turn (Some fault) [])
-        (Fails (length events) fault) works.up works.in_time (unread_told fault is (length events))
-        (unread_of trade me now begun desk waiting left events far none decided joins whole rooms fault
-        ∙ ap (λ (d : Desk). record { site = site_of d left; events = events; out = []; ended = Some fault }) (sym same))
-        (unread_may trade me now begun desk waiting left events far none decided fault is) (λ stood. is) tt
+        took_steps (put_turn (Some fault) []) (Fails (length events) fault) refl (unread_told fault is (length events))
+        (unread_of Stood trade me now screens begun desk waiting left events far none decided joins whole rooms fault
+        ∙ ap (λ (d : Desk). record { site = site_of d screens left; events = events; out = []; ended = Some fault })
+        (sym same))
+        (unread_all Stood trade me now screens begun desk waiting left events far none decided fault is) (λ stood. is) tt
         (λ stood. subst (λ (entries : List Entry). NoneIsChanged trade me entries (Some fault))
         (sym (ap (λ (d : Desk). d.journal) same)) (unchanged stood))
 
     took_put : (ended : Option ProviderFault) (out : List (List Bytes)) → Puts Stood due rooms desk new ended out
         → (Stood → NoneIsChanged trade me desk.journal ended)
-        → Took Stood trade me now rooms (site_of begun waiting) (put_turn ended out)
+        → Took Stood trade me now rooms old (put_turn ended out)
     took_put None out puts unchanged =
         elim (puts_same out due) [
           | inl is ↦ took_due puts.0 out is
           | inr apart ↦ took_other puts.0 out apart puts.1 puts.2 puts.3
         ]
     took_put (Some fault) out puts unchanged =
-        subst (λ (o : List (List Bytes)). Took Stood trade me now rooms (site_of begun waiting) (put_turn (Some fault) o))
+        subst (λ (o : List (List Bytes)). Took Stood trade me now rooms old (put_turn (Some fault) o))
         (sym puts.3) (took_unread puts.0 puts.1 fault puts.2 unchanged)
 
     pub took_whole : (r : Result Taken NoMemory)
         → IfOk r (λ taken. Puts Stood due rooms desk new taken.turn.ended taken.out)
         → (Stood → IfOk r (λ taken. NoneIsChanged trade me desk.journal taken.turn.ended))
         → IfOk r (λ taken. taken.turn ≡ told_turn me events (sent_from 0 taken.out) taken.turn.ended)
-        → IfOk r (λ taken. Took Stood trade me now rooms (site_of begun waiting)
-        (turn_of (site_of new left) taken.turn taken.out))
+        → IfOk r (λ taken. Took Stood trade me now rooms old
+        (turn_of (site_of new screens left) taken.turn taken.out))
     took_whole (Err fault) puts unchanged turn = tt
     took_whole (Ok taken) puts unchanged turn =
-        subst (λ (told : List Event). Took Stood trade me now rooms (site_of begun waiting)
-        (record { site = site_of new left; events = told; out = taken.out; ended = taken.turn.ended }))
+        subst (λ (told : List Event). Took Stood trade me now rooms old
+        (record { site = site_of new screens left; events = told; out = taken.out; ended = taken.turn.ended }))
         (sym (ap (λ (t : Turn). t.events) turn)) (took_put taken.turn.ended taken.out puts unchanged)
 
   -- a turn that ended early, unless for want of memory
-  pub took_early : (new : Desk) (left : Waiting) (events : List Event) (fault : ProviderFault)
-      (r : Result Taken NoMemory) → IsAtWork trade me now begun
-      → EndsSo trade me now (site_of begun waiting) new left events fault → OnOk r (fault ≢ faults.NoMemory)
+  pub took_early : (joins : Joins trade me now) (new : Desk) (left : Waiting) (events : List Event)
+      (fault : ProviderFault) (r : Result Taken NoMemory) → IsAtWork trade me now begun
+      → Ends Stood trade me now screens begun waiting [] fault new left events → OnOk r (fault ≢ faults.NoMemory)
       → IfOk r (λ taken. taken.out ≡ []) → IfOk r (λ taken. taken.turn ≡ told_turn me events [] (Some fault))
-      → IfOk r (λ taken. Took Stood trade me now rooms (site_of begun waiting)
-      (turn_of (site_of new left) taken.turn taken.out))
-  took_early new left events fault (Err none) works ends other out turn = tt
-  took_early new left events fault (Ok taken) works ends other out turn = rw (turn, out)
-      (took_ended new left events fault works ends other)
+      → IfOk r (λ taken. Took Stood trade me now rooms old (turn_of (site_of new screens left) taken.turn taken.out))
+  took_early joins new left events fault (Err none) works ends other out turn = tt
+  took_early joins new left events fault (Ok taken) works ends other out turn = rw (turn, out)
+      (took_breaks joins ends.last new ends.waits left events fault works ends.leads ends.breaks other)
 
-module _ (trade : Trade) (me now : ℕ) (begun : Desk) (waiting : Waiting) where
+module _ (Stood : Type 0) (trade : Trade) (me now : ℕ) (screens : List Patterns) (begun : Desk) (waiting : Waiting)
+    (joins : Joins trade me now) where
   short_so : (new : Desk) (left : Waiting) → IsAtWork trade me now begun
-      → IsFront trade me now (site_of begun waiting) (site_of new left)
-      → StopsShort trade me now (site_of begun waiting) (site_of new left)
+      → IsFront trade me now (site_of begun screens waiting) (site_of new screens left)
+      → StopsShort trade me now (site_of begun screens waiting) (site_of new screens left)
   short_so new left works front = record { up = works.up; in_time = works.in_time; front = front }
 
   pub short_whole : (desk new : Desk) (left : Waiting) (events : List Event) (r : Result Taken NoMemory)
       → IsAtWork trade me now begun
-      → Far trade me now begun waiting desk left events → OnErr r (new ≡ desk)
-      → OnErr r (StopsShort trade me now (site_of begun waiting) (site_of new left))
+      → Leads Stood trade me now screens begun waiting [] desk left events → OnErr r (new ≡ desk)
+      → OnErr r (StopsShort trade me now (site_of begun screens waiting) (site_of new screens left))
   short_whole desk new left events (Ok taken) works far same = tt
   short_whole desk new left events (Err none) works far same =
-      subst (λ (d : Desk). StopsShort trade me now (site_of begun waiting) (site_of d left)) (sym same)
-      (short_so desk left works (short_of trade me now begun desk waiting left events far))
+      short_so new left works
+      (front_of Stood trade me now screens begun desk waiting left events far joins new left 0 same
+      (sym (none_taken left)))
+
+  short_breaks : (last new : Desk) (waits left : Waiting) (events : List Event)
+      → IsAtWork trade me now begun
+      → Leads Stood trade me now screens begun waiting [] last waits events
+      → Breaks Stood trade me now screens last waits faults.NoMemory new left
+      → StopsShort trade me now (site_of begun screens waiting) (site_of new screens left)
+  short_breaks last new waits left events works far breaks =
+      short_so new left works
+      (front_of Stood trade me now screens begun last waiting waits events far joins new left breaks.1 breaks.0 breaks.2)
 
   pub short_early : (new : Desk) (left : Waiting) (events : List Event) (fault : ProviderFault)
       (r : Result Taken NoMemory) → IsAtWork trade me now begun
-      → EndsSo trade me now (site_of begun waiting) new left events fault → OnErr r (fault ≡ faults.NoMemory)
-      → OnErr r (StopsShort trade me now (site_of begun waiting) (site_of new left))
+      → Ends Stood trade me now screens begun waiting [] fault new left events → OnErr r (fault ≡ faults.NoMemory)
+      → OnErr r (StopsShort trade me now (site_of begun screens waiting) (site_of new screens left))
   short_early new left events fault (Ok taken) works ends memory = tt
   short_early new left events fault (Err none) works ends memory =
-      short_so new left works (subst (λ (f : ProviderFault).
-      EndsSo trade me now (site_of begun waiting) new left events f) memory ends)
+      short_breaks ends.last new ends.waits left events works ends.leads
+      (subst (λ (f : ProviderFault). Breaks Stood trade me now screens ends.last ends.waits f new left) memory ends.breaks)
 
 -- only a fault of the disk is told as one
 pub disk_early : {P : Type 0} (me : ℕ) (events : List Event) (fault : ProviderFault) (r : Result Taken NoMemory)
@@ -261,20 +294,22 @@ memory_refused trade me now begun faults.Full told works ended = absurd works
 memory_refused trade me now begun faults.NoItem told works ended = absurd works
 memory_refused trade me now begun (faults.Changed which) told works ended = absurd works
 memory_refused trade me now begun faults.JournalFull told works ended = absurd works
+memory_refused trade me now begun faults.OldJournal told works ended = absurd works
+memory_refused trade me now begun faults.NoNeed told works ended = absurd works
 
 -- a turn that did all its steps
 memory_put : (Stood : Type 0) (frames : List (List Bytes)) (rooms : ℕ → ℕ) (old new : Desk) (ended : Option ProviderFault)
     (out : List (List Bytes)) → Puts Stood frames rooms old new ended out → ended ≢ Some faults.NoMemory
-memory_put Stood frames rooms old new None out puts = λ is. cc
-memory_put Stood frames rooms old new (Some fault) out puts = λ is.
+memory_put Stood frames rooms was new None out puts = λ is. cc
+memory_put Stood frames rooms was new (Some fault) out puts = λ is.
     subst (λ (f : ProviderFault). IsOfRead f) (same_Some fault faults.NoMemory is) puts.2
 
 pub memory_whole : (Stood : Type 0) (frames : List (List Bytes)) (rooms : ℕ → ℕ) (old new : Desk) (r : Result Taken NoMemory)
     → IfOk r (λ taken. Puts Stood frames rooms old new taken.turn.ended taken.out)
     → IfOk r (λ taken. taken.turn.ended ≢ Some faults.NoMemory)
-memory_whole Stood frames rooms old new (Err none) puts = tt
-memory_whole Stood frames rooms old new (Ok taken) puts =
-    memory_put Stood frames rooms old new taken.turn.ended taken.out puts
+memory_whole Stood frames rooms was new (Err none) puts = tt
+memory_whole Stood frames rooms was new (Ok taken) puts =
+    memory_put Stood frames rooms was new taken.turn.ended taken.out puts
 
 -- ---- what is put behind all steps
 
@@ -333,15 +368,15 @@ unchanged_none trade entries me events fault (Ok taken) turn unchanged = λ jour
 puts_weaker : (Stood Asked : Type 0) → (Asked → Stood) → (frames : List (List Bytes)) (rooms : ℕ → ℕ) (old new : Desk)
     (ended : Option ProviderFault) (out : List (List Bytes)) → Puts Stood frames rooms old new ended out
     → Puts Asked frames rooms old new ended out
-puts_weaker Stood Asked so frames rooms old new None out puts = (puts.0, λ asked. puts.1 (so asked), puts.2, puts.3)
-puts_weaker Stood Asked so frames rooms old new (Some fault) out puts = puts
+puts_weaker Stood Asked so frames rooms was new None out puts = (puts.0, λ asked. puts.1 (so asked), puts.2, puts.3)
+puts_weaker Stood Asked so frames rooms was new (Some fault) out puts = puts
 
 pub whole_weaker : (Stood Asked : Type 0) → (Asked → Stood) → (frames : List (List Bytes)) (rooms : ℕ → ℕ) (old new : Desk)
     (r : Result Taken NoMemory) → IfOk r (λ taken. Puts Stood frames rooms old new taken.turn.ended taken.out)
     → IfOk r (λ taken. Puts Asked frames rooms old new taken.turn.ended taken.out)
-whole_weaker Stood Asked so frames rooms old new (Err none) puts = tt
-whole_weaker Stood Asked so frames rooms old new (Ok taken) puts =
-    puts_weaker Stood Asked so frames rooms old new taken.turn.ended taken.out puts
+whole_weaker Stood Asked so frames rooms was new (Err none) puts = tt
+whole_weaker Stood Asked so frames rooms was new (Ok taken) puts =
+    puts_weaker Stood Asked so frames rooms was new taken.turn.ended taken.out puts
 
 -- a count that rose behind all steps rose in the turn
 pub risen_whole : (before between now : ℕ) (r : Result Taken NoMemory) → before ≤ between → between ≤ now

@@ -27,6 +27,7 @@ use Rattle.pec_posts.specs.Arrivals.{Waiting, deliveries, room_on, waiting_for, 
 use Rattle.pec_provider.specs.Following.{MayFollow}
 use Rattle.pec_provider.specs.Provider.{ProviderState, Runs, desk_of, site_of}
 use Rattle.pec_network.specs.Turning.{CarriesFrames, StopsShort, Took, room_in, told_of, turn_of}
+use Rattle.pec_screen.specs.Verdicts.{Patterns}
 use Rattle.pec_seal.specs.Seals.{Seals}
 use Rattle.pec_network.specs.Carrying.{AllCarryOn, AllStand, NoneFalls}
 use Rattle.pec_network.specs.Network.{IsOfDirectory, sites_of}
@@ -59,10 +60,10 @@ room_small from arrivals rooms to is =
 
 module _ {D : Type 0} (Tells : Type 0) (sight : D → Sight) (count : D → ℕ) (kept : List Kept) (seals : Seals)
     (trade : Trade) (moment : ℕ)
-    (old : List (ProviderState D)) (waited : List Waiting) where
+    (old : List (ProviderState D)) (screens : List (List Patterns)) (waited : List Waiting) where
   -- the state as the round began
   abbrev before : List Site
-  before = sites_of old waited
+  before = sites_of old screens waited
 
   -- the disks tell what they hold, and what was kept stood on them
   abbrev AllStood : Type 0
@@ -73,7 +74,7 @@ module _ {D : Type 0} (Tells : Type 0) (sight : D → Sight) (count : D → ℕ)
     pub whole : IsOfDirectory kept seals now waiting
     pub next : (k : ℕ) (other : ProviderState D) → number ≤ k → get_or now k other ≡ get_or old k other
     pub waits : (k : ℕ) → number ≤ k → waiting_for waiting k ≡ waiting_for waited k
-    pub fronts : HaveFronts AllStood trade moment before (sites_of now waiting)
+    pub fronts : HaveFronts AllStood trade moment before (sites_of now screens waiting)
     pub carries : Tells → (journals : Journals) → Fit trade journals → FramesAreGenuine trade journals before
         → AllCarryOn sight trade journals old now
     pub stands : Tells → AllStand sight old → AllStand sight now
@@ -84,7 +85,7 @@ module _ {D : Type 0} (Tells : Type 0) (sight : D → Sight) (count : D → ℕ)
       (outs : List (List (List Bytes))) : Type 0 where
     pub told : length turns ≡ number
     pub puts : length outs ≡ number
-    pub had : AllHad AllStood trade moment before (sites_of now waiting) turns outs
+    pub had : AllHad AllStood trade moment before (sites_of now screens waiting) turns outs
     pub blames : BlamesDisks count turns old now
 
   pub begun : IsOfDirectory kept seals old waited
@@ -135,12 +136,16 @@ module _ {D : Type 0} (Tells : Type 0) (sight : D → Sight) (count : D → ℕ)
       links_old : waiting_for waited number ≡ links
       links_old = sym (so_far.waits number (omega arith)) ∙ sym links_are
 
+      -- the patterns of its screens
+      abbrev boxes : List Patterns
+      boxes = get_or screens number []
+
       -- it stood as the round began
-      stood : site_of (desk_of was) links ≡ site_at before number
+      stood : site_of (desk_of was) boxes links ≡ site_at before number
       stood =
-          sym (site_is old waited number was (let e = many in omega arith) same_before
-          ∙ ap (λ (p : ProviderState D). site_of (desk_of p) (waiting_for waited number)) (was_old was)
-          ∙ ap (λ (w : Waiting). site_of (desk_of was) w) links_old)
+          sym (site_is old screens waited number was (let e = many in omega arith)
+          ∙ ap (λ (p : ProviderState D). site_of (desk_of p) boxes (waiting_for waited number)) (was_old was)
+          ∙ ap (λ (w : Waiting). site_of (desk_of was) boxes w) links_old)
 
       abbrev later_now : List (ProviderState D)
       later_now = set now number new
@@ -149,10 +154,10 @@ module _ {D : Type 0} (Tells : Type 0) (sight : D → Sight) (count : D → ℕ)
       later_waiting = set waiting number left
 
       abbrev behind : Site
-      behind = site_of (desk_of new) left
+      behind = site_of (desk_of new) boxes left
 
-      sites_more : sites_of later_now later_waiting ≡ set (sites_of now waiting) number behind
-      sites_more = both_change now waiting number new left within as_many
+      sites_more : sites_of later_now screens later_waiting ≡ set (sites_of now screens waiting) number behind
+      sites_more = both_change now screens waiting number new left within as_many
 
       pub whole_more : Runs kept seals number new → new.owed ≡ [] → length left ≡ length links
           → IsOfDirectory kept seals later_now later_waiting
@@ -217,17 +222,17 @@ module _ {D : Type 0} (Tells : Type 0) (sight : D → Sight) (count : D → ℕ)
         waits = λ k l. get_or-set_other waiting number k left [] (λ e. absurd (omega (arith, l, e)))
             ∙ so_far.waits k (omega arith);
         fronts = subst (λ (s : List Site). HaveFronts AllStood trade moment before s) (sym sites_more)
-            (fronts_more AllStood trade moment before (sites_of now waiting) number behind
-            (let m = sites_count now waiting in omega arith) so_far.fronts front);
+            (fronts_more AllStood trade moment before (sites_of now screens waiting) number behind
+            (let m = sites_count now screens waiting in omega arith) so_far.fronts front);
         carries = carries_more carries;
         stands = stands_more stands;
         later = later_more later;
       }
 
       -- memory ran out in it
-      pub short_front : StopsShort trade number moment (site_of (desk_of was) links) behind
+      pub short_front : StopsShort trade number moment (site_of (desk_of was) boxes links) behind
           → HasFront AllStood trade moment before number behind
-      short_front short = front_short AllStood trade moment before number (site_of (desk_of was) links) behind stood short
+      short_front short = front_short AllStood trade moment before number (site_of (desk_of was) boxes links) behind stood short
 
       -- what was kept of it stood
       was_stands : AllStand sight old → Stands sight was.chronicle
@@ -239,7 +244,7 @@ module _ {D : Type 0} (Tells : Type 0) (sight : D → Sight) (count : D → ℕ)
       module _ (turn : Turn) (out : List (List Bytes)) where
         -- the turn as it was taken, with the rooms of the round
         had_turn : (rooms : List ℕ) → rooms ≡ map (room_on number) waited
-            → Took (Tells × Stands sight was.chronicle) trade number moment (room_in rooms) (site_of (desk_of was) links)
+            → Took (Tells × Stands sight was.chronicle) trade number moment (room_in rooms) (site_of (desk_of was) boxes links)
             (turn_of behind turn out)
             → turn ≡ told_of number (turn_of behind turn out)
             → ((to : ℕ) → length (get_or out to []) ≤ room_in rooms to)
@@ -249,7 +254,7 @@ module _ {D : Type 0} (Tells : Type 0) (sight : D → Sight) (count : D → ℕ)
             let at = subst (λ (s : Site). Took (Tells × Stands sight was.chronicle) trade number moment (room_in rooms) s
             (turn_of behind turn out)) stood took in
             let waits : (to : ℕ) → rooms_of before number to ≡ room_on number (waiting_for waited to) = λ to.
-            ap (λ (w : Waiting). link_size - length (waiting_from w number)) (waiting_at old waited to same_before) in
+            ap (λ (w : Waiting). link_size - length (waiting_from w number)) (waiting_at old screens waited to same_before) in
             let size = same_before in
             let all = whole_before.count in
             let alike : (to : ℕ) → to < length waited → room_in rooms to ≡ rooms_of before number to = λ to l.
@@ -281,7 +286,7 @@ module _ {D : Type 0} (Tells : Type 0) (sight : D → Sight) (count : D → ℕ)
             }
 
         pub turn_front : (rooms : List ℕ) → rooms ≡ map (room_on number) waited
-            → Took (Tells × Stands sight was.chronicle) trade number moment (room_in rooms) (site_of (desk_of was) links)
+            → Took (Tells × Stands sight was.chronicle) trade number moment (room_in rooms) (site_of (desk_of was) boxes links)
             (turn_of behind turn out)
             → turn ≡ told_of number (turn_of behind turn out)
             → ((to : ℕ) → length (get_or out to []) ≤ room_in rooms to)
@@ -314,7 +319,7 @@ module _ {D : Type 0} (Tells : Type 0) (sight : D → Sight) (count : D → ℕ)
               ]
 
           pub taken_more : (rooms : List ℕ) → rooms ≡ map (room_on number) waited
-              → Took (Tells × Stands sight was.chronicle) trade number moment (room_in rooms) (site_of (desk_of was) links)
+              → Took (Tells × Stands sight was.chronicle) trade number moment (room_in rooms) (site_of (desk_of was) boxes links)
               (turn_of behind turn out)
               → turn ≡ told_of number (turn_of behind turn out)
               → ((to : ℕ) → length (get_or out to []) ≤ room_in rooms to)
@@ -323,13 +328,13 @@ module _ {D : Type 0} (Tells : Type 0) (sight : D → Sight) (count : D → ℕ)
               → TurnsSoFar (number + 1) later_now later_waiting (turns ++ turn ∷ []) (outs ++ out ∷ [])
           taken_more rooms are took told fit memory risen =
               let had = had_turn rooms are took told fit memory in
-              let place : number < length (sites_of now waiting) = (let m = sites_count now waiting in omega arith) in
+              let place : number < length (sites_of now screens waiting) = (let m = sites_count now screens waiting in omega arith) in
               record {
                 told = length-append turns (turn ∷ []) ∙ ap (λ (n : ℕ). n + 1) turns_so_far.told;
                 puts = length-append outs (out ∷ []) ∙ ap (λ (n : ℕ). n + 1) turns_so_far.puts;
                 had = subst (λ (s : List Site). AllHad AllStood trade moment before s (turns ++ turn ∷ []) (outs ++ out ∷ []))
                     (sym sites_more)
-                    (had_more AllStood trade moment before (sites_of now waiting) turns outs number behind turn out
+                    (had_more AllStood trade moment before (sites_of now screens waiting) turns outs number behind turn out
                     turns_so_far.told turns_so_far.puts place turns_so_far.had had);
                 blames = blames_more risen;
               }
@@ -337,15 +342,15 @@ module _ {D : Type 0} (Tells : Type 0) (sight : D → Sight) (count : D → ℕ)
     -- ---- behind the round, whatever waits
 
     pub stops_behind : (number : ℕ) (now : List (ProviderState D)) (waiting arrivals : List Waiting)
-        → WorkedSoFar number now waiting → StopsWithin trade moment before (sites_of now arrivals)
+        → WorkedSoFar number now waiting → StopsWithin trade moment before (sites_of now screens arrivals)
     stops_behind number now waiting arrivals so_far =
-        stops_within AllStood trade moment before (sites_of now arrivals)
-        (sites_count now arrivals ∙ so_far.whole.count ∙ sym whole_before.count ∙ sym (sites_count old waited))
+        stops_within AllStood trade moment before (sites_of now screens arrivals)
+        (sites_count now screens arrivals ∙ so_far.whole.count ∙ sym whole_before.count ∙ sym (sites_count old screens waited))
         (λ k.
         let front = so_far.fronts k in
-        let same = desk_stays now arrivals waiting k in record {
+        let same = desk_stays now screens arrivals waiting k in record {
           cut = front.cut;
-          kept = front.kept;
+          instead = front.instead;
           journal = λ l. same.0 ∙ front.journal l;
           interrupted = λ l. same.1 ∙ front.interrupted l;
         })
@@ -356,22 +361,22 @@ module _ {D : Type 0} (Tells : Type 0) (sight : D → Sight) (count : D → ℕ)
         (number : ℕ) (all : number ≡ length kept) (so_far : WorkedSoFar number now waiting)
         (turns_so_far : TurnsSoFar number now waiting turns outs) where
       old_count : length before ≡ length kept
-      old_count = sites_count old waited ∙ whole_before.count
+      old_count = sites_count old screens waited ∙ whole_before.count
 
       now_same : length waiting ≡ length now
       now_same = so_far.whole.links ∙ sym so_far.whole.count
 
       pub round_so : KeepsSound trade moment before
-          → IsRound AllStood trade moment before turns (sites_of now (deliveries outs 0 waiting))
+          → IsRound AllStood trade moment before turns (sites_of now screens (deliveries outs 0 waiting))
       round_so keeps =
-          is_round AllStood trade moment before (sites_of now waiting) turns outs
+          is_round AllStood trade moment before (sites_of now screens waiting) turns outs
           (turns_so_far.told ∙ all ∙ sym old_count) (turns_so_far.puts ∙ all ∙ sym old_count) turns_so_far.had
-          (sites_of now (deliveries outs 0 waiting))
-          (sites_count now (deliveries outs 0 waiting) ∙ so_far.whole.count ∙ sym old_count)
-          (λ k l. site_delivered now waiting outs 0 k
+          (sites_of now screens (deliveries outs 0 waiting))
+          (sites_count now screens (deliveries outs 0 waiting) ∙ so_far.whole.count ∙ sym old_count)
+          (λ k l. site_delivered now screens waiting outs 0 k
           (let e = old_count in let f = so_far.whole.count in omega arith) now_same
-          ∙ ap (λ (n : ℕ). with_waiting (site_at (sites_of now waiting) k)
-          (delivered_to n outs (site_at (sites_of now waiting) k).waiting))
+          ∙ ap (λ (n : ℕ). with_waiting (site_at (sites_of now screens waiting) k)
+          (delivered_to n outs (site_at (sites_of now screens waiting) k).waiting))
           (let place : 0 + k ≡ k = omega arith in place)) keeps
 
 -- ---- what was put is delivered

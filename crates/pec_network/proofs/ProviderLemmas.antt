@@ -41,6 +41,8 @@ played_so tells play all new me site (Err faults.Full) next plays = (plays.0, st
 played_so tells play all new me site (Err faults.NoItem) next plays = (plays.0, stays all new me site next plays.1)
 played_so tells play all new me site (Err (faults.Changed which)) next plays = (plays.0, stays all new me site next plays.1)
 played_so tells play all new me site (Err faults.JournalFull) next plays = (plays.0, stays all new me site next plays.1)
+played_so tells play all new me site (Err faults.OldJournal) next plays = (plays.0, stays all new me site next plays.1)
+played_so tells play all new me site (Err faults.NoNeed) next plays = (plays.0, stays all new me site next plays.1)
 
 -- ---- disks
 

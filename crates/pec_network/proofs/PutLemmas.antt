@@ -1,7 +1,7 @@
 -- How the frames for all providers are composed, for one provider after another, before any is put.
-use Rattle.std.proofs.Common.{◌≡◌, ◌≢◌, ℕ, ◌+◌, ◌<◌, ◌≤◌, Bool, true, false, List, [], ◌∷◌, ◌++◌, length, get_or, refl, ap, sym, subst, ◌∙◌, inl, inr, arith}
-use Rattle.std.proofs.Common.{Option, Some, None, Result, Ok, Err}
-use Rattle.std.specs.Prelude.{IfErr, IsErrOf, not}
+use Rattle.std.proofs.Common.{◌≡◌, ◌≢◌, ℕ, ◌+◌, ◌≤◌, false, List, [], ◌∷◌, ◌++◌, length, get_or, refl, ap, sym, subst, ◌∙◌, inl, inr, arith}
+use Rattle.std.proofs.Common.{Some, None, Err}
+use Rattle.std.specs.Prelude.{not}
 use Rattle.std.proofs.Math.Seq.{get_or-append_seam}
 use Rattle.std.proofs.lemmas.Bool.{cases_eq, cases_lt, false≢true}
 use Rattle.std.proofs.lemmas.List.{get_or_append_left, get_or_past, length-append}
@@ -21,7 +21,7 @@ use Rattle.pec_seal.specs.Seals.{Seals}
 use Rattle.pec_chronicle.specs.Carrying.{CarriesOn, NothingMay}
 use Rattle.pec_chronicle.specs.CarryingLaws.{carries_and_then}
 use Rattle.pec_chronicle.specs.Chronicle.{ChronicleState, Stands}
-use Rattle.pec_provider.specs.Provider.{Desk, ProviderState, Runs, desk_of, stopped}
+use Rattle.pec_provider.specs.Provider.{Desk, ProviderState, Runs, desk_of}
 use Rattle.pec_provider.specs.Reading.{HasStopped, IsUnread, LetterIsChanged, OnChanged, Reads}
 use Rattle.pec_network.specs.Turning.{NoneIsChanged, Puts}
 use Rattle.pec_network.proofs.EndLemmas.{not_down}
@@ -140,6 +140,8 @@ module _ {D : Type 0} (Tells : Type 0) (sight : D → Sight) (count : D → ℕ)
   put_fails X number now new out faults.Full so_far reads refused other Stood due = absurd refused
   put_fails X number now new out faults.NoItem so_far reads refused other Stood due = absurd refused
   put_fails X number now new out faults.JournalFull so_far reads refused other Stood due = absurd refused
+  put_fails X number now new out faults.OldJournal so_far reads refused other Stood due = absurd refused
+  put_fails X number now new out faults.NoNeed so_far reads refused other Stood due = absurd refused
 
   -- an entry that isn't what a letter is composed of is told of no journals that are Fit
   pub unchanged_so : (number : ℕ) (now : ProviderState D) (out : List (List Bytes)) (fault : ProviderFault)

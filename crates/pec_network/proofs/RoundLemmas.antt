@@ -9,22 +9,22 @@ use Rattle.std.proofs.lemmas.List.{ext_get_or, get_or-set_other, get_or-set_same
 use Rattle.std.proofs.lemmas.List.Elements.{All-append, All-from_get_or, All-nil}
 use Rattle.std.proofs.lemmas.Option.{none-some, same_Some, slice_get-get_or}
 use Rattle.pec_types.specs.Bytes.{Bytes}
-use Rattle.pec_types.specs.declared.turns.ProviderFault.{ProviderFault}
 use Rattle.pec_types.specs.declared.turns.ProviderFault.TheVariants as faults
 use Rattle.pec_types.specs.declared.turns.Turn.{Turn}
 use Rattle.pec_ledger.specs.Ledger.{Fit, Journals}
 use Rattle.pec_ledger.specs.Network.{AreGenuine, IsGenuine, Site, Sound, empty_site, journals_of, site_at}
 use Rattle.pec_ledger.specs.Trade.{Trade}
 use Rattle.pec_plays.specs.Commands.{Luck, Played, Round, Turns, played}
-use Rattle.pec_plays.specs.Possible.{IsOfKept, MayCut, TellsCut, cut_by}
+use Rattle.pec_plays.specs.Possible.{IsOfKept, MayCut, TellsCut}
 use Rattle.pec_plays.specs.Rounds.{delivered, delivered_to, outs_of, rooms_of, rounded, told_from}
 use Rattle.pec_plays.specs.Rounds.{turns_from, turns_of, with_waiting}
-use Rattle.pec_plays.specs.Turns.{Cut, Fails, Full, Other, Stops, Turned, Whole, frames_in, last_of, plan, turned}
+use Rattle.pec_plays.specs.Scripts.{put_instead}
+use Rattle.pec_plays.specs.Turns.{Cut, Fails, Full, Other, Sees, Stops, Turned, Unread, Whole, frames_in, last_of, steps_of, turned}
 use Rattle.pec_posts.specs.Arrivals.{Waiting, waiting_from}
 use Rattle.pec_network.specs.Turning.{StopsShort, Took, told_of, turn_of}
 use Rattle.pec_network.specs.Rounds.{IsRound, KeepsSound, NoneChanged, StopsWithin, luck_of_cuts}
 use Rattle.pec_network.proofs.DeliveryLemmas.{after_is, after_length, out_at, outs_length, turn_in, turn_is, turns_length}
-use Rattle.pec_network.proofs.TurnLemmas.{stops_first, stops_short, without_other, without_same}
+use Rattle.pec_network.proofs.TurnLemmas.{puts_none, short_cut, stops_first, stops_short, without_other, without_same}
 
 -- ---- lists
 
@@ -58,27 +58,15 @@ told_at first (t ∷ turns) (suc k) turn other e =
 abbrev untold : Turn
 untold = record { provider = 0; events = []; sent = []; ended = None }
 
--- what is told is no cut with other frames
-kept_told : (ended : Option ProviderFault) (told : ℕ) → IsOfKept (cut_by ended told)
-kept_told None told = tt
-kept_told (Some faults.DiskFault) told = tt
-kept_told (Some faults.Down) told = tt
-kept_told (Some (faults.ClockBack moment)) told = tt
-kept_told (Some faults.NoAccount) told = tt
-kept_told (Some faults.Full) told = tt
-kept_told (Some faults.NoItem) told = tt
-kept_told (Some (faults.Changed which)) told = tt
-kept_told (Some faults.JournalFull) told = tt
-kept_told (Some faults.NoMemory) told = tt
-
-kept_without : (trade : Trade) (me now : ℕ) (ended : Option ProviderFault) (told : ℕ) (cut : Cut)
-    → TellsCut ended told cut → IsOfKept (without_other trade me now cut)
-kept_without trade me now ended told (Other out) tells = tt
-kept_without trade me now ended told Whole tells = tt
-kept_without trade me now ended told (Fails number fault) tells =
-    subst (λ (c : Cut). IsOfKept c) (sym tells) (kept_told ended told)
-kept_without trade me now ended told (Full number) tells = tt
-kept_without trade me now ended told (Stops number) tells = tt
+-- a turn in which what was read is what was kept puts no other frames
+kept_instead : (cut : Cut) → IsOfKept cut → put_instead cut ≡ None
+kept_instead Whole kept = refl
+kept_instead (Fails number fault) kept = refl
+kept_instead (Full number) kept = refl
+kept_instead (Stops number) kept = refl
+kept_instead (Unread number fault) kept = refl
+kept_instead (Other out) kept = absurd kept
+kept_instead (Sees looks cut) kept = absurd kept
 
 abbrev rounds_to : List Turn → List Site → Played
 rounds_to turns sites = record { answer = Turns turns; after = sites }
@@ -144,7 +132,7 @@ module _ (Stood : Type 0) (trade : Trade) (moment : ℕ) (old : List Site) where
       pub is : turned trade k moment (rooms_of old k) cut (site_at old k)
           ≡ turn_of (site_at new k) turn (get_or outs k [])
       pub may : (site_at old k).up ≡ true → nat_lt moment (last_of trade k (site_at old k).journal) ≡ false
-          → MayCut (plan trade k moment (site_at old k).journal (frames_in (site_at old k).waiting)) cut
+          → MayCut trade k (steps_of trade k moment (site_at old k) cut) cut
 
     found_cut : (k : ℕ) (found : Option Turn) (e : slice_get turns k ≡ found) (turn : Turn) → found ≡ Some turn
         → IsCutOf k turn (cut_by_turn k found e)
@@ -236,7 +224,7 @@ module _ (Stood : Type 0) (trade : Trade) (moment : ℕ) (old : List Site) where
       unchanged = λ stood sound.
           none_changed stood after each
           (subst (λ (p : Played). Sound trade p.after) (played_so after same each)
-          (keeps (luck_of_cuts cuts) (λ k. found_kept stood k (slice_get turns k) refl) sound)).fit;
+          (keeps (luck_of_cuts cuts) (λ k. kept_instead (cuts k) (found_kept stood k (slice_get turns k) refl)) sound)).fit;
       memory = All-from_get_or (λ (t : Turn). t.ended ≢ Some faults.NoMemory) turns untold
           (λ k within. (had_at k (omega arith)).memory);
     }
@@ -246,7 +234,7 @@ module _ (Stood : Type 0) (trade : Trade) (moment : ℕ) (old : List Site) where
   -- The provider of this number has the entries of a turn that was cut somewhere.
   pub record HasFront (number : ℕ) (site : Site) : Type 0 where
     pub cut : Cut
-    pub kept : IsOfKept cut
+    pub instead : put_instead cut ≡ None
     pub journal : number < length old
         → site.journal ≡ (turned trade number moment (rooms_of old number) cut (site_at old number)).site.journal
     pub interrupted : number < length old
@@ -259,13 +247,13 @@ module _ (Stood : Type 0) (trade : Trade) (moment : ℕ) (old : List Site) where
   pub no_turn_yet : HaveFronts old
   no_turn_yet = λ number.
       let first = stops_first trade number moment (rooms_of old number) (site_at old number) in
-      record { cut = Stops 0; kept = tt; journal = λ l. first.0; interrupted = λ l. first.1 }
+      record { cut = Stops 0; instead = refl; journal = λ l. first.0; interrupted = λ l. first.1 }
 
   pub front_of : (number : ℕ) (new : Site) (turn : Turn) (out : List (List Bytes)) → HadTurn number new turn out
       → HasFront number new
   front_of number new turn out had = record {
     cut = without_other trade number moment had.took.cut;
-    kept = kept_without trade number moment turn.ended (length turn.events) had.took.cut had.took.tells;
+    instead = puts_none trade number moment had.took.cut;
     journal = λ l. sym (ap (λ (s : Site). s.journal)
         (without_same trade number moment (rooms_of old number) had.took.cut (site_at old number))
         ∙ ap (λ (t : Turned). t.site.journal) had.took.is);
@@ -280,7 +268,12 @@ module _ (Stood : Type 0) (trade : Trade) (moment : ℕ) (old : List Site) where
       let at : StopsShort trade number moment (site_at old number) new = subst
       (λ (s : Site). StopsShort trade number moment s new) here short in
       let so = stops_short trade number moment (rooms_of old number) (site_at old number) new at in
-      record { cut = Stops at.front.steps; kept = tt; journal = λ l. so.0; interrupted = λ l. so.1 }
+      record {
+        cut = short_cut trade number moment (site_at old number) new at;
+        instead = refl;
+        journal = λ l. so.0;
+        interrupted = λ l. so.1;
+      }
 
   pub fronts_more : (new : List Site) (number : ℕ) (site : Site) → number < length new → HaveFronts new
       → HasFront number site
@@ -304,7 +297,7 @@ module _ (Stood : Type 0) (trade : Trade) (moment : ℕ) (old : List Site) where
       let past : (k : ℕ) → length old ≤ k → site_at new k ≡ site_at after k = λ k l.
       get_or_past new k empty_site (omega arith) ∙ sym (get_or_past after k empty_site (omega arith)) in record {
         luck = luck;
-        kept = λ k. (fronts k).kept;
+        instead = λ k. (fronts k).instead;
         journals = λ k.
             elim (cases_lt k (length old)) [
               | inl l ↦ (fronts k).journal l ∙ sym (ap (λ (s : Site). s.journal)

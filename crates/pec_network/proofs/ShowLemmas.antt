@@ -1,5 +1,5 @@
 -- What an account is shown, by what its provider answers.
-use Rattle.std.proofs.Common.{◌≡◌, ℕ, ◌<◌, Bool, true, false, Global, List, Vec, get_or, set, length, refl, ap, sym}
+use Rattle.std.proofs.Common.{◌≡◌, ℕ, ◌<◌, Bool, true, false, Global, List, [], Vec, get_or, set, length, refl, ap, sym}
 use Rattle.std.proofs.Common.{◌∙◌, ◌⊎◌, inl, inr, Option, Some, None, Result, Ok, Err}
 use Rattle.std.specs.Prelude.{IfErr, IfOk, IsErrOf, IsSome, OnOk, if◌then◌else◌, not, slice_get}
 use Rattle.std.proofs.lemmas.Bool.{cases_eq}
@@ -11,23 +11,25 @@ use Rattle.pec_types.specs.declared.turns.ProviderFault.{ProviderFault}
 use Rattle.pec_types.specs.declared.turns.ProviderFault.TheVariants as faults
 use Rattle.pec_types.specs.declared.mailboxes.ItemLine.{ItemLine}
 use Rattle.pec_types.specs.declared.messages.BookLine.{BookLine}
-use Rattle.pec_ledger.specs.Books.{book, mailbox_lines}
+use Rattle.pec_ledger.specs.Books.{archive_lines, book, mailbox_lines}
 use Rattle.pec_ledger.specs.Half.{Half, Posted}
 use Rattle.pec_ledger.specs.Items.{item_text}
-use Rattle.pec_ledger.specs.Lookups.{mailbox}
+use Rattle.pec_ledger.specs.Lookups.{archive, mailbox}
 use Rattle.pec_ledger.specs.Network.{Site, site_at}
 use Rattle.pec_ledger.specs.Steps.{half}
 use Rattle.pec_ledger.specs.Trade.{Trade}
-use Rattle.pec_plays.specs.Commands.{Answer, Book, Items, Lines, Luck, Mailbox, Played, Refuses, Show, Shown}
-use Rattle.pec_plays.specs.Commands.{account_home, answers, asked, played, shown, shown_bytes, stopped_site, with_site}
+use Rattle.pec_plays.specs.Commands.{Answer, Book, Items, Lines, Luck, Mailbox, Played, Refuses, Show, Shown, Vault, VaultShow}
+use Rattle.pec_plays.specs.Commands.{Vaults, account_home, answers, asked, played, shown, shown_bytes, stopped_site, with_site}
+use Rattle.pec_screen.specs.Verdicts.{Patterns}
 use Rattle.pec_posts.specs.Arrivals.{Waiting, waiting_for}
-use Rattle.pec_provider.specs.Playing.{IsUnasked, IsUnshown, item_at}
+use Rattle.pec_provider.specs.Playing.{IsUnasked, IsUnshown, text_at}
 use Rattle.pec_provider.specs.Provider.{Desk, ProviderState, desk_of, site_of, stopped}
 use Rattle.pec_provider.specs.Reading.{OnChanged, Reads}
 use Rattle.pec_network.specs.Network.{sites_of}
 use Rattle.pec_network.specs.Playing.{IsReadSo, IsShown, luck_of_read}
+use Rattle.pec_network.proofs.ChangeLemmas.{there_from}
 use Rattle.pec_network.proofs.EndLemmas.{lists_same}
-use Rattle.pec_network.proofs.SiteLemmas.{provider_changes, site_again, site_is}
+use Rattle.pec_network.proofs.SiteLemmas.{provider_changes, site_again}
 
 -- no entry is told as changed where none is
 pub none_told : {X : Type 0} (Is : ℕ → Type 0) (r : Result X ProviderFault) → IfErr r (OnChanged Is)
@@ -42,8 +44,8 @@ module _ {X : Type 0} (trade : Trade) (sites : List Site) (address : Bytes) (sho
   pub shown_nowhere : trade.home address ≡ None → asks (trade.home address) ≡ answers sites (Refuses faults.NoAccount)
   shown_nowhere none = ap (λ (home : Option ℕ). asks home) none
 
-  module _ (me : ℕ) (desk : Desk) (waiting : List (List Bytes)) (home : trade.home address ≡ Some me)
-      (here : site_at sites me ≡ site_of desk waiting) where
+  module _ (me : ℕ) (desk : Desk) (screens : List Patterns) (waiting : List (List Bytes))
+      (home : trade.home address ≡ Some me) (here : site_at sites me ≡ site_of desk screens waiting) where
     abbrev at_home : Bool → Played
     at_home account = asked sites show trade (if account then Some me else None)
 
@@ -53,7 +55,7 @@ module _ {X : Type 0} (trade : Trade) (sites : List Site) (address : Bytes) (sho
     not_ours : trade.is_account me address ≡ false → asks (trade.home address) ≡ answers sites (Refuses faults.NoAccount)
     not_ours account = ap (λ (h : Option ℕ). asks h) home ∙ ap (λ (b : Bool). at_home b) account
 
-    ours : trade.is_account me address ≡ true → asks (trade.home address) ≡ open_at (site_of desk waiting)
+    ours : trade.is_account me address ≡ true → asks (trade.home address) ≡ open_at (site_of desk screens waiting)
     ours account = ap (λ (h : Option ℕ). asks h) home ∙ ap (λ (b : Bool). at_home b) account ∙ ap (λ (s : Site). open_at s) here
 
     pub shown_so : (down : Bool) → desk.up ≡ not down → (r : Result X ProviderFault)
@@ -64,13 +66,13 @@ module _ {X : Type 0} (trade : Trade) (sites : List Site) (address : Bytes) (sho
     shown_so down up (Ok x) asked unasked shows =
         ours asked.0 ∙ open_up (up ∙ ap not asked.1) ∙ shows
       where
-        open_up : desk.up ≡ true → open_at (site_of desk waiting) ≡ show me (half trade me desk.journal)
+        open_up : desk.up ≡ true → open_at (site_of desk screens waiting) ≡ show me (half trade me desk.journal)
         open_up e = rw e refl
     shown_so down up (Err faults.NoAccount) asked unasked shows = not_ours unasked
     shown_so down up (Err faults.Down) asked unasked shows =
         ours unasked.0 ∙ shut (up ∙ unasked.1)
       where
-        shut : desk.up ≡ false → open_at (site_of desk waiting) ≡ answers sites (Refuses faults.Down)
+        shut : desk.up ≡ false → open_at (site_of desk screens waiting) ≡ answers sites (Refuses faults.Down)
         shut e = rw e refl
     shown_so down up (Err faults.NoMemory) asked unasked shows = tt
     shown_so down up (Err faults.DiskFault) asked unasked shows = absurd unasked
@@ -79,6 +81,8 @@ module _ {X : Type 0} (trade : Trade) (sites : List Site) (address : Bytes) (sho
     shown_so down up (Err faults.NoItem) asked unasked shows = absurd unasked
     shown_so down up (Err (faults.Changed which)) asked unasked shows = absurd unasked
     shown_so down up (Err faults.JournalFull) asked unasked shows = absurd unasked
+    shown_so down up (Err faults.OldJournal) asked unasked shows = absurd unasked
+    shown_so down up (Err faults.NoNeed) asked unasked shows = absurd unasked
 
 -- ---- books and mailboxes
 
@@ -93,14 +97,20 @@ module _ (trade : Trade) (luck : Luck) (sites : List Site) (address : Bytes) whe
   mailbox_nowhere none =
       shown_nowhere {X = List ItemLine} trade sites address (λ provider half. answers sites (Items (mailbox_lines half address))) (λ lines. Items lines) none
 
-module _ {D : Type 0} (trade : Trade) (luck : Luck) (providers : List (ProviderState D)) (waiting : List Waiting) (address : Bytes) (me : ℕ)
-    (old : ProviderState D) (within : me < length providers) (count : length waiting ≡ length providers) (here : old ≡ get_or providers me old)
+  pub vault_nowhere : trade.home address ≡ None → played trade luck sites (Vault address) ≡ answers sites (Refuses faults.NoAccount)
+  unfolding played
+  vault_nowhere none =
+      shown_nowhere {X = List ItemLine} trade sites address (λ provider half. answers sites (Vaults (archive_lines half address))) (λ lines. Vaults lines) none
+
+module _ {D : Type 0} (trade : Trade) (luck : Luck) (providers : List (ProviderState D)) (screens : List (List Patterns))
+    (waiting : List Waiting) (address : Bytes) (me : ℕ)
+    (old : ProviderState D) (within : me < length providers) (here : old ≡ get_or providers me old)
     (home : trade.home address ≡ Some me) where
   abbrev all : List Site
-  all = sites_of providers waiting
+  all = sites_of providers screens waiting
 
-  there : site_at all me ≡ site_of (desk_of old) (waiting_for waiting me)
-  there = site_is providers waiting me old within count ∙ ap (λ (p : ProviderState D). site_of (desk_of p) (waiting_for waiting me)) (sym here)
+  there : site_at all me ≡ site_of (desk_of old) (get_or screens me []) (waiting_for waiting me)
+  there = there_from providers me old old within here screens waiting
 
   pub book_so : (r : Result (Vec BookLine Global) ProviderFault)
       → OnOk r ((trade.is_account me address ≡ true) × (old.chronicle.down ≡ false))
@@ -110,7 +120,7 @@ module _ {D : Type 0} (trade : Trade) (luck : Luck) (providers : List (ProviderS
   unfolding played
   book_so r asked refused lines =
       shown_so trade all address (λ provider half. answers all (Lines (book trade provider half address))) (λ (told : Vec BookLine Global). Lines told.items)
-      me (desk_of old) (waiting_for waiting me) home there old.chronicle.down refl r asked refused (told r lines)
+      me (desk_of old) (get_or screens me []) (waiting_for waiting me) home there old.chronicle.down refl r asked refused (told r lines)
     where
       told : (s : Result (Vec BookLine Global) ProviderFault) → IfOk s (λ l. l.items ≡ book trade me (half trade me old.chronicle.entries) address)
           → IfOk s (λ l. answers all (Lines (book trade me (half trade me old.chronicle.entries) address)) ≡ answers all (Lines l.items))
@@ -125,11 +135,26 @@ module _ {D : Type 0} (trade : Trade) (luck : Luck) (providers : List (ProviderS
   unfolding played
   mailbox_so r asked refused lines =
       shown_so trade all address (λ provider half. answers all (Items (mailbox_lines half address))) (λ (told : Vec ItemLine Global). Items told.items)
-      me (desk_of old) (waiting_for waiting me) home there old.chronicle.down refl r asked refused (told r lines)
+      me (desk_of old) (get_or screens me []) (waiting_for waiting me) home there old.chronicle.down refl r asked refused (told r lines)
     where
       told : (s : Result (Vec ItemLine Global) ProviderFault) → IfOk s (λ l. l.items ≡ mailbox_lines (half trade me old.chronicle.entries) address)
           → IfOk s (λ l. answers all (Items (mailbox_lines (half trade me old.chronicle.entries) address)) ≡ answers all (Items l.items))
       told (Ok l) e = ap (λ (shown : List ItemLine). answers all (Items shown)) (sym e)
+      told (Err f) e = e
+
+  pub vault_so : (r : Result (Vec ItemLine Global) ProviderFault)
+      → OnOk r ((trade.is_account me address ≡ true) × (old.chronicle.down ≡ false))
+      → IfErr r (IsUnasked (trade.is_account me address) (not old.chronicle.down))
+      → IfOk r (λ lines. lines.items ≡ archive_lines (half trade me old.chronicle.entries) address)
+      → IsShown (λ (lines : Vec ItemLine Global). Vaults lines.items) (played trade luck all (Vault address)) all r
+  unfolding played
+  vault_so r asked refused lines =
+      shown_so trade all address (λ provider half. answers all (Vaults (archive_lines half address))) (λ (told : Vec ItemLine Global). Vaults told.items)
+      me (desk_of old) (get_or screens me []) (waiting_for waiting me) home there old.chronicle.down refl r asked refused (told r lines)
+    where
+      told : (s : Result (Vec ItemLine Global) ProviderFault) → IfOk s (λ l. l.items ≡ archive_lines (half trade me old.chronicle.entries) address)
+          → IfOk s (λ l. answers all (Vaults (archive_lines (half trade me old.chronicle.entries) address)) ≡ answers all (Vaults l.items))
+      told (Ok l) e = ap (λ (shown : List ItemLine). answers all (Vaults shown)) (sym e)
       told (Err f) e = e
 
 -- ---- items
@@ -143,25 +168,75 @@ module _ (trade : Trade) (luck : Luck) (sites : List Site) (address : Bytes) (pl
       (λ provider half. shown trade luck sites provider (slice_get (mailbox half address) place)) (λ bytes. Shown bytes)
       none
 
-module _ {D : Type 0} (trade : Trade) (providers : List (ProviderState D)) (waiting : List Waiting) (address : Bytes)
-    (place me : ℕ) (old new : ProviderState D) (within : me < length providers)
-    (count : length waiting ≡ length providers) (here : old ≡ get_or providers me old)
+  pub vault_item_nowhere : trade.home address ≡ None
+      → played trade luck sites (VaultShow address place) ≡ answers sites (Refuses faults.NoAccount)
+  unfolding played
+  vault_item_nowhere none =
+      shown_nowhere {X = Bytes} trade sites address
+      (λ provider half. shown trade luck sites provider (slice_get (archive half address) place)) (λ bytes. Shown bytes)
+      none
+
+-- a command that shows the item at a place of a list of an account's, its mailbox or its archive
+abbrev pub plays_box : Trade → (Half → Bytes → List Posted) → Bytes → ℕ → Luck → List Site → Played
+plays_box trade box address place luck sites =
+    asked sites (λ provider half. shown trade luck sites provider (slice_get (box half address) place)) trade
+    (account_home trade address (trade.home address))
+
+pub show_is : (trade : Trade) (luck : Luck) (sites : List Site) (address : Bytes) (place : ℕ)
+    → played trade luck sites (Show address place) ≡ plays_box trade mailbox address place luck sites
+unfolding played
+show_is trade luck sites address place = refl
+
+pub vault_show_is : (trade : Trade) (luck : Luck) (sites : List Site) (address : Bytes) (place : ℕ)
+    → played trade luck sites (VaultShow address place) ≡ plays_box trade archive address place luck sites
+unfolding played
+vault_show_is trade luck sites address place = refl
+
+-- what a command that reads answers, said of the same command
+pub read_as : {X : Type 0} (tells : X → Answer) (play other : Luck → Played) → ((luck : Luck) → play luck ≡ other luck)
+    → (shown : Option Bytes) (old new : List Site) (r : Result X ProviderFault)
+    → IsReadSo tells (λ (read : Option ProviderFault). play (luck_of_read read shown)) old new r
+    → IsReadSo tells (λ (read : Option ProviderFault). other (luck_of_read read shown)) old new r
+read_as tells play other same shown old new (Ok x) is = (sym (same (luck_of_read None shown)) ∙ is.0, is.1)
+read_as tells play other same shown old new (Err faults.DiskFault) is =
+    sym (same (luck_of_read (Some faults.DiskFault) shown)) ∙ is
+read_as tells play other same shown old new (Err (faults.Changed number)) is =
+    sym (same (luck_of_read (Some (faults.Changed number)) shown)) ∙ is
+read_as tells play other same shown old new (Err faults.NoMemory) is = is
+read_as tells play other same shown old new (Err faults.NoItem) is = (sym (same (luck_of_read None shown)) ∙ is.0, is.1)
+read_as tells play other same shown old new (Err faults.NoAccount) is = (sym (same (luck_of_read None shown)) ∙ is.0, is.1)
+read_as tells play other same shown old new (Err faults.Down) is = (sym (same (luck_of_read None shown)) ∙ is.0, is.1)
+read_as tells play other same shown old new (Err (faults.ClockBack moment)) is =
+    (sym (same (luck_of_read None shown)) ∙ is.0, is.1)
+read_as tells play other same shown old new (Err faults.Full) is = (sym (same (luck_of_read None shown)) ∙ is.0, is.1)
+read_as tells play other same shown old new (Err faults.JournalFull) is =
+    (sym (same (luck_of_read None shown)) ∙ is.0, is.1)
+read_as tells play other same shown old new (Err faults.OldJournal) is =
+    (sym (same (luck_of_read None shown)) ∙ is.0, is.1)
+read_as tells play other same shown old new (Err faults.NoNeed) is = (sym (same (luck_of_read None shown)) ∙ is.0, is.1)
+
+-- `box` is the mailbox of an account or its archive
+module _ {D : Type 0} (box : Half → Bytes → List Posted) (trade : Trade) (providers : List (ProviderState D))
+    (screens : List (List Patterns)) (waiting : List Waiting) (address : Bytes)
+    (place me : ℕ) (old new : ProviderState D) (within : me < length providers) (here : old ≡ get_or providers me old)
     (home : trade.home address ≡ Some me) where
   abbrev everywhere : List Site
-  everywhere = sites_of providers waiting
+  everywhere = sites_of providers screens waiting
 
   abbrev afterwards : List Site
-  afterwards = sites_of (set providers me new) waiting
+  afterwards = sites_of (set providers me new) screens waiting
 
-  is_there : site_at everywhere me ≡ site_of (desk_of old) (waiting_for waiting me)
-  is_there = site_is providers waiting me old within count
-      ∙ ap (λ (p : ProviderState D). site_of (desk_of p) (waiting_for waiting me)) (sym here)
+  abbrev boxes : List Patterns
+  boxes = get_or screens me []
+
+  is_there : site_at everywhere me ≡ site_of (desk_of old) boxes (waiting_for waiting me)
+  is_there = there_from providers me old new within here screens waiting
 
   changes_so : (desk : Desk) → desk_of new ≡ desk
-      → afterwards ≡ with_site everywhere me (site_of desk (waiting_for waiting me))
+      → afterwards ≡ with_site everywhere me (site_of desk boxes (waiting_for waiting me))
   changes_so desk same =
-      provider_changes providers waiting me new within count
-      ∙ ap (λ (d : Desk). with_site everywhere me (site_of d (waiting_for waiting me))) same
+      provider_changes providers screens waiting me new within
+      ∙ ap (λ (d : Desk). with_site everywhere me (site_of d boxes (waiting_for waiting me))) same
 
   -- a call that leaves the provider as it was
   stays_so : desk_of new ≡ desk_of old → afterwards ≡ everywhere
@@ -176,14 +251,14 @@ module _ {D : Type 0} (trade : Trade) (providers : List (ProviderState D)) (wait
       ap (λ (s : Site). with_site everywhere me (stopped_site s)) is_there ∙ sym (changes_so (stopped (desk_of old)) same)
 
   abbrev item : Option Bytes
-  item = item_at trade me old.chronicle.entries address place
+  item = text_at trade me old.chronicle.entries (slice_get (box (half trade me old.chronicle.entries) address) place)
 
   abbrev play : Luck → Played
-  play luck = played trade luck everywhere (Show address place)
+  play luck = plays_box trade box address place luck everywhere
 
   module _ (luck : Luck) where
     abbrev shows : ℕ → Half → Played
-    shows provider half = shown trade luck everywhere provider (slice_get (mailbox half address) place)
+    shows provider half = shown trade luck everywhere provider (slice_get (box half address) place)
 
     shown_by : (found : Option Posted)
         → shown trade luck everywhere me found
@@ -194,12 +269,11 @@ module _ {D : Type 0} (trade : Trade) (providers : List (ProviderState D)) (wait
 
     open_shows : trade.is_account me address ≡ true → old.chronicle.down ≡ false
         → play luck ≡ shown_bytes luck everywhere me item
-    unfolding played
     open_shows account up =
-        ours {X = Bytes} trade everywhere address shows (λ bytes. Shown bytes) me (desk_of old)
+        ours {X = Bytes} trade everywhere address shows (λ bytes. Shown bytes) me (desk_of old) boxes
         (waiting_for waiting me) home is_there account
         ∙ at_work (ap not up)
-        ∙ shown_by (slice_get (mailbox (half trade me old.chronicle.entries) address) place)
+        ∙ shown_by (slice_get (box (half trade me old.chronicle.entries) address) place)
       where
         at_work : not old.chronicle.down ≡ true
             → (if not old.chronicle.down then shows me (half trade me old.chronicle.entries)
@@ -210,10 +284,9 @@ module _ {D : Type 0} (trade : Trade) (providers : List (ProviderState D)) (wait
     refused_so : (fault : ProviderFault) (r : Result Bytes ProviderFault) → r ≡ Err fault
         → IfErr r (IsUnasked (trade.is_account me address) (not old.chronicle.down))
         → IsShown (λ (bytes : Bytes). Shown bytes) (play luck) everywhere r
-    unfolding played
     refused_so fault (Ok bytes) e unasked = absurd (cc)
     refused_so fault (Err other) e unasked =
-        shown_so trade everywhere address shows (λ (bytes : Bytes). Shown bytes) me (desk_of old)
+        shown_so trade everywhere address shows (λ (bytes : Bytes). Shown bytes) me (desk_of old) boxes
         (waiting_for waiting me) home is_there old.chronicle.down refl (Err other) tt unasked tt
 
   is_open : (down : Bool) → not down ≡ true → down ≡ false
@@ -307,3 +380,5 @@ module _ {D : Type 0} (trade : Trade) (providers : List (ProviderState D)) (wait
   show_so Stood (Err (faults.ClockBack moment)) reads asked some refused found = absurd refused
   show_so Stood (Err faults.Full) reads asked some refused found = absurd refused
   show_so Stood (Err faults.JournalFull) reads asked some refused found = absurd refused
+  show_so Stood (Err faults.OldJournal) reads asked some refused found = absurd refused
+  show_so Stood (Err faults.NoNeed) reads asked some refused found = absurd refused

@@ -92,12 +92,12 @@ module _ (me : ℕ) where
 module _ {D : Type 0} (tells reads : Type 0) (sight : D → Sight) (kept : List Kept) (me : ℕ) where
   -- a journal was made
   pub made_so : (disk : D) (provider : ProviderState D)
-      → desk_of provider ≡ fresh (entries.Start me (digest_of (providers_of kept)) ∷ [])
+      → desk_of provider ≡ fresh (entries.StartTwo me (digest_of (providers_of kept)) ∷ [])
       → (reads → length (sight disk).seen ≡ 0) → (reads → Stands sight provider.chronicle)
       → (reads → GrowsTo (size_made kept me) (sight disk) (sight provider.chronicle.disk))
       → IsBegun tells reads sight kept forms.Make me (Some disk) provider
   made_so disk provider desk empty stands moments =
-      let journal : provider.chronicle.entries ≡ entries.Start me (digest_of (providers_of kept)) ∷ [] = ap (λ (d : Desk). d.journal) desk in record {
+      let journal : provider.chronicle.entries ≡ entries.StartTwo me (digest_of (providers_of kept)) ∷ [] = ap (λ (d : Desk). d.journal) desk in record {
         desk = desk ∙ ap (λ (list : List Entry). fresh list) (sym journal);
         journal = journal;
         held = λ told r was is.
@@ -195,6 +195,17 @@ module _ {D : Type 0} (tells reads : Type 0) (sight : D → Sight) (kept : List 
     journal = begun.journal;
     held = λ told r was is. begun.held told r was (same told ∙ is);
     moments = λ told r was is. begun.moments told r was (same told ∙ is);
+    stands = begun.stands;
+  }
+
+  -- over a disk that was at home, where what is at home is told
+  pub begun_at_home : (disk : D) (home : Option D) (provider : ProviderState D) → (tells → home ≡ Some disk)
+      → IsBegun reads reads sight kept form me (Some disk) provider → IsBegun tells reads sight kept form me home provider
+  begun_at_home disk home provider here begun = record {
+    desk = begun.desk;
+    journal = begun.journal;
+    held = λ told r was is. begun.held r r was (sym (here told) ∙ is);
+    moments = λ told r was is. begun.moments r r was (sym (here told) ∙ is);
     stands = begun.stands;
   }
 

@@ -6,11 +6,12 @@ use Rattle.pec_directory.specs.Directory.{Kept}
 use Rattle.pec_ledger.specs.Steps.{half}
 use Rattle.pec_ledger.specs.Trade.{Trade}
 use Rattle.pec_posts.specs.Arrivals.{Waiting}
+use Rattle.pec_screen.specs.Verdicts.{Patterns}
 use Rattle.pec_seal.specs.Seals.{Seals}
 use Rattle.pec_provider.specs.Provider.{ProviderState, Runs}
 use Rattle.pec_provider.specs.Summing.{IsUpTo, most_pairs, plus, summary_of, total_from}
 use Rattle.pec_provider.specs.Summing.{Summary}
-use Rattle.pec_network.specs.Network.{sites_of}
+use Rattle.pec_network.specs.Network.{behind_first, sites_of}
 use Rattle.pec_network.specs.Summing.{AllRun, total_over}
 
 module _ {D : Type 0} (trade : Trade) where
@@ -32,13 +33,13 @@ module _ {D : Type 0} (trade : Trade) where
   total_done providers n summary whole past before =
       sym (ap (total_over trade summary n) (drop_of_length-le providers past)) ∙ before
 
-  pub total_is : (providers : List (ProviderState D)) (waiting : List Waiting) (summary : Summary) (n : ℕ)
-      → total_over trade summary n providers ≡ total_from trade summary n (sites_of providers waiting)
-  total_is [] waiting summary n = refl
-  total_is (provider ∷ providers) [] summary n =
-      total_is providers [] (plus summary (summary_of trade n (half trade n provider.chronicle.entries))) (n + 1)
-  total_is (provider ∷ providers) (links ∷ waiting) summary n =
-      total_is providers waiting (plus summary (summary_of trade n (half trade n provider.chronicle.entries))) (n + 1)
+  pub total_is : (providers : List (ProviderState D)) (screens : List (List Patterns)) (waiting : List Waiting)
+      (summary : Summary) (n : ℕ)
+      → total_over trade summary n providers ≡ total_from trade summary n (sites_of providers screens waiting)
+  total_is [] screens waiting summary n = refl
+  total_is (provider ∷ providers) screens waiting summary n =
+      total_is providers (behind_first screens) (behind_first waiting)
+      (plus summary (summary_of trade n (half trade n provider.chronicle.entries))) (n + 1)
 
 -- the provider at a place is that of its number
 pub runs_there : {D : Type 0} (kept : List Kept) (seals : Seals) (providers : List (ProviderState D)) (n : ℕ) (provider : ProviderState D)

@@ -14,9 +14,12 @@ use Rattle.pec_ledger.specs.Network.{Site}
 use Rattle.pec_ledger.specs.Trade.{Trade}
 use Rattle.pec_plays.specs.Frames.{due_frames}
 use Rattle.pec_plays.specs.Steps.{Step}
-use Rattle.pec_plays.specs.Turns.{Cut, Fails, Full, Other, Stops, Turned, Whole, behind, cut_turn, entries_of}
-use Rattle.pec_plays.specs.Turns.{events_of, frames_in, last_of, not_begun, owed_of, plan, puts_from, that_fit, turned}
-use Rattle.pec_plays.specs.Turns.{without_first}
+use Rattle.pec_screen.specs.Verdicts.{Patterns}
+use Rattle.pec_plays.specs.Decisions.{Looks}
+use Rattle.pec_plays.specs.Scripts.{put_instead}
+use Rattle.pec_plays.specs.Turns.{Cut, Fails, Full, Other, Sees, Stops, Turned, Unread, Whole, behind, cut_turn, entries_of}
+use Rattle.pec_plays.specs.Turns.{events_of, frames_in, last_of, looks_by, not_begun, owed_of, plan, puts_from, steps_of}
+use Rattle.pec_plays.specs.Turns.{that_fit, turned, without_first}
 use Rattle.pec_posts.specs.Arrivals.{Waiting}
 use Rattle.pec_network.specs.Turning.{IsForFew, StopsShort}
 
@@ -45,13 +48,13 @@ module _ (trade : Trade) (me now : ℕ) where
 
   each_turn : (P : Turned → Type 0) (rooms : ℕ → ℕ) (cut : Cut) (site : Site)
       → ((fault : ProviderFault) → P (not_begun site fault))
-      → P (cut_turn trade me rooms site (plan trade me now site.journal (frames_in site.waiting)) cut)
+      → P (cut_turn trade me rooms site (steps_of trade me now site cut) cut)
       → P (turned trade me now rooms cut site)
   unfolding turned
   each_turn P rooms cut site stays begins =
       pick P site.up (nat_lt now (last_of trade me site.journal))
       (not_begun site (faults.ClockBack (last_of trade me site.journal)))
-      (cut_turn trade me rooms site (plan trade me now site.journal (frames_in site.waiting)) cut)
+      (cut_turn trade me rooms site (steps_of trade me now site cut) cut)
       (not_begun site faults.Down) (stays (faults.ClockBack (last_of trade me site.journal))) begins (stays faults.Down)
 
   -- ---- rooms
@@ -106,11 +109,13 @@ module _ (trade : Trade) (me now : ℕ) where
   cut_alike rooms others site steps (Fails number fault) few same = refl
   cut_alike rooms others site steps (Full number) few same = refl
   cut_alike rooms others site steps (Stops number) few same = refl
+  cut_alike rooms others site steps (Unread number fault) few same = refl
   cut_alike rooms others site steps (Other out) few same =
       ap (λ (put : List (List Bytes)). turn_with (behind site steps (length steps)) (events_of steps) put None)
       (fit_alike rooms others 0 out (λ k l.
       let here : k ≡ 0 + k = omega arith in
       subst (λ (n : ℕ). rooms n ≡ others n) here (same k (omega (arith, l, few)))))
+  cut_alike rooms others site steps (Sees looks cut) few same = cut_alike rooms others site steps cut few same
 
   -- a turn looks at the rooms of the trade's providers alone
   pub turned_alike : (rooms others : ℕ → ℕ) (cut : Cut) (site : Site) → IsForFew trade.providers cut
@@ -122,7 +127,7 @@ module _ (trade : Trade) (me now : ℕ) where
       then (if nat_lt now (last_of trade me site.journal) then not_begun site
       (faults.ClockBack (last_of trade me site.journal)) else t)
       else not_begun site faults.Down)
-      (cut_alike rooms others site (plan trade me now site.journal (frames_in site.waiting)) cut few same)
+      (cut_alike rooms others site (steps_of trade me now site cut) cut few same)
 
   -- ---- what waits, and what is put
 
@@ -133,7 +138,9 @@ module _ (trade : Trade) (me now : ℕ) where
   cut_shorter rooms site steps (Fails number fault) from = without_shorter (number + 1) site.waiting from
   cut_shorter rooms site steps (Full number) from = without_shorter (number + 1) site.waiting from
   cut_shorter rooms site steps (Stops number) from = without_shorter (number + 1) site.waiting from
+  cut_shorter rooms site steps (Unread number fault) from = without_shorter (number + 1) site.waiting from
   cut_shorter rooms site steps (Other out) from = without_shorter (length steps) site.waiting from
+  cut_shorter rooms site steps (Sees looks cut) from = cut_shorter rooms site steps cut from
 
   -- a turn only takes frames
   pub waits_shorter : (rooms : ℕ → ℕ) (cut : Cut) (site : Site) (from : ℕ)
@@ -142,7 +149,7 @@ module _ (trade : Trade) (me now : ℕ) where
       each_turn (λ (t : Turned). length (get_or t.site.waiting from []) ≤ length (get_or site.waiting from [])) rooms
       cut site
       (λ fault. omega arith)
-      (cut_shorter rooms site (plan trade me now site.journal (frames_in site.waiting)) cut from)
+      (cut_shorter rooms site (steps_of trade me now site cut) cut from)
 
   cut_few : (rooms : ℕ → ℕ) (site : Site) (steps : List Step) (cut : Cut) → IsForFew trade.providers cut
       → length (cut_turn trade me rooms site steps cut).out ≤ trade.providers
@@ -152,21 +159,58 @@ module _ (trade : Trade) (me now : ℕ) where
   cut_few rooms site steps (Fails number fault) few = omega arith
   cut_few rooms site steps (Full number) few = omega arith
   cut_few rooms site steps (Stops number) few = omega arith
+  cut_few rooms site steps (Unread number fault) few = omega arith
   cut_few rooms site steps (Other out) few = let count = fit_count rooms 0 out in omega (arith, count, few)
+  cut_few rooms site steps (Sees looks cut) few = cut_few rooms site steps cut few
 
   -- it puts frames for no other provider
   pub puts_few : (rooms : ℕ → ℕ) (cut : Cut) (site : Site) → IsForFew trade.providers cut
       → length (turned trade me now rooms cut site).out ≤ trade.providers
   puts_few rooms cut site few =
       each_turn (λ (t : Turned). length t.out ≤ trade.providers) rooms cut site (λ fault. omega arith)
-      (cut_few rooms site (plan trade me now site.journal (frames_in site.waiting)) cut few)
+      (cut_few rooms site (steps_of trade me now site cut) cut few)
 
   -- ---- the entries that a cut leaves
 
   -- the same without frames that were put in place of those that are due
   abbrev pub without_other : Cut → Cut
+  without_other Whole = Whole
+  without_other (Fails number fault) = Fails number fault
+  without_other (Full number) = Full number
+  without_other (Stops number) = Stops number
+  without_other (Unread number fault) = Unread number fault
   without_other (Other out) = Whole
-  without_other cut = cut
+  without_other (Sees looks cut) = Sees looks (without_other cut)
+
+  pub puts_none : (cut : Cut) → put_instead (without_other cut) ≡ None
+  puts_none Whole = refl
+  puts_none (Fails number fault) = refl
+  puts_none (Full number) = refl
+  puts_none (Stops number) = refl
+  puts_none (Unread number fault) = refl
+  puts_none (Other out) = refl
+  puts_none (Sees looks cut) = puts_none cut
+
+  cut_without : (rooms : ℕ → ℕ) (site : Site) (steps : List Step) (cut : Cut)
+      → (cut_turn trade me rooms site steps (without_other cut)).site ≡ (cut_turn trade me rooms site steps cut).site
+  cut_without rooms site steps Whole = refl
+  cut_without rooms site steps (Fails number fault) = refl
+  cut_without rooms site steps (Full number) = refl
+  cut_without rooms site steps (Stops number) = refl
+  cut_without rooms site steps (Unread number fault) = refl
+  cut_without rooms site steps (Other out) = refl
+  cut_without rooms site steps (Sees looks cut) = cut_without rooms site steps cut
+
+  -- its steps are the same
+  looks_without : (screens : List Patterns) (cut : Cut)
+      → looks_by trade me screens (without_other cut) ≡ looks_by trade me screens cut
+  looks_without screens Whole = refl
+  looks_without screens (Fails number fault) = refl
+  looks_without screens (Full number) = refl
+  looks_without screens (Stops number) = refl
+  looks_without screens (Unread number fault) = refl
+  looks_without screens (Other out) = refl
+  looks_without screens (Sees looks cut) = refl
 
   one_site : (up late : Bool) (waits one other stays : Turned) → one.site ≡ other.site
       → (if up then (if late then waits else one) else stays).site
@@ -178,15 +222,15 @@ module _ (trade : Trade) (me now : ℕ) where
   pub without_same : (rooms : ℕ → ℕ) (cut : Cut) (site : Site)
       → (turned trade me now rooms (without_other cut) site).site ≡ (turned trade me now rooms cut site).site
   unfolding turned
-  without_same rooms (Other out) site =
-      let steps = plan trade me now site.journal (frames_in site.waiting) in
+  without_same rooms cut site =
+      let less = without_other cut in
       one_site site.up (nat_lt now (last_of trade me site.journal))
-      (not_begun site (faults.ClockBack (last_of trade me site.journal))) (cut_turn trade me rooms site steps Whole)
-      (cut_turn trade me rooms site steps (Other out)) (not_begun site faults.Down) refl
-  without_same rooms Whole site = refl
-  without_same rooms (Fails number fault) site = refl
-  without_same rooms (Full number) site = refl
-  without_same rooms (Stops number) site = refl
+      (not_begun site (faults.ClockBack (last_of trade me site.journal)))
+      (cut_turn trade me rooms site (steps_of trade me now site less) less)
+      (cut_turn trade me rooms site (steps_of trade me now site cut) cut) (not_begun site faults.Down)
+      (ap (λ (looks : Looks). (cut_turn trade me rooms site
+      (plan trade me now looks site.journal (frames_in site.waiting)) less).site) (looks_without site.screens cut)
+      ∙ cut_without rooms site (steps_of trade me now site cut) cut)
 
   -- ---- want of memory
 
@@ -199,15 +243,18 @@ module _ (trade : Trade) (me now : ℕ) where
       (Stops 0) site
       (λ fault. (refl, refl)) (sym (append-nil site.journal), refl)
 
-  -- a turn that had begun is cut where memory ran out
+  -- a turn that had begun is cut where memory ran out, with what was found in it
+  abbrev pub short_cut : (old new : Site) → StopsShort trade me now old new → Cut
+  short_cut old new short = Sees short.front.looks (Stops short.front.steps)
+
   pub stops_short : (rooms : ℕ → ℕ) (old new : Site) (short : StopsShort trade me now old new)
-      → (new.journal ≡ (turned trade me now rooms (Stops short.front.steps) old).site.journal)
-      × (new.interrupted ≡ (turned trade me now rooms (Stops short.front.steps) old).site.interrupted)
+      → (new.journal ≡ (turned trade me now rooms (short_cut old new short) old).site.journal)
+      × (new.interrupted ≡ (turned trade me now rooms (short_cut old new short) old).site.interrupted)
   unfolding turned
   stops_short rooms old new short =
       let late = not_begun old (faults.ClockBack (last_of trade me old.journal)) in
-      let begun = cut_turn trade me rooms old (plan trade me now old.journal (frames_in old.waiting))
-      (Stops short.front.steps) in
+      let cut = short_cut old new short in
+      let begun = cut_turn trade me rooms old (steps_of trade me now old cut) cut in
       let is = if_so old.up (if nat_lt now (last_of trade me old.journal) then late else begun)
       (not_begun old faults.Down) short.up
       ∙ if_not (nat_lt now (last_of trade me old.journal)) late begun

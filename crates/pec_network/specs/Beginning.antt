@@ -14,11 +14,13 @@ use Rattle.pec_ledger.specs.Network.{Site}
 use Rattle.pec_ledger.specs.OfDirectory.{IsOf}
 use Rattle.pec_ledger.specs.Trade.{Trade}
 use Rattle.pec_chronicle.specs.Chronicle.{IsJournalOf, Stands}
+use Rattle.pec_screen.specs.Verdicts.{Patterns}
 use Rattle.pec_stock.specs.Opening.{IsUnfit}
 use Rattle.pec_stock.specs.Stock.{IsOwn, size_made}
 use Rattle.pec_stock.specs.declared.faults.ReopenFault.{ReopenFault}
 use Rattle.pec_stock.specs.declared.faults.ReopenFault.TheVariants as reopen
 use Rattle.pec_provider.specs.Provider.{ProviderState, desk_of, fresh}
+use Rattle.pec_network.specs.Network.{behind_first, first_of}
 use Rattle.pec_network.specs.declared.faults.NotFit.{NotFit}
 use Rattle.pec_network.specs.declared.faults.NotFit.TheVariants as unfits
 use Rattle.pec_network.specs.declared.faults.StartFault.{StartFault}
@@ -28,13 +30,21 @@ use Rattle.pec_network.specs.declared.opening.Form.TheVariants as forms
 
 -- ---- sites
 
--- A site as a network of so many providers begins: its provider is up, over this journal, and nothing waits for it.
-abbrev pub rested : ℕ → List Entry → Site
-rested count journal = record { journal = journal; up = true; interrupted = None; waiting = replicate count [] }
+-- A site as a network of so many providers begins: its provider is up, over this journal, its screens have these patterns,
+-- and nothing waits for it.
+abbrev pub rested : ℕ → List Patterns → List Entry → Site
+rested count screens journal =
+    record { journal = journal; up = true; interrupted = None; screens = screens; waiting = replicate count [] }
+
+-- The sites of these journals, each with the screens at its number, and none past their end.
+abbrev pub all_rested_of : ℕ → List (List Patterns) → List (List Entry) → List Site
+all_rested_of count screens [] = []
+all_rested_of count screens (journal ∷ journals) =
+    rested count (first_of screens) journal ∷ all_rested_of count (behind_first screens) journals
 
 -- The sites as the network begins.
-abbrev pub all_rested : List (List Entry) → List Site
-all_rested journals = map (rested (length journals)) journals
+abbrev pub all_rested : List (List Patterns) → List (List Entry) → List Site
+all_rested screens journals = all_rested_of (length journals) screens journals
 
 -- the journals of providers, by their numbers
 abbrev pub journals_had : {D : Type 0} → List (ProviderState D) → List (List Entry)
@@ -42,9 +52,9 @@ journals_had providers = map (λ provider. provider.chronicle.entries) providers
 
 -- ---- providers that have begun
 
--- A provider's journal: it was made, with its Start alone; or it is one that was opened, of its own entries.
+-- A provider's journal: it was made, of version 2, with its Start alone; or it is one that was opened, of its own entries.
 abbrev pub IsHad : Form → List Kept → ℕ → List Entry → Type 0
-IsHad forms.Make kept me journal = journal ≡ entries.Start me (digest_of (providers_of kept)) ∷ []
+IsHad forms.Make kept me journal = journal ≡ entries.StartTwo me (digest_of (providers_of kept)) ∷ []
 IsHad forms.Open kept me journal = (trade : Trade) → IsOf kept trade → IsOwn trade me journal
 
 -- what its disk held before: nothing, or that journal

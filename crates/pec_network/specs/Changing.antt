@@ -12,11 +12,14 @@ use Rattle.pec_seal.specs.Seals.{Seals}
 use Rattle.pec_network.specs.Carrying.{AllCarryOn, NoneFalls}
 use Rattle.pec_network.specs.Network.{NetworkState, world_of}
 
--- Nothing but the provider of this number is another one.
+-- Nothing but the provider of this number is another one; its screens may have looked.
 abbrev pub ChangesOnly : {D S : Type 0} → ℕ → NetworkState D S → NetworkState D S → Type 0
 ChangesOnly {D} number old new =
     (other : ProviderState D)
-    → new ≡ record old { providers = slice_set old.providers number (slice_index_or new.providers number other) }
+    → new ≡ record old {
+      providers = slice_set old.providers number (slice_index_or new.providers number other);
+      looks = new.looks;
+    }
 
 -- The count of faults of the provider's disk has risen.
 abbrev pub HasRisenAt : {D : Type 0} → (D → ℕ) → ℕ → List (ProviderState D) → List (ProviderState D) → Type 0
@@ -51,7 +54,7 @@ SameCounts {D} faults old new =
 -- `tells` says that disks tell what they hold.
 pub record ConcernsOne {D S X : Type 0} (sight : D → Sight) (count : D → ℕ) (tells : Type 0) (seals : S → Seals)
     (provider : ℕ) (old new : NetworkState D S) (result : Result X ProviderFault) : Type 0 where
-  -- no other provider is touched, and no frame that waits
+  -- no other provider is touched, and no frame that waits, and all screens have the patterns that they had
   pub others : ChangesOnly provider old new
   -- At every moment of the call the disks carry on, with entries that may follow in the ledger of any journals.
   pub carries : tells → (journals : Journals)

@@ -2,6 +2,7 @@ pub mod Beginning
 pub mod Carrying
 pub mod Changing
 pub mod Homes
+pub mod Judging
 pub mod Looking
 pub mod Network
 pub mod OfProviders

@@ -7,14 +7,17 @@ use Rattle.pec_types.specs.declared.turns.ProviderFault.TheVariants as faults
 use Rattle.pec_link.specs.declared.faults.LinkFault.{LinkFault}
 use Rattle.pec_link.specs.declared.faults.LinkFault.TheVariants as link_faults
 use Rattle.pec_ledger.specs.Network.{Site}
-use Rattle.pec_plays.specs.Commands.{Answer, Command, LinkFull, Luck, NoFrame, Played, Refuses, answers, played}
+use Rattle.pec_plays.specs.Commands.{Answer, Command, LinkFull, Luck, NoFrame, NoScreen, Played, Refuses, Screened, answers}
+use Rattle.pec_plays.specs.Commands.{played}
 use Rattle.pec_plays.specs.Turns.{Whole}
 use Rattle.pec_provider.specs.Playing.{luck_of}
+use Rattle.pec_provider.specs.declared.swapping.SwapFault.{SwapFault}
+use Rattle.pec_provider.specs.declared.swapping.SwapFault.TheVariants as swaps
 use Rattle.pec_seal.specs.Seals.{Seals}
 use Rattle.pec_network.specs.Network.{NetworkState, sites, world_of}
 
--- A command of a provider was played, and answered so. An append that failed is told by the answer; all other refusals, and
--- want of memory, leave the state as it was.
+-- A command of a provider was played, and answered so. An append that failed is told by the answer; all other refusals,
+-- and want of memory, leave the state as it was.
 abbrev pub IsPlayed : {X : Type 0} → (X → Answer) → (Luck → Played) → List Site → List Site → Result X ProviderFault → Type 0
 IsPlayed tells play old new (Ok x) = play (luck_of false) ≡ record { answer = tells x; after = new }
 IsPlayed tells play old new (Err faults.DiskFault) =
@@ -35,6 +38,12 @@ IsPlayedOnLink done played old new (Err link_faults.NoFrame) = (played ≡ answe
 IsPlayedOnLink done played old new (Err link_faults.Full) = (played ≡ answers old LinkFull) × (new ≡ old)
 IsPlayedOnLink done played old new (Err link_faults.NoMemory) = new ≡ old
 
+-- Another screen was put into a place, as a command, or refused; after a refusal all is as it was.
+abbrev pub IsSwapped : {X : Type 0} → Played → List Site → List Site → Result (Unit {0}) (X × SwapFault) → Type 0
+IsSwapped played old new (Ok x) = played ≡ record { answer = Screened; after = new }
+IsSwapped played old new (Err (spare, swaps.Down)) = (played ≡ answers old (Refuses faults.Down)) × (new ≡ old)
+IsSwapped played old new (Err (spare, swaps.NoSuchPlace)) = (played ≡ answers old NoScreen) × (new ≡ old)
+
 -- An account was shown what it asked for, or refused.
 abbrev pub IsShown : {X : Type 0} → (X → Answer) → Played → List Site → Result X ProviderFault → Type 0
 IsShown tells played sites (Ok x) = played ≡ answers sites (tells x)
@@ -47,8 +56,8 @@ IsShown tells played sites (Err fault) = played ≡ answers sites (Refuses fault
 abbrev pub luck_of_read : Option ProviderFault → Option Bytes → Luck
 luck_of_read read shown = record { cuts = λ provider. Whole; fails = false; found = false; read = read; shown = shown }
 
--- A command that reads was played, by how the read failed, if it did, and answered so. A read that failed is told by the
--- answer; all other refusals, and want of memory, leave the state as it was.
+-- A command that reads was played, by how the read failed, if it did, and answered so. A read that failed is told by
+-- the answer; all other refusals, and want of memory, leave the state as it was.
 abbrev pub IsReadSo : {X : Type 0} → (X → Answer) → (Option ProviderFault → Played) → List Site → List Site
     → Result X ProviderFault → Type 0
 IsReadSo tells play old new (Ok x) = (play None ≡ answers old (tells x)) × (new ≡ old)

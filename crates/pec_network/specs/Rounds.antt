@@ -9,6 +9,7 @@ use Rattle.pec_ledger.specs.Network.{AreGenuine, Site, Sound, interrupted_at, jo
 use Rattle.pec_ledger.specs.Trade.{Trade}
 use Rattle.pec_plays.specs.Commands.{Luck, Round, Turns, played}
 use Rattle.pec_plays.specs.Possible.{GaveWhatWasKept, MayMeet, TellsCut}
+use Rattle.pec_plays.specs.Scripts.{put_instead}
 use Rattle.pec_plays.specs.Rounds.{link_size}
 use Rattle.pec_plays.specs.Turns.{Cut, frames_in}
 use Rattle.pec_posts.specs.Arrivals.{Waiting, room_on, waiting_from}
@@ -24,6 +25,10 @@ luck_of_cuts cuts = record { cuts = cuts; fails = false; found = false; read = N
 -- No turn ended for an entry that isn't what a letter is composed of.
 abbrev pub NoneChanged : List Turn → Type 0
 NoneChanged turns = All (λ (turn : Turn). (number : ℕ) → turn.ended ≢ Some (faults.Changed number)) turns
+
+-- No turn put other frames in place of those that were due.
+abbrev pub PutsNothingInstead : Luck → Type 0
+PutsNothingInstead luck = (provider : ℕ) → put_instead (luck.cuts provider) ≡ None
 
 -- A round was played, and told so: each turn was cut so, as it tells and as it may be cut. `Stood` says when all disks
 -- gave back what they took; then no turn put other frames than those that were due, and from a Sound state no entry is
@@ -43,7 +48,7 @@ pub record IsRound (Stood : Type 0) (trade : Trade) (moment : ℕ) (old : List S
 -- puts other frames than those that are due.
 pub record StopsWithin (trade : Trade) (moment : ℕ) (old new : List Site) : Type 0 where
   pub luck : Luck
-  pub kept : GaveWhatWasKept luck
+  pub instead : PutsNothingInstead luck
   pub journals : (provider : ℕ)
       → journal_at new provider ≡ journal_at (played trade luck old (Round moment)).after provider
   pub interrupted : (provider : ℕ)
@@ -66,7 +71,7 @@ BlamesDisks {D} count turns old new =
 -- A round keeps a state Sound, where no turn puts other frames than those that are due.
 abbrev pub KeepsSound : Trade → ℕ → List Site → Type 0
 KeepsSound trade moment old =
-    (luck : Luck) → GaveWhatWasKept luck → Sound trade old → Sound trade (played trade luck old (Round moment)).after
+    (luck : Luck) → PutsNothingInstead luck → Sound trade old → Sound trade (played trade luck old (Round moment)).after
 
 -- How many more frames the links from each sender hold, by the provider for which they wait; no link holds more than it
 -- may.

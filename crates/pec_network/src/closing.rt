@@ -6,10 +6,12 @@ use crate::laws::few_providers;
 use crate::network::Network;
 use pec_outside::{Depot, Disk};
 use pec_provider::Provider;
+use pec_screen::Judge;
 use pec_seal::Sealer;
 
-impl<D: Disk, S: Sealer + Drop> Network<D, S> {
-    /// Ends the network: each provider's disk is kept in the depot, as it is. It takes no memory.
+impl<D: Disk, S: Sealer + Drop, J: Judge> Network<D, S, J> {
+    /// Ends the network: each provider's disk is kept in the depot, as it is, and its screens are dropped. It takes no
+    /// memory.
     pub fn close<P: Depot<D = D>>(self, depot: &mut P)
         ensures kept { P.tells → AllAt (λ provider. Some provider.chronicle.disk)
             (P.home depot.old) (P.home depot.new) self.providers }
@@ -22,8 +24,8 @@ impl<D: Disk, S: Sealer + Drop> Network<D, S> {
     }
 }
 
-/// Keeps the disks of providers, which are numbered from 0 on.
-pub(crate) fn keep_all<D: Disk, P: Depot<D = D>>(mut providers: Vec<Provider<D>>, depot: &mut P)
+/// Keeps the disks of providers in the depot, as they are; the providers are numbered from 0 on. It takes no memory.
+pub fn keep_all<D: Disk, P: Depot<D = D>>(mut providers: Vec<Provider<D>>, depot: &mut P)
     requires { length providers.items ≤ depot_places }
     ensures kept { P.tells → AllAt (λ provider. Some provider.chronicle.disk)
         (P.home depot.old) (P.home depot.new) providers.items }

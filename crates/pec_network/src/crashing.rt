@@ -15,19 +15,20 @@ use crate::faults::RestartFault;
 use crate::laws::{few_providers, what_rests_carries_on};
 use crate::network::Network;
 use pec_outside::{Depot, Disk};
-use pec_provider::House;
+use pec_provider::{House, a_trade_says_what_its_parts_say};
+use pec_screen::Judge;
 use pec_seal::Sealer;
-use pec_trade::a_trade_says_what_its_parts_say;
 use std::alloc::Global;
 
-impl<D: Disk, S: Sealer> Network<D, S> {
+impl<D: Disk, S: Sealer, J: Judge> Network<D, S, J> {
     /// Crashes a provider, by its number: it is down, over the disk that the depot gives for its own. Its interrupted
-    /// entry is kept, and the frames that wait for it stay. It takes no memory.
+    /// entry is kept, and the frames that wait for it stay, as do its screens. It takes no memory.
     pub fn crash<P: Depot<D = D>>(&mut self, provider: u32, depot: &mut P)
         requires { provider < length self.old.kept }
         ensures plays { (trade : Trade) (luck : Luck) → played trade luck (sites self.old) (Crash provider)
             ≡ record { answer = Crashed; after = sites self.new } }
         ensures others { ChangesOnly provider self.old self.new }
+        ensures looks { self.new.looks ≡ self.old.looks }
         ensures disk { D.tells → CrashedAt D.sight provider self.old.providers self.new.providers }
         ensures carries { D.tells → (trade : Trade) (journals : Journals) →
             AllCarryOn D.sight trade journals self.old.providers self.new.providers }
@@ -62,6 +63,7 @@ impl<D: Disk, S: Sealer> Network<D, S> {
         ensures down { OnOk result (is_up (sites self.old) provider ≡ false) }
         ensures up { IfOk result (IsUpAt provider self.new.providers) }
         ensures others { ChangesOnly provider self.old self.new }
+        ensures looks { self.new.looks ≡ self.old.looks }
         ensures carries { D.tells → (trade : Trade) (journals : Journals) →
             AllCarryOn D.sight trade journals self.old.providers self.new.providers }
         ensures disk_fault { IsErrOf result faults.DiskFault →

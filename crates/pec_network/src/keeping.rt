@@ -8,14 +8,15 @@ ghost use Rattle.pec_network.specs.Network.{sites, world_of};
 ghost use Rattle.pec_network.specs.Rounds.{StopsWithin};
 
 use crate::network::Network;
+use pec_provider::the_texts_are_a_trade;
+use pec_screen::Judge;
 use pec_seal::Sealer;
-use pec_trade::the_texts_are_a_trade;
 
 /// Whatever devices do, a network stays Sound by each call, as that is played as a command, where no forged frame is
 /// injected; and while it is Sound users have what certified mail promises them: one final outcome, one delivery, no
 /// acknowledged receipt missing, and a notice by the day. The journals that a round leaves which memory stopped are
 /// Fit.
-pub fn a_network_keeps_its_promises<D, S: Sealer>(network: &Network<D, S>)
+pub fn a_network_keeps_its_promises<D, S: Sealer, J: Judge>(network: &Network<D, S, J>)
     ensures stays { (luck : Luck) (command : Command)
         → Sound (world_of S.seals network.now) (sites network.now)
         → IsUnforged (world_of S.seals network.now) luck (sites network.now) command

@@ -10,10 +10,10 @@ ghost use Rattle.pec_ledger.specs.Trade.{Trade};
 ghost use Rattle.pec_chronicle.specs.Carrying.{CarriesOn, FollowsSo, IsImage, NothingMay};
 ghost use Rattle.pec_chronicle.specs.Chronicle.{ChronicleState, Stands};
 ghost use Rattle.pec_posts.specs.Arrivals.{Waiting};
-ghost use Rattle.pec_trade.specs.Houses.{Fits};
-ghost use Rattle.pec_trade.specs.TradeOf.{trade_of};
+ghost use Rattle.pec_provider.specs.OfTrades.{Fits, trade_of};
 ghost use Rattle.pec_provider.specs.Following.{MayFollow};
 ghost use Rattle.pec_provider.specs.Provider.{ProviderState};
+ghost use Rattle.pec_screen.specs.Verdicts.{Patterns};
 ghost use Rattle.pec_network.specs.Carrying.{AllCarryOn};
 ghost use Rattle.pec_network.specs.Network.{sites_of};
 ghost use Rattle.pec_network.specs.Rounds.{FramesAreGenuine, KeepsSound};
@@ -21,9 +21,8 @@ ghost use Rattle.pec_network.specs.Rounds.{FramesAreGenuine, KeepsSound};
 use pec_directory::Directory;
 use pec_outside::Disk;
 use pec_plays::a_network_stays_sound;
-use pec_provider::what_follows_goes_on;
+use pec_provider::{the_texts_are_a_trade, what_follows_goes_on};
 use pec_seal::Sealer;
-use pec_trade::the_texts_are_a_trade;
 use pec_types::Moment;
 
 // In whatever order the puts and takes of the turns of a round come, each link ends as the round leaves it.
@@ -69,18 +68,20 @@ pub fn images_follow()
 /// the journal of a list that follows that state. Providers that aren't touched carry on. The ledger sees the entries
 /// that are kept of each.
 pub fn a_call_leaves_what_follows<D: Disk>()
-    ensures follows { (trade : Trade) (old new : List (ProviderState D)) (waiting : List Waiting)
-        → AllCarryOn D.sight trade (journals_of (sites_of old waiting)) old new
+    ensures follows { (trade : Trade) (old new : List (ProviderState D)) (screens : List (List Patterns))
+        (waiting : List Waiting)
+        → AllCarryOn D.sight trade (journals_of (sites_of old screens waiting)) old new
         → (number : ℕ) (was now : ProviderState D)
         → slice_get old number ≡ Some was → slice_get new number ≡ Some now → Stands D.sight was.chronicle
         → Stands D.sight now.chronicle × LeavesOnly (D.sight was.chronicle.disk) (D.sight now.chronicle.disk)
-        (FollowsSo trade (sites_of old waiting) number) }
+        (FollowsSo trade (sites_of old screens waiting) number) }
     ensures rests { D.tells → (trade : Trade) (journals : Journals) (providers : List (ProviderState D))
         → AllCarryOn D.sight trade journals providers providers }
-    ensures seen { (providers : List (ProviderState D)) (waiting : List Waiting) (number : ℕ) (one : ProviderState D)
+    ensures seen { (providers : List (ProviderState D)) (screens : List (List Patterns)) (waiting : List Waiting)
+        (number : ℕ) (one : ProviderState D)
         → slice_get providers number ≡ Some one
-        → (journal_at (sites_of providers waiting) number ≡ one.chronicle.entries)
-        × (interrupted_at (sites_of providers waiting) number ≡ one.chronicle.interrupted) }
+        → (journal_at (sites_of providers screens waiting) number ≡ one.chronicle.entries)
+        × (interrupted_at (sites_of providers screens waiting) number ≡ one.chronicle.interrupted) }
 {
     what_follows_goes_on();
     what_rests_carries_on::<D>();

@@ -6,13 +6,14 @@ ghost use Rattle.pec_network.specs.Playing.{IsPlayedOnLink};
 
 use crate::network::Network;
 use pec_link::LinkFault;
+use pec_screen::Judge;
 use pec_seal::Sealer;
 use pec_types::Frame;
 use std::alloc::Global;
 
 /// What may befall the frames on the link from one provider to another, at a place counted from 0. After a refusal all
 /// is as it was.
-impl<D, S: Sealer> Network<D, S> {
+impl<D, S: Sealer, J: Judge> Network<D, S, J> {
     /// Loses a frame. `NoFrame` exactly where none waits at the place. It takes no memory.
     pub fn lose(&mut self, from: u32, to: u32, place: usize) -> Result<(), LinkFault>
         requires from { from < length self.old.kept }

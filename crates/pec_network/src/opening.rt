@@ -1,23 +1,26 @@
-ghost use Rattle.std.specs.Prelude.{◌≡◌, ℕ, ◌<◌, ◌≤◌, [], None, Some, length, replicate, vec_capacity};
+ghost use Rattle.std.specs.Prelude.{◌≡◌, ℕ, ◌<◌, ◌≤◌, [], None, Some, length, map, replicate, vec_capacity};
 ghost use Rattle.std.specs.Prelude.{IfOk, OnOk, IfErr, OnErr};
 ghost use Rattle.pec_outside.specs.Depots.{Alike};
 ghost use Rattle.pec_directory.specs.Directory.{providers_of};
-ghost use Rattle.pec_trade.specs.Houses.{Fits};
+ghost use Rattle.pec_provider.specs.OfTrades.{Fits};
 ghost use Rattle.pec_network.specs.Beginning.{AllBegun, BlamesDisk, IsAbout, IsBack, IsRefused, NoneFell};
 ghost use Rattle.pec_network.specs.Beginning.{all_rested, journals_had};
 ghost use Rattle.pec_network.specs.Homes.{AllAt};
-ghost use Rattle.pec_network.specs.Network.{sites};
+ghost use Rattle.pec_network.specs.Judging.{lists_of};
+ghost use Rattle.pec_network.specs.Network.{of_first, sites};
 ghost use Rattle.pec_network.specs.Starting.{AllRun};
 ghost use Rattle.pec_network.specs.declared.opening.Form.TheVariants as forms;
 
 use crate::closing::keep_all;
 use crate::faults::StartFault;
+use crate::judging::one_each;
 use crate::network::Network;
 use crate::starting::begin_next;
 use pec_directory::Directory;
 use pec_outside::{Depot, Disk, a_disk_is_so};
 use pec_posts::Arrivals;
 use pec_provider::{House, Provider};
+use pec_screen::{Judge, Perhaps};
 use pec_seal::Sealer;
 use pec_types::NoMemory;
 use std::alloc::Global;
@@ -33,19 +36,25 @@ pub enum Form {
 
 /// A network begins with what the disks hold that a depot has at home. It asks for them from provider 0 on, until one
 /// comes to nothing, and keeps each of those again then.
-impl<D: Disk, S: Sealer + Drop> Network<D, S> {
+impl<D: Disk, S: Sealer + Drop, J: Judge> Network<D, S, J> {
     /// A network on empty disks: each provider's journal is made, with its Start. It is refused where the depot doesn't
     /// hand out a disk or the disk fails (`DiskFault`), where one holds a byte (`NotEmpty`), and for want of memory. A
-    /// disk that was empty may hold bytes then; one that held a byte is unchanged.
+    /// disk that was empty may hold bytes then; one that held a byte is unchanged. The screens of a provider are those
+    /// at its number among `judges`, and none past their end.
     pub fn create<P: Depot<D = D>>(
         alloc: Global,
         directory: Directory,
         sealer: S,
+        judges: Vec<J>,
         depot: &mut P,
-    ) -> Result<Network<D, S>, StartFault>
+    ) -> Result<Network<D, S, J>, StartFault>
         requires { Fits (S.seals sealer) (providers_of directory) }
         ensures same { IfOk result (λ network. (network.kept ≡ directory) × (network.sealer ≡ sealer)) }
-        ensures rests { IfOk result (λ network. sites network ≡ all_rested (journals_had network.providers)) }
+        ensures rests { IfOk result (λ network. sites network
+            ≡ all_rested (map J.patterns judges.items) (journals_had network.providers)) }
+        ensures screens { IfOk result (λ network.
+            network.screens ≡ of_first (length directory) (map J.patterns judges.items)) }
+        ensures looks { IfOk result (λ network. network.looks ≡ of_first (length directory) (map J.seen judges.items)) }
         ensures begun { IfOk result (λ network.
             AllBegun P.tells D.tells D.sight directory forms.Make (P.home depot.old) network.providers) }
         ensures out { P.tells → IfOk result (λ network.
@@ -59,7 +68,7 @@ impl<D: Disk, S: Sealer + Drop> Network<D, S> {
         ensures last_err { OnErr result ((number : ℕ) → P.last depot.old number ≤ P.last depot.new number) }
         ensures later { P.faults depot.old ≤ P.faults depot.new }
     {
-        match Network::begin(alloc, Form::Make, directory, sealer, depot) {
+        match Network::begin(alloc, Form::Make, directory, sealer, judges, depot) {
             Ok(network) => Ok(network),
             Err((fault, _)) => Err(fault),
         }
@@ -67,16 +76,22 @@ impl<D: Disk, S: Sealer + Drop> Network<D, S> {
 
     /// A network over the journals that are on the disks, each of which is first made durable as it reads; it writes
     /// nothing. It is refused where the depot doesn't hand out a disk or the disk fails (`DiskFault`), where the
-    /// journal on one isn't its provider's own (`NotFit`), and for want of memory.
+    /// journal on one isn't its provider's own (`NotFit`), and for want of memory. The screens are as `create` has
+    /// them.
     pub fn resume<P: Depot<D = D>>(
         alloc: Global,
         directory: Directory,
         sealer: S,
+        judges: Vec<J>,
         depot: &mut P,
-    ) -> Result<Network<D, S>, StartFault>
+    ) -> Result<Network<D, S, J>, StartFault>
         requires { Fits (S.seals sealer) (providers_of directory) }
         ensures same { IfOk result (λ network. (network.kept ≡ directory) × (network.sealer ≡ sealer)) }
-        ensures rests { IfOk result (λ network. sites network ≡ all_rested (journals_had network.providers)) }
+        ensures rests { IfOk result (λ network. sites network
+            ≡ all_rested (map J.patterns judges.items) (journals_had network.providers)) }
+        ensures screens { IfOk result (λ network.
+            network.screens ≡ of_first (length directory) (map J.patterns judges.items)) }
+        ensures looks { IfOk result (λ network. network.looks ≡ of_first (length directory) (map J.seen judges.items)) }
         ensures begun { IfOk result (λ network.
             AllBegun P.tells D.tells D.sight directory forms.Open (P.home depot.old) network.providers) }
         ensures out { P.tells → IfOk result (λ network.
@@ -90,24 +105,29 @@ impl<D: Disk, S: Sealer + Drop> Network<D, S> {
         ensures last_err { OnErr result ((number : ℕ) → P.last depot.old number ≤ P.last depot.new number) }
         ensures later { P.faults depot.old ≤ P.faults depot.new }
     {
-        match Network::begin(alloc, Form::Open, directory, sealer, depot) {
+        match Network::begin(alloc, Form::Open, directory, sealer, judges, depot) {
             Ok(network) => Ok(network),
             Err((fault, _)) => Err(fault),
         }
     }
 
     /// A network whose providers come to their journals in this form: as `create` makes one, or as `resume` opens
-    /// it. With a refusal the directory comes back.
+    /// it. With a refusal the directory comes back, and the screens are dropped.
     pub fn begin<P: Depot<D = D>>(
         alloc: Global,
         form: Form,
         directory: Directory,
         sealer: S,
+        judges: Vec<J>,
         depot: &mut P,
-    ) -> Result<Network<D, S>, (StartFault, Directory)>
+    ) -> Result<Network<D, S, J>, (StartFault, Directory)>
         requires { Fits (S.seals sealer) (providers_of directory) }
         ensures same { IfOk result (λ network. (network.kept ≡ directory) × (network.sealer ≡ sealer)) }
-        ensures rests { IfOk result (λ network. sites network ≡ all_rested (journals_had network.providers)) }
+        ensures rests { IfOk result (λ network. sites network
+            ≡ all_rested (map J.patterns judges.items) (journals_had network.providers)) }
+        ensures screens { IfOk result (λ network.
+            network.screens ≡ of_first (length directory) (map J.patterns judges.items)) }
+        ensures looks { IfOk result (λ network. network.looks ≡ of_first (length directory) (map J.seen judges.items)) }
         ensures begun { IfOk result (λ network.
             AllBegun P.tells D.tells D.sight directory form (P.home depot.old) network.providers) }
         ensures out { P.tells → IfOk result (λ network.
@@ -123,7 +143,7 @@ impl<D: Disk, S: Sealer + Drop> Network<D, S> {
         ensures later { P.faults depot.old ≤ P.faults depot.new }
     {
         a_disk_is_so::<D>();
-        let Ok(arrivals) = no_frames(alloc, directory.count()) else {
+        let Ok((arrivals, judges)) = laid(alloc, judges, directory.count()) else {
             return Err((StartFault::NoMemory, directory));
         };
         match begin_all(alloc, form, &directory, &sealer, depot) {
@@ -132,6 +152,7 @@ impl<D: Disk, S: Sealer + Drop> Network<D, S> {
                     directory,
                     sealer,
                     providers,
+                    judges,
                     arrivals,
                 });
             }
@@ -140,6 +161,24 @@ impl<D: Disk, S: Sealer + Drop> Network<D, S> {
             }
         }
     }
+}
+
+/// What so many providers have beside themselves: links from all for each, on which no frame waits, and the screens of
+/// each.
+fn laid<J: Judge>(
+    alloc: Global,
+    judges: Vec<J>,
+    count: u32,
+) -> Result<(Vec<Arrivals>, Vec<Perhaps<J>>), NoMemory>
+    ensures arrivals { IfOk result (λ laid. laid.0.items ≡ replicate count (replicate count [])) }
+    ensures screens { IfOk result (λ laid.
+        lists_of J.patterns laid.1.items ≡ of_first count (map J.patterns judges.items)) }
+    ensures looks { IfOk result (λ laid. lists_of J.seen laid.1.items ≡ of_first count (map J.seen judges.items)) }
+    ensures count { IfOk result (λ laid. length laid.1.items ≡ count) }
+{
+    let arrivals = no_frames(alloc, count)?;
+    let judges = one_each(alloc, judges, count)?;
+    Ok((arrivals, judges))
 }
 
 /// Links from all for each of so many providers, on which no frame waits.

@@ -4,7 +4,7 @@ ghost use Rattle.pec_types.specs.declared.turns.ProviderFault.TheVariants as fau
 ghost use Rattle.pec_outside.specs.Flow.{HasRisen};
 ghost use Rattle.pec_plays.specs.Rounds.{link_size, sent_from};
 ghost use Rattle.pec_plays.specs.Turns.{puts_from};
-ghost use Rattle.pec_trade.specs.Houses.{world_at};
+ghost use Rattle.pec_provider.specs.OfTrades.{world_at};
 ghost use Rattle.pec_chronicle.specs.Carrying.{CarriesOn, NothingMay};
 ghost use Rattle.pec_chronicle.specs.Chronicle.{Stands};
 ghost use Rattle.pec_provider.specs.Provider.{RunsIn, desk_of};

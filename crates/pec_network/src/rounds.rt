@@ -1,14 +1,15 @@
-ghost use Rattle.std.specs.Prelude.{◌≡◌, ◌<◌, [], ◌++◌, length, IfOk, OnErr, vec_len, vec_capacity};
+ghost use Rattle.std.specs.Prelude.{◌≡◌, ◌<◌, [], ◌++◌, length, map, IfOk, OnErr, vec_len, vec_capacity};
 ghost use Rattle.std.specs.List.{All};
 ghost use Rattle.std.specs.Option.{option_to_list};
 ghost use Rattle.pec_ledger.specs.Ledger.{Fit, Journals};
-ghost use Rattle.pec_trade.specs.TradeOf.{trade_of};
+ghost use Rattle.pec_provider.specs.OfTrades.{trade_of};
 ghost use Rattle.pec_posts.specs.Arrivals.{Waiting};
 ghost use Rattle.pec_posts.specs.Parting.{HasRoom, ends_in};
 ghost use Rattle.pec_network.specs.Carrying.{AllCarryOn, AllStand, NoneFalls};
+ghost use Rattle.pec_network.specs.Looking.{AllLookAlike};
 ghost use Rattle.pec_network.specs.Network.{IsOfDirectory, sites, sites_of, world_of};
 ghost use Rattle.pec_network.specs.Rounds.{AreRooms, BlamesDisks, FramesAreGenuine, IsRound, StopsWithin};
-ghost use Rattle.pec_network.specs.Working.{providers_in, putters_in, rooms_in, takers_in, tolds_in, turns_told};
+ghost use Rattle.pec_network.specs.Working.{judges_in, providers_in, putters_in, rooms_in, takers_in, tolds_in, turns_told};
 
 use crate::gates::Gate;
 use crate::laws::{rounds_keep_a_state_sound, what_rests_carries_on};
@@ -20,18 +21,22 @@ use pec_outside::Disk;
 use pec_posts::{Arrivals, join, part, rooms, trays};
 use pec_provider::Provider;
 use pec_rows::{Putters, Takers, a_row_is_delivered_link_by_link};
+use pec_screen::Judge;
 use pec_seal::Sealer;
 use pec_types::{Items, Moment, NoMemory, Turn};
 use std::alloc::Global;
 use std::thread::Threads;
 
-impl<D: Disk + Send, S: Sealer + Sync> Network<D, S> {
+impl<D: Disk + Send, S: Sealer + Sync, J: Judge + Send> Network<D, S, J>
+where
+    J::Spare: Send,
+{
     /// A round at a moment: each provider has its turn, from the state as the round began, and then what they put is
-    /// delivered. Each turn runs in a worker of its own, which holds the provider and its ends of the links, and passes
-    /// the gate first. The answer is what is told of each turn. Where a journal is full, a disk fails or gives back
-    /// what it didn't take, a provider is down or the clock is behind its journal, that turn tells how it ended, and
-    /// the others go on. Where memory runs out in a turn the others go on too: each provider has the entries of a front
-    /// of its turn, and the frames of whole turns are on their links.
+    /// delivered. Each turn runs in a worker of its own, which holds the provider, its screens and its ends of the
+    /// links, and passes the gate first. The answer is what is told of each turn. Where a journal is full, a disk fails
+    /// or gives back what it didn't take, a provider is down or the clock is behind its journal, that turn tells how it
+    /// ended, and the others go on. Where memory runs out in a turn the others go on too: each provider has the entries
+    /// of a front of its turn, and the frames of whole turns are on their links.
     pub fn round<X: Threads + Sync, G: Gate + Sync>(
         &mut self,
         rt: &X,
@@ -41,13 +46,17 @@ impl<D: Disk + Send, S: Sealer + Sync> Network<D, S> {
     ) -> Result<Vec<Turn>, NoMemory>
 
         // It is played as the command, with cuts that its turns tell. Over disks that tell what they hold, and on which
-        // what is kept stood, no turn put other frames than those that were due, and from a Sound state none ended by
-        // `Changed`.
+        // what is kept stood, screens looked at what was taken, no turn put other frames than those that were due, and
+        // from a Sound state none ended by `Changed`.
         ensures plays { IfOk result (λ turns. IsRound (D.tells × AllStand D.sight self.old.providers)
             (world_of S.seals self.old) moment (sites self.old) turns.items (sites self.new)) }
         ensures stops { OnErr result (StopsWithin (world_of S.seals self.old) moment
             (sites self.old) (sites self.new)) }
         ensures same { (self.new.kept ≡ self.old.kept) × (self.new.sealer ≡ self.old.sealer) }
+        ensures screens { self.new.screens ≡ self.old.screens }
+
+        // Of each provider all screens have looked as often.
+        ensures looked { AllLookAlike self.old.looks self.new.looks }
 
         // At every moment a crash of any disk leaves entries that may follow in the ledger of any journals in which the
         // frames that waited are genuine.
@@ -68,6 +77,7 @@ impl<D: Disk + Send, S: Sealer + Sync> Network<D, S> {
             &self.directory,
             &self.sealer,
             &mut self.providers,
+            &mut self.judges,
             &mut self.arrivals,
             moment,
             gate,
@@ -77,28 +87,35 @@ impl<D: Disk + Send, S: Sealer + Sync> Network<D, S> {
 
 /// The turns of all providers in a round, side by side, each from the state as the round began. All memory of the round
 /// itself is taken before the first move, so want of memory is that of a turn.
-fn take_turns<X: Threads + Sync, D: Disk + Send, S: Sealer + Sync, G: Gate + Sync>(
+fn take_turns<X: Threads + Sync, D: Disk + Send, S: Sealer + Sync, J: Judge + Send, G: Gate + Sync>(
     rt: &X,
     alloc: Global,
     directory: &Directory,
     sealer: &S,
     providers: &mut Vec<Provider<D>>,
+    judges: &mut Vec<J>,
     arrivals: &mut Vec<Arrivals>,
     moment: Moment,
     gate: &G,
 ) -> Result<Vec<Turn>, NoMemory>
+where
+    J::Spare: Send,
     requires whole { IsOfDirectory directory.now (S.seals sealer.now) providers.old.items arrivals.old.items }
+    requires judges { length judges.old.items ≡ length directory.now }
     ensures plays { IfOk result (λ turns. IsRound (D.tells × AllStand D.sight providers.old.items)
         (trade_of directory.now (S.seals sealer.now)) moment
-        (sites_of providers.old.items arrivals.old.items) turns.items
-        (sites_of providers.new.items arrivals.new.items)) }
+        (sites_of providers.old.items (map J.patterns judges.old.items) arrivals.old.items) turns.items
+        (sites_of providers.new.items (map J.patterns judges.old.items) arrivals.new.items)) }
     ensures stops { OnErr result (StopsWithin (trade_of directory.now (S.seals sealer.now)) moment
-        (sites_of providers.old.items arrivals.old.items) (sites_of providers.new.items arrivals.new.items)) }
+        (sites_of providers.old.items (map J.patterns judges.old.items) arrivals.old.items)
+        (sites_of providers.new.items (map J.patterns judges.old.items) arrivals.new.items)) }
+    ensures screens { map J.patterns judges.new.items ≡ map J.patterns judges.old.items }
+    ensures looked { AllLookAlike (map J.seen judges.old.items) (map J.seen judges.new.items) }
     ensures whole { IsOfDirectory directory.now (S.seals sealer.now) providers.new.items arrivals.new.items }
     ensures carries { D.tells → (journals : Journals)
         → Fit (trade_of directory.now (S.seals sealer.now)) journals
         → FramesAreGenuine (trade_of directory.now (S.seals sealer.now)) journals
-        (sites_of providers.old.items arrivals.old.items)
+        (sites_of providers.old.items (map J.patterns judges.old.items) arrivals.old.items)
         → AllCarryOn D.sight (trade_of directory.now (S.seals sealer.now)) journals
         providers.old.items providers.new.items }
     ensures stands { D.tells → AllStand D.sight providers.old.items → AllStand D.sight providers.new.items }
@@ -121,7 +138,7 @@ fn take_turns<X: Threads + Sync, D: Disk + Send, S: Sealer + Sync, G: Gate + Syn
     } = laid(alloc, count, arrivals.as_slice())?;
     let mut slots = Vec::with_capacity(alloc, count as usize)?;
     part(arrivals, rows.as_mut_slice(), taking, &mut takers);
-    seat(providers, rows, &mut takers, rooms, &mut slots);
+    seat(providers, judges, rows, &mut takers, rooms, &mut slots);
     all_work(
         rt,
         alloc,
@@ -131,7 +148,14 @@ fn take_turns<X: Threads + Sync, D: Disk + Send, S: Sealer + Sync, G: Gate + Syn
         slots.as_mut_slice(),
         gate,
     );
-    rise(&mut slots, providers, &mut putters, &mut takers, &mut turns);
+    rise(
+        &mut slots,
+        providers,
+        judges,
+        &mut putters,
+        &mut takers,
+        &mut turns,
+    );
     slots.destroy_empty();
     join(putters.as_mut_slice(), takers, linking, arrivals);
     if turns.len() == count as usize {
@@ -177,32 +201,38 @@ fn laid(alloc: Global, count: u32, arrivals: &[Arrivals]) -> Result<Table, NoMem
     })
 }
 
-/// Gives each worker its provider and its ends of links. The lists of providers and of ends are then empty, with as
-/// much room as before. It takes no memory.
-fn seat<D>(
+/// Gives each worker its provider, its screens and its ends of links. The lists of providers, of screens and of ends
+/// are then empty, with as much room as before. It takes no memory.
+fn seat<D, J>(
     providers: &mut Vec<Provider<D>>,
+    judges: &mut Vec<J>,
     rows: Vec<Vec<Putter>>,
     takers: &mut Vec<Takers>,
     mut rooms: Vec<Items<usize>>,
-    slots: &mut Vec<Slot<D>>,
+    slots: &mut Vec<Slot<D, J>>,
 )
     requires rows { length rows.items ≡ length providers.old.items }
+    requires judges { length judges.old.items ≡ length providers.old.items }
     requires takers { length takers.old.items ≡ length providers.old.items }
     requires rooms { length rooms.items ≡ length providers.old.items }
     requires slots { HasRoom (length providers.old.items) slots.old }
     ensures providers { providers_in slots.new.items ≡ providers.old.items }
+    ensures judges { judges_in slots.new.items ≡ judges.old.items }
     ensures putters { putters_in slots.new.items ≡ ends_in rows.items }
     ensures takers { takers_in slots.new.items ≡ takers.old.items }
     ensures rooms { rooms_in slots.new.items ≡ rooms.items }
     ensures providers_room { HasRoom (length providers.old.items) providers.new }
+    ensures judges_room { HasRoom (length providers.old.items) judges.new }
     ensures takers_room { HasRoom (length providers.old.items) takers.new }
 {
     for row in rows {
         let provider = providers.remove(0);
+        let judge = judges.remove(0);
         let ends = takers.remove(0);
         let free = rooms.remove(0);
         slots.push_reserved(Slot {
             provider,
+            judge,
             putters: Putters::of(row),
             takers: ends,
             rooms: free,
@@ -212,18 +242,21 @@ fn seat<D>(
 }
 
 /// Takes from each worker what it held, and what is told of its turn. It takes no memory.
-fn rise<D>(
-    slots: &mut Vec<Slot<D>>,
+fn rise<D, J>(
+    slots: &mut Vec<Slot<D, J>>,
     providers: &mut Vec<Provider<D>>,
+    judges: &mut Vec<J>,
     putters: &mut Vec<Putters>,
     takers: &mut Vec<Takers>,
     turns: &mut Vec<Turn>,
 )
     requires providers { HasRoom (length slots.old.items) providers.old }
+    requires judges { HasRoom (length slots.old.items) judges.old }
     requires putters { HasRoom (length slots.old.items) putters.old }
     requires takers { HasRoom (length slots.old.items) takers.old }
     requires turns { HasRoom (length slots.old.items) turns.old }
     ensures providers { providers.new.items ≡ providers_in slots.old.items }
+    ensures judges { judges.new.items ≡ judges_in slots.old.items }
     ensures putters { putters.new.items ≡ putters_in slots.old.items }
     ensures takers { takers.new.items ≡ takers_in slots.old.items }
     ensures turns { turns.new.items ≡ turns_told (tolds_in slots.old.items) }
@@ -232,12 +265,14 @@ fn rise<D>(
     for _ in 0..slots.len() {
         let Slot {
             provider,
+            judge,
             putters: puts,
             takers: takes,
             rooms: _,
             told,
         } = slots.remove(0);
         providers.push_reserved(provider);
+        judges.push_reserved(judge);
         putters.push_reserved(puts);
         takers.push_reserved(takes);
         tell(told, turns);

@@ -9,11 +9,11 @@ ghost use Rattle.pec_network.specs.Network.{sites, world_of};
 ghost use Rattle.pec_network.specs.Summing.{AllRun, total_over};
 
 use crate::network::Network;
-use pec_provider::{Provider, Summary};
+use pec_provider::{Provider, Summary, a_trade_says_what_its_parts_say};
+use pec_screen::Judge;
 use pec_seal::Sealer;
-use pec_trade::a_trade_says_what_its_parts_say;
 
-impl<D, S: Sealer> Network<D, S> {
+impl<D, S: Sealer, J: Judge> Network<D, S, J> {
     /// What has become of the messages of all providers, in numbers, also of those that are down. It takes no memory.
     pub fn summary(&self) -> Summary
         ensures { result ≡ total_of (world_of S.seals self.now) (sites self.now) }

@@ -5,12 +5,13 @@ ghost use Rattle.pec_outside.specs.Flow.{HasRisen};
 ghost use Rattle.pec_plays.specs.Decisions.{undecided};
 ghost use Rattle.pec_plays.specs.Rounds.{link_size, sent_from};
 ghost use Rattle.pec_plays.specs.Turns.{frames_in, puts_from};
-ghost use Rattle.pec_trade.specs.Houses.{world_at};
+ghost use Rattle.pec_provider.specs.OfTrades.{world_at};
 ghost use Rattle.pec_chronicle.specs.Carrying.{CarriesOn, NothingMay};
 ghost use Rattle.pec_chronicle.specs.Chronicle.{Stands};
 ghost use Rattle.pec_provider.specs.Provider.{RunsIn, desk_of, site_of};
 ghost use Rattle.pec_provider.specs.Working.{IsAtWork};
 ghost use Rattle.pec_rows.specs.Rows.{knowns, waits};
+ghost use Rattle.pec_network.specs.Looking.{LookAlike};
 ghost use Rattle.pec_network.specs.Turning.{CarriesFrames, Ends, Leads, NoneIsChanged, Puts, StopsShort, Took, room_in};
 ghost use Rattle.pec_network.specs.Turning.{told_of, turn_of};
 
@@ -20,6 +21,7 @@ use pec_outside::Disk;
 use pec_plays::{a_turn_puts_what_is_due, frames_are_taken_in_order};
 use pec_provider::{Event, House, Provider, ProviderFault, a_house_is_a_trade};
 use pec_rows::Takers;
+use pec_screen::Judge;
 use pec_seal::Sealer;
 use pec_types::{Frame, Items, Moment, NoMemory, Turn};
 use std::alloc::Global;
@@ -33,14 +35,15 @@ pub struct Taken {
 
 /// A provider's turn in a round, with the frames that wait for it, where its links have so much room by number of
 /// provider. Where it is down or the clock is behind its journal it takes and puts nothing. Otherwise it handles the
-/// frames in their order, decides on what it took, and puts the letters that are due, once all are composed. A full
-/// journal or a fault of the disk ends the turn: the frame in hand is gone, later frames stay, and nothing is put. So
-/// does an entry that can't be read for a letter, or isn't what the letter is composed of: all frames are handled by
-/// then.
-pub fn take_turn<D: Disk, S: Sealer>(
+/// frames in their order, decides on what it took, at which its screens look, and puts the letters that are due, once
+/// all are composed. A full journal or a fault of the disk ends the turn: the frame in hand is gone, later frames stay,
+/// and nothing is put. So does an entry that can't be read for a decision or a letter, or isn't what that is made of:
+/// all frames are handled by then.
+pub fn take_turn<D: Disk, S: Sealer, J: Judge>(
     alloc: Global,
     house: &House<'_, S>,
     provider: &mut Provider<D>,
+    judge: &mut J,
     takers: &mut Takers,
     moment: Moment,
     rooms: &[usize],
@@ -51,13 +54,14 @@ pub fn take_turn<D: Disk, S: Sealer>(
     requires short { (to : ℕ) → room_in rooms.now to ≤ link_size }
 
     // It is a turn of the rounds of pec_plays, with a cut that it tells. Over a disk that tells what it holds, and on
-    // which what is kept stood, no other frames were put than those that were due; and where the journals as the
-    // letters are composed are Fit it doesn't end by `Changed`.
+    // which what is kept stood, its screens looked at what was taken, and no other frames were put than those that were
+    // due; and where the journals as it ends are Fit it doesn't end by `Changed`.
     ensures took { IfOk result (λ taken. Took (D.tells × Stands D.sight provider.old.chronicle) (world_at house.now)
-        house.now.me moment (room_in rooms.now) (site_of (desk_of provider.old) (waits takers.old))
-        (turn_of (site_of (desk_of provider.new) (waits takers.new)) taken.turn taken.out)) }
+        house.now.me moment (room_in rooms.now)
+        (site_of (desk_of provider.old) (J.patterns judge.old) (waits takers.old))
+        (turn_of (site_of (desk_of provider.new) (J.patterns judge.old) (waits takers.new)) taken.turn taken.out)) }
     ensures told { IfOk result (λ taken. taken.turn ≡ told_of house.now.me (turn_of (site_of (desk_of provider.new)
-        (waits takers.new)) taken.turn taken.out)) }
+        (J.patterns judge.old) (waits takers.new)) taken.turn taken.out)) }
 
     // Want of memory is no turn.
     ensures memory { IfOk result (λ taken. taken.turn.ended ≢ Some faults.NoMemory) }
@@ -67,8 +71,13 @@ pub fn take_turn<D: Disk, S: Sealer>(
 
     // On want of memory what was appended is a front of the turn.
     ensures short { OnErr result (StopsShort (world_at house.now) house.now.me moment
-        (site_of (desk_of provider.old) (waits takers.old)) (site_of (desk_of provider.new) (waits takers.new))) }
+        (site_of (desk_of provider.old) (J.patterns judge.old) (waits takers.old))
+        (site_of (desk_of provider.new) (J.patterns judge.old) (waits takers.new))) }
     ensures nothing_owed { provider.new.owed ≡ [] }
+
+    // Its screens have looked, each as often.
+    ensures patterns { J.patterns judge.new ≡ J.patterns judge.old }
+    ensures looked { LookAlike (J.seen judge.old) (J.seen judge.new) }
     ensures runs { RunsIn house.now provider.new }
     ensures links { length (waits takers.new) ≡ length (waits takers.old) }
     ensures kept { knowns takers.new ≡ knowns takers.old }
@@ -84,16 +93,17 @@ pub fn take_turn<D: Disk, S: Sealer>(
         HasRisen (D.faults provider.old.chronicle.disk) (D.faults provider.new.chronicle.disk)) }
     ensures later { D.faults provider.old.chronicle.disk ≤ D.faults provider.new.chronicle.disk }
 {
-    let taken = turn(alloc, house, provider, takers, moment, rooms);
+    let taken = turn(alloc, house, provider, judge, takers, moment, rooms);
     provider.end_turn();
     taken
 }
 
 /// The turn, but for the answers that are owed in it, which are forgotten when it ends.
-fn turn<D: Disk, S: Sealer>(
+fn turn<D: Disk, S: Sealer, J: Judge>(
     alloc: Global,
     house: &House<'_, S>,
     provider: &mut Provider<D>,
+    judge: &mut J,
     takers: &mut Takers,
     moment: Moment,
     rooms: &[usize],
@@ -103,14 +113,18 @@ fn turn<D: Disk, S: Sealer>(
     requires rooms { length rooms.now ≡ length house.now.directory.now }
     requires short { (to : ℕ) → room_in rooms.now to ≤ link_size }
     ensures took { IfOk result (λ taken. Took (D.tells × Stands D.sight provider.old.chronicle) (world_at house.now)
-        house.now.me moment (room_in rooms.now) (site_of (desk_of provider.old) (waits takers.old))
-        (turn_of (site_of (desk_of provider.new) (waits takers.new)) taken.turn taken.out)) }
+        house.now.me moment (room_in rooms.now)
+        (site_of (desk_of provider.old) (J.patterns judge.old) (waits takers.old))
+        (turn_of (site_of (desk_of provider.new) (J.patterns judge.old) (waits takers.new)) taken.turn taken.out)) }
     ensures told { IfOk result (λ taken. taken.turn ≡ told_of house.now.me (turn_of (site_of (desk_of provider.new)
-        (waits takers.new)) taken.turn taken.out)) }
+        (J.patterns judge.old) (waits takers.new)) taken.turn taken.out)) }
     ensures memory { IfOk result (λ taken. taken.turn.ended ≢ Some faults.NoMemory) }
     ensures fit { IfOk result (λ taken. (to : ℕ) → length (slice_index_or taken.out to []) ≤ room_in rooms.now to) }
     ensures short { OnErr result (StopsShort (world_at house.now) house.now.me moment
-        (site_of (desk_of provider.old) (waits takers.old)) (site_of (desk_of provider.new) (waits takers.new))) }
+        (site_of (desk_of provider.old) (J.patterns judge.old) (waits takers.old))
+        (site_of (desk_of provider.new) (J.patterns judge.old) (waits takers.new))) }
+    ensures patterns { J.patterns judge.new ≡ J.patterns judge.old }
+    ensures looked { LookAlike (J.seen judge.old) (J.seen judge.new) }
     ensures runs { RunsIn house.now provider.new }
     ensures links { length (waits takers.new) ≡ length (waits takers.old) }
     ensures kept { knowns takers.new ≡ knowns takers.old }
@@ -129,31 +143,37 @@ fn turn<D: Disk, S: Sealer>(
         return Ok(ended(alloc, house.me, Vec::new(alloc), fault));
     }
     let mut events = Vec::new(alloc);
-    match take_steps(alloc, house, provider, takers, moment, &mut events) {
+    match take_steps(alloc, house, provider, judge, takers, moment, &mut events) {
         Ok(()) => whole(alloc, house, provider, rooms, events),
         Err(fault) => cut_off(alloc, house.me, events, fault),
     }
 }
 
 /// Handles all frames that wait, and decides on all that was taken.
-fn take_steps<D: Disk, S: Sealer>(
+fn take_steps<D: Disk, S: Sealer, J: Judge>(
     alloc: Global,
     house: &House<'_, S>,
     provider: &mut Provider<D>,
+    judge: &mut J,
     takers: &mut Takers,
     moment: Moment,
     events: &mut Vec<Event>,
 ) -> Result<(), ProviderFault>
     requires runs { RunsIn house.now provider.old }
     requires works { IsAtWork (world_at house.now) house.now.me moment (desk_of provider.old) }
-    ensures leads { OnOk result (Leads (world_at house.now) house.now.me moment
-        (desk_of provider.old) (waits takers.old) events.old.items (desk_of provider.new) (waits takers.new) events.new.items) }
+    ensures leads { OnOk result
+        (Leads (D.tells × Stands D.sight provider.old.chronicle) (world_at house.now) house.now.me moment
+        (J.patterns judge.old) (desk_of provider.old) (waits takers.old) events.old.items
+        (desk_of provider.new) (waits takers.new) events.new.items) }
     ensures none { OnOk result (frames_in (waits takers.new) ≡ []) }
     ensures decided { OnOk result (undecided (world_at house.now) house.now.me
         provider.new.chronicle.entries ≡ []) }
-    ensures ends { IfErr result (λ fault. Ends (world_at house.now) house.now.me moment
-        (desk_of provider.old) (waits takers.old) events.old.items fault
+    ensures ends { IfErr result (λ fault.
+        Ends (D.tells × Stands D.sight provider.old.chronicle) (world_at house.now) house.now.me moment
+        (J.patterns judge.old) (desk_of provider.old) (waits takers.old) events.old.items fault
         (desk_of provider.new) (waits takers.new) events.new.items) }
+    ensures patterns { J.patterns judge.new ≡ J.patterns judge.old }
+    ensures looked { LookAlike (J.seen judge.old) (J.seen judge.new) }
     ensures runs { RunsIn house.now provider.new }
     ensures links { length (waits takers.new) ≡ length (waits takers.old) }
     ensures kept { knowns takers.new ≡ knowns takers.old }
@@ -164,8 +184,9 @@ fn take_steps<D: Disk, S: Sealer>(
         provider.new.chronicle.disk) }
     ensures later { D.faults provider.old.chronicle.disk ≤ D.faults provider.new.chronicle.disk }
 {
+    frames_are_taken_in_order();
     take_frames(alloc, house, provider, takers, moment, events)?;
-    decide_pairs(alloc, house, provider, moment, events)?;
+    decide_pairs(alloc, house, provider, judge, moment, events)?;
     Ok(())
 }
 

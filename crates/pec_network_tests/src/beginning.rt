@@ -6,6 +6,7 @@ use crate::digests::digest_of;
 use crate::net::{Outcome, begun, played};
 use pec_network::{Form, Network, NotFit, StartFault};
 use pec_outside::{Depot, MemDepot, MemDisk};
+use pec_screen::PatternScreen;
 use pec_seal::HmacSealer;
 use pec_trial::{journal_of, two};
 use std::alloc::Global;
@@ -239,7 +240,7 @@ fn begun_over(alloc: Global, form: Form, mut depot: MemDepot) -> Beginning {
 
 /// Ends a network that began; or why it didn't.
 fn ended(
-    begun: Result<Network<MemDisk, HmacSealer>, StartFault>,
+    begun: Result<Network<MemDisk, HmacSealer, PatternScreen>, StartFault>,
     depot: &mut MemDepot,
 ) -> Option<StartFault> {
     match begun {

@@ -88,7 +88,7 @@ round 1704186005 -> 0 repeat ack 0/2 anna@alfa.example, charged 0/1 1, learned 0
 static SECOND: [Case; 3] = [
     Case {
         why: "both disks fail in one round; a decision that was never told is found behind the restart",
-        failing: &[(0, 12), (1, 19)],
+        failing: &[(0, 12), (1, 20)],
         kept: &[],
         script: "
 submit 0 1704186000 alice@alfa.example bob@beta.example to-bob -> accepted 0/0
@@ -109,7 +109,7 @@ mailbox bob@beta.example -> acceptance 1/0, envelope 0/0, 2 items
     },
     Case {
         why: "an interrupted entry is gone where a crash keeps no byte of its gate",
-        failing: &[(0, 19)],
+        failing: &[(0, 20)],
         kept: &[],
         script: "
 submit 0 1704186000 alice@alfa.example anna@alfa.example to-anna -> accepted 0/0
@@ -123,7 +123,7 @@ round 1704186003 -> 0 decided 0/0 anna@alfa.example delivered, sent 0 2, | 1
     },
     Case {
         why: "and is there where a crash keeps it",
-        failing: &[(0, 19)],
+        failing: &[(0, 20)],
         kept: &[99],
         script: "
 submit 0 1704186000 alice@alfa.example anna@alfa.example to-anna -> accepted 0/0
@@ -179,10 +179,10 @@ mailbox alice@alfa.example -> acceptance 0/0, warning 0/0 bob@beta.example, 2 it
     },
 ];
 
-static FOURTH: [Case; 2] = [
+static FOURTH: [Case; 3] = [
     Case {
         why: "a read that fails as an item is shown makes its provider down, with no entry interrupted",
-        failing: &[(0, 23)],
+        failing: &[(0, 24)],
         kept: &[],
         script: "
 submit 0 1704186000 alice@alfa.example anna@alfa.example to-anna -> accepted 0/0
@@ -201,7 +201,7 @@ entries 0 -> 4
     },
     Case {
         why: "a read that fails for a letter ends a turn: all is handled, nothing put, and no entry interrupted",
-        failing: &[(0, 21)],
+        failing: &[(0, 22)],
         kept: &[],
         script: "
 submit 0 1704186000 alice@alfa.example anna@alfa.example to-anna -> accepted 0/0
@@ -213,6 +213,20 @@ crash 0 -> crashed
 restart 0 -> 4
 round 1704186004 -> 0 sent 0 2, | 1
 round 1704186005 -> 0 learned 0/0 anna@alfa.example delivered, repeat envelope 0/0 0, sent 0 3, | 1
+",
+    },
+    Case {
+        why: "a read that fails for a decision ends a turn: the frames are handled, nothing is decided or put",
+        failing: &[(0, 16)],
+        kept: &[],
+        script: "
+submit 0 1704186000 alice@alfa.example anna@alfa.example to-anna -> accepted 0/0
+round 1704186001 -> 0 sent 0 1, | 1
+round 1704186002 -> 0 took 0/0, ended disk-fault | 1
+round 1704186003 -> 0 ended down | 1
+entries 0 -> 3
+restart 0 -> 3
+round 1704186003 -> 0 decided 0/0 anna@alfa.example delivered, sent 0 2, | 1
 ",
     },
 ];

@@ -5,16 +5,16 @@ ghost use Rattle.std.specs.Prelude.{◌<◌, length, IfOk};
 use crate::words::{link_word, restart_word};
 use pec_directory::Directory;
 use pec_link::LinkFault;
-use pec_network::{Form, FreeGate, Network, StartFault};
+use pec_network::{Form, FreeGate, Network, StartFault, SwapFault};
 use pec_outside::{MemDepot, MemDisk};
-use pec_screen::NoScreens;
+use pec_screen::PatternScreen;
 use pec_seal::HmacSealer;
 use pec_trade::sealer_of;
 use pec_trial::{
     account_at, moment_of, number, small, submission_of, text_of, told, told_all, told_item,
     told_turns, told_word, two, word,
 };
-use pec_types::{Frame, Steps, Text8};
+use pec_types::{Frame, Mark, NoMemory, ProviderFault, Steps, Text8};
 use std::alloc::{AllocError, Global};
 use std::test::Fail;
 use std::thread::Threads;
@@ -23,7 +23,7 @@ use std::thread::Threads;
 struct Net<'a, X: Threads + Sync> {
     rt: &'a X,
     alloc: Global,
-    network: Network<MemDisk, HmacSealer>,
+    network: Network<MemDisk, HmacSealer, PatternScreen>,
     depot: MemDepot,
 }
 
@@ -99,7 +99,7 @@ pub(crate) fn begun(
     alloc: Global,
     form: Form,
     depot: &mut MemDepot,
-) -> Result<Network<MemDisk, HmacSealer>, StartFault> {
+) -> Result<Network<MemDisk, HmacSealer, PatternScreen>, StartFault> {
     match Directory::read(alloc, two()) {
         Ok(directory) => begun_in(alloc, form, directory, depot),
         Err(_) => Err(StartFault::NoMemory),
@@ -111,12 +111,27 @@ fn begun_in(
     form: Form,
     directory: Directory,
     depot: &mut MemDepot,
-) -> Result<Network<MemDisk, HmacSealer>, StartFault> {
+) -> Result<Network<MemDisk, HmacSealer, PatternScreen>, StartFault> {
     let sealer = sealer_of(alloc, &directory)?;
     match form {
-        Form::Make => Network::create(alloc, directory, sealer, depot),
-        Form::Open => Network::resume(alloc, directory, sealer, depot),
+        Form::Make => Network::create(alloc, directory, sealer, screens(alloc)?, depot),
+        Form::Open => Network::resume(alloc, directory, sealer, screens(alloc)?, depot),
     }
+}
+
+/// A screen for each of the two providers, whose pattern no message of the tests has.
+fn screens(alloc: Global) -> Result<Vec<PatternScreen>, NoMemory> {
+    let mut screens = Vec::with_capacity(alloc, 2)?;
+    screens.push_reserved(screen_of(alloc, b"@@")?);
+    screens.push_reserved(screen_of(alloc, b"@@")?);
+    Ok(screens)
+}
+
+/// A screen of one pattern.
+fn screen_of(alloc: Global, pattern: &[u8]) -> Result<PatternScreen, NoMemory> {
+    let mut patterns = Vec::with_capacity(alloc, 1)?;
+    patterns.push_reserved(Text8::of(Vec::from_slice(alloc, pattern)?));
+    Ok(PatternScreen::new(patterns))
 }
 
 fn within<X: Threads + Sync>(mut net: Net<'_, X>, script: &str) -> Result<Outcome, Fail> {
@@ -153,11 +168,16 @@ enum Verb {
     Book,
     Mailbox,
     Show,
+    Archive,
+    Upgrade,
+    Vault,
+    VaultShow,
+    Screen,
     Entries,
     Unknown,
 }
 
-const VERBS: [(&str, Verb); 13] = [
+const VERBS: [(&str, Verb); 18] = [
     ("submit", Verb::Submit),
     ("tick", Verb::Tick),
     ("round", Verb::Round),
@@ -170,6 +190,11 @@ const VERBS: [(&str, Verb); 13] = [
     ("book", Verb::Book),
     ("mailbox", Verb::Mailbox),
     ("show", Verb::Show),
+    ("archive", Verb::Archive),
+    ("upgrade", Verb::Upgrade),
+    ("vault", Verb::Vault),
+    ("vault-show", Verb::VaultShow),
+    ("screen", Verb::Screen),
     ("entries", Verb::Entries),
 ];
 
@@ -226,6 +251,11 @@ impl<X: Threads + Sync> Net<'_, X> {
             Verb::Book => self.book(call),
             Verb::Mailbox => self.mailbox(call),
             Verb::Show => self.show(call),
+            Verb::Archive => self.archive(call),
+            Verb::Upgrade => self.upgrade(call),
+            Verb::Vault => self.vault(call),
+            Verb::VaultShow => self.vault_show(call),
+            Verb::Screen => self.screen(call),
             Verb::Entries => self.entries(call),
             Verb::Unknown => Err("no such verb".into()),
         }
@@ -272,7 +302,6 @@ impl<X: Threads + Sync> Net<'_, X> {
     fn submit(&mut self, line: &str) -> Result<Vec<u8>, Fail> {
         let provider = self.who(line, 1)?;
         let asked = submission_of(self.alloc, line)?;
-        let mut none = NoScreens;
         let answer = self.network.submit(
             self.alloc,
             provider,
@@ -280,7 +309,6 @@ impl<X: Threads + Sync> Net<'_, X> {
             &asked.sender,
             &asked.path,
             &asked.message,
-            &mut none,
         );
         told(self.alloc, answer)
     }
@@ -380,6 +408,52 @@ impl<X: Threads + Sync> Net<'_, X> {
         told_item(self.alloc, answer)
     }
 
+    /// `archive ACCOUNT MOMENT PLACE`
+    fn archive(&mut self, line: &str) -> Result<Vec<u8>, Fail> {
+        let moment = moment_of(line, 2)?;
+        let place = small(line, 3)?;
+        let account = account_at(self.alloc, line, 1)?;
+        let answer = self.network.archive(self.alloc, moment, &account, place);
+        told_done(self.alloc, answer, b"archived")
+    }
+
+    /// `upgrade PROVIDER MOMENT`
+    fn upgrade(&mut self, line: &str) -> Result<Vec<u8>, Fail> {
+        let provider = self.who(line, 1)?;
+        let moment = moment_of(line, 2)?;
+        let answer = self.network.upgrade(self.alloc, provider, moment);
+        told_done(self.alloc, answer, b"upgraded")
+    }
+
+    /// `vault ACCOUNT`
+    fn vault(&self, line: &str) -> Result<Vec<u8>, Fail> {
+        let account = account_at(self.alloc, line, 1)?;
+        let answer = self.network.vault(self.alloc, &account);
+        told_all(self.alloc, answer, b"items")
+    }
+
+    /// `vault-show ACCOUNT PLACE`
+    fn vault_show(&mut self, line: &str) -> Result<Vec<u8>, Fail> {
+        let place = small(line, 2)?;
+        let account = account_at(self.alloc, line, 1)?;
+        let answer = self.network.vault_item(self.alloc, &account, place);
+        told_item(self.alloc, answer)
+    }
+
+    /// `screen PROVIDER PLACE PATTERN`
+    fn screen(&mut self, line: &str) -> Result<Vec<u8>, Fail> {
+        let provider = self.who(line, 1)?;
+        let place = number(line, 2)? as usize;
+        let Ok(spare) = screen_of(self.alloc, word(line, 3).as_bytes()) else {
+            return Err("no memory".into());
+        };
+        match self.network.replace(provider, place, spare) {
+            Ok(()) => told_word(self.alloc, b"screened"),
+            Err((_, SwapFault::Down)) => told_word(self.alloc, b"down"),
+            Err((_, SwapFault::NoSuchPlace)) => told_word(self.alloc, b"no-screen"),
+        }
+    }
+
     /// `entries PROVIDER`
     fn entries(&self, line: &str) -> Result<Vec<u8>, Fail> {
         let provider = self.who(line, 1)?;
@@ -395,6 +469,18 @@ fn told_wrong(alloc: Global, line: &str, came: &[u8]) -> Result<String, AllocErr
         text.push(char::from(*b))?;
     }
     Ok(text)
+}
+
+/// What a call came to that answers no more than that it was done.
+fn told_done(
+    alloc: Global,
+    answer: Result<(), ProviderFault>,
+    done: &[u8],
+) -> Result<Vec<u8>, Fail> {
+    match answer {
+        Ok(()) => told_word(alloc, done),
+        Err(fault) => told_all::<Mark>(alloc, Err(fault), done),
+    }
 }
 
 fn told_number(alloc: Global, number: u64) -> Result<Vec<u8>, Fail> {

@@ -4,6 +4,7 @@ use crate::cases::{depot_failing, wrong_line};
 use crate::net::{begun, played};
 use pec_network::{Form, Gate, Network};
 use pec_outside::MemDisk;
+use pec_screen::PatternScreen;
 use pec_seal::HmacSealer;
 use pec_types::Moment;
 use std::alloc::Global;
@@ -92,7 +93,7 @@ fn meets<X: Threads + Sync, G: Gate + Sync>(rt: &X, alloc: Global, gate: &G) -> 
 fn told<X: Threads + Sync, G: Gate + Sync>(
     rt: &X,
     alloc: Global,
-    network: &mut Network<MemDisk, HmacSealer>,
+    network: &mut Network<MemDisk, HmacSealer, PatternScreen>,
     gate: &G,
     seconds: u64,
 ) -> Option<usize> {

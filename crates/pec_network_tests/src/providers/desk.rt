@@ -4,15 +4,18 @@ ghost use Rattle.std.specs.Prelude.{◌<◌, ◌≤◌, length};
 ghost use Rattle.pec_records.specs.Entry.{longest_message, most_addresses};
 
 use super::home::Home;
-use pec_outside::MemDisk;
-use pec_provider::{CreateFault, House, Provider, ProviderFault, ReopenFault, Submitted};
-use pec_screen::NoScreens;
+use pec_extract::{ExtractFault, Totals, write_provider};
+use pec_outside::{MemDisk, MemSink};
+use pec_provider::{
+    CreateFault, Event, House, Provider, ProviderFault, ReopenFault, Submitted, SwapFault,
+};
+use pec_screen::PatternScreen;
 use pec_seal::{HmacSealer, Sealer};
 use pec_trial::{
     Submission, account_at, add, add_number, moment_of, number, small, submission_of, told,
     told_all, told_item, told_list, told_word, word,
 };
-use pec_types::{Frame, Steps};
+use pec_types::{Frame, Steps, Text8};
 use std::alloc::Global;
 use std::marker::Model;
 use std::test::Fail;
@@ -36,12 +39,13 @@ impl Who {
     }
 }
 
-/// One provider, and the frames that it put last.
+/// One provider with one screen, and the frames that it put last.
 pub(crate) struct Desk {
     alloc: Global,
     home: Home,
     me: u32,
     provider: Provider<MemDisk>,
+    screen: PatternScreen,
     put: Vec<Frame>,
 }
 
@@ -64,6 +68,7 @@ impl Drop for Desk {
             home: _,
             me: _,
             provider: _,
+            screen: _,
             put: _,
         } = self;
     }
@@ -89,6 +94,7 @@ impl Desk {
                 home,
                 me,
                 provider,
+                screen: PatternScreen::new(Vec::new(alloc)),
                 put: Vec::new(alloc),
             }),
             Err((fault, _)) => Err(fault),
@@ -114,6 +120,7 @@ impl Desk {
                 home,
                 me,
                 provider,
+                screen: PatternScreen::new(Vec::new(alloc)),
                 put: Vec::new(alloc),
             }),
             Err((fault, _)) => Err(fault),
@@ -127,6 +134,7 @@ impl Desk {
             home,
             me: _,
             provider,
+            screen: _,
             put: _,
         } = self;
         let (disk, interrupted) = provider.into_parts();
@@ -154,11 +162,18 @@ enum Verb {
     Book,
     Mailbox,
     Item,
+    Archive,
+    Upgrade,
+    Vault,
+    VaultItem,
+    Screen,
+    Looks,
     Figures,
+    Log,
     Unknown,
 }
 
-const VERBS: [(&str, Verb); 10] = [
+const VERBS: [(&str, Verb); 17] = [
     ("submit", Verb::Submit),
     ("tick", Verb::Tick),
     ("arrive", Verb::Arrive),
@@ -168,7 +183,14 @@ const VERBS: [(&str, Verb); 10] = [
     ("book", Verb::Book),
     ("mailbox", Verb::Mailbox),
     ("item", Verb::Item),
+    ("archive", Verb::Archive),
+    ("upgrade", Verb::Upgrade),
+    ("vault", Verb::Vault),
+    ("vault-item", Verb::VaultItem),
+    ("screen", Verb::Screen),
+    ("looks", Verb::Looks),
     ("figures", Verb::Figures),
+    ("log", Verb::Log),
 ];
 
 fn verb_of(word: &str) -> Verb {
@@ -195,7 +217,14 @@ impl Desk {
             Verb::Book => self.book(line),
             Verb::Mailbox => self.mailbox(line),
             Verb::Item => self.item(line),
+            Verb::Archive => self.archive(line),
+            Verb::Upgrade => self.upgrade(line),
+            Verb::Vault => self.vault(line),
+            Verb::VaultItem => self.vault_item(line),
+            Verb::Screen => self.screen(line),
+            Verb::Looks => self.looks(),
             Verb::Figures => self.figures(),
+            Verb::Log => self.log(line),
             Verb::Unknown => Err("no such verb".into()),
         }
     }
@@ -217,7 +246,6 @@ impl Desk {
             sealer: &home.sealer,
             me: self.me,
         };
-        let mut none = NoScreens;
         self.provider.submit(
             self.alloc,
             &house,
@@ -225,7 +253,7 @@ impl Desk {
             &asked.sender,
             &asked.path,
             &asked.message,
-            &mut none,
+            &mut self.screen,
         )
     }
 
@@ -266,7 +294,9 @@ impl Desk {
             sealer: &home.sealer,
             me: self.me,
         };
-        let answer = self.provider.decide_next(self.alloc, &house, moment);
+        let answer = self
+            .provider
+            .decide_next(self.alloc, &house, moment, &mut self.screen);
         told(self.alloc, answer)
     }
 
@@ -342,6 +372,86 @@ impl Desk {
         told_item(self.alloc, answer)
     }
 
+    /// `archive MOMENT ACCOUNT PLACE`
+    fn archive(&mut self, line: &str) -> Result<Vec<u8>, Fail> {
+        let moment = moment_of(line, 2)?;
+        let account = account_at(self.alloc, line, 3)?;
+        let place = small(line, 4)?;
+        let home = &self.home;
+        let house = House {
+            directory: &home.directory,
+            sealer: &home.sealer,
+            me: self.me,
+        };
+        let answer = self
+            .provider
+            .archive(self.alloc, &house, moment, &account, place);
+        told_done(self.alloc, answer, b"archived")
+    }
+
+    /// `upgrade MOMENT`
+    fn upgrade(&mut self, line: &str) -> Result<Vec<u8>, Fail> {
+        let moment = moment_of(line, 2)?;
+        let home = &self.home;
+        let house = House {
+            directory: &home.directory,
+            sealer: &home.sealer,
+            me: self.me,
+        };
+        let answer = self.provider.upgrade(self.alloc, &house, moment);
+        told_done(self.alloc, answer, b"upgraded")
+    }
+
+    /// `vault ACCOUNT`
+    fn vault(&self, line: &str) -> Result<Vec<u8>, Fail> {
+        let account = account_at(self.alloc, line, 2)?;
+        let home = &self.home;
+        let house = House {
+            directory: &home.directory,
+            sealer: &home.sealer,
+            me: self.me,
+        };
+        let answer = self.provider.vault(self.alloc, &house, &account);
+        told_all(self.alloc, answer, b"items")
+    }
+
+    /// `vault-item ACCOUNT PLACE`
+    fn vault_item(&mut self, line: &str) -> Result<Vec<u8>, Fail> {
+        let place = small(line, 3)?;
+        let account = account_at(self.alloc, line, 2)?;
+        let home = &self.home;
+        let house = House {
+            directory: &home.directory,
+            sealer: &home.sealer,
+            me: self.me,
+        };
+        let answer = self
+            .provider
+            .vault_item(self.alloc, &house, &account, place);
+        told_item(self.alloc, answer)
+    }
+
+    /// `screen PLACE PATTERN`: a screen of that pattern takes the place of one.
+    fn screen(&mut self, line: &str) -> Result<Vec<u8>, Fail> {
+        let place = small(line, 2)? as usize;
+        let pattern = Vec::from_slice(self.alloc, word(line, 3).as_bytes())?;
+        let mut patterns = Vec::new(self.alloc);
+        patterns.push(Text8::of(pattern))?;
+        let spare = PatternScreen::new(patterns);
+        match self.provider.replace(&mut self.screen, place, spare) {
+            Ok(()) => told_word(self.alloc, b"screened"),
+            Err((_, SwapFault::Down)) => told_word(self.alloc, b"down"),
+            Err((_, SwapFault::NoSuchPlace)) => told_word(self.alloc, b"no-screen"),
+        }
+    }
+
+    /// `looks`: how often the screen has looked.
+    fn looks(&self) -> Result<Vec<u8>, Fail> {
+        let mut words = Vec::new(self.alloc);
+        add_number(self.alloc, &mut words, self.screen.seen())?;
+        Ok(words)
+    }
+
     /// `figures`: entries, the last moment, messages, the end of the journal, and whether the provider is down.
     fn figures(&self) -> Result<Vec<u8>, Fail> {
         let provider = &self.provider;
@@ -353,6 +463,78 @@ impl Desk {
         ];
         let words = figures_text(self.alloc, numbers, provider.is_down());
         told_word(self.alloc, &words)
+    }
+
+    /// `log FROM UPTO`: the rows of a range, with ` | ` behind each, and the four totals.
+    fn log(&mut self, line: &str) -> Result<Vec<u8>, Fail> {
+        let from = moment_of(line, 2)?;
+        let upto = moment_of(line, 3)?;
+        if self.provider.is_down() {
+            return told_word(self.alloc, b"down");
+        }
+        let home = &self.home;
+        let house = House {
+            directory: &home.directory,
+            sealer: &home.sealer,
+            me: self.me,
+        };
+        let mut out = MemSink::new(self.alloc, Vec::new(self.alloc));
+        let answer = write_provider(self.alloc, &house, &mut self.provider, from, upto, &mut out);
+        let mut words = rows_text(self.alloc, out.bytes())?;
+        told_log(self.alloc, &mut words, answer)?;
+        Ok(words)
+    }
+}
+
+/// Rows as one line: ` | ` in the place of each line feed.
+fn rows_text(alloc: Global, rows: &[u8]) -> Result<Vec<u8>, Fail> {
+    let mut text = Vec::new(alloc);
+    for byte in rows {
+        if *byte == b'\n' {
+            text.extend_from_slice(b" |")?;
+        } else {
+            text.push(*byte)?;
+        }
+    }
+    Ok(text)
+}
+
+/// The totals of an extract behind its rows, or why it ended.
+fn told_log(
+    alloc: Global,
+    words: &mut Vec<u8>,
+    answer: Result<Totals, ExtractFault>,
+) -> Result<(), Fail> {
+    match answer {
+        Ok(totals) => {
+            for number in [
+                totals.accepted,
+                totals.delivered,
+                totals.refused,
+                totals.pending,
+            ] {
+                add_number(alloc, words, number)?;
+            }
+        }
+        Err(ExtractFault::DiskFault) => add(words, b"disk-fault")?,
+        Err(ExtractFault::Changed(number)) => {
+            add(words, b"changed")?;
+            add_number(alloc, words, number)?;
+        }
+        Err(_) => add(words, b"no more")?,
+    }
+    Ok(())
+}
+
+/// What was done, as a word, or why it wasn't.
+fn told_done(
+    alloc: Global,
+    answer: Result<(), ProviderFault>,
+    done: &[u8],
+) -> Result<Vec<u8>, Fail> {
+    match answer {
+        Ok(()) => told_word(alloc, done),
+        Err(fault) => told::<Event>(alloc, Err(fault)),
     }
 }
 

@@ -17,8 +17,8 @@ struct Entry {
     whose: u32,
     /// Its number in the journal.
     number: u64,
-    /// How many letters were put before it, each of which is one read.
-    put: u64,
+    /// How many entries were read before it: one for each letter that was put, and one for each decision.
+    reads: u64,
     before: &'static str,
     call: &'static str,
     without: &'static str,
@@ -30,7 +30,7 @@ static FIRST: [Entry; 3] = [
         why: "Accepted",
         whose: 0,
         number: 1,
-        put: 0,
+        reads: 0,
         before: "",
         call: "alfa submit 1704186000 alice@alfa.example bob@beta.example to-bob",
         without: "accepted 0/0",
@@ -40,7 +40,7 @@ static FIRST: [Entry; 3] = [
         why: "NotAccepted",
         whose: 0,
         number: 1,
-        put: 0,
+        reads: 0,
         before: "",
         call: "alfa submit 1704186000 alice@alfa.example bob@beta.example blind",
         without: "not-accepted 0/0 bcc",
@@ -50,7 +50,7 @@ static FIRST: [Entry; 3] = [
         why: "Took",
         whose: 1,
         number: 1,
-        put: 0,
+        reads: 0,
         before: TAKING,
         call: "beta arrive 1704186002 alfa 0",
         without: "took 0/0",
@@ -63,7 +63,7 @@ static SECOND: [Entry; 3] = [
         why: "Decided",
         whose: 1,
         number: 2,
-        put: 0,
+        reads: 1,
         before: DECIDING,
         call: "beta decide 1704186002",
         without: "decided 0/0 bob@beta.example delivered",
@@ -73,7 +73,7 @@ static SECOND: [Entry; 3] = [
         why: "Charged",
         whose: 0,
         number: 2,
-        put: 1,
+        reads: 1,
         before: LEARNING,
         call: "alfa arrive 1704186003 beta 0",
         without: "charged 0/0 1",
@@ -83,7 +83,7 @@ static SECOND: [Entry; 3] = [
         why: "Learned",
         whose: 0,
         number: 2,
-        put: 1,
+        reads: 1,
         before: LEARNING,
         call: "alfa arrive 1704186003 beta 1",
         without: "learned 0/0 bob@beta.example delivered",
@@ -96,7 +96,7 @@ static THIRD: [Entry; 3] = [
         why: "Acked",
         whose: 1,
         number: 3,
-        put: 2,
+        reads: 3,
         before: ACKING,
         call: "beta arrive 1704186004 alfa 0",
         without: "acked 0/0 bob@beta.example",
@@ -106,7 +106,7 @@ static THIRD: [Entry; 3] = [
         why: "Ticked",
         whose: 0,
         number: 2,
-        put: 0,
+        reads: 0,
         before: "
 alfa submit 1704186000 alice@alfa.example bob@beta.example to-bob -> accepted 0/0
 ",
@@ -118,7 +118,7 @@ alfa submit 1704186000 alice@alfa.example bob@beta.example to-bob -> accepted 0/
         why: "Anomaly",
         whose: 1,
         number: 1,
-        put: 0,
+        reads: 0,
         before: "",
         call: "beta arrive 1704186001 for-carl",
         without: "anomaly 1",
@@ -169,12 +169,12 @@ fn third() -> &'static [Entry] {
 }
 
 /// The first call of a disk in the append of an entry: three calls make a journal, four append an entry, and one reads
-/// an entry for a letter.
-fn first_call(number: u64, put: u64) -> u64 {
+/// an entry for a letter or a decision.
+fn first_call(number: u64, reads: u64) -> u64 {
     number
         .saturating_mul(4)
         .saturating_add(3)
-        .saturating_add(put)
+        .saturating_add(reads)
 }
 
 /// An append writes the entry, syncs, opens its gate, and syncs. Only where the last of these fails is the entry there.
@@ -211,7 +211,7 @@ CALL -> LEFT
 /// The first wrong line where a call of the disk fails as the entry is appended.
 fn wrong_behind(alloc: Global, entry: &Entry, call: u64) -> Result<Option<String>, Fail> {
     let script = script_of(alloc, entry, call);
-    let failing = first_call(entry.number, entry.put).saturating_add(call);
+    let failing = first_call(entry.number, entry.reads).saturating_add(call);
     wrong_line(alloc, &[(entry.whose, failing)], script.as_str())
 }
 
@@ -241,7 +241,7 @@ fn with_words(alloc: Global, words: &[(&str, &str)]) -> String {
 /// While a provider is down nothing is shown and nothing taken; it is opened again with what it had, and owes nothing.
 #[test]
 fn who_is_down_says_no_more(rt: HostRuntime) -> Result<(), Fail> {
-    let wrong = wrong_line(rt.alloc(), &[(1, 15)], DOWN)?;
+    let wrong = wrong_line(rt.alloc(), &[(1, 16)], DOWN)?;
     assert!(rt; wrong.is_none(), "{wrong:?}");
     Ok(())
 }

@@ -27,5 +27,5 @@ returns-clause-stopped g c =
     (subst (λ (kept : List Kept). IsLawful (providers_of kept)) c.directory.ensures.value c.count.ensures.lawful) c.directory.ensures.whole.fits in
     λ moment left early sound stops. stopped_fit trade moment (sites c.args.network.now) left stops
     (c.a_network_stays_sound.ensures.commands trade is stops.luck (sites c.args.network.now) (Round moment) sound
-    (early, none_forged trade stops.luck (sites c.args.network.now) moment stops.kept))
+    (early, none_forged trade stops.luck (sites c.args.network.now) moment stops.instead))
     (c.any_images.ensures.journals trade)

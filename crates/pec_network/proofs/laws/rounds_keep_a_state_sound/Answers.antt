@@ -1,5 +1,5 @@
 use Rattle.pec_plays.specs.Commands.{Round}
-use Rattle.pec_trade.specs.TradeOf.{trade_of}
+use Rattle.pec_provider.specs.OfTrades.{trade_of}
 use Rattle.pec_network.proofs.KeepLemmas.{none_forged}
 use Rattle.pec_network.proofs.laws.rounds_keep_a_state_sound.Goals as goal
 

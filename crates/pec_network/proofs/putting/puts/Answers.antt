@@ -1,11 +1,11 @@
-use Rattle.std.proofs.Common.{◌≡◌, List, [], ◌∷◌, ◌++◌, ap, arith, sym, ◌∙◌, length}
+use Rattle.std.proofs.Common.{◌≡◌, List, [], ◌∷◌, ◌++◌, ap, arith, ◌∙◌, length}
 use Rattle.std.proofs.lemmas.Result.{err_from_is_err_and}
 use Rattle.pec_types.specs.Bytes.{Bytes}
-use Rattle.pec_trade.specs.Houses.{world_at}
+use Rattle.pec_provider.specs.OfTrades.{world_at}
 use Rattle.pec_chronicle.specs.Carrying.{NothingMay}
 use Rattle.pec_chronicle.specs.CarryingLaws.{carries_and_then}
 use Rattle.pec_network.specs.Turning.{room_in}
-use Rattle.pec_network.proofs.PutLemmas.{all_put, none_put, one_put, put_fails, stays_so, unchanged_so}
+use Rattle.pec_network.proofs.PutLemmas.{all_put, none_put, one_put, put_fails, unchanged_so}
 use Rattle.pec_network.proofs.putting.puts.Goals as goal
 
 pub loop-to-init : goal.loop-to-init

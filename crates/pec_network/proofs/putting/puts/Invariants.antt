@@ -1,4 +1,4 @@
-use Rattle.pec_trade.specs.Houses.{world_at}
+use Rattle.pec_provider.specs.OfTrades.{world_at}
 use Rattle.pec_network.specs.Turning.{room_in}
 use Rattle.pec_network.proofs.PutLemmas.{PutSoFar}
 use Rattle.pec_network.proofs.putting.puts.Given as goal

@@ -1,6 +1,6 @@
 use Rattle.std.proofs.Common.{ap, Err}
 use Rattle.pec_types.specs.declared.turns.ProviderFault.{ProviderFault}
-use Rattle.pec_trade.specs.Houses.{world_at}
+use Rattle.pec_provider.specs.OfTrades.{world_at}
 use Rattle.pec_network.proofs.EndLemmas.{disk_early, put_all, put_none, told_all, told_none, unchanged_none, unchanged_put}
 use Rattle.pec_network.proofs.turns.whole.Goals as goal
 

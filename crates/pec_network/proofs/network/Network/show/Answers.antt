@@ -1,17 +1,17 @@
-use Rattle.std.proofs.Common.{Global, Vec, ℕ, ◌<◌, length, ◌∙◌, Ok, Err, None, Some, arith, refl, sym, subst, ap}
-use Rattle.std.specs.Option.{unwrap_or}
-use Rattle.pec_plays.specs.Commands.{Show, Shown}
+use Rattle.std.proofs.Common.{Global, Vec, ℕ, ◌<◌, length, ◌∙◌, None, arith, refl, sym}
+use Rattle.pec_ledger.specs.Lookups.{mailbox}
+use Rattle.pec_plays.specs.Commands.{Luck, Show, Shown, played}
 use Rattle.pec_provider.specs.Following.{MayFollow}
 use Rattle.pec_provider.specs.Reading.{ItemIsChanged}
-use Rattle.pec_trade.specs.TradeOf.{trade_of}
+use Rattle.pec_provider.specs.OfTrades.{trade_of}
 use Rattle.pec_chronicle.specs.CarryingLaws.{carries_nothing}
 use Rattle.pec_chronicle.specs.Chronicle.{Stands}
+use Rattle.pec_network.specs.Judging.{lists_of}
 use Rattle.pec_network.specs.Carrying.{AllStand}
-use Rattle.pec_network.specs.Changing.{ConcernsOne}
 use Rattle.pec_network.specs.Network.{NetworkState, sites_of}
 use Rattle.pec_network.proofs.ChangeLemmas.{runs_from, stands_of_all, whole_from}
 use Rattle.pec_network.proofs.ConcernLemmas.{concerns_nobody, concerns_one}
-use Rattle.pec_network.proofs.ShowLemmas.{none_told, show_nowhere, show_so}
+use Rattle.pec_network.proofs.ShowLemmas.{none_told, plays_box, read_as, show_is, show_nowhere, show_so}
 use Rattle.pec_network.proofs.network.Network.show.Goals as goal
 
 pub returns-in_default-clause-shown : goal.returns-in_default-clause-shown
@@ -23,7 +23,7 @@ returns-in_default-clause-shown g c =
       unchanged = λ stood number is. cc;
       is = (
         show_nowhere (trade_of c.self.inside.directory (g.S.Sealer.seals c.self.inside.sealer)) _
-            (sites_of c.self.inside.providers.items c.self.inside.arrivals.items) c.args.account.now c.args.place
+            (sites_of c.self.inside.providers.items (lists_of g.J.Judge.patterns c.self.inside.judges.items) c.self.inside.arrivals.items) c.args.account.now c.args.place
             ((c.a_trade_says_what_its_parts_say.ensures.directory c.self.inside.directory (g.S.Sealer.seals c.self.inside.sealer)).home
             c.args.account.now ∙ sym c.in_default.ensures.home),
         refl,
@@ -36,6 +36,8 @@ returns-in_default-clause-concerns g c =
       kept = c.self.inside.directory;
       sealer = c.self.inside.sealer;
       providers = c.self.inside.providers.items;
+      screens = lists_of g.J.Judge.patterns c.self.inside.judges.items;
+      looks = lists_of g.J.Judge.seen c.self.inside.judges.items;
       waiting = c.self.inside.arrivals.items;
     } in
     rw (← c.self.view_is)
@@ -44,31 +46,33 @@ returns-in_default-clause-concerns g c =
 pub index_mut-requires : goal.index_mut-requires
 index_mut-requires g c =
     let within = c.in-Some.ensures.within in
-    let count = c.self.invariant.count in
+    let count = c.self.invariant.0.count in
     let size = c.self.inside.providers.ok.0 in
     omega arith
 
 pub item-requires : goal.item-requires
 item-requires g c =
     let inside = c.in-Some.ensures.within in
-    let count = c.self.invariant.count in
+    let count = c.self.invariant.0.count in
     record {
       runs = runs_from c.self.inside.providers.items c.in-Some.me c.index_mut.result.now c.index_mut.result.now (omega arith)
-          c.index_mut.ensures.value c.self.inside.directory c.self.inside.arrivals.items c.self.invariant;
+          c.index_mut.ensures.value c.self.inside.directory c.self.inside.arrivals.items c.self.invariant.0;
     }
 
 pub invariant_of-self : goal.invariant_of-self
 invariant_of-self g c =
     let inside = c.in-Some.ensures.within in
-    let count = c.self.invariant.count in
-    whole_from c.self.inside.providers.items c.in-Some.me c.index_mut.result.now c.item.new.self (omega arith)
-    c.index_mut.ensures.value c.self.inside.directory c.self.inside.arrivals.items c.self.invariant c.item.ensures.runs
-    c.item.ensures.owed
+    let count = c.self.invariant.0.count in (
+      whole_from c.self.inside.providers.items c.in-Some.me c.index_mut.result.now c.item.new.self (omega arith)
+          c.index_mut.ensures.value c.self.inside.directory c.self.inside.arrivals.items c.self.invariant.0 c.item.ensures.runs
+          c.item.ensures.owed,
+      c.self.invariant.1,
+    )
 
 pub returns-clause-shown : goal.returns-clause-shown
 returns-clause-shown g c =
     let inside = c.in-Some.ensures.within in
-    let count = c.self.invariant.count in
+    let count = c.self.invariant.0.count in
     let within : c.in-Some.me < length c.self.inside.providers.items = omega arith in
     let trade = trade_of c.self.inside.directory (g.S.Sealer.seals c.self.inside.sealer) in
     let says = c.a_trade_says_what_its_parts_say.ensures.directory c.self.inside.directory (g.S.Sealer.seals c.self.inside.sealer) in
@@ -76,9 +80,10 @@ returns-clause-shown g c =
     let stands : AllStand g.D.Disk.sight c.self.inside.providers.items → Stands g.D.Disk.sight was.chronicle =
     stands_of_all c.self.inside.providers.items c.in-Some.me was c.item.new.self within c.index_mut.ensures.value
     g.D.Disk.sight in
-    let here = show_so trade c.self.inside.providers.items c.self.inside.arrivals.items c.args.account.now c.args.place
-    c.in-Some.me was c.item.new.self within
-    (c.self.invariant.links ∙ sym c.self.invariant.count) c.index_mut.ensures.value
+    let screens = lists_of g.J.Judge.patterns c.self.inside.judges.items in
+    let all = sites_of c.self.inside.providers.items screens c.self.inside.arrivals.items in
+    let here = show_so mailbox trade c.self.inside.providers.items screens c.self.inside.arrivals.items c.args.account.now c.args.place
+    c.in-Some.me was c.item.new.self within c.index_mut.ensures.value
     (says.home c.args.account.now ∙ sym c.in-Some.ensures.home)
     (g.D.Disk.tells × AllStand g.D.Disk.sight c.self.inside.providers.items) c.item.result c.item.ensures.reads
     (c.item.ensures.asked trade says) c.item.ensures.some c.item.ensures.refused
@@ -90,19 +95,24 @@ returns-clause-shown g c =
           none_told (ItemIsChanged trade c.in-Some.me was.chronicle.entries c.args.account.now c.args.place) c.item.result
           (c.item.ensures.changed stood.0 (stands stood.1))
           (c.nothing_has_changed.ensures.items trade c.in-Some.me was.chronicle.entries c.args.account.now c.args.place);
-      is = here.is;
+      is = read_as (λ (bytes : Vec ℕ Global). Shown bytes.items)
+          (λ (luck : Luck). plays_box trade mailbox c.args.account.now c.args.place luck all)
+          (λ (luck : Luck). played trade luck all (Show c.args.account.now c.args.place))
+          (λ luck. sym (show_is trade luck all c.args.account.now c.args.place)) here.other all _ c.item.result here.is;
     })
 
 pub returns-clause-concerns : goal.returns-clause-concerns
 returns-clause-concerns g c =
     let inside = c.in-Some.ensures.within in
-    let count = c.self.invariant.count in
+    let count = c.self.invariant.0.count in
     let trade = trade_of c.self.inside.directory (g.S.Sealer.seals c.self.inside.sealer) in
     let says = c.a_trade_says_what_its_parts_say.ensures.directory c.self.inside.directory (g.S.Sealer.seals c.self.inside.sealer) in
     let was : NetworkState g.row.D.Denot g.row.S.Denot = record {
       kept = c.self.inside.directory;
       sealer = c.self.inside.sealer;
       providers = c.self.inside.providers.items;
+      screens = lists_of g.J.Judge.patterns c.self.inside.judges.items;
+      looks = lists_of g.J.Judge.seen c.self.inside.judges.items;
       waiting = c.self.inside.arrivals.items;
     } in
     rw (← c.self.view_is, says.home c.args.account.now ∙ sym c.in-Some.ensures.home)
@@ -110,4 +120,4 @@ returns-clause-concerns g c =
     g.D.Disk.sight g.D.Counted.faults g.D.Disk.tells g.S.Sealer.seals c.item.result c.what_rests_carries_on.ensures
     (λ tells journals. carries_nothing g.D.Disk.sight (MayFollow trade journals c.in-Some.me) c.index_mut.result.now.chronicle
     c.item.new.self.chronicle (c.item.ensures.carries tells))
-    c.item.ensures.disk_fault c.item.ensures.later)
+    c.item.ensures.disk_fault c.item.ensures.later was.looks)

@@ -1,7 +1,8 @@
-use Rattle.std.proofs.Common.{Global, Vec, ◌∙◌, arith, sym}
+use Rattle.std.proofs.Common.{Global, Vec, arith}
 use Rattle.pec_types.specs.declared.mailboxes.Mark.{Mark}
 use Rattle.pec_plays.specs.Commands.{Marks, Tick, played}
-use Rattle.pec_trade.specs.TradeOf.{trade_of}
+use Rattle.pec_provider.specs.OfTrades.{trade_of}
+use Rattle.pec_network.specs.Judging.{lists_of}
 use Rattle.pec_network.specs.Network.{NetworkState}
 use Rattle.pec_network.proofs.ChangeLemmas.{number_within, plays_from, runs_from, ticks_from, whole_from}
 use Rattle.pec_network.proofs.ConcernLemmas.{concerns_one}
@@ -9,47 +10,52 @@ use Rattle.pec_network.proofs.network.Network.tick.Goals as goal
 
 pub index_mut-requires : goal.index_mut-requires
 index_mut-requires g c =
-    let within = number_within _ c.args.self.now c.self.view_is c.self.invariant c.args.provider c.requires in
+    let within = number_within _ c.args.self.now c.self.view_is c.self.invariant.0 c.args.provider c.requires in
     let size = c.self.inside.providers.ok.0 in
     omega arith
 
 pub tick-requires : goal.tick-requires
 tick-requires g c =
-    let within = number_within _ c.args.self.now c.self.view_is c.self.invariant c.args.provider c.requires in
+    let within = number_within _ c.args.self.now c.self.view_is c.self.invariant.0 c.args.provider c.requires in
     runs_from c.self.inside.providers.items c.args.provider c.index_mut.result.now c.index_mut.result.now within c.index_mut.ensures.value
-    c.self.inside.directory c.self.inside.arrivals.items c.self.invariant
+    c.self.inside.directory c.self.inside.arrivals.items c.self.invariant.0
 
 pub invariant_of-self : goal.invariant_of-self
 invariant_of-self g c =
-    let within = number_within _ c.args.self.now c.self.view_is c.self.invariant c.args.provider c.requires in
-    whole_from c.self.inside.providers.items c.args.provider c.index_mut.result.now c.tick.new.self within c.index_mut.ensures.value
-    c.self.inside.directory c.self.inside.arrivals.items c.self.invariant c.tick.ensures.runs c.tick.ensures.owed
+    let within = number_within _ c.args.self.now c.self.view_is c.self.invariant.0 c.args.provider c.requires in (
+      whole_from c.self.inside.providers.items c.args.provider c.index_mut.result.now c.tick.new.self within c.index_mut.ensures.value
+          c.self.inside.directory c.self.inside.arrivals.items c.self.invariant.0 c.tick.ensures.runs c.tick.ensures.owed,
+      c.self.invariant.1,
+    )
 
 pub returns-clause-plays : goal.returns-clause-plays
 returns-clause-plays g c =
-    let within = number_within _ c.args.self.now c.self.view_is c.self.invariant c.args.provider c.requires in
+    let within = number_within _ c.args.self.now c.self.view_is c.self.invariant.0 c.args.provider c.requires in
     rw (← c.self.view_is)
     (plays_from c.self.inside.providers.items c.args.provider c.index_mut.result.now c.tick.new.self within c.index_mut.ensures.value
     (λ (marks : Vec Mark Global). Marks marks.items) (λ luck sites. played (trade_of c.self.inside.directory (g.S.Sealer.seals c.self.inside.sealer)) luck sites (Tick c.args.provider c.args.moment))
-    c.self.inside.arrivals.items (c.self.invariant.links ∙ sym c.self.invariant.count) c.tick.result c.tick.ensures.plays)
+    (lists_of g.J.Judge.patterns c.self.inside.judges.items)
+    c.self.inside.arrivals.items c.tick.result c.tick.ensures.plays)
 
 pub returns-clause-concerns : goal.returns-clause-concerns
 returns-clause-concerns g c =
-    let within = number_within _ c.args.self.now c.self.view_is c.self.invariant c.args.provider c.requires in
+    let within = number_within _ c.args.self.now c.self.view_is c.self.invariant.0 c.args.provider c.requires in
     let was : NetworkState g.row.D.Denot g.row.S.Denot = record {
       kept = c.self.inside.directory;
       sealer = c.self.inside.sealer;
       providers = c.self.inside.providers.items;
+      screens = lists_of g.J.Judge.patterns c.self.inside.judges.items;
+      looks = lists_of g.J.Judge.seen c.self.inside.judges.items;
       waiting = c.self.inside.arrivals.items;
     } in
     rw (← c.self.view_is)
     (concerns_one was c.args.provider c.index_mut.result.now c.tick.new.self within c.index_mut.ensures.value
     g.D.Disk.sight g.D.Counted.faults g.D.Disk.tells g.S.Sealer.seals c.tick.result c.what_rests_carries_on.ensures
-    c.tick.ensures.carries c.tick.ensures.disk_fault c.tick.ensures.later)
+    c.tick.ensures.carries c.tick.ensures.disk_fault c.tick.ensures.later was.looks)
 
 pub returns-clause-looked : goal.returns-clause-looked
 returns-clause-looked g c =
-    let within = number_within _ c.args.self.now c.self.view_is c.self.invariant c.args.provider c.requires in
+    let within = number_within _ c.args.self.now c.self.view_is c.self.invariant.0 c.args.provider c.requires in
     rw (← c.self.view_is)
     (ticks_from c.self.inside.providers.items c.args.provider c.index_mut.result.now c.tick.new.self within c.index_mut.ensures.value
     (trade_of c.self.inside.directory (g.S.Sealer.seals c.self.inside.sealer)) c.args.moment c.args.steps.now c.tick.new.steps c.tick.result c.tick.ensures.looked)
