@@ -1,2 +1,5 @@
+pub mod ChangeLemmas
+pub mod LogLemmas
 pub mod ReadBackLemmas
+pub mod WholeLemmas
 pub mod WritingLemmas

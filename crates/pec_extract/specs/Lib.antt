@@ -1,1 +1,4 @@
+pub mod LogRows
+pub mod Logs
+pub mod Reading
 pub mod Records

@@ -7,8 +7,12 @@ use pec_types::NoMemory;
 /// Why a part of an extract isn't written whole.
 #[derive(Clone, Copy, Debug, PartialEq, Eq)]
 pub enum ExtractFault {
+    /// The disk of the provider failed.
+    DiskFault,
     /// The sink failed.
     WriteFault,
+    /// The entry of this number, from 0, isn't what was kept.
+    Changed(u64),
     NoMemory,
 }
 

@@ -1,5 +1,6 @@
-ghost use Rattle.std.specs.Prelude.{◌≡◌, ◌≤◌, map, OnOk, OnErr, IsErrOf};
+ghost use Rattle.std.specs.Prelude.{◌≡◌, ◌≤◌, map, IfErr, OnOk, OnErr, IsErrOf};
 ghost use Rattle.pec_outside.specs.Flow.{HasRisen, WrotePart, followed_by};
+ghost use Rattle.pec_extract.specs.Reading.{IsOfSink};
 ghost use Rattle.pec_extract.specs.Records.{header, record_text, totals_record};
 
 use crate::faults::ExtractFault;
@@ -25,6 +26,7 @@ pub fn write_header<W: Sink>(alloc: Global, out: &mut W) -> Result<(), ExtractFa
     ensures err { OnErr result (WrotePart (W.held out.old) (W.held out.new) (record_text header)) }
     ensures kept { W.left out.new ≡ W.left out.old }
     ensures later { W.faults out.old ≤ W.faults out.new }
+    ensures sink { IfErr result IsOfSink }
     ensures cause { IsErrOf result ExtractFault.WriteFault → HasRisen (W.faults out.old) (W.faults out.new) }
 {
     let fields: [&[u8]; 9] = [
@@ -52,6 +54,7 @@ pub fn write_totals<W: Sink>(
     ensures err { OnErr result (WrotePart (W.held out.old) (W.held out.new) (record_text (totals_record totals.now))) }
     ensures kept { W.left out.new ≡ W.left out.old }
     ensures later { W.faults out.old ≤ W.faults out.new }
+    ensures sink { IfErr result IsOfSink }
     ensures cause { IsErrOf result ExtractFault.WriteFault → HasRisen (W.faults out.old) (W.faults out.new) }
 {
     let mut accepted = Buffer::new();
@@ -73,13 +76,18 @@ pub fn write_totals<W: Sink>(
 }
 
 /// Writes the record with these fields.
-fn write_record<W: Sink>(alloc: Global, fields: &[&[u8]], out: &mut W) -> Result<(), ExtractFault>
+pub(crate) fn write_record<W: Sink>(
+    alloc: Global,
+    fields: &[&[u8]],
+    out: &mut W,
+) -> Result<(), ExtractFault>
     ensures ok { OnOk result
         (W.held out.new ≡ followed_by (W.held out.old) (record_text (map (λ field. field.now) fields.now))) }
     ensures err { OnErr result
         (WrotePart (W.held out.old) (W.held out.new) (record_text (map (λ field. field.now) fields.now))) }
     ensures kept { W.left out.new ≡ W.left out.old }
     ensures later { W.faults out.old ≤ W.faults out.new }
+    ensures sink { IfErr result IsOfSink }
     ensures cause { IsErrOf result ExtractFault.WriteFault → HasRisen (W.faults out.old) (W.faults out.new) }
 {
     let text = record_text(alloc, fields)?;

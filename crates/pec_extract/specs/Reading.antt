@@ -1,0 +1,33 @@
+-- What an extract leaves of the provider whose log it tells (`Reads`), and what is said of an entry that isn't what was
+-- kept (`OnChanged`, `IsLogChanged`). This project's profile.
+use Rattle.std.specs.Prelude.{◌≡◌, ℕ, List, Result, Ok, Err}
+use Rattle.pec_types.specs.Message.{Id}
+use Rattle.pec_types.specs.declared.letters.Letter.TheVariants as letters
+use Rattle.pec_records.specs.declared.entries.Entry.{Entry}
+use Rattle.pec_ledger.specs.Trade.{Trade}
+use Rattle.pec_provider.specs.Provider.{Desk}
+use Rattle.pec_provider.specs.Reading.{HasStopped, IsNotOf}
+use Rattle.pec_extract.specs.declared.faults.ExtractFault.{ExtractFault}
+use Rattle.pec_extract.specs.declared.faults.ExtractFault.TheVariants as faults
+
+-- The provider is as it was; but where a read failed, or gave what was never kept so, it is down.
+abbrev pub Reads : {X : Type 0} → Desk → Desk → Result X ExtractFault → Type 0
+Reads old new (Err faults.DiskFault) = HasStopped old new
+Reads old new (Err (faults.Changed number)) = HasStopped old new
+Reads old new answer = new ≡ old
+
+-- the sink failed, or memory ran out
+abbrev pub IsOfSink : ExtractFault → Type 0
+IsOfSink faults.WriteFault = Unit {0}
+IsOfSink faults.NoMemory = Unit {0}
+IsOfSink _ = ⊥
+
+-- what is said of the number of an entry that isn't what was kept
+abbrev pub OnChanged : (ℕ → Type 0) → ExtractFault → Type 0
+OnChanged Is (faults.Changed number) = Is number
+OnChanged Is _ = Unit {0}
+
+-- The entry of this number, by which a message was taken, holds no envelope that is seen as one of that message.
+pub record IsLogChanged (trade : Trade) (me : ℕ) (journal : List Entry) (number : ℕ) : Type 0 where
+  pub id : Id
+  pub is : IsNotOf trade me journal (letters.Charge id me) number

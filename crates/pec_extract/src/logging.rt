@@ -1,0 +1,382 @@
+ghost use Rattle.std.specs.Prelude.{◌≡◌, ◌<◌, ◌≤◌, Some, false, IfErr, IfOk, IfSome, IsErrOf, OnErr, OnOk, length, slice_get};
+ghost use Rattle.std.specs.Option.{option_and_then, option_map, option_to_list};
+ghost use Rattle.pec_ledger.specs.Lookups.{taken_of};
+ghost use Rattle.pec_outside.specs.Flow.{HasRisen, WrotePart, followed_by};
+ghost use Rattle.pec_directory.specs.Directory.{providers_of};
+ghost use Rattle.pec_records.specs.declared.entries.Entry.{Entry as SomeEntry};
+ghost use Rattle.pec_ledger.specs.Steps.{half, moment_of};
+ghost use Rattle.pec_provider.specs.OfTrades.{world_at};
+ghost use Rattle.pec_chronicle.specs.Carrying.{CarriesOn, NothingMay};
+ghost use Rattle.pec_chronicle.specs.Chronicle.{Stands};
+ghost use Rattle.pec_provider.specs.Provider.{RunsIn, desk_of};
+ghost use Rattle.pec_provider.specs.Summing.{IsUpTo, is_within, most_pairs};
+ghost use Rattle.pec_provider.specs.Telling.{facts_here, recipients_taken};
+ghost use Rattle.pec_extract.specs.LogRows.{log_rows, message_in, row_with, row_within, submits, told_by, told_with, totals_in, totals_of};
+ghost use Rattle.pec_extract.specs.Logs.{HasGrown, TotalsUpTo};
+ghost use Rattle.pec_extract.specs.Reading.{IsLogChanged, IsOfSink, OnChanged, Reads};
+ghost use Rattle.pec_extract.specs.Records.{record_text, records_text};
+ghost use Rattle.pec_extract.specs.declared.faults.ExtractFault.TheVariants as faults;
+
+use crate::faults::ExtractFault;
+use crate::reading::{entry_at, facts_here};
+use crate::rows::{Beside, message_in, name_word, submits, told_with};
+use crate::told::Told;
+use crate::writing::{Totals, write_record};
+use itoa::Buffer;
+use pec_directory::Directory;
+use pec_outside::{Disk, Sink};
+use pec_provider::{
+    House, Provider, Summary, a_house_is_a_trade, a_provider_stands_still, moment_of,
+};
+use pec_records::Entry;
+use pec_seal::Sealer;
+use pec_types::{Address, Facts, Moment, MsgId, NoMemory};
+use std::alloc::Global;
+
+/// Writes the rows of a provider's log: one for each of its entries whose moment is in the range, both ends of which
+/// belong to it, in their order. Each entry is read, and for a message that was only taken the entry of its envelope. The
+/// answer is what has become of the pairs accepted in the range. After a fault a front of the rows was written:
+/// `DiskFault` where the disk failed, `WriteFault` where the sink did, and `Changed` with the number of an entry that
+/// isn't what was kept. After `DiskFault` and `Changed` the provider is down, and else it is as it was.
+pub fn write_provider<S: Sealer, D: Disk, W: Sink>(
+    alloc: Global,
+    house: &House<'_, S>,
+    provider: &mut Provider<D>,
+    from: Moment,
+    upto: Moment,
+    out: &mut W,
+) -> Result<Totals, ExtractFault>
+    requires runs { RunsIn house.now provider.old }
+    requires up { provider.old.chronicle.down ≡ false }
+
+    // Over a disk that tells what it holds, and on which what is kept stands, these are the rows of the range, or a front
+    // of them.
+    ensures rows { D.tells → Stands D.sight provider.old.chronicle → OnOk result
+        (W.held out.new ≡ followed_by (W.held out.old) (records_text (log_rows (world_at house.now)
+        (providers_of house.now.directory.now) house.now.me provider.old.chronicle.entries from upto))) }
+    ensures front { D.tells → Stands D.sight provider.old.chronicle → OnErr result
+        (WrotePart (W.held out.old) (W.held out.new) (records_text (log_rows (world_at house.now)
+        (providers_of house.now.directory.now) house.now.me provider.old.chronicle.entries from upto))) }
+    ensures grown { HasGrown (W.held out.old) (W.held out.new) }
+    ensures totals { IfOk result (λ totals. totals ≡ totals_of (world_at house.now) house.now.me from upto
+        (half (world_at house.now) house.now.me provider.old.chronicle.entries)) }
+    ensures few { IfOk result (λ totals. TotalsUpTo totals 1) }
+    ensures changed { D.tells → Stands D.sight provider.old.chronicle → IfErr result (OnChanged
+        (IsLogChanged (world_at house.now) house.now.me provider.old.chronicle.entries)) }
+    ensures reads { Reads (desk_of provider.old) (desk_of provider.new) result }
+    ensures owed { provider.new.owed ≡ provider.old.owed }
+    ensures runs { RunsIn house.now provider.new }
+    ensures carries { D.tells → CarriesOn D.sight NothingMay provider.old.chronicle provider.new.chronicle }
+    ensures disk_fault { IsErrOf result faults.DiskFault
+        → HasRisen (D.faults provider.old.chronicle.disk) (D.faults provider.new.chronicle.disk) }
+    ensures write_fault { IsErrOf result faults.WriteFault → HasRisen (W.faults out.old) (W.faults out.new) }
+    ensures disk_later { D.faults provider.old.chronicle.disk ≤ D.faults provider.new.chronicle.disk }
+    ensures later { W.faults out.old ≤ W.faults out.new }
+    ensures kept { W.left out.new ≡ W.left out.old }
+{
+    a_house_is_a_trade(house);
+    a_provider_stands_still(provider);
+    let mut submitted = 0;
+    for number in 0..provider.entries() {
+        submitted += write_entry(alloc, house, provider, number, submitted, from, upto, out)?;
+    }
+    Ok(totals_in(provider.summary_within(from, upto)))
+}
+
+/// What is known of the pairs that a summary counts.
+fn totals_in(summary: Summary) -> Totals
+    requires { IsUpTo summary most_pairs }
+    ensures is { result ≡ totals_in summary }
+    ensures few { TotalsUpTo result 1 }
+{
+    Totals {
+        accepted: summary.delivered + summary.refused + summary.unknown,
+        delivered: summary.delivered,
+        refused: summary.refused,
+        pending: summary.unknown,
+    }
+}
+
+/// Reads the entry of a number, and writes its row, where it has one and its moment is in the range. So many messages
+/// were submitted before it; the answer is how many it submits.
+fn write_entry<S: Sealer, D: Disk, W: Sink>(
+    alloc: Global,
+    house: &House<'_, S>,
+    provider: &mut Provider<D>,
+    number: u64,
+    submitted: u64,
+    from: Moment,
+    upto: Moment,
+    out: &mut W,
+) -> Result<u64, ExtractFault>
+    requires runs { RunsIn house.now provider.old }
+    requires up { provider.old.chronicle.down ≡ false }
+    requires there { number < length provider.old.chronicle.entries }
+    ensures row { D.tells → Stands D.sight provider.old.chronicle → (entry : SomeEntry)
+        → slice_get provider.old.chronicle.entries number ≡ Some entry
+        → OnOk result (W.held out.new ≡ followed_by (W.held out.old) (records_text (option_to_list
+        (row_within (world_at house.now) (providers_of house.now.directory.now) house.now.me
+        provider.old.chronicle.entries from upto number submitted entry)))) }
+    ensures more { D.tells → Stands D.sight provider.old.chronicle → (entry : SomeEntry)
+        → slice_get provider.old.chronicle.entries number ≡ Some entry → IfOk result (λ more. more ≡ submits entry) }
+    ensures front { D.tells → Stands D.sight provider.old.chronicle → (entry : SomeEntry)
+        → slice_get provider.old.chronicle.entries number ≡ Some entry
+        → OnErr result (WrotePart (W.held out.old) (W.held out.new) (records_text (option_to_list
+        (row_within (world_at house.now) (providers_of house.now.directory.now) house.now.me
+        provider.old.chronicle.entries from upto number submitted entry)))) }
+    ensures grown { HasGrown (W.held out.old) (W.held out.new) }
+    ensures few { IfOk result (λ more. more ≤ 1) }
+    ensures changed { D.tells → Stands D.sight provider.old.chronicle → IfErr result (OnChanged
+        (IsLogChanged (world_at house.now) house.now.me provider.old.chronicle.entries)) }
+    ensures reads { Reads (desk_of provider.old) (desk_of provider.new) result }
+    ensures owed { provider.new.owed ≡ provider.old.owed }
+    ensures runs { RunsIn house.now provider.new }
+    ensures carries { D.tells → CarriesOn D.sight NothingMay provider.old.chronicle provider.new.chronicle }
+    ensures disk_fault { IsErrOf result faults.DiskFault
+        → HasRisen (D.faults provider.old.chronicle.disk) (D.faults provider.new.chronicle.disk) }
+    ensures write_fault { IsErrOf result faults.WriteFault → HasRisen (W.faults out.old) (W.faults out.new) }
+    ensures disk_later { D.faults provider.old.chronicle.disk ≤ D.faults provider.new.chronicle.disk }
+    ensures later { W.faults out.old ≤ W.faults out.new }
+    ensures kept { W.left out.new ≡ W.left out.old }
+{
+    let entry = entry_at(alloc, house, provider, number)?;
+    write_within(
+        alloc, house, provider, number, submitted, from, upto, &entry, out,
+    )?;
+    Ok(submits(&entry))
+}
+
+/// Writes the row of an entry, where it has one and its moment is in the range.
+fn write_within<S: Sealer, D: Disk, W: Sink>(
+    alloc: Global,
+    house: &House<'_, S>,
+    provider: &mut Provider<D>,
+    number: u64,
+    submitted: u64,
+    from: Moment,
+    upto: Moment,
+    entry: &Entry,
+    out: &mut W,
+) -> Result<(), ExtractFault>
+    requires runs { RunsIn house.now provider.old }
+    requires up { provider.old.chronicle.down ≡ false }
+    ensures row { D.tells → Stands D.sight provider.old.chronicle → OnOk result
+        (W.held out.new ≡ followed_by (W.held out.old) (records_text (option_to_list
+        (row_within (world_at house.now) (providers_of house.now.directory.now) house.now.me
+        provider.old.chronicle.entries from upto number submitted entry.now)))) }
+    ensures front { D.tells → Stands D.sight provider.old.chronicle → OnErr result
+        (WrotePart (W.held out.old) (W.held out.new) (records_text (option_to_list
+        (row_within (world_at house.now) (providers_of house.now.directory.now) house.now.me
+        provider.old.chronicle.entries from upto number submitted entry.now)))) }
+    ensures grown { HasGrown (W.held out.old) (W.held out.new) }
+    ensures changed { D.tells → Stands D.sight provider.old.chronicle → IfErr result (OnChanged
+        (IsLogChanged (world_at house.now) house.now.me provider.old.chronicle.entries)) }
+    ensures reads { Reads (desk_of provider.old) (desk_of provider.new) result }
+    ensures owed { provider.new.owed ≡ provider.old.owed }
+    ensures runs { RunsIn house.now provider.new }
+    ensures carries { D.tells → CarriesOn D.sight NothingMay provider.old.chronicle provider.new.chronicle }
+    ensures disk_fault { IsErrOf result faults.DiskFault
+        → HasRisen (D.faults provider.old.chronicle.disk) (D.faults provider.new.chronicle.disk) }
+    ensures write_fault { IsErrOf result faults.WriteFault → HasRisen (W.faults out.old) (W.faults out.new) }
+    ensures disk_later { D.faults provider.old.chronicle.disk ≤ D.faults provider.new.chronicle.disk }
+    ensures later { W.faults out.old ≤ W.faults out.new }
+    ensures kept { W.left out.new ≡ W.left out.old }
+{
+    a_provider_stands_still(provider);
+    if !is_within(from, upto, moment_of(entry)) {
+        return Ok(());
+    }
+    write_row(alloc, house, provider, number, submitted, entry, out)
+}
+
+/// Whether a moment is of a range, whose ends belong to it.
+fn is_within(from: Moment, upto: Moment, moment: u64) -> bool
+    ensures { result ≡ is_within from upto moment }
+{
+    from.seconds() <= moment && moment <= upto.seconds()
+}
+
+/// Writes the row of an entry, where it has one.
+fn write_row<S: Sealer, D: Disk, W: Sink>(
+    alloc: Global,
+    house: &House<'_, S>,
+    provider: &mut Provider<D>,
+    number: u64,
+    submitted: u64,
+    entry: &Entry,
+    out: &mut W,
+) -> Result<(), ExtractFault>
+    requires runs { RunsIn house.now provider.old }
+    requires up { provider.old.chronicle.down ≡ false }
+    ensures row { D.tells → Stands D.sight provider.old.chronicle → OnOk result
+        (W.held out.new ≡ followed_by (W.held out.old) (records_text (option_to_list (option_map
+        (row_with (providers_of house.now.directory.now) house.now.me number (moment_of entry.now))
+        (told_by (world_at house.now) (providers_of house.now.directory.now) house.now.me
+        provider.old.chronicle.entries number submitted entry.now))))) }
+    ensures front { D.tells → Stands D.sight provider.old.chronicle → OnErr result
+        (WrotePart (W.held out.old) (W.held out.new) (records_text (option_to_list (option_map
+        (row_with (providers_of house.now.directory.now) house.now.me number (moment_of entry.now))
+        (told_by (world_at house.now) (providers_of house.now.directory.now) house.now.me
+        provider.old.chronicle.entries number submitted entry.now))))) }
+    ensures grown { HasGrown (W.held out.old) (W.held out.new) }
+    ensures changed { D.tells → Stands D.sight provider.old.chronicle → IfErr result (OnChanged
+        (IsLogChanged (world_at house.now) house.now.me provider.old.chronicle.entries)) }
+    ensures reads { Reads (desk_of provider.old) (desk_of provider.new) result }
+    ensures owed { provider.new.owed ≡ provider.old.owed }
+    ensures runs { RunsIn house.now provider.new }
+    ensures carries { D.tells → CarriesOn D.sight NothingMay provider.old.chronicle provider.new.chronicle }
+    ensures disk_fault { IsErrOf result faults.DiskFault
+        → HasRisen (D.faults provider.old.chronicle.disk) (D.faults provider.new.chronicle.disk) }
+    ensures write_fault { IsErrOf result faults.WriteFault → HasRisen (W.faults out.old) (W.faults out.new) }
+    ensures disk_later { D.faults provider.old.chronicle.disk ≤ D.faults provider.new.chronicle.disk }
+    ensures later { W.faults out.old ≤ W.faults out.new }
+    ensures kept { W.left out.new ≡ W.left out.old }
+{
+    a_house_is_a_trade(house);
+    let message = message_in(house.me, submitted, entry);
+    let facts = facts_of(alloc, house, provider, message)?;
+    let told = told_of(alloc, house, provider, number, submitted, facts, entry)?;
+    write_if(alloc, house, number, moment_of(entry), told, out)
+}
+
+/// Writes the row of what is told, where something is.
+fn write_if<S: Sealer, W: Sink>(
+    alloc: Global,
+    house: &House<'_, S>,
+    number: u64,
+    moment: u64,
+    told: Option<Told>,
+    out: &mut W,
+) -> Result<(), ExtractFault>
+    ensures ok { OnOk result (W.held out.new ≡ followed_by (W.held out.old) (records_text (option_to_list
+        (option_map (row_with (providers_of house.now.directory.now) house.now.me number moment) told)))) }
+    ensures err { OnErr result (WrotePart (W.held out.old) (W.held out.new) (records_text (option_to_list
+        (option_map (row_with (providers_of house.now.directory.now) house.now.me number moment) told)))) }
+    ensures grown { HasGrown (W.held out.old) (W.held out.new) }
+    ensures kept { W.left out.new ≡ W.left out.old }
+    ensures later { W.faults out.old ≤ W.faults out.new }
+    ensures sink { IfErr result IsOfSink }
+    ensures cause { IsErrOf result faults.WriteFault → HasRisen (W.faults out.old) (W.faults out.new) }
+{
+    match told {
+        Some(told) => write_told(alloc, house.directory, house.me, number, moment, told, out),
+        None => Ok(()),
+    }
+}
+
+/// What the row of an entry says, with the facts of the message that it is about.
+fn told_of<S: Sealer, D>(
+    alloc: Global,
+    house: &House<'_, S>,
+    provider: &Provider<D>,
+    number: u64,
+    submitted: u64,
+    facts: Option<Facts>,
+    entry: &Entry,
+) -> Result<Option<Told>, NoMemory>
+    requires runs { RunsIn house.now provider.now }
+    ensures { IfOk result (λ told. told ≡ told_with (world_at house.now) (providers_of house.now.directory.now)
+        house.now.me (half (world_at house.now) house.now.me provider.now.chronicle.entries) number submitted facts
+        entry.now) }
+{
+    a_house_is_a_trade(house);
+    let beside = Beside {
+        directory: house.directory,
+        me: house.me,
+        number,
+        submitted,
+        facts,
+        taken: taken_for(house, provider, submitted, entry),
+    };
+    told_with(alloc, &beside, entry)
+}
+
+/// The facts of the message that an entry is about, where it is about one.
+fn facts_of<S: Sealer, D: Disk>(
+    alloc: Global,
+    house: &House<'_, S>,
+    provider: &mut Provider<D>,
+    message: Option<MsgId>,
+) -> Result<Option<Facts>, ExtractFault>
+    requires runs { RunsIn house.now provider.old }
+    requires up { provider.old.chronicle.down ≡ false }
+    ensures told { D.tells → Stands D.sight provider.old.chronicle → IfOk result (λ facts. facts ≡ option_and_then
+        (facts_here (world_at house.now) house.now.me provider.old.chronicle.entries) message) }
+    ensures changed { D.tells → Stands D.sight provider.old.chronicle → IfErr result (OnChanged
+        (IsLogChanged (world_at house.now) house.now.me provider.old.chronicle.entries)) }
+    ensures reads { Reads (desk_of provider.old) (desk_of provider.new) result }
+    ensures owed { provider.new.owed ≡ provider.old.owed }
+    ensures runs { RunsIn house.now provider.new }
+    ensures carries { D.tells → CarriesOn D.sight NothingMay provider.old.chronicle provider.new.chronicle }
+    ensures disk_fault { IsErrOf result faults.DiskFault
+        → HasRisen (D.faults provider.old.chronicle.disk) (D.faults provider.new.chronicle.disk) }
+    ensures no_write { IsErrOf result faults.WriteFault → ⊥ }
+    ensures later { D.faults provider.old.chronicle.disk ≤ D.faults provider.new.chronicle.disk }
+{
+    match message {
+        Some(id) => facts_here(alloc, house, provider, id),
+        None => Ok(None),
+    }
+}
+
+/// For whom the message was taken that an entry is about.
+fn taken_for<'a, S: Sealer, D>(
+    house: &House<'_, S>,
+    provider: &'a Provider<D>,
+    submitted: u64,
+    entry: &Entry,
+) -> &'a [Address]
+    requires runs { RunsIn house.now provider.now }
+    ensures { IfSome (message_in house.now.me submitted entry.now) (λ id. result.now ≡ recipients_taken
+        (taken_of (half (world_at house.now) house.now.me provider.now.chronicle.entries) id)) }
+{
+    a_house_is_a_trade(house);
+    match message_in(house.me, submitted, entry) {
+        Some(id) => provider.recipients_taken(id),
+        None => &[],
+    }
+}
+
+/// Writes the record of a row.
+fn write_told<W: Sink>(
+    alloc: Global,
+    directory: &Directory,
+    me: u32,
+    number: u64,
+    moment: u64,
+    told: Told,
+    out: &mut W,
+) -> Result<(), ExtractFault>
+    ensures ok { OnOk result (W.held out.new ≡ followed_by (W.held out.old)
+        (record_text (row_with (providers_of directory.now) me number moment told))) }
+    ensures err { OnErr result (WrotePart (W.held out.old) (W.held out.new)
+        (record_text (row_with (providers_of directory.now) me number moment told))) }
+    ensures kept { W.left out.new ≡ W.left out.old }
+    ensures later { W.faults out.old ≤ W.faults out.new }
+    ensures sink { IfErr result IsOfSink }
+    ensures cause { IsErrOf result faults.WriteFault → HasRisen (W.faults out.old) (W.faults out.new) }
+{
+    let name = name_word(alloc, directory, me)?;
+    let Told {
+        event,
+        id,
+        sender,
+        recipients,
+        subject,
+        detail,
+    } = told;
+    let mut entry_digits = Buffer::new();
+    let mut moment_digits = Buffer::new();
+    let fields: [&[u8]; 9] = [
+        name.as_slice(),
+        entry_digits.format(number).as_bytes(),
+        moment_digits.format(moment).as_bytes(),
+        event,
+        id.as_slice(),
+        sender.as_slice(),
+        recipients.as_slice(),
+        subject.as_slice(),
+        detail.as_slice(),
+    ];
+    write_record(alloc, &fields, out)
+}
