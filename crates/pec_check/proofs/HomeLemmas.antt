@@ -140,6 +140,9 @@ module _ (providers : List Provider) (letter : Letter) where
       let p = and_parts (list_all (is_typed providers) letter.cert.recipients) (is_one letter.cert.recipients letter.cert.delivered) e
       in one_home letter.cert.delivered p.0 p.1
   delivered_home (kinds.DeliveryError refusals.Virus) s e = absurd (cc s)
+  delivered_home kinds.VirusFound s e =
+      let p = and_parts (list_all (is_typed providers) letter.cert.recipients) (is_one letter.cert.recipients letter.cert.delivered) e
+      in one_home letter.cert.delivered p.0 p.1
   delivered_home kinds.Warning s e = absurd (cc s)
   delivered_home kinds.Notice s e = absurd (cc s)
   delivered_home kinds.LateNotice s e = absurd (cc s)

@@ -9,6 +9,7 @@ use Rattle.pec_types.specs.Message.{Id}
 use Rattle.pec_types.specs.Words.{decision_word}
 use Rattle.pec_types.specs.declared.messages.Decision.{Decision}
 use Rattle.pec_types.specs.declared.messages.Decision.TheVariants.{Placed, Refused}
+use Rattle.pec_types.specs.declared.messages.Refusal.TheVariants as refusals
 use Rattle.pec_types.specs.declared.receipts.Kind.TheVariants as kinds
 use Rattle.pec_check.specs.declared.dossiers.Finding.{Finding}
 use Rattle.pec_check.specs.declared.pairs.PairKey.{PairKey}
@@ -31,6 +32,7 @@ decision_told (Receipt (kinds.NonAcceptance cause)) = None
 decision_told (Receipt kinds.Charge) = None
 decision_told (Receipt kinds.Delivery) = Some Placed
 decision_told (Receipt (kinds.DeliveryError refusal)) = Some (Refused refusal)
+decision_told (Receipt kinds.VirusFound) = Some (Refused refusals.Virus)
 decision_told (Receipt kinds.Warning) = None
 decision_told (Receipt kinds.Notice) = None
 decision_told (Receipt kinds.LateNotice) = None

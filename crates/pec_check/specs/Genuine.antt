@@ -66,8 +66,8 @@ receipt_report read seen = record {
 
 -- ---- the right provider
 
--- Who has to seal a receipt: a line for each kind. What was decided of a message is for the recipient's home to say, and
--- that a virus kept it from being placed, for the message's own provider.
+-- Who has to seal a receipt: a line for each kind. What was decided of a message is for the recipient's home to say, to the
+-- sender or of a virus to the message's own provider; that a virus kept it from being placed is for this one to say.
 abbrev pub sealing_of : Kind → Sealing
 sealing_of kinds.Acceptance = Anyone
 sealing_of (kinds.NonAcceptance cause) = Anyone
@@ -76,6 +76,7 @@ sealing_of kinds.Delivery = RecipientsHome
 sealing_of (kinds.DeliveryError refusals.NoMailbox) = RecipientsHome
 sealing_of (kinds.DeliveryError refusals.MailboxFull) = RecipientsHome
 sealing_of (kinds.DeliveryError refusals.Virus) = MessagesProvider
+sealing_of kinds.VirusFound = RecipientsHome
 sealing_of kinds.Warning = Anyone
 sealing_of kinds.Notice = Anyone
 sealing_of kinds.LateNotice = Anyone

@@ -1,7 +1,7 @@
 ghost use Rattle.std.specs.Prelude.{◌≡◌};
 ghost use Rattle.pec_check.specs.Findings.{decision_told};
 
-use pec_types::{Address, Decision, Kind, Moment, MsgId, Text8};
+use pec_types::{Address, Decision, Kind, Moment, MsgId, Refusal, Text8};
 
 /// What a saved message is: the envelope of a message, or a receipt, a notice or an acknowledgement.
 #[derive(Clone, Copy, Debug, PartialEq, Eq)]
@@ -30,6 +30,7 @@ impl SavedKind {
         match self {
             SavedKind::Receipt(Kind::Delivery) => Some(Decision::Placed),
             SavedKind::Receipt(Kind::DeliveryError(refusal)) => Some(Decision::Refused(refusal)),
+            SavedKind::Receipt(Kind::VirusFound) => Some(Decision::Refused(Refusal::Virus)),
             SavedKind::Envelope | SavedKind::Receipt(_) => None,
         }
     }

@@ -26,7 +26,8 @@ fn sealing_of(kind: Kind) -> Sealing
     match kind {
         Kind::Delivery
         | Kind::DeliveryError(Refusal::NoMailbox)
-        | Kind::DeliveryError(Refusal::MailboxFull) => Sealing::RecipientsHome,
+        | Kind::DeliveryError(Refusal::MailboxFull)
+        | Kind::VirusFound => Sealing::RecipientsHome,
         Kind::DeliveryError(Refusal::Virus) => Sealing::MessagesProvider,
         Kind::Acceptance
         | Kind::NonAcceptance(_)

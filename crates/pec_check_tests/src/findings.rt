@@ -12,6 +12,8 @@ const CARL: &str = "carl@beta.example";
 
 const DELIVERED: Option<Decision> = Some(Decision::Placed);
 
+const VIRUS: Option<Decision> = Some(Decision::Refused(Refusal::Virus));
+
 const FULL: Option<Decision> = Some(Decision::Refused(Refusal::MailboxFull));
 
 /// Genuine letters, and the findings: recipients, and what is found of each.
@@ -20,7 +22,7 @@ type Case = (
     &'static [(&'static str, Option<Decision>)],
 );
 
-static CASES: [Case; 6] = [
+static CASES: [Case; 8] = [
     (&[], &[]),
     // what tells no decision
     (
@@ -65,6 +67,16 @@ static CASES: [Case; 6] = [
             ("virus", 0, BOB),
         ],
         &[(CARL, DELIVERED), (BOB, None)],
+    ),
+    // a virus, as the recipient's provider and then the message's tell it
+    (
+        &[("virus-found", 1, BOB), ("virus", 0, BOB)],
+        &[(BOB, VIRUS)],
+    ),
+    // and a delivery beside it
+    (
+        &[("virus-found", 1, CARL), ("delivery", 1, CARL)],
+        &[(CARL, None)],
     ),
 ];
 

@@ -11,7 +11,7 @@ const BOB: &str = "bob@beta.example";
 const CARL: &str = "carl@beta.example";
 
 /// Genuine letters, and of which kind they are.
-static GENUINE: [(Saved, SavedKind); 11] = [
+static GENUINE: [(Saved, SavedKind); 12] = [
     (("envelope", 0, ""), SavedKind::Envelope),
     (("acceptance", 0, ""), SavedKind::Receipt(Kind::Acceptance)),
     (("charge", 1, ""), SavedKind::Receipt(Kind::Charge)),
@@ -29,19 +29,25 @@ static GENUINE: [(Saved, SavedKind); 11] = [
         ("virus", 0, BOB),
         SavedKind::Receipt(Kind::DeliveryError(Refusal::Virus)),
     ),
+    // and the recipient's, to that one
+    (
+        ("virus-found", 1, BOB),
+        SavedKind::Receipt(Kind::VirusFound),
+    ),
     (("warning", 0, BOB), SavedKind::Receipt(Kind::Warning)),
-    // and any provider acknowledges
+    // any provider acknowledges
     (("acknowledgement", 0, BOB), SavedKind::Receipt(Kind::Ack)),
     (("acknowledgement", 1, BOB), SavedKind::Receipt(Kind::Ack)),
     (("charge", 0, ""), SavedKind::Receipt(Kind::Charge)),
 ];
 
 /// Letters that are right in all but the provider that sealed them, and which had to.
-static WRONG: [(Saved, u32); 4] = [
+static WRONG: [(Saved, u32); 5] = [
     (("delivery", 0, BOB), 1),
     (("no-mailbox", 0, BOB), 1),
     (("mailbox-full", 0, CARL), 1),
     (("virus", 1, BOB), 0),
+    (("virus-found", 0, BOB), 1),
 ];
 
 #[test]

@@ -79,7 +79,7 @@ type Wording = (
     &'static str,
 );
 
-static WORDINGS: [Wording; 9] = [
+static WORDINGS: [Wording; 10] = [
     (
         "envelope",
         ENVELOPE,
@@ -121,6 +121,13 @@ static WORDINGS: [Wording; 9] = [
         RECEIPT,
         ["errore-consegna", "virus"],
         "X-VerificaSicurezza: errore\n",
+        "<consegna>RECIPIENT</consegna>\n<errore-esteso>virus</errore-esteso>\n",
+    ),
+    (
+        "virus-found",
+        RECEIPT,
+        ["rilevazione-virus", "virus"],
+        "",
         "<consegna>RECIPIENT</consegna>\n<errore-esteso>virus</errore-esteso>\n",
     ),
     (

@@ -72,6 +72,8 @@ module _ {X V : Type 0} (seen : V → X) (tells : X → Answer) (text : X → By
   seen_refused faults.Full shown = shown
   seen_refused faults.NoItem shown = shown
   seen_refused faults.JournalFull shown = shown
+  seen_refused faults.OldJournal shown = shown
+  seen_refused faults.NoNeed shown = shown
   seen_refused (faults.Changed number) shown = shown
 
 pub sealer_stays : {D S : Type 0} (old new : NetworkState D S) (number : ℕ) → number < length old.providers

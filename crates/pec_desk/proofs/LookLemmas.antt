@@ -8,7 +8,6 @@ use Rattle.pec_types.specs.declared.turns.ProviderFault.{ProviderFault}
 use Rattle.pec_types.specs.declared.turns.ProviderFault.TheVariants as faults
 use Rattle.pec_outside.specs.DiskModel.{Sight}
 use Rattle.pec_directory.specs.Directory.{Kept, account_home, providers_of}
-use Rattle.pec_screen.specs.Verdicts.{Patterns}
 use Rattle.pec_seal.specs.Seals.{Seals}
 use Rattle.pec_ledger.specs.Half.{Half, Posted}
 use Rattle.pec_ledger.specs.Items.{item_text}
@@ -58,6 +57,8 @@ module _ {V X : Type 0} (seen : V → X) (tells : X → Answer) (play : Option P
   read_seen (Err faults.Full) is = is
   read_seen (Err faults.NoItem) is = is
   read_seen (Err faults.JournalFull) is = is
+  read_seen (Err faults.OldJournal) is = is
+  read_seen (Err faults.NoNeed) is = is
   read_seen (Err (faults.Changed number)) is = is
 
 module _ {D S V : Type 0} (seals : S → Seals) (old new : NetworkState D S) (seen : V → Bytes)
@@ -126,6 +127,8 @@ module _ (play : Luck → Played) (old new : List Site) (shown_so : Option Bytes
   looked_or (Err faults.Full) is = inl (refused_so faults.Full is)
   looked_or (Err faults.NoItem) is = inl (refused_so faults.NoItem is)
   looked_or (Err faults.JournalFull) is = inl (refused_so faults.JournalFull is)
+  looked_or (Err faults.OldJournal) is = inl (refused_so faults.OldJournal is)
+  looked_or (Err faults.NoNeed) is = inl (refused_so faults.NoNeed is)
 
 -- ---- it is the account's own
 
@@ -154,11 +157,11 @@ module _ (place : ℕ) (said own : Result Bytes ProviderFault) (reply : Reply)
   shows_own (inr (inr changed)) =
       inr (inr (changed.0, changed.1, replied (Err changed.0) (refused_is said changed.0 changed.2)))
 
-module _ (kept : List Kept) (seals : Seals) (screens : List (List Patterns)) (state after : List Site) (address : Bytes)
+module _ (kept : List Kept) (seals : Seals) (state after : List Site) (address : Bytes)
     (place : ℕ) where
   abbrev own_item : Result Bytes ProviderFault
   own_item = shown_with (providers_of kept)
-      (option_map (share_at (trade_of kept seals) screens state address) (account_home (providers_of kept) address))
+      (option_map (share_at (trade_of kept seals) state address) (account_home (providers_of kept) address))
       (looks.Item place)
 
   abbrev look : Luck → Played
@@ -170,7 +173,7 @@ module _ (kept : List Kept) (seals : Seals) (screens : List (List Patterns)) (st
     by_luck (inr lack) = lacks_item place said own_item reply answer lack
     by_luck (inl looked) =
         shows_own place said own_item reply answer (subst (λ (a : Answer). ShowsSo own_item a) looked.answer
-        (look_is kept seals screens state address place looked.luck looked.shown looked.may))
+        (look_is kept seals state address place looked.luck looked.shown looked.may))
 
     pub item_is : IsReadSo Shown (λ read. look (luck_of_read read None)) state after said
         → (reply ≡ shown_reply (kind_of (looks.Item place)) own_item) ⊎ IsFaultOfLook (looks.Item place) reply
@@ -233,3 +236,5 @@ module _ (kept : List Kept) (seals : Seals) (state after : List Site) (address :
   item_refuses (Err faults.Full) is = refuses_at faults.Full is
   item_refuses (Err faults.NoItem) is = tt
   item_refuses (Err faults.JournalFull) is = refuses_at faults.JournalFull is
+  item_refuses (Err faults.OldJournal) is = refuses_at faults.OldJournal is
+  item_refuses (Err faults.NoNeed) is = refuses_at faults.NoNeed is

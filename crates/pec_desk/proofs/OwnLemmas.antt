@@ -60,10 +60,10 @@ module _ {D S : Type 0} (sight : D → Sight) (count : D → ℕ) (tells : Type 
     with_home : (address : Bytes) (home : Option ℕ) (question : Question) → homes address ≡ home
         → reply_with (providers_of kept) desk.moment (share_of seals desk address) question
         ≡ reply_with (providers_of kept) desk.moment
-        (option_map (share_at (world_of seals desk.network) desk.screens state address) home) question
+        (option_map (share_at (world_of seals desk.network) state address) home) question
     with_home address home question is =
         ap (λ (h : Option ℕ). reply_with (providers_of kept) desk.moment
-        (option_map (share_at (world_of seals desk.network) desk.screens state address) h) question) is
+        (option_map (share_at (world_of seals desk.network) state address) h) question) is
 
     handed_reply : (address : Bytes) (path : Path) (message : Bytes) (reply : Reply)
         → Submits desk_answers desk address path message after reply
@@ -75,7 +75,7 @@ module _ {D S : Type 0} (sight : D → Sight) (count : D → ℕ) (tells : Type 
         ap (λ (h : Option ℕ). submitted_reply (domain_at (providers_of kept) h) submits.said) handed.home
         in let answered : reply ≡ submitted_reply (domain_at (providers_of kept) (Some handed.number)) submits.said =
         submits.answer ∙ domain
-        in elim (submission_is kept (seals desk.network.sealer) state desk.screens address handed.number handed.home desk.moment path
+        in elim (submission_is kept (seals desk.network.sealer) state address handed.number handed.home desk.moment path
         message (sites after.network) submits.said handed.plays) [
           | inl own ↦ inl (answered
               ∙ ap (λ (r : Result Submitted ProviderFault).
@@ -97,11 +97,11 @@ module _ {D S : Type 0} (sight : D → Sight) (count : D → ℕ) (tells : Type 
     shown_own : (address : Bytes) (number : ℕ) → homes address ≡ Some number → (looked : Look) → IsOpen looked
         → (said : Result Bytes ProviderFault) → MayShow desk_answers desk address looked said after
         → (said ≡ Err faults.NoMemory)
-        ⊎ (said ≡ shown_to (providers_of kept) (share_at (world_of seals desk.network) desk.screens state address number) looked)
+        ⊎ (said ≡ shown_to (providers_of kept) (share_at (world_of seals desk.network) state address number) looked)
     shown_own address number home looks.Book plainly said shows =
-        book_is kept (seals desk.network.sealer) state desk.screens address number home (luck_of false) said shows.0
+        book_is kept (seals desk.network.sealer) state address number home (luck_of false) said shows.0
     shown_own address number home looks.Items plainly said shows =
-        items_is kept (seals desk.network.sealer) state desk.screens address number home (luck_of false) said shows.0
+        items_is kept (seals desk.network.sealer) state address number home (luck_of false) said shows.0
     shown_own address number home (looks.Item place) plainly said shows = absurd plainly
 
     shown_nobody : (address : Bytes) → homes address ≡ None → (looked : Look) → IsOpen looked
@@ -133,7 +133,7 @@ module _ {D S : Type 0} (sight : D → Sight) (count : D → ℕ) (tells : Type 
         → LooksAt sight count tells seals desk address place said after → tells × AllStand sight desk.network.providers
         → IsOwnReply (Ok (See address (looks.Item place))) reply
     item_own address place reply said answer looks_at stood =
-        item_is kept (seals desk.network.sealer) desk.screens state (sites after.network) address place said reply answer
+        item_is kept (seals desk.network.sealer) state (sites after.network) address place said reply answer
         (subst (λ (other : Option Bytes). IsReadSo Shown
         (λ read. played (world_of seals desk.network) (luck_of_read read other) state (Show address place)) state
         (sites after.network) said) (looks_at.reads.kept stood) looks_at.reads.is)

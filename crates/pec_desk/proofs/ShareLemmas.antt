@@ -1,9 +1,8 @@
 -- What a network answers in the name of an account is what its share says.
 use Rattle.std.proofs.Common.{◌≡◌, inl, inr, ℕ, ◌+◌, ◌==◌, Bool, true, false, List, length, refl, ap, sym, ◌∙◌, subst, Option, Some, None, Result, Ok, Err}
-use Rattle.std.specs.Prelude.{◌⊎◌, IfErr, if◌then◌else◌, nat_lt, slice_get}
-use Rattle.std.specs.Option.{option_and_then, option_map}
+use Rattle.std.specs.Prelude.{◌⊎◌, IfErr, if◌then◌else◌, nat_lt}
 use Rattle.std.proofs.lemmas.Bool.{eq-eqb}
-use Rattle.std.proofs.lemmas.Option.{none-some, slice_get-map}
+use Rattle.std.proofs.lemmas.Option.{none-some}
 use Rattle.pec_types.specs.Answers.{seen_as}
 use Rattle.pec_types.specs.Bytes.{Bytes, Path}
 use Rattle.pec_types.specs.declared.mailboxes.ItemLine.{ItemLine}
@@ -14,30 +13,24 @@ use Rattle.pec_types.specs.declared.turns.ProviderFault.TheVariants as faults
 use Rattle.pec_types.specs.declared.turns.Submitted.{Submitted}
 use Rattle.pec_directory.specs.Directory.{Kept, account_home, is_account_of, is_number, providers_of}
 use Rattle.pec_records.specs.declared.entries.Entry.{Entry}
-use Rattle.pec_screen.specs.Screened.{finds_in}
-use Rattle.pec_screen.specs.VerdictReading.{finds}
-use Rattle.pec_screen.specs.Verdicts.{Patterns}
 use Rattle.pec_seal.specs.Seals.{Seals}
 use Rattle.pec_ledger.specs.Books.{book, mailbox_lines}
-use Rattle.pec_ledger.specs.Half.{Half, Posted}
-use Rattle.pec_ledger.specs.Items.{item_text}
-use Rattle.pec_ledger.specs.Lookups.{mailbox}
+use Rattle.pec_ledger.specs.Half.{Half}
 use Rattle.pec_ledger.specs.Network.{Site, journal_at, site_at}
 use Rattle.pec_ledger.specs.Steps.{half, size_of}
 use Rattle.pec_ledger.specs.Trade.{Trade}
-use Rattle.pec_plays.specs.Commands.{Answer, Book, Items, Lines, Luck, Mailbox, Played, Refuses, Show, Shown, Submit, Submits, answers, asked, played, shown, shown_bytes}
+use Rattle.pec_plays.specs.Commands.{Answer, Book, Items, Lines, Luck, Mailbox, Played, Refuses, Shown, Submit, Submits, answers, asked, played, shown}
 use Rattle.pec_plays.specs.Commands as plays
 use Rattle.pec_plays.specs.Steps.{has_no_room, longest_journal}
 use Rattle.pec_service.specs.OfTrades.{trade_of}
 use Rattle.pec_network.specs.OfProviders.{luck_of}
 use Rattle.pec_network.specs.Playing.{IsPlayed}
-use Rattle.pec_http.specs.Desks.{IsItemFault, IsLookFault, IsSubmitFault}
+use Rattle.pec_http.specs.Desks.{IsLookFault, IsSubmitFault}
 use Rattle.pec_http.specs.declared.demands.Look.{Look}
 use Rattle.pec_http.specs.declared.demands.Look.TheVariants as looks
 use Rattle.pec_script.specs.Texts.{book_text, items_text}
 use Rattle.pec_desk.specs.Desks.{IsSeen, items_shown, lines_shown}
-use Rattle.pec_service.specs.Own.{Share, entry_for, numbered, said_by, share_at, shown_to, text_or_none}
-use Rattle.pec_service.specs.ShareLaws.{found_at}
+use Rattle.pec_service.specs.Own.{Share, entry_for, numbered, said_by, share_at, shown_to}
 
 -- ---- answers, and what they tell
 
@@ -140,6 +133,8 @@ module _ {X : Type 0} (tells : X → Answer) (tell : Tells tells) (text : X → 
   seen_is (Err faults.Full) shows = inr (seen_err faults.Full shows)
   seen_is (Err faults.NoItem) shows = inr (seen_err faults.NoItem shows)
   seen_is (Err faults.JournalFull) shows = inr (seen_err faults.JournalFull shows)
+  seen_is (Err faults.OldJournal) shows = inr (seen_err faults.OldJournal shows)
+  seen_is (Err faults.NoNeed) shows = inr (seen_err faults.NoNeed shows)
   seen_is (Err (faults.Changed entry)) shows = inr (seen_err (faults.Changed entry) shows)
 
 -- ---- an account
@@ -168,7 +163,7 @@ seen_if : {X Y : Type 0} (seen : X → Y) (b : Bool) (x y : Result X ProviderFau
 seen_if seen true x y = refl
 seen_if seen false x y = refl
 
-module _ (kept : List Kept) (seals : Seals) (state : List Site) (screens : List (List Patterns)) (address : Bytes)
+module _ (kept : List Kept) (seals : Seals) (state : List Site) (address : Bytes)
     (number : ℕ) (home : account_home (providers_of kept) address ≡ Some number) where
   abbrev trade : Trade
   trade = trade_of kept seals
@@ -180,7 +175,7 @@ module _ (kept : List Kept) (seals : Seals) (state : List Site) (screens : List 
   ledger = half trade number journal
 
   abbrev share : Share
-  share = share_at trade screens state address number
+  share = share_at trade state address number
 
   abbrev up : Bool
   up = (site_at state number).up
@@ -286,32 +281,25 @@ module _ (kept : List Kept) (seals : Seals) (state : List Site) (screens : List 
     by_tests true false back few full last after e = refl
     by_tests false works back few full last after e = absurd (cc)
 
-    -- the submission, where the screens find this
-    abbrev handed : Bool → Luck → Played
-    handed found luck = played trade luck state (Submit number moment address path message found)
+    abbrev handed : Luck → Played
+    handed luck = played trade luck state (Submit number moment address path message)
 
-    told_so : (handed (finds share.patterns message) (luck_of false)).answer ≡ told submitted_shown said
+    pub submit_told : (handed (luck_of false)).answer ≡ told submitted_shown said
     unfolding played has_no_room
-    told_so =
+    submit_told =
         by_tests (trade.is_account number address) up (nat_lt moment ledger.last) (nat_lt (length ledger.messages) MESSAGES)
         (nat_lt longest_journal (ledger.end + size_of entry)) ledger.last
         (plays.with_site state number (plays.with_entry (site_at state number) entry)) is_ours
 
-    abbrev found : Bool
-    found = finds_in screens number message
-
-    pub submit_told : (handed found (luck_of false)).answer ≡ told submitted_shown said
-    submit_told = ap (λ (b : Bool). (handed b (luck_of false)).answer) (found_at message screens number) ∙ told_so
-
     submitted_err : (fault : ProviderFault) (after : List Site)
-        → (handed found (luck_of false) ≡ answers state (Refuses fault)) × (after ≡ state) → Err fault ≡ said
+        → (handed (luck_of false) ≡ answers state (Refuses fault)) × (after ≡ state) → Err fault ≡ said
     submitted_err fault after is =
         told_once submitted_shown submitted_tell (Err fault) said
         (sym (ap (λ (p : Played). p.answer) is.0) ∙ submit_told)
 
     -- what the provider said is what its figures say, but for want of memory and a fault of its disk
     pub submission_is : (after : List Site) (heard : Result Submitted ProviderFault)
-        → IsPlayed Submits (λ luck. handed found luck) state after heard
+        → IsPlayed Submits (λ luck. handed luck) state after heard
         → (heard ≡ said) ⊎ (heard ≡ Err faults.NoMemory) ⊎ (heard ≡ Err faults.DiskFault)
     submission_is after (Ok submitted) is =
         inl (told_once submitted_shown submitted_tell (Ok submitted) said
@@ -324,6 +312,8 @@ module _ (kept : List Kept) (seals : Seals) (state : List Site) (screens : List 
     submission_is after (Err faults.Full) is = inl (submitted_err faults.Full after is)
     submission_is after (Err faults.NoItem) is = inl (submitted_err faults.NoItem after is)
     submission_is after (Err faults.JournalFull) is = inl (submitted_err faults.JournalFull after is)
+    submission_is after (Err faults.OldJournal) is = inl (submitted_err faults.OldJournal after is)
+    submission_is after (Err faults.NoNeed) is = inl (submitted_err faults.NoNeed after is)
     submission_is after (Err (faults.Changed number)) is = inl (submitted_err (faults.Changed number) after is)
 
     said_refuses : (works back few full : Bool) (last : ℕ)
@@ -337,7 +327,7 @@ module _ (kept : List Kept) (seals : Seals) (state : List Site) (screens : List 
     said_refuses false back few full last = tt
 
     pub submission_refuses : (after : List Site) (heard : Result Submitted ProviderFault)
-        → IsPlayed Submits (λ luck. handed found luck) state after heard
+        → IsPlayed Submits (λ luck. handed luck) state after heard
         → IfErr heard IsSubmitFault
     submission_refuses after heard is = elim (submission_is after heard is) [
       | inl own ↦ subst (λ (r : Result Submitted ProviderFault). IfErr r IsSubmitFault) (sym own)

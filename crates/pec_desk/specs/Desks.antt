@@ -10,8 +10,6 @@ use Rattle.pec_types.specs.declared.turns.Submitted.{Submitted}
 use Rattle.pec_outside.specs.DiskModel.{Sight}
 use Rattle.pec_directory.specs.Directory.{Provider, account_home, first_domain, providers_of}
 use Rattle.pec_records.specs.Entry.{most_addresses}
-use Rattle.pec_screen.specs.Screened.{finds_in}
-use Rattle.pec_screen.specs.Verdicts.{Patterns}
 use Rattle.pec_seal.specs.Seals.{Seals}
 use Rattle.pec_ledger.specs.Network.{Site}
 use Rattle.pec_plays.specs.Commands.{Answer, Book, Items, Lines, Mailbox, Played, Refuses, Show, Shown, Submit, Submits, answers, played}
@@ -24,12 +22,10 @@ use Rattle.pec_http.specs.Desks.{Answers}
 use Rattle.pec_service.specs.Passes.{pass_of}
 use Rattle.pec_script.specs.Texts.{book_text, items_text}
 
--- The network, the moment at which all that comes to the desk is done, in seconds, and the patterns of the boxes of each
--- provider's screens, from 0 on: a provider without a list has none.
+-- The network, and the moment at which all that comes to the desk is done, in seconds.
 pub record DeskState (D S : Type 0) : Type 0 where
   pub network : NetworkState D S
   pub moment : ℕ
-  pub screens : List (List Patterns)
 
 -- ---- who asks
 
@@ -49,9 +45,8 @@ abbrev pub count_at : {D : Type 0} → (D → ℕ) → List (ProviderState D) �
 count_at count providers None = 0
 count_at count providers (Some number) = count_in count (slice_get providers number)
 
--- An account handed a message in, and its provider said this: the command was played so at the desk's moment, where the
--- provider's screens find what they do. Screens keep what they look for, no other provider was touched, and the disks
--- carry on.
+-- An account handed a message in, and its provider said this: the command was played so at the desk's moment. No other
+-- provider was touched, and the disks carry on.
 pub record HandsIn {D S : Type 0} (sight : D → Sight) (count : D → ℕ) (tells : Type 0) (seals : S → Seals)
     (old : DeskState D S) (address : Bytes) (addresses : Path) (message : Bytes) (said : Result Submitted ProviderFault)
     (new : DeskState D S) : Type 0 where
@@ -59,15 +54,12 @@ pub record HandsIn {D S : Type 0} (sight : D → Sight) (count : D → ℕ) (tel
   pub home : account_home (providers_of old.network.kept) address ≡ Some number
   pub within : number < length old.network.kept
   pub moment : new.moment ≡ old.moment
-  pub screens : new.screens ≡ old.screens
   pub path : (0 < length addresses) × (length addresses ≤ most_addresses)
-  pub plays : IsPlayedOver seals Submits
-      (Submit number old.moment address addresses message (finds_in old.screens number message)) old.network new.network said
+  pub plays : IsPlayedOver seals Submits (Submit number old.moment address addresses message) old.network new.network said
   pub concerns : ConcernsOne sight count tells seals number old.network new.network said
 
 -- An account looked at the item at a place of its mailbox, and its provider said this: the command was played so, and its
--- entry was read from the provider's disk. Moment and screens stay, no other provider was touched, and the disks carry
--- on.
+-- entry was read from the provider's disk. The moment stays, no other provider was touched, and the disks carry on.
 pub record LooksAt {D S : Type 0} (sight : D → Sight) (count : D → ℕ) (tells : Type 0) (seals : S → Seals)
     (old : DeskState D S) (address : Bytes) (place : ℕ) (said : Result Bytes ProviderFault) (new : DeskState D S)
     : Type 0 where
@@ -75,7 +67,6 @@ pub record LooksAt {D S : Type 0} (sight : D → Sight) (count : D → ℕ) (tel
   pub home : account_home (providers_of old.network.kept) address ≡ Some number
   pub within : number < length old.network.kept
   pub moment : new.moment ≡ old.moment
-  pub screens : new.screens ≡ old.screens
   pub reads : IsReadOver (tells × AllStand sight old.network.providers) seals Shown (Show address place) old.network
       new.network said
   pub concerns : ConcernsOne sight count tells seals number old.network new.network said

@@ -15,7 +15,7 @@ use Rattle.pec_desk.specs.Desks.{DeskState}
 
 abbrev pub share_of : {D S : Type 0} → (S → Seals) → DeskState D S → Bytes → Option Share
 share_of seals desk address =
-    share_in (world_of seals desk.network) (providers_of desk.network.kept) desk.screens (sites desk.network) address
+    share_in (world_of seals desk.network) (providers_of desk.network.kept) (sites desk.network) address
 
 -- The share of who asks.
 abbrev pub asking_share : {D S : Type 0} → (S → Seals) → DeskState D S → Result Question Stop → Option Share

@@ -14,56 +14,39 @@ use std::alloc::Global;
 use std::marker::Model;
 
 /// The desk at which the accounts of all providers of a network hand messages in and look at what is theirs, at one
-/// moment. The screens of a provider are those at its number; a provider past them has none. This project's profile.
+/// moment. This project's profile.
 pub struct NetworkDesk<D, J: Judge> {
-    network: Network<D, HmacSealer>,
+    network: Network<D, HmacSealer, J>,
     moment: Moment,
-    screens: Vec<J>,
 }
 
 impl<D, J: Judge> Model for NetworkDesk<D, J> {
-    ghost use Rattle.std.specs.Prelude.{map};
     ghost use Rattle.pec_seal.specs.declared.hmac.HmacSealer.{HmacSealer};
     ghost use Rattle.pec_desk.specs.Desks.{DeskState};
 
     ghost Value = { DeskState D HmacSealer };
 
-    ghost view = { λ desk.
-        record { network = desk.network; moment = desk.moment; screens = map J.patterns desk.screens.items } };
+    ghost view = { λ desk. record { network = desk.network; moment = desk.moment } };
 }
 
 impl<D, J: Judge> NetworkDesk<D, J> {
-    ghost use Rattle.std.specs.Prelude.{◌≡◌, ◌<◌, ◌≤◌, Some, true, is_some, length, map};
+    ghost use Rattle.std.specs.Prelude.{◌≡◌, ◌<◌, ◌≤◌, Some, true, is_some, length};
     ghost use Rattle.pec_directory.specs.Directory.{account_home, first_domain, providers_of};
 
     /// Opens the desk of a network at a moment. It takes no memory.
-    pub fn open(
-        network: Network<D, HmacSealer>,
-        moment: Moment,
-        screens: Vec<J>,
-    ) -> NetworkDesk<D, J>
+    pub fn open(network: Network<D, HmacSealer, J>, moment: Moment) -> NetworkDesk<D, J>
         ensures network { result.network ≡ network }
         ensures moment { result.moment ≡ moment }
-        ensures screens { result.screens ≡ map J.patterns screens.items }
     {
-        NetworkDesk {
-            network,
-            moment,
-            screens,
-        }
+        NetworkDesk { network, moment }
     }
 
-    /// The network and the screens, as the desk left them. It takes no memory.
-    pub fn close(self) -> (Network<D, HmacSealer>, Vec<J>)
-        ensures is { result.0 ≡ self.network }
-        ensures screens { map J.patterns result.1.items ≡ self.screens }
+    /// The network, as the desk left it. It takes no memory.
+    pub fn close(self) -> Network<D, HmacSealer, J>
+        ensures { result ≡ self.network }
     {
-        let NetworkDesk {
-            network,
-            moment: _,
-            screens,
-        } = self;
-        (network, screens)
+        let NetworkDesk { network, moment: _ } = self;
+        network
     }
 
     /// The number of the provider whose account an address is.
@@ -114,7 +97,6 @@ impl<D: Disk, J: Judge> Desk for NetworkDesk<D, J> {
         hand_in(
             alloc,
             &mut self.network,
-            self.screens.as_mut_slice(),
             home,
             self.moment,
             address,

@@ -1,4 +1,4 @@
-ghost use Rattle.std.specs.Prelude.{◌≡◌, ℕ, ◌<◌, ◌≤◌, Option, Some, Err, length, map, IfErr};
+ghost use Rattle.std.specs.Prelude.{◌≡◌, ℕ, ◌<◌, ◌≤◌, Option, Some, Err, length, IfErr};
 ghost use Rattle.pec_outside.specs.Flow.{HasRisen};
 ghost use Rattle.pec_types.specs.declared.turns.ProviderFault.TheVariants as faults;
 ghost use Rattle.pec_directory.specs.Directory.{account_home, providers_of};
@@ -14,11 +14,9 @@ use pec_types::{Address, Moment, ProviderFault, Submitted};
 use std::alloc::Global;
 
 /// Hands the provider of an account, by its number, a message that the account submits at a moment for a forward path.
-/// The screens of a provider are those at its number.
 pub(crate) fn hand_in<D: Disk, S: Sealer, J: Judge>(
     alloc: Global,
-    network: &mut Network<D, S>,
-    screens: &mut [J],
+    network: &mut Network<D, S, J>,
     number: u32,
     moment: Moment,
     account: &Address,
@@ -30,9 +28,9 @@ pub(crate) fn hand_in<D: Disk, S: Sealer, J: Judge>(
     requires path { (0 < length path.now) × (length path.now ≤ most_addresses) }
     requires message { length message.now ≤ longest_message }
     ensures handed { HandsIn D.sight D.faults D.tells S.seals
-        (record { network = network.old; moment = moment; screens = map J.patterns screens.old })
+        (record { network = network.old; moment = moment })
         account.now path.now message.now result
-        (record { network = network.new; moment = moment; screens = map J.patterns screens.new }) }
+        (record { network = network.new; moment = moment }) }
     ensures same { (network.new.kept ≡ network.old.kept) × (network.new.sealer ≡ network.old.sealer) }
     ensures refusals { IfErr result IsSubmitFault }
     ensures later { (home : Option ℕ)
@@ -42,13 +40,13 @@ pub(crate) fn hand_in<D: Disk, S: Sealer, J: Judge>(
         (count_at D.faults network.new.providers (Some number)) }
 {
     as_many_providers(network);
-    let said = network.submit_screened(alloc, number, moment, account, path, message, screens);
+    let said = network.submit(alloc, number, moment, account, path, message);
     as_many_providers(network);
     said
 }
 
 /// A network has the providers of its directory.
-pub(crate) fn as_many_providers<D, S: Sealer>(network: &Network<D, S>)
+pub(crate) fn as_many_providers<D, S: Sealer, J: Judge>(network: &Network<D, S, J>)
     ensures { length network.now.providers ≡ length network.now.kept }
 {
     network.directory();

@@ -1,11 +1,10 @@
-ghost use Rattle.std.specs.Prelude.{◌≡◌, ℕ, ◌<◌, ◌≤◌, false, List, Option, Some, Err, length, IfErr};
+ghost use Rattle.std.specs.Prelude.{◌≡◌, ℕ, ◌<◌, ◌≤◌, false, Option, Some, Err, length, IfErr};
 ghost use Rattle.pec_outside.specs.Flow.{HasRisen};
 ghost use Rattle.pec_types.specs.Answers.{seen_as};
 ghost use Rattle.pec_types.specs.declared.turns.ProviderFault.TheVariants as faults;
 ghost use Rattle.pec_directory.specs.Directory.{account_home, providers_of};
 ghost use Rattle.pec_http.specs.Desks.{IsItemFault, IsLookFault};
 ghost use Rattle.pec_plays.specs.Commands.{Book, Mailbox, played};
-ghost use Rattle.pec_screen.specs.Verdicts.{Patterns};
 ghost use Rattle.pec_network.specs.OfProviders.{luck_of};
 ghost use Rattle.pec_network.specs.Network.{sites, world_of};
 ghost use Rattle.pec_script.specs.Texts.{book_text as book_lines, items_text as item_lines};
@@ -14,6 +13,7 @@ ghost use Rattle.pec_desk.specs.Desks.{IsSeen, LooksAt, count_at, items_shown, l
 use crate::handing::as_many_providers;
 use pec_network::Network;
 use pec_outside::Disk;
+use pec_screen::Judge;
 use pec_script::{book_text, items_text};
 use pec_seal::Sealer;
 use pec_types::{Address, NoMemory, ProviderFault};
@@ -23,9 +23,9 @@ use std::alloc::Global;
 // there, or that the disk failed or gave back another entry.
 
 /// The lines of an account's book, and `book COUNT`.
-pub(crate) fn book<D, S: Sealer>(
+pub(crate) fn book<D, S: Sealer, J: Judge>(
     alloc: Global,
-    network: &Network<D, S>,
+    network: &Network<D, S, J>,
     account: &Address,
     number: u32,
 ) -> Result<Vec<u8>, ProviderFault>
@@ -45,9 +45,9 @@ pub(crate) fn book<D, S: Sealer>(
 }
 
 /// The lines of an account's mailbox, and `mailbox COUNT`.
-pub(crate) fn mailbox<D, S: Sealer>(
+pub(crate) fn mailbox<D, S: Sealer, J: Judge>(
     alloc: Global,
-    network: &Network<D, S>,
+    network: &Network<D, S, J>,
     account: &Address,
     number: u32,
 ) -> Result<Vec<u8>, ProviderFault>
@@ -68,19 +68,19 @@ pub(crate) fn mailbox<D, S: Sealer>(
 
 /// The bytes of the item at a place of an account's mailbox, from 0. Its provider, by its number, reads the entry from
 /// its disk.
-pub(crate) fn item<D: Disk, S: Sealer>(
+pub(crate) fn item<D: Disk, S: Sealer, J: Judge>(
     alloc: Global,
-    network: &mut Network<D, S>,
+    network: &mut Network<D, S, J>,
     number: u32,
     account: &Address,
     place: u32,
 ) -> Result<Vec<u8>, ProviderFault>
     requires home { account_home (providers_of network.old.kept) account.now ≡ Some number }
     requires within { number < length network.old.kept }
-    ensures looks { (moment : ℕ) (screens : List (List Patterns)) → LooksAt D.sight D.faults D.tells S.seals
-        (record { network = network.old; moment = moment; screens = screens }) account.now place
+    ensures looks { (moment : ℕ) → LooksAt D.sight D.faults D.tells S.seals
+        (record { network = network.old; moment = moment }) account.now place
         (seen_as (λ bytes. bytes.items) result)
-        (record { network = network.new; moment = moment; screens = screens }) }
+        (record { network = network.new; moment = moment }) }
     ensures same { network.new.kept ≡ network.old.kept }
     ensures refusals { IfErr result IsItemFault }
     ensures later { (home : Option ℕ)

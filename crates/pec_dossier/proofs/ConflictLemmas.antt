@@ -1,14 +1,16 @@
 -- What genuine letters attest is decided so, where each is the text of a licensed letter or of an item.
-use Rattle.std.proofs.Common.{◌≡◌, List, [], ◌∷◌, map, Option, None, Some, Ok, Err, refl, ap, sym, subst, ◌∙◌}
+use Rattle.std.proofs.Common.{◌≡◌, ◌⊎◌, ℕ, inl, inr, List, [], ◌∷◌, map, Option, None, Some, Ok, Err, refl, ap, sym, subst, ◌∙◌}
 use Rattle.std.specs.Prelude.{All}
 use Rattle.std.specs.List.{cons_option, filter_map}
 use Rattle.std.specs.Result.{result_ok}
 use Rattle.std.proofs.lemmas.List.Elements.{All-cons, All-head, All-nil, All-tail}
-use Rattle.std.proofs.lemmas.Option.{none-some}
+use Rattle.std.proofs.lemmas.Option.{none-some, same_Some}
 use Rattle.pec_types.specs.Bytes.{Bytes}
 use Rattle.pec_types.specs.Message.{Id}
 use Rattle.pec_types.specs.declared.messages.Decision.{Decision}
 use Rattle.pec_types.specs.declared.messages.Decision.TheVariants.{Placed, Refused}
+use Rattle.pec_types.specs.declared.messages.Refusal.{Refusal}
+use Rattle.pec_types.specs.declared.messages.Refusal.TheVariants as refusals
 use Rattle.pec_types.specs.declared.receipts.Kind.{Kind}
 use Rattle.pec_types.specs.declared.receipts.Kind.TheVariants as kinds
 use Rattle.pec_directory.specs.Directory.{Kept, Provider, providers_of}
@@ -35,16 +37,26 @@ use Rattle.pec_dossier.specs.Texts.{Told}
 use Rattle.pec_dossier.proofs.AgreementLemmas.{IsTold, none_conflicts}
 use Rattle.pec_dossier.proofs.ReportLemmas.{report_is}
 
--- a kind that tells a decision is that of the receipt on it
+-- a kind that tells a decision is that of the letter on it, or of the delivery error of a virus
+abbrev IsKindOn : Kind → Decision → Type 0
+IsKindOn kind decision =
+    (kind ≡ outcome_kind decision) ⊎ ((kind ≡ kinds.DeliveryError refusals.Virus) × (Refused refusals.Virus ≡ decision))
+
+error_so : (refusal : Refusal) → IsKindOn (kinds.DeliveryError refusal) (Refused refusal)
+error_so refusals.NoMailbox = inl refl
+error_so refusals.MailboxFull = inl refl
+error_so refusals.Virus = inr (refl, refl)
+
 kind_so : (kind : Kind) (decision : Decision) → decision_told (saved.Receipt kind) ≡ Some decision
-    → kind ≡ outcome_kind decision
+    → IsKindOn kind decision
 kind_so kinds.Acceptance decision e = absurd (none-some decision e)
 kind_so (kinds.NonAcceptance cause) decision e = absurd (none-some decision e)
 kind_so kinds.Charge decision e = absurd (none-some decision e)
-kind_so kinds.Delivery decision e =
-    let same : Placed ≡ decision = cc in ap outcome_kind same
+kind_so kinds.Delivery decision e = subst (IsKindOn kinds.Delivery) (same_Some Placed decision e) (inl refl)
 kind_so (kinds.DeliveryError refusal) decision e =
-    let same : Refused refusal ≡ decision = cc in ap outcome_kind same
+    subst (IsKindOn (kinds.DeliveryError refusal)) (same_Some (Refused refusal) decision e) (error_so refusal)
+kind_so kinds.VirusFound decision e =
+    subst (IsKindOn kinds.VirusFound) (same_Some (Refused refusals.Virus) decision e) (inl refl)
 kind_so kinds.Warning decision e = absurd (none-some decision e)
 kind_so kinds.Notice decision e = absurd (none-some decision e)
 kind_so kinds.LateNotice decision e = absurd (none-some decision e)
@@ -79,15 +91,39 @@ receipt_named : (read : Headed) (seen : ReceiptView) (one : Attested)
 unfolding attested_by
 receipt_named read seen one e = named_so seen.id seen.recipient (decision_told (saved.Receipt seen.kind)) one e
 
--- what the ledger says of genuine texts that are seen as outcome receipts
-abbrev pub LearnedSo : Type 0
-LearnedSo = (trade : Trade) (journals : Journals) → Fit trade journals → IsTrade trade
+-- what the ledger says of genuine texts that are seen as outcome receipts, or as the delivery error of a virus
+pub record LearnedSo : Type 0 where
+  pub learned : (trade : Trade) (journals : Journals) → Fit trade journals → IsTrade trade
+      → (bytes : Bytes) → IsGenuineText trade journals bytes
+      → (receipt : Receipt) → trade.view bytes ≡ Some (SeenReceipt receipt)
+      → (decision : Decision) → receipt.kind ≡ outcome_kind decision
+      → (recipient : Bytes) → receipt.recipient ≡ Some recipient
+      → IsOutcomeText trade journals (pair_of receipt.id recipient) bytes
+      × IsDecidedSo trade journals (pair_of receipt.id recipient) decision receipt.moment
+  pub viruses : (trade : Trade) (journals : Journals) → Fit trade journals → IsTrade trade
+      → (bytes : Bytes) → IsGenuineText trade journals bytes
+      → (receipt : Receipt) → trade.view bytes ≡ Some (SeenReceipt receipt)
+      → receipt.kind ≡ kinds.DeliveryError refusals.Virus
+      → (recipient : Bytes) → receipt.recipient ≡ Some recipient
+      → (moment : ℕ) × IsDecidedSo trade journals (pair_of receipt.id recipient) (Refused refusals.Virus) moment
+
+-- so whichever of them tells a decision, its pair is decided so
+decided_so : LearnedSo → (trade : Trade) (journals : Journals) → Fit trade journals → IsTrade trade
     → (bytes : Bytes) → IsGenuineText trade journals bytes
     → (receipt : Receipt) → trade.view bytes ≡ Some (SeenReceipt receipt)
-    → (decision : Decision) → receipt.kind ≡ outcome_kind decision
+    → (decision : Decision) → IsKindOn receipt.kind decision
     → (recipient : Bytes) → receipt.recipient ≡ Some recipient
-    → IsOutcomeText trade journals (pair_of receipt.id recipient) bytes
-    × IsDecidedSo trade journals (pair_of receipt.id recipient) decision receipt.moment
+    → (moment : ℕ) × IsDecidedSo trade journals (pair_of receipt.id recipient) decision moment
+decided_so so trade journals fit lawful bytes genuine receipt there decision (inl kind) recipient names = (
+  receipt.moment,
+  (so.learned trade journals fit lawful bytes genuine receipt there decision kind recipient names).1,
+)
+decided_so so trade journals fit lawful bytes genuine receipt there decision (inr virus) recipient names =
+    let told = so.viruses trade journals fit lawful bytes genuine receipt there virus.0 recipient names
+    in (
+      told.0,
+      subst (λ (d : Decision). IsDecidedSo trade journals (pair_of receipt.id recipient) d told.0) virus.1 told.1,
+    )
 
 module _ (learned : LearnedSo) (kept : List Kept) (seals : Seals) (lawful : IsTrade (trade_of kept seals))
     (journals : Journals) (fit : Fit (trade_of kept seals) journals) where
@@ -102,14 +138,14 @@ module _ (learned : LearnedSo) (kept : List Kept) (seals : Seals) (lawful : IsTr
   told_so text genuine report one e attests_so =
       let of = report_is seals (providers_of kept) text report one e attests_so
       in let here = receipt_named of.read of.seen one (sym (ap attested_by of.is) ∙ attests_so)
-      in let so = learned trade journals fit lawful text genuine _ of.there one.decision
+      in let so = decided_so learned trade journals fit lawful text genuine _ of.there one.decision
       (kind_so of.seen.kind one.decision here.tells) here.address here.names
       in let decided = subst (λ (recipient : Bytes). IsDecidedSo trade journals (pair_of of.seen.id recipient)
-      one.decision of.seen.moment) (sym here.recipient_is) so.1
+      one.decision so.0) (sym here.recipient_is) so.1
       in record {
-        moment = of.seen.moment;
-        decided = subst (λ (id : Id). IsDecidedSo trade journals (pair_of id one.pair.recipient) one.decision
-            of.seen.moment) (sym here.id_is) decided;
+        moment = so.0;
+        decided = subst (λ (id : Id). IsDecidedSo trade journals (pair_of id one.pair.recipient) one.decision so.0)
+            (sym here.id_is) decided;
       }
 
   abbrev attested_in : List Bytes → List Attested

@@ -16,7 +16,7 @@ use Rattle.pec_runs.specs.Statuses.{Status}
 use Rattle.pec_runs.specs.Statuses as statuses
 use Rattle.pec_runs.specs.Transcripts.{NoFaults, StoodStill}
 
-abbrev Had : Type 0
+abbrev pub Had : Type 0
 Had = Result (List Provider) Finish
 
 abbrev stopped_early : Had
@@ -51,7 +51,7 @@ module _ (P : Had → Type 0) (bytes : Bytes) (early_so : P stopped_early)
   by_length true is = long_so (ltb-true LONGEST_DIRECTORY (length bytes) is)
   by_length false is = by_told (directory_in bytes) refl
 
-  by_had : (early : Bool) → P (providers_had early bytes)
+  pub by_had : (early : Bool) → P (providers_had early bytes)
   unfolding providers_had
   by_had true = early_so
   by_had false = by_length (nat_lt LONGEST_DIRECTORY (length bytes)) refl
@@ -178,6 +178,8 @@ module _ (text_of : List Provider → Bytes) (before after : Option Bytes) where
   status_so statuses.NotFit unread ran = among statuses.NotFit ran.bytes ran.early ran.told.0
   status_so statuses.ClockFault unread ran = among statuses.ClockFault ran.bytes ran.early ran.told.0
   status_so statuses.DoorFault unread ran = among statuses.DoorFault ran.bytes ran.early ran.told.0
+  status_so statuses.DiskFault unread ran = among statuses.DiskFault ran.bytes ran.early ran.told.0
+  status_so statuses.Changed unread ran = among statuses.Changed ran.bytes ran.early ran.told.0
   status_so statuses.InputTooLong unread ran = tt
 
   -- ---- without faults
@@ -230,6 +232,8 @@ module _ (text_of : List Provider → Bytes) (before after : Option Bytes) where
     whole_by statuses.NotFit ran blames of = absurd of
     whole_by statuses.ClockFault ran blames of = absurd of
     whole_by statuses.DoorFault ran blames of = absurd of
+    whole_by statuses.DiskFault ran blames of = absurd of
+    whole_by statuses.Changed ran blames of = absurd of
 
     -- A run without faults whose input is a directory writes its text, unless memory runs out.
     pub whole_so : (status : Status) → ExportRan text_of status (Some text) before after old new

@@ -1,6 +1,7 @@
 pub mod AgreementLemmas
 pub mod ConflictLemmas
 pub mod ExportLemmas
+pub mod ExtractLemmas
 pub mod FoundLemmas
 pub mod LineLemmas
 pub mod LoopLemmas

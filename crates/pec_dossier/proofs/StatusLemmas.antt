@@ -162,6 +162,8 @@ module _ (before after : Option Bytes) (had : Had) (stopped : Option ℕ) where
   told_end statuses.NotFit told = inr (came statuses.NotFit told.0 told.1)
   told_end statuses.ClockFault told = inr (came statuses.ClockFault told.0 told.1)
   told_end statuses.DoorFault told = inr (came statuses.DoorFault told.0 told.1)
+  told_end statuses.DiskFault told = inr (came statuses.DiskFault told.0 told.1)
+  told_end statuses.Changed told = inr (came statuses.Changed told.0 told.1)
   told_end statuses.InputTooLong told = inr (came statuses.InputTooLong told.0 told.1)
 
 -- ---- the clauses

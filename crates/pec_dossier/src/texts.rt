@@ -241,6 +241,7 @@ fn receipt_word(kind: Kind) -> &'static [u8]
         Kind::Charge => b"charge",
         Kind::Delivery => b"delivery",
         Kind::DeliveryError(_) => b"delivery-error",
+        Kind::VirusFound => b"virus-found",
         Kind::Warning => b"warning",
         Kind::Notice => b"notice",
         Kind::LateNotice => b"late-notice",

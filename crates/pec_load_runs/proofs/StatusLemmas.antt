@@ -1,5 +1,5 @@
 -- How a run ends that plays a load.
-use Rattle.std.proofs.Common.{◌≡◌, ◌≢◌, ℕ, suc, ◌-◌, ◌^◌, ◌<◌, ◌≤◌, ◌⊎◌, inl, inr, Bool, true, false, List, [], ◌∷◌, length, refl, sym, ap, subst, ◌∙◌, arith, Option, Some}
+use Rattle.std.proofs.Common.{◌≡◌, ◌≢◌, ℕ, suc, ◌-◌, ◌^◌, ◌<◌, ◌≤◌, ◌⊎◌, inl, inr, Bool, true, false, List, [], ◌∷◌, length, refl, sym, ap, subst, ◌∙◌, arith, Option, Some, None}
 use Rattle.std.proofs.lemmas.List.{length-map}
 use Rattle.std.proofs.lemmas.Option.{none-some, same_Some}
 use Rattle.pec_types.specs.Bytes.{Bytes}
@@ -8,7 +8,7 @@ use Rattle.pec_outside.specs.Flow.{HasRisen, followed_by}
 use Rattle.pec_input.specs.Lines.{raw_lines}
 use Rattle.pec_input.specs.Parts.{parts_of}
 use Rattle.pec_plays.specs.Commands.{Command, Luck}
-use Rattle.pec_screen.specs.Screened.{Finds}
+use Rattle.pec_screen.specs.Verdicts.{Patterns}
 use Rattle.pec_load.specs.Generated.{commands_of}
 use Rattle.pec_load.specs.Heard.{load_input}
 use Rattle.pec_load_runs.specs.Loading.{IsOfLoad, IsQuiet, LoadRan, load_asked, load_script, state_text, written_behind}
@@ -45,19 +45,19 @@ all_played (luck ∷ lucks) [] P whole stops = stops
 all_played (luck ∷ lucks) (command ∷ commands) P whole stops =
     all_played lucks commands P (λ e. whole (ap suc e)) stops
 
-module _ (finds : Finds) (count : ℕ) (tells : Type 0) (old_disks new_disks : Disks) (old new : Counts) (happened : Happened) where
+module _ (screens : List (List Patterns)) (count : ℕ) (tells : Type 0) (old_disks new_disks : Disks) (old new : Counts) (happened : Happened) where
   rest_finishes : (rest : Rest) → happened.opening.next ≡ NoMore
-      → MayPlay (world happened) tells (beginning happened) old.disks new.disks (load_script finds count) happened.lucks rest
-      → Finishes happened count (finish_of rest happened.lucks (load_script finds count))
+      → MayPlay (world happened) tells happened.spares (beginning happened) old.disks new.disks (load_script count) happened.lucks rest
+      → Finishes happened count (finish_of rest happened.lucks (load_script count))
   rest_finishes ToTheEnd more may =
-      all_played happened.lucks (load_script finds count).commands (Finishes happened count)
-      (λ e. (more, e ∙ length-map (commands_of count) (command_in finds))) tt
+      all_played happened.lucks (load_script count).commands (Finishes happened count)
+      (λ e. (more, e ∙ length-map (commands_of count) (command_in None))) tt
   rest_finishes Stopped more may = tt
-  rest_finishes Strayed more may = never_restarts finds count (length happened.lucks) may.strays.provider may.strays.restarts
+  rest_finishes Strayed more may = never_restarts count (length happened.lucks) may.strays.provider may.strays.restarts
 
   next_finishes : (next : Next) → happened.opening.next ≡ next → IsNext (world happened) old_disks Run (next_of happened.opening) next
-      → PlaysOn tells old_disks new_disks old new happened (load_script finds count) next
-      → Finishes happened count (by_next (world happened) happened.opening happened.lucks happened.rest (load_script finds count) next).finish
+      → PlaysOn tells old_disks new_disks old new happened (load_script count) next
+      → Finishes happened count (by_next (world happened) happened.screens happened.opening happened.lucks happened.rest (load_script count) next).finish
   next_finishes NoMore e is may = rest_finishes happened.rest e may
   next_finishes Holds e is may = tt
   next_finishes (Unfits unfit) e is may = absurd (not_resumed is.0)
@@ -67,33 +67,33 @@ module _ (finds : Finds) (count : ℕ) (tells : Type 0) (old_disks new_disks : D
   next_finishes Fails e is may = tt
   next_finishes Stops e is may = tt
 
-  at_finishes : (status : Status) (stage : Stage) → IsAt tells old_disks new_disks old new happened status (load_asked finds) stage
-      → (stage ≡ Halted) ⊎ (stage ≡ Begun Run (load_script finds count))
+  at_finishes : (status : Status) (stage : Stage) → IsAt tells old_disks new_disks old new happened status (load_asked screens) stage
+      → (stage ≡ Halted) ⊎ (stage ≡ Begun Run (load_script count))
       → Finishes happened count (outcome_at happened stage).finish
   at_finishes status stage at (inl e) = subst (λ s. Finishes happened count (outcome_at happened s).finish) (sym e) tt
   at_finishes status stage at (inr e) =
-      let begun = subst (IsAt tells old_disks new_disks old new happened status (load_asked finds)) e at in
+      let begun = subst (IsAt tells old_disks new_disks old new happened status (load_asked screens)) e at in
       subst (λ s. Finishes happened count (outcome_at happened s).finish) (sym e)
       (next_finishes happened.opening.next refl begun.opening.next begun.plays)
 
-stage_by : Told → (finds : Finds) (count : ℕ) → count ≤ 20000 → (happened : Happened) (early : Bool) → happened.early ≡ early
+stage_by : Told → (screens : List (List Patterns)) (count : ℕ) → count ≤ 20000 → (happened : Happened) (early : Bool) → happened.early ≡ early
     → happened.parts ≡ parts_of (raw_lines (load_input count))
-    → (stage_of (load_asked finds) happened.early happened.parts ≡ Halted)
-    ⊎ (stage_of (load_asked finds) happened.early happened.parts ≡ Begun Run (load_script finds count))
-stage_by told finds count few happened true e are =
-    inl (ap (λ x. stage_of (load_asked finds) x happened.parts) e ∙ load_halts finds happened.parts)
-stage_by told finds count few happened false e are =
-    inr (ap (λ x. stage_of (load_asked finds) x happened.parts) e ∙ load_begins told finds count few happened.parts are)
+    → (stage_of (load_asked screens) happened.hands happened.early happened.parts ≡ Halted)
+    ⊎ (stage_of (load_asked screens) happened.hands happened.early happened.parts ≡ Begun Run (load_script count))
+stage_by told screens count few happened true e are =
+    inl (ap (λ x. stage_of (load_asked screens) happened.hands x happened.parts) e ∙ load_halts screens happened.hands happened.parts)
+stage_by told screens count few happened false e are =
+    inr (ap (λ x. stage_of (load_asked screens) happened.hands x happened.parts) e ∙ load_begins told screens happened.hands count few happened.parts are)
 
-pub load_finishes : Told → (finds : Finds) (count : ℕ) → count ≤ 20000 → (status : Status) (before after : Option Bytes) (tells : Type 0)
+pub load_finishes : Told → (screens : List (List Patterns)) (count : ℕ) → count ≤ 20000 → (status : Status) (before after : Option Bytes) (tells : Type 0)
     (old_disks new_disks : Disks) (old new : Counts)
-    (ran : Ran (load_asked finds) status (Some (load_input count)) before after tells old_disks new_disks old new)
-    → Finishes ran.happened count (outcome_of (load_asked finds) ran.happened).finish
+    (ran : Ran (load_asked screens) status (Some (load_input count)) before after tells old_disks new_disks old new)
+    → Finishes ran.happened count (outcome_of (load_asked screens) ran.happened).finish
 unfolding outcome_of
-load_finishes told finds count few status before after tells old_disks new_disks old new ran =
-    at_finishes finds count tells old_disks new_disks old new ran.happened status
-    (stage_of (load_asked finds) ran.happened.early ran.happened.parts) ran.is_at
-    (stage_by told finds count few ran.happened ran.happened.early refl ran.input)
+load_finishes told screens count few status before after tells old_disks new_disks old new ran =
+    at_finishes screens count tells old_disks new_disks old new ran.happened status
+    (stage_of (load_asked screens) ran.happened.hands ran.happened.early ran.happened.parts) ran.is_at
+    (stage_by told screens count few ran.happened ran.happened.early refl ran.input)
 
 -- ---- statuses
 
@@ -127,26 +127,28 @@ module _ (happened : Happened) (count : ℕ) (before after : Option Bytes) (text
   as_told statuses.NotFit told = ends_of happened count finish is statuses.NotFit told.0
   as_told statuses.ClockFault told = ends_of happened count finish is statuses.ClockFault told.0
   as_told statuses.DoorFault told = ends_of happened count finish is statuses.DoorFault told.0
+  as_told statuses.DiskFault told = ends_of happened count finish is statuses.DiskFault told.0
+  as_told statuses.Changed told = ends_of happened count finish is statuses.Changed told.0
   as_told statuses.InputTooLong told = ends_of happened count finish is statuses.InputTooLong told.0
 
 -- it doesn't stray
 no_stray : (happened : Happened) (count : ℕ) (finish : Finish) → Finishes happened count finish → finish ≡ plays.Strays → ⊥
 no_stray happened count finish is e = subst (Finishes happened count) e is
 
-pub load_stays : Told → (finds : Finds) (count : ℕ) (status : Status) (before after : Option Bytes) (tells : Type 0)
+pub load_stays : Told → (screens : List (List Patterns)) (count : ℕ) (status : Status) (before after : Option Bytes) (tells : Type 0)
     (old_disks new_disks : Disks) (old new : Counts) → count ≤ 20000
-    → (ran : Ran (load_asked finds) status (Some (load_input count)) before after tells old_disks new_disks old new)
-    → (outcome_of (load_asked finds) ran.happened).finish ≢ plays.Strays
-load_stays told finds count status before after tells old_disks new_disks old new few ran =
-    no_stray ran.happened count (outcome_of (load_asked finds) ran.happened).finish
-    (load_finishes told finds count few status before after tells old_disks new_disks old new ran)
+    → (ran : Ran (load_asked screens) status (Some (load_input count)) before after tells old_disks new_disks old new)
+    → (outcome_of (load_asked screens) ran.happened).finish ≢ plays.Strays
+load_stays told screens count status before after tells old_disks new_disks old new few ran =
+    no_stray ran.happened count (outcome_of (load_asked screens) ran.happened).finish
+    (load_finishes told screens count few status before after tells old_disks new_disks old new ran)
 
-pub load_status : Told → (finds : Finds) (count : ℕ) (status : Status) (before after : Option Bytes) (tells : Type 0)
+pub load_status : Told → (screens : List (List Patterns)) (count : ℕ) (status : Status) (before after : Option Bytes) (tells : Type 0)
     (old_disks new_disks : Disks) (old new : Counts) → count ≤ 20000
-    → Ran (load_asked finds) status (Some (load_input count)) before after tells old_disks new_disks old new → IsOfLoad status
-load_status told finds count status before after tells old_disks new_disks old new few ran =
-    let outcome = outcome_of (load_asked finds) ran.happened in
-    let is = load_finishes told finds count few status before after tells old_disks new_disks old new ran in
+    → Ran (load_asked screens) status (Some (load_input count)) before after tells old_disks new_disks old new → IsOfLoad status
+load_status told screens count status before after tells old_disks new_disks old new few ran =
+    let outcome = outcome_of (load_asked screens) ran.happened in
+    let is = load_finishes told screens count few status before after tells old_disks new_disks old new ran in
     elim ran.told [
       | inl as_is ↦ as_told ran.happened count before after (outcome_text (providers_in ran.happened.setting) outcome) outcome.finish is status as_is
       | inr more ↦ absurd (no_stray ran.happened count outcome.finish is more.strays)
@@ -170,14 +172,14 @@ done_of happened count plays.Stops is e = cc
 done_of happened count plays.Fails is e = cc
 done_of happened count plays.Strays is e = absurd is
 
-played_all : Told → (finds : Finds) (count : ℕ) → count ≤ 20000 → (status : Status) → status ≡ statuses.Done → (before after : Option Bytes)
+played_all : Told → (screens : List (List Patterns)) (count : ℕ) → count ≤ 20000 → (status : Status) → status ≡ statuses.Done → (before after : Option Bytes)
     (tells : Type 0) (old_disks new_disks : Disks) (old new : Counts)
-    (ran : Ran (load_asked finds) status (Some (load_input count)) before after tells old_disks new_disks old new)
+    (ran : Ran (load_asked screens) status (Some (load_input count)) before after tells old_disks new_disks old new)
     → (ran.happened.opening.next ≡ NoMore) × (length ran.happened.lucks ≡ length (commands_of count))
-played_all told finds count few status e before after tells old_disks new_disks old new ran =
-    let outcome = outcome_of (load_asked finds) ran.happened in
+played_all told screens count few status e before after tells old_disks new_disks old new ran =
+    let outcome = outcome_of (load_asked screens) ran.happened in
     let text = outcome_text (providers_in ran.happened.setting) outcome in
-    let is = load_finishes told finds count few status before after tells old_disks new_disks old new ran in
+    let is = load_finishes told screens count few status before after tells old_disks new_disks old new ran in
     elim ran.told [
       | inl as_is ↦
           let so = subst (λ s. TellsAs s before after text outcome.finish) e as_is in
@@ -185,20 +187,20 @@ played_all told finds count few status e before after tells old_disks new_disks 
       | inr more ↦ absurd (no_stray ran.happened count outcome.finish is more.strays)
     ]
 
-pub load_done : {D : Type 0} → Told → (finds : Finds) (count : ℕ) (before after : Option Bytes) (tells : Type 0)
+pub load_done : {D : Type 0} → Told → (screens : List (List Patterns)) (count : ℕ) (before after : Option Bytes) (tells : Type 0)
     (sight : D → Sight) (home left : ℕ → Option D) (old new : Counts) → count ≤ 20000
-    → (load : LoadRan tells sight count finds statuses.Done before after home left old new)
+    → (load : LoadRan tells sight count screens statuses.Done before after home left old new)
     → (load.through.ran.happened.opening.next ≡ NoMore)
     × (length load.through.ran.happened.lucks ≡ length (commands_of count))
     × (after ≡ followed_by before (state_text count (world load.through.ran.happened)
-    (outcome_of (load_asked finds) load.through.ran.happened).after))
-load_done told finds count before after tells sight home left old new few load =
+    (outcome_of (load_asked screens) load.through.ran.happened).after))
+load_done told screens count before after tells sight home left old new few load =
     let ran = load.through.ran in
-    let all = played_all told finds count few load.played load.told.0 _ _ tells _ _ _ _ ran in (
+    let all = played_all told screens count few load.played load.told.0 _ _ tells _ _ _ _ ran in (
       all.0,
       all.1,
       load.told.1 ∙ ap (λ s. followed_by before (written_behind count s load.lines (world ran.happened)
-          (outcome_of (load_asked finds) ran.happened).after)) load.told.0,
+          (outcome_of (load_asked screens) ran.happened).after)) load.told.0,
     )
 
 -- ---- without faults
@@ -210,23 +212,25 @@ still_down before now still risen =
     let up : before < now = risen (omega arith) in
     omega arith
 
-pub load_quiet : {D : Type 0} (count : ℕ) (finds : Finds) (before after : Option Bytes) (tells : Type 0) (sight : D → Sight)
+pub load_quiet : {D : Type 0} (count : ℕ) (screens : List (List Patterns)) (before after : Option Bytes) (tells : Type 0) (sight : D → Sight)
     (home left : ℕ → Option D) (old new : Counts) (status : Status)
-    → LoadRan tells sight count finds status before after home left old new → NoFaults old new → IsQuiet status
-load_quiet count finds before after tells sight home left old new statuses.Done load none = tt
-load_quiet count finds before after tells sight home left old new statuses.NoMemory load none = tt
-load_quiet count finds before after tells sight home left old new statuses.NotEmpty load none = tt
-load_quiet count finds before after tells sight home left old new statuses.WriteFault load none =
+    → LoadRan tells sight count screens status before after home left old new → NoFaults old new → IsQuiet status
+load_quiet count screens before after tells sight home left old new statuses.Done load none = tt
+load_quiet count screens before after tells sight home left old new statuses.NoMemory load none = tt
+load_quiet count screens before after tells sight home left old new statuses.NotEmpty load none = tt
+load_quiet count screens before after tells sight home left old new statuses.WriteFault load none =
     still_down old.sink new.sink none.sink load.blame
-load_quiet count finds before after tells sight home left old new statuses.StartFault load none =
+load_quiet count screens before after tells sight home left old new statuses.StartFault load none =
     elim load.blame [
       | inl depot ↦ still_down old.depot new.depot none.depot depot
       | inr disk ↦ still_down (old.disks disk.0) (new.disks disk.0) (none.disks disk.0) disk.1
     ]
-load_quiet count finds before after tells sight home left old new statuses.Usage load none = load.told
-load_quiet count finds before after tells sight home left old new statuses.Refused load none = load.told
-load_quiet count finds before after tells sight home left old new statuses.ReadFault load none = load.told
-load_quiet count finds before after tells sight home left old new statuses.NotFit load none = load.told
-load_quiet count finds before after tells sight home left old new statuses.ClockFault load none = load.told
-load_quiet count finds before after tells sight home left old new statuses.DoorFault load none = load.told
-load_quiet count finds before after tells sight home left old new statuses.InputTooLong load none = load.told
+load_quiet count screens before after tells sight home left old new statuses.Usage load none = load.told
+load_quiet count screens before after tells sight home left old new statuses.Refused load none = load.told
+load_quiet count screens before after tells sight home left old new statuses.ReadFault load none = load.told
+load_quiet count screens before after tells sight home left old new statuses.NotFit load none = load.told
+load_quiet count screens before after tells sight home left old new statuses.ClockFault load none = load.told
+load_quiet count screens before after tells sight home left old new statuses.DoorFault load none = load.told
+load_quiet count screens before after tells sight home left old new statuses.DiskFault load none = load.told
+load_quiet count screens before after tells sight home left old new statuses.Changed load none = load.told
+load_quiet count screens before after tells sight home left old new statuses.InputTooLong load none = load.told

@@ -15,7 +15,7 @@ use Rattle.pec_shelf.specs.Summaries.{total_of}
 use Rattle.pec_shelf.specs.declared.summing.Summary.{Summary}
 use Rattle.pec_script.specs.Texts.{Row, text_of}
 use Rattle.pec_words.specs.Numbers.{number_below}
-use Rattle.pec_screen.specs.Screened.{Finds}
+use Rattle.pec_screen.specs.Verdicts.{Patterns}
 use Rattle.pec_load.specs.Generated.{commands_of}
 use Rattle.pec_load.specs.Heard.{load_input}
 use Rattle.pec_load.specs.declared.generating.TheConstants.{MOST_MESSAGES}
@@ -43,13 +43,13 @@ loads_in _ = None
 
 -- ---- what is played
 
--- a load is played as a run in the form `run`
-abbrev pub load_asked : Finds → Asked
-load_asked finds = record { words = codes "run" ∷ []; finds = finds }
+-- a load is played as a run in the form `run`, with these screens and without spares
+abbrev pub load_asked : List (List Patterns) → Asked
+load_asked screens = record { words = codes "run" ∷ []; screens = screens; spares = [] }
 
 -- the script that it plays
-abbrev pub load_script : Finds → ℕ → Script
-load_script finds count = record { commands = map (command_in finds) (commands_of count); end = Done }
+abbrev pub load_script : ℕ → Script
+load_script count = record { commands = map (command_in None) (commands_of count); end = Done }
 
 -- ---- what is written
 
@@ -101,16 +101,16 @@ counts_with counts source sink =
 -- The program ran on `load N`, over a depot that had these disks at home, by provider, and has those: from what the output
 -- held and the counts of faults as it began to those as it ended. Within it a run was played, from and to memory, which
 -- read all of the load's directory and script; what each disk went through meanwhile is what it did in that run.
-pub record LoadRan {D : Type 0} (tells : Type 0) (sight : D → Sight) (count : ℕ) (finds : Finds) (status : Status)
-    (before after : Option Bytes) (home left : ℕ → Option D) (old new : Counts) : Type 0 where
+pub record LoadRan {D : Type 0} (tells : Type 0) (sight : D → Sight) (count : ℕ) (screens : List (List Patterns))
+    (status : Status) (before after : Option Bytes) (home left : ℕ → Option D) (old new : Counts) : Type 0 where
   pub played : Status
   pub lines : Bytes  -- what it wrote, which is dropped
   pub source : ℕ  -- the counts of faults of what it read from and wrote to, in memory, which begin at 0
   pub sink : ℕ
-  pub through : RanThrough tells sight (load_asked finds) played (Some (load_input count)) (Some []) (Some lines) home left
+  pub through : RanThrough tells sight (load_asked screens) played (Some (load_input count)) (Some []) (Some lines) home left
       (counts_with old 0 0) (counts_with new source sink)
   pub told : LoadTells status played (written_behind count played lines (world through.ran.happened)
-      (outcome_of (load_asked finds) through.ran.happened).after) before after
+      (outcome_of (load_asked screens) through.ran.happened).after) before after
   pub blame : Blames status old new
   pub counts : NoneFell old new
 

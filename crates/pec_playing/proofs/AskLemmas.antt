@@ -15,14 +15,16 @@ use Rattle.pec_directory.specs.Directory.{Provider, providers_of}
 use Rattle.pec_ledger.specs.Network.{Site}
 use Rattle.pec_ledger.specs.Trade.{Trade}
 use Rattle.pec_plays.specs.Commands.{Answer, Book, Command, Items, Lines, Luck, Mailbox, Marks, Played, Refuses}
-use Rattle.pec_plays.specs.Commands.{Submit, Submits, Tick, answers, played}
+use Rattle.pec_plays.specs.Commands.{Submit, Submits, Tick, Upgrade, Upgraded, Vault, Vaults, answers, played}
 use Rattle.pec_plays.specs.Possible.{MayMeet}
 use Rattle.pec_network.specs.OfProviders.{luck_of}
 use Rattle.pec_network.specs.Carrying.{AllStand}
 use Rattle.pec_network.specs.Changing.{HasRisenAt}
 use Rattle.pec_network.specs.Network.{NetworkState, sites}
 use Rattle.pec_network.specs.Playing.{IsPlayed, IsShown}
-use Rattle.pec_script.specs.Texts.{book_text, fault_text, items_text, marks_text, submitted_text}
+use Rattle.pec_script.specs.Texts.{book_text, fault_text, items_text, marks_text, submitted_text, vault_text}
+use Rattle.pec_script.specs.Texts as texts
+use Rattle.pec_script.specs.declared.answers.Answer.TheVariants as written_answers
 use Rattle.pec_runs.specs.AnswerLines.{answer_text}
 use Rattle.pec_runs.specs.Plays.{HasMemory, IsUnchanged, RoseBy, faults_at, faults_by}
 use Rattle.pec_runs.specs.Ran.{LeavesOff, Behind}
@@ -30,6 +32,7 @@ use Rattle.pec_playing.specs.Doing.{Does, Keeps}
 use Rattle.pec_playing.specs.Playing.{IsPlayedSo, counts_in}
 use Rattle.pec_playing.specs.Saying.{IsRefusal}
 use Rattle.pec_playing.proofs.ChangeLemmas.{book_unchanged, mailbox_unchanged, submit_unchanged, tick_unchanged}
+use Rattle.pec_playing.proofs.ChangeLemmas.{upgrade_unchanged, vault_unchanged}
 use Rattle.pec_playing.proofs.CountLemmas.{counts_of_refusal, counts_stay}
 use Rattle.pec_playing.proofs.KeptLemmas.{keeps_all}
 use Rattle.pec_playing.proofs.PlayLemmas.{IsFree, does_say, does_stop, left_so, none_read, played_so}
@@ -86,6 +89,10 @@ module _ (Stood : Type 0) (trade : Trade) (state after : List Site) (command : C
       unchanged faults.NoItem text counts is.0 is.1 written
   refused_so tells faults.JournalFull text counts is written =
       unchanged faults.JournalFull text counts is.0 is.1 written
+  refused_so tells faults.OldJournal text counts is written =
+      unchanged faults.OldJournal text counts is.0 is.1 written
+  refused_so tells faults.NoNeed text counts is written =
+      unchanged faults.NoNeed text counts is.0 is.1 written
   refused_so tells (faults.Changed entry) text counts is written =
       unchanged (faults.Changed entry) text counts is.0 is.1 written
   refused_so tells faults.NoMemory text counts is written = absurd written
@@ -109,6 +116,10 @@ module _ (Stood : Type 0) (trade : Trade) (state after : List Site) (command : C
       unchanged faults.NoItem text counts is same written
   unshown_so tells faults.JournalFull text counts same is written =
       unchanged faults.JournalFull text counts is same written
+  unshown_so tells faults.OldJournal text counts same is written =
+      unchanged faults.OldJournal text counts is same written
+  unshown_so tells faults.NoNeed text counts same is written =
+      unchanged faults.NoNeed text counts is same written
   unshown_so tells (faults.Changed entry) text counts same is written =
       unchanged (faults.Changed entry) text counts is same written
   unshown_so tells faults.NoMemory text counts same is written = absurd written
@@ -127,6 +138,8 @@ any_left tells trade state after command (Err faults.NoAccount) is = Behind is.1
 any_left tells trade state after command (Err faults.Full) is = Behind is.1
 any_left tells trade state after command (Err faults.NoItem) is = Behind is.1
 any_left tells trade state after command (Err faults.JournalFull) is = Behind is.1
+any_left tells trade state after command (Err faults.OldJournal) is = Behind is.1
+any_left tells trade state after command (Err faults.NoNeed) is = Behind is.1
 any_left tells trade state after command (Err (faults.Changed entry)) is = Behind is.1
 any_left tells trade state after command (Err faults.NoMemory) is = Behind is
 
@@ -192,11 +205,11 @@ module _ {D S : Type 0} (sight : D → Sight) (count : D → ℕ) (disks : Type 
       (any_left tells trade (sites old) (sites new) command outcome is)
 
 pub submit_of : (trade : Trade) (asked moment : ℕ) (sender : Bytes) (path : List Bytes) (message : Bytes)
-    (found : Bool) → IsOfProvider trade (Submit asked moment sender path message found) asked
-submit_of trade asked moment sender path message found = record {
+    → IsOfProvider trade (Submit asked moment sender path message) asked
+submit_of trade asked moment sender path message = record {
   meets = λ luck state. tt;
   blames = λ provider answer. refl;
-  unchanged = λ luck state. submit_unchanged trade luck state asked moment sender path message found;
+  unchanged = λ luck state. submit_unchanged trade luck state asked moment sender path message;
 }
 
 pub tick_of : (trade : Trade) (asked moment : ℕ) → IsOfProvider trade (Tick asked moment) asked
@@ -205,6 +218,17 @@ tick_of trade asked moment = record {
   blames = λ provider answer. refl;
   unchanged = λ luck state. tick_unchanged trade luck state asked moment;
 }
+
+pub upgrade_of : (trade : Trade) (asked moment : ℕ) → IsOfProvider trade (Upgrade asked moment) asked
+upgrade_of trade asked moment = record {
+  meets = λ luck state. tt;
+  blames = λ provider answer. refl;
+  unchanged = λ luck state. upgrade_unchanged trade luck state asked moment;
+}
+
+pub upgraded_told : IsTold Upgraded (λ providers. texts.answer_text written_answers.Upgraded)
+unfolding answer_text
+upgraded_told = record { memory = tt; no_fault = λ provider asked. refl; text = λ providers. refl }
 
 pub submitted_told : (submitted : Submitted) → IsTold (Submits submitted)
     (λ providers. submitted_text providers submitted)
@@ -273,6 +297,17 @@ mailbox_asked trade address = record {
   blames = λ provider answer. refl;
   unchanged = λ luck state. mailbox_unchanged trade luck state address;
 }
+
+pub vault_asked : (trade : Trade) (address : Bytes) → IsFree trade (Vault address)
+vault_asked trade address = record {
+  meets = λ luck state. tt;
+  blames = λ provider answer. refl;
+  unchanged = λ luck state. vault_unchanged trade luck state address;
+}
+
+pub vaults_told : (lines : List ItemLine) → IsTold (Vaults lines) (λ providers. vault_text providers lines)
+unfolding answer_text
+vaults_told lines = record { memory = tt; no_fault = λ provider asked. refl; text = λ providers. refl }
 
 pub lines_told : (lines : List BookLine) → IsTold (Lines lines) (λ providers. book_text providers lines)
 unfolding answer_text

@@ -89,5 +89,7 @@ module _ {D : Type 0} (count : D → ℕ) (old new : List (ProviderState D)) (ma
   counts_of_refusal asked within faults.Full rose number = counts_stay number 0 refl
   counts_of_refusal asked within faults.NoItem rose number = counts_stay number 0 refl
   counts_of_refusal asked within faults.JournalFull rose number = counts_stay number 0 refl
+  counts_of_refusal asked within faults.OldJournal rose number = counts_stay number 0 refl
+  counts_of_refusal asked within faults.NoNeed rose number = counts_stay number 0 refl
   counts_of_refusal asked within faults.NoMemory rose number = counts_stay number 0 refl
   counts_of_refusal asked within (faults.Changed entry) rose number = counts_stay number 0 refl

@@ -29,6 +29,21 @@ keeps_providers {D} {S} sight count tells old new same =
           (none_falls count old.providers);
     }
 
+-- nothing but screens, and how often they have looked, is another
+pub keeps_screens : {D S : Type 0} (sight : D → Sight) (count : D → ℕ) (tells : Type 0) (old new : NetworkState D S)
+    → new ≡ record old { screens = new.screens; looks = new.looks } → Keeps sight count tells old new
+keeps_screens {D} {S} sight count tells old new same =
+    let providers : new.providers ≡ old.providers = ap (λ (n : NetworkState D S). n.providers) same in
+    record {
+      directory = ap (λ (n : NetworkState D S). n.kept) same;
+      many = ap (λ (l : List (ProviderState D)). length l) providers;
+      seals = ap (λ (n : NetworkState D S). n.sealer) same;
+      stands = λ told all. subst (λ (l : List (ProviderState D)). AllStand sight l) (sym providers) all;
+      later =
+          subst (λ (l : List (ProviderState D)). NoneFalls count old.providers l) (sym providers)
+          (none_falls count old.providers);
+    }
+
 pub keeps_all : {D S : Type 0} (sight : D → Sight) (count : D → ℕ) (tells : Type 0) (network : NetworkState D S)
     → Keeps sight count tells network network
 keeps_all sight count tells network = record {

@@ -11,4 +11,6 @@ pub mod RestartLemmas
 pub mod RoundLemmas
 pub mod SameLemmas
 pub mod ShowLemmas
+pub mod SpareLemmas
+pub mod SwapLemmas
 pub mod WritingLemmas

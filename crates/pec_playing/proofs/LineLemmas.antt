@@ -147,6 +147,12 @@ module _ (providers : List Provider) where
   tick_can [] said all = absurd all
   tick_can (a ∷ rest) said all = named_below providers a said.0 all.0
 
+  screen_can : (texts : List Bytes) (said : Said (kinds_of verbs.Screen)) → AllSay providers
+      (kinds_of verbs.Screen) texts said
+      → said.0 < length providers
+  screen_can [] said all = absurd all
+  screen_can (a ∷ rest) said all = named_below providers a said.0 all.0
+
   -- two, with a place
   two_can : (texts : List Bytes) (said : Said (kinds_of verbs.Lose)) → AllSay providers (kinds_of verbs.Lose) texts said
       → (said.0 < length providers) × (said.1.0 < length providers)
@@ -177,6 +183,11 @@ module _ (providers : List Provider) where
   made_can verbs.Book texts said all short = tt
   made_can verbs.Mailbox texts said all short = tt
   made_can verbs.Show texts said all short = tt
+  made_can verbs.Archive texts said all short = tt
+  made_can verbs.Upgrade texts said all short = tick_can texts said all
+  made_can verbs.Vault texts said all short = tt
+  made_can verbs.VaultShow texts said all short = tt
+  made_can verbs.Screen texts said all short = screen_can texts said all
 
 -- what the law of lines says
 abbrev pub ReadsSo : Type 0

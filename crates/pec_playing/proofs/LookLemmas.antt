@@ -18,6 +18,8 @@ either case before after (Err (faults.ClockBack moment)) looks = inl looks
 either case before after (Err faults.NoAccount) looks = inl looks
 either case before after (Err faults.Full) looks = inl looks
 either case before after (Err faults.NoItem) looks = inl looks
+either case before after (Err faults.OldJournal) looks = inl looks
+either case before after (Err faults.NoNeed) looks = inl looks
 either case before after (Err (faults.Changed entry)) looks = inl looks
 
 pub may_look : {X : Type 0} (provider : ℕ) (case : Case) (before after : List (List ℕ)) (result : Result X ProviderFault)

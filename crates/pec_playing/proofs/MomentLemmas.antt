@@ -11,6 +11,7 @@ use Rattle.pec_network.specs.Carrying.{AllCarryOn}
 use Rattle.pec_network.specs.Network.{NetworkState, sites, sites_of}
 use Rattle.pec_network.specs.OfProviders.{ChronicleState, FollowsSo, ProviderState, Stands}
 use Rattle.pec_posts.specs.Arrivals.{Waiting}
+use Rattle.pec_screen.specs.Verdicts.{Patterns}
 use Rattle.pec_runs.specs.Steps.{AreSeen, CameFrom, IsMoment, State}
 use Rattle.pec_playing.specs.Doing.{Carries}
 use Rattle.pec_playing.specs.Points.{chronicles_in, point_of}
@@ -29,33 +30,34 @@ there {D} providers number state is = elim (slice_get_cases providers number).1 
 
 -- What pec_network says of a call by which providers carry on.
 pub record CallLaws {D : Type 0} (sight : D → Sight) (trade : Trade) : Type 0 where
-  pub follows : (old new : List (ProviderState D)) (waiting : List Waiting)
-      → AllCarryOn sight trade (journals_of (sites_of old waiting)) old new
+  pub follows : (old new : List (ProviderState D)) (screens : List (List Patterns)) (waiting : List Waiting)
+      → AllCarryOn sight trade (journals_of (sites_of old screens waiting)) old new
       → (number : ℕ) (was now : ProviderState D)
       → slice_get old number ≡ Some was → slice_get new number ≡ Some now → Stands sight was.chronicle
       → Stands sight now.chronicle × LeavesOnly (sight was.chronicle.disk) (sight now.chronicle.disk)
-      (FollowsSo trade (sites_of old waiting) number)
-  pub seen : (providers : List (ProviderState D)) (waiting : List Waiting) (number : ℕ) (one : ProviderState D)
+      (FollowsSo trade (sites_of old screens waiting) number)
+  pub seen : (providers : List (ProviderState D)) (screens : List (List Patterns)) (waiting : List Waiting) (number : ℕ)
+      (one : ProviderState D)
       → slice_get providers number ≡ Some one
-      → (journal_at (sites_of providers waiting) number ≡ one.chronicle.entries)
-      × (interrupted_at (sites_of providers waiting) number ≡ one.chronicle.interrupted)
+      → (journal_at (sites_of providers screens waiting) number ≡ one.chronicle.entries)
+      × (interrupted_at (sites_of providers screens waiting) number ≡ one.chronicle.interrupted)
 
 module _ {D S : Type 0} (sight : D → Sight) (tells : Type 0) (trade : Trade) (laws : CallLaws sight trade)
     (old new : NetworkState D S) (many : length new.providers ≡ length old.providers)
     (carries : Carries sight tells trade old new) (told : tells) (count : D → ℕ) (elsewhere : ℕ → ℕ)
-    (before after : Option Bytes) (from upto : ℕ) where
+    (spares left : List Patterns) (before after : Option Bytes) (from upto : ℕ) where
   abbrev here : State D
-  here = (point_of count elsewhere old before from).state
+  here = (point_of count elsewhere spares old before from).state
 
   abbrev behind : State D
-  behind = (point_of count elsewhere new after upto).state
+  behind = (point_of count elsewhere left new after upto).state
 
   seen_now : AreSeen behind
   seen_now number one is =
       let x = there new.providers number one is
       in subst (λ (state : ChronicleState D). (journal_at (sites new) number ≡ state.entries)
       × (interrupted_at (sites new) number ≡ state.interrupted)) x.2
-      (laws.seen new.providers new.waiting number x.0 x.1)
+      (laws.seen new.providers new.screens new.waiting number x.0 x.1)
 
   came_so : Sound trade (sites old) → (number : ℕ) (one : ProviderState D) → slice_get new.providers number ≡ Some one
       → CameFrom trade sight (sites old) number (here.chronicles number) one.chronicle
@@ -63,7 +65,7 @@ module _ {D S : Type 0} (sight : D → Sight) (tells : Type 0) (trade : Trade) (
       let within : number < length old.providers = omega (arith, many, slice_get_within new.providers number one is)
       in let was = get_or old.providers number one
       in let found = slice_get-get_or old.providers number one within
-      in let follows = laws.follows old.providers new.providers old.waiting (carries told sound) number was one found is
+      in let follows = laws.follows old.providers new.providers old.screens old.waiting (carries told sound) number was one found is
       in record {
         was = was.chronicle;
         is = ap chronicle_in found;
@@ -86,5 +88,14 @@ pub carries_providers : {D S : Type 0} (sight : D → Sight) (tells : Type 0) (t
     → (tells → (trade : Trade) (journals : Journals) (providers : List (ProviderState D))
     → AllCarryOn sight trade journals providers providers) → Carries sight tells trade old new
 carries_providers {D} {S} sight tells trade old new same rests told sound =
+    subst (λ (l : List (ProviderState D)). AllCarryOn sight trade (journals_of (sites old)) old.providers l)
+    (sym (ap (λ (n : NetworkState D S). n.providers) same)) (rests told trade (journals_of (sites old)) old.providers)
+
+-- nothing but screens, and how often they have looked, is another
+pub carries_screens : {D S : Type 0} (sight : D → Sight) (tells : Type 0) (trade : Trade) (old new : NetworkState D S)
+    → new ≡ record old { screens = new.screens; looks = new.looks }
+    → (tells → (trade : Trade) (journals : Journals) (providers : List (ProviderState D))
+    → AllCarryOn sight trade journals providers providers) → Carries sight tells trade old new
+carries_screens {D} {S} sight tells trade old new same rests told sound =
     subst (λ (l : List (ProviderState D)). AllCarryOn sight trade (journals_of (sites old)) old.providers l)
     (sym (ap (λ (n : NetworkState D S). n.providers) same)) (rests told trade (journals_of (sites old)) old.providers)

@@ -18,8 +18,9 @@ use Rattle.pec_plays.specs.Commands.{Answer, Luck, Played, Round, Turns, played}
 use Rattle.pec_plays.specs.Rounds.{rounded, sent_from, told_from, turns_from, turns_of}
 use Rattle.pec_plays.specs.Turns.{Cut, Turned}
 use Rattle.pec_posts.specs.Arrivals.{Waiting}
+use Rattle.pec_screen.specs.Verdicts.{Patterns}
 use Rattle.pec_network.specs.OfProviders.{ProviderState}
-use Rattle.pec_network.specs.Network.{NetworkState, sites, sites_of}
+use Rattle.pec_network.specs.Network.{NetworkState, behind_first, sites, sites_of}
 use Rattle.pec_network.specs.Carrying.{AllStand}
 use Rattle.pec_network.specs.Rounds.{BlamesDisks, IsRound, NoneChanged, StopsWithin, luck_of_cuts}
 use Rattle.pec_script.specs.Texts.{turns_text}
@@ -31,11 +32,11 @@ use Rattle.pec_playing.specs.Playing.{counts_in}
 use Rattle.pec_playing.proofs.CountLemmas.{counts_rose, counts_stay}
 use Rattle.pec_playing.proofs.PlayLemmas.{GaveBack, does_say, does_stop, left_so, played_so}
 
-pub sites_count : {D : Type 0} (providers : List (ProviderState D)) (waiting : List Waiting)
-    → length (sites_of providers waiting) ≡ length providers
-sites_count [] waiting = refl
-sites_count (provider ∷ providers) [] = ap suc (sites_count providers [])
-sites_count (provider ∷ providers) (links ∷ waiting) = ap suc (sites_count providers waiting)
+pub sites_count : {D : Type 0} (providers : List (ProviderState D)) (screens : List (List Patterns))
+    (waiting : List Waiting) → length (sites_of providers screens waiting) ≡ length providers
+sites_count [] screens waiting = refl
+sites_count (provider ∷ providers) screens waiting =
+    ap suc (sites_count providers (behind_first screens) (behind_first waiting))
 
 -- ---- faults that turns tell
 
@@ -83,6 +84,8 @@ fault_of (Some faults.NoAccount) e = absurd cc
 fault_of (Some faults.Full) e = absurd cc
 fault_of (Some faults.NoItem) e = absurd cc
 fault_of (Some faults.JournalFull) e = absurd cc
+fault_of (Some faults.OldJournal) e = absurd cc
+fault_of (Some faults.NoNeed) e = absurd cc
 fault_of (Some faults.NoMemory) e = absurd cc
 fault_of (Some (faults.Changed entry)) e = absurd cc
 
@@ -180,6 +183,8 @@ not_changed (Some faults.NoAccount) never = refl
 not_changed (Some faults.Full) never = refl
 not_changed (Some faults.NoItem) never = refl
 not_changed (Some faults.JournalFull) never = refl
+not_changed (Some faults.OldJournal) never = refl
+not_changed (Some faults.NoNeed) never = refl
 not_changed (Some faults.NoMemory) never = refl
 
 none_changed : (turns : List Turn) → NoneChanged turns → IsUnchanged (Turns turns)
@@ -219,7 +224,7 @@ module _ {D S : Type 0} (sight : D → Sight) (count : D → ℕ) (disks : Type 
           arith,
           slice_get_within turns provider once.turn once.there,
           as_many_turns trade luck (sites old) (sites new) moment turns is.is,
-          sites_count old.providers old.waiting,
+          sites_count old.providers old.screens old.waiting,
         ) in
         subst (λ (n : ℕ). RoseBy n (counts_in count old.providers elsewhere provider)
         (counts_in count new.providers elsewhere provider))

@@ -93,6 +93,9 @@ entry_code (entries.Acked moment id recipient) =
     (7 ∷ []) ∷ (moment ∷ []) ∷ (id.provider ∷ []) ∷ (id.number ∷ []) ∷ recipient ∷ []
 entry_code (entries.Ticked moment) = (8 ∷ []) ∷ (moment ∷ []) ∷ []
 entry_code (entries.Anomaly moment accounts message) = (9 ∷ []) ∷ (moment ∷ []) ∷ message ∷ accounts
+entry_code (entries.StartTwo provider digest) = (10 ∷ []) ∷ (provider ∷ []) ∷ digest ∷ []
+entry_code (entries.Upgraded moment) = (11 ∷ []) ∷ (moment ∷ []) ∷ []
+entry_code (entries.Archived moment account place) = (12 ∷ []) ∷ (moment ∷ []) ∷ account ∷ (place ∷ []) ∷ []
 
 abbrev backs : Code → List Entry
 backs code =
@@ -114,6 +117,9 @@ backs code =
     (bytes_in code 4)
     ∷ entries.Ticked (number_in code 1)
     ∷ entries.Anomaly (number_in code 1) (drop 3 code) (bytes_in code 2)
+    ∷ entries.StartTwo (number_in code 1) (bytes_in code 2)
+    ∷ entries.Upgraded (number_in code 1)
+    ∷ entries.Archived (number_in code 1) (bytes_in code 2) (number_in code 3)
     ∷ []
 
 abbrev entry_back : Code → Entry
@@ -133,6 +139,9 @@ entry_again found (entries.Learned moment id recipient decision decided message)
 entry_again found (entries.Acked moment id recipient) = refl
 entry_again found (entries.Ticked moment) = refl
 entry_again found (entries.Anomaly moment accounts message) = refl
+entry_again found (entries.StartTwo provider digest) = refl
+entry_again found (entries.Upgraded moment) = refl
+entry_again found (entries.Archived moment account place) = refl
 
 codes_told : (a b : Code) → Told a b
 codes_told = lists_told (lists_told cases_eq)
@@ -171,7 +180,7 @@ list_again found (entry ∷ list) =
 
 abbrev site_code : Site → List (List Code)
 site_code site =
-    map entry_code site.journal ∷ flag_code site.up ∷ option_code site.interrupted ∷ site.waiting ∷ []
+    map entry_code site.journal ∷ flag_code site.up ∷ option_code site.interrupted ∷ site.waiting ∷ site.screens ∷ []
 
 abbrev site_back : List (List Code) → Site
 site_back code = record {
@@ -179,6 +188,7 @@ site_back code = record {
   up = flag_back (get_or code 1 []);
   interrupted = option_back (get_or code 2 []);
   waiting = get_or code 3 [];
+  screens = get_or code 4 [];
 }
 
 site_again : CausesFound → (site : Site) → site_back (site_code site) ≡ site
@@ -188,18 +198,21 @@ site_again found site =
       up = flag_back (flag_code site.up);
       interrupted = option_back (option_code site.interrupted);
       waiting = site.waiting;
+      screens = site.screens;
     } in s)) (list_again found site.journal)
     ∙ ap (λ (b : Bool). (let s : Site = record {
       journal = site.journal;
       up = b;
       interrupted = option_back (option_code site.interrupted);
       waiting = site.waiting;
+      screens = site.screens;
     } in s)) (flag_again site.up)
     ∙ ap (λ (o : Option Entry). (let s : Site = record {
       journal = site.journal;
       up = site.up;
       interrupted = o;
       waiting = site.waiting;
+      screens = site.screens;
     } in s)) (option_again found site.interrupted)
 
 site_told : CausesFound → (a b : Site) → Told a b

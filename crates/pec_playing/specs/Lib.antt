@@ -4,3 +4,4 @@ pub mod OfNetworks
 pub mod Playing
 pub mod Points
 pub mod Saying
+pub mod Spares

@@ -33,6 +33,11 @@ CanPlay count (written.Restart provider) = provider < count
 CanPlay count (written.Book address) = Unit {0}
 CanPlay count (written.Mailbox address) = Unit {0}
 CanPlay count (written.Show address place) = Unit {0}
+CanPlay count (written.Archive address moment place) = Unit {0}
+CanPlay count (written.Upgrade provider moment) = provider < count
+CanPlay count (written.Vault address) = Unit {0}
+CanPlay count (written.VaultShow address place) = Unit {0}
+CanPlay count (written.Screen provider place) = provider < count
 
 -- ---- counts of faults
 

@@ -5,6 +5,7 @@ use Rattle.pec_types.specs.Bytes.{Bytes}
 use Rattle.pec_outside.specs.DiskModel.{Sight}
 use Rattle.pec_directory.specs.Directory.{providers_of}
 use Rattle.pec_plays.specs.Commands.{Command}
+use Rattle.pec_screen.specs.Verdicts.{Patterns}
 use Rattle.pec_seal.specs.Seals.{Seals}
 use Rattle.pec_network.specs.Carrying.{AllStand}
 use Rattle.pec_network.specs.OfProviders.{ChronicleState, ProviderState}
@@ -20,19 +21,20 @@ abbrev pub chronicles_in : {D : Type 0} → List (ProviderState D) → ℕ → O
 chronicles_in {D} providers number =
     option_map (λ (provider : ProviderState D). provider.chronicle) (slice_get providers number)
 
--- A network without its output. Past the providers, the counts of faults of disks are these others.
-abbrev pub state_in : {D S : Type 0} → (D → ℕ) → (ℕ → ℕ) → NetworkState D S → State D
-state_in faults elsewhere network = record {
+-- A network without its output, with these spares. Past the providers, the counts of faults of disks are these others.
+abbrev pub state_in : {D S : Type 0} → (D → ℕ) → (ℕ → ℕ) → List Patterns → NetworkState D S → State D
+state_in faults elsewhere spares network = record {
   sites = sites network;
+  spares = spares;
   counts = counts_in faults network.providers elsewhere;
   chronicles = chronicles_in network.providers;
 }
 
--- A network, with what its output holds and the output's count of faults. Past the providers, the counts of faults of
--- disks are these others.
-abbrev pub point_of : {D S : Type 0} → (D → ℕ) → (ℕ → ℕ) → NetworkState D S → Option Bytes → ℕ → Point D
-point_of faults elsewhere network held count =
-    record { state = state_in faults elsewhere network; held = held; faults = count }
+-- A network with these spares, with what its output holds and the output's count of faults. Past the providers, the
+-- counts of faults of disks are these others.
+abbrev pub point_of : {D S : Type 0} → (D → ℕ) → (ℕ → ℕ) → List Patterns → NetworkState D S → Option Bytes → ℕ → Point D
+point_of faults elsewhere spares network held count =
+    record { state = state_in faults elsewhere spares network; held = held; faults = count }
 
 -- what stops a run, if something does
 abbrev pub stop_in : {T : Type 0} → Result T Stop → Option runs.Stop
@@ -40,12 +42,12 @@ stop_in (Ok done) = None
 stop_in (Err stops.NoMemory) = Some runs.NoMemory
 stop_in (Err stops.WriteFault) = Some runs.WriteFault
 
--- A run went by this command alone, played over a network and its answer written: from what the output held, and its
--- count of faults, to what they are. Past the providers the counts of disks may be any. All that is asked: where disks
--- tell what they hold, each provider stands on its own.
-abbrev pub GoesBy : {D S : Type 0} → Type 0 → (D → Sight) → (D → ℕ) → (S → Seals) → Command → (old new : NetworkState D S)
-    → (before after : Option Bytes) → (from upto : ℕ) → Option runs.Stop → Type 0
-GoesBy tells sight faults seals command old new before after from upto stop =
+-- A run went by this command alone, played over a network and its answer written: from these spares, from what the
+-- output held, and its count of faults, to what they are. Past the providers the counts of disks may be any. All that
+-- is asked: where disks tell what they hold, each provider stands on its own.
+abbrev pub GoesBy : {D S : Type 0} → Type 0 → (D → Sight) → (D → ℕ) → (S → Seals) → Command → (spares left : List Patterns)
+    → (old new : NetworkState D S) → (before after : Option Bytes) → (from upto : ℕ) → Option runs.Stop → Type 0
+GoesBy tells sight faults seals command spares left old new before after from upto stop =
     (tells → AllStand sight old.providers) → (elsewhere : ℕ → ℕ)
     → Goes (world_of seals old) (providers_of old.kept) tells sight (Plays command ∷ [])
-    (point_of faults elsewhere old before from) (point_of faults elsewhere new after upto) stop
+    (point_of faults elsewhere spares old before from) (point_of faults elsewhere left new after upto) stop

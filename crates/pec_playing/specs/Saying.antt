@@ -1,6 +1,5 @@
--- The lines of what a call of the network told, before they are lines of an answer: of a link, of a restart, and of
--- what a
--- provider refuses. Want of memory has none. This project's profile.
+-- The lines of what a call of the network told, before they are lines of an answer: of a link, of a restart, of why a
+-- screen wasn't put into a place, and of what a provider refuses. Want of memory has none. This project's profile.
 use Rattle.std.specs.Prelude.{◌≡◌, ℕ, Result, Ok, Err}
 use Rattle.pec_types.specs.Bytes.{Bytes}
 use Rattle.pec_types.specs.declared.turns.ProviderFault.{ProviderFault}
@@ -11,6 +10,8 @@ use Rattle.pec_network.specs.declared.faults.NotFit.{NotFit}
 use Rattle.pec_network.specs.declared.faults.NotFit.TheVariants as unfits
 use Rattle.pec_network.specs.declared.faults.RestartFault.{RestartFault}
 use Rattle.pec_network.specs.declared.faults.RestartFault.TheVariants as restart_faults
+use Rattle.pec_network.specs.OfProviders.{SwapFault}
+use Rattle.pec_network.specs.OfProviders.swaps as swaps
 use Rattle.pec_script.specs.Texts.{answer_text, fault_text}
 use Rattle.pec_script.specs.declared.answers.Answer.{Answer}
 use Rattle.pec_script.specs.declared.answers.Answer.TheVariants as answers
@@ -40,3 +41,7 @@ IsRestartText (Err restart_faults.Up) text = text ≡ answer_text answers.Up
 IsRestartText (Err restart_faults.DiskFault) text = text ≡ fault_text faults.DiskFault
 IsRestartText (Err (restart_faults.NotFit why)) text = text ≡ answer_text (answers.BadJournal (unfit_told why))
 IsRestartText (Err restart_faults.NoMemory) text = ⊥
+
+abbrev pub IsSwapText : SwapFault → Bytes → Type 0
+IsSwapText swaps.Down text = text ≡ fault_text faults.Down
+IsSwapText swaps.NoSuchPlace text = text ≡ answer_text answers.NoScreen

@@ -9,6 +9,7 @@ use crate::providers::as_many_providers;
 use pec_directory::Directory;
 use pec_network::{Network, NotFit, RestartFault};
 use pec_outside::{Depot, Disk};
+use pec_screen::Judge;
 use pec_script::{Answer, Unfit, answer_text, fault_text};
 use pec_seal::Sealer;
 use pec_types::{NoMemory, ProviderFault, each_cause_is_one_of_all};
@@ -17,9 +18,9 @@ use std::alloc::Global;
 // A crash and a restart of a provider, by its number.
 
 /// Crashes a provider, over the disk that the depot gives for its own: `crashed`.
-pub(crate) fn crash<D: Disk, S: Sealer, P: Depot<D = D>>(
+pub(crate) fn crash<D: Disk, S: Sealer, J: Judge, P: Depot<D = D>>(
     alloc: Global,
-    network: &mut Network<D, S>,
+    network: &mut Network<D, S, J>,
     depot: &mut P,
     provider: u32,
 ) -> Result<Vec<u8>, NoMemory>
@@ -27,6 +28,7 @@ pub(crate) fn crash<D: Disk, S: Sealer, P: Depot<D = D>>(
     ensures does { Does D.sight D.faults D.tells (world_of S.seals network.old)
         (Crash provider) network.old network.new result }
     ensures carries { Carries D.sight D.tells (world_of S.seals network.old) network.old network.new }
+    ensures looks { network.new.looks ≡ network.old.looks }
     ensures home { P.tells → Alike (P.home depot.old) (P.home depot.new) }
     ensures last { Alike (P.last depot.old) (P.last depot.new) }
     ensures later { P.faults depot.old ≤ P.faults depot.new }
@@ -39,15 +41,16 @@ pub(crate) fn crash<D: Disk, S: Sealer, P: Depot<D = D>>(
 
 /// Opens a provider again: `restarted ENTRIES`, `up`, or a fault of its disk. A restart over a disk that doesn't tell
 /// what it holds may come to any journal, and may be refused as unfit, `bad-journal ..`; that is all that is left open.
-pub(crate) fn restart<D: Disk, S: Sealer>(
+pub(crate) fn restart<D: Disk, S: Sealer, J: Judge>(
     alloc: Global,
-    network: &mut Network<D, S>,
+    network: &mut Network<D, S, J>,
     provider: u32,
 ) -> Result<Vec<u8>, NoMemory>
     requires { provider < length network.old.kept }
     ensures does { Does D.sight D.faults D.tells (world_of S.seals network.old)
         (Restart provider) network.old network.new result }
     ensures carries { Carries D.sight D.tells (world_of S.seals network.old) network.old network.new }
+    ensures looks { network.new.looks ≡ network.old.looks }
 {
     as_many_providers(network);
     each_cause_is_one_of_all();

@@ -9,6 +9,7 @@ ghost use Rattle.pec_network.specs.OfProviders.{ProviderState};
 ghost use Rattle.pec_network.specs.Carrying.{NoneFalls};
 ghost use Rattle.pec_network.specs.Changing.{HasRisenAt};
 ghost use Rattle.pec_network.specs.Network.{NetworkState};
+ghost use Rattle.pec_screen.specs.Verdicts.{Patterns};
 ghost use Rattle.pec_script.specs.LinesReading.{command_of};
 ghost use Rattle.pec_script.specs.declared.commands.Command.{Command as Written};
 ghost use Rattle.pec_runs.specs.ScriptLines.{longest_line};
@@ -54,8 +55,8 @@ pub fn what_is_kept_is_kept_on<D: Disk, S: Sealer>()
 /// of a step.
 pub fn what_carries_on_is_a_moment<D: Disk, S: Sealer>()
     ensures { D.tells → (trade : Trade) (old new : NetworkState D S) → length new.providers ≡ length old.providers
-        → Carries D.sight D.tells trade old new → (elsewhere : ℕ → ℕ)
-        → IsMoment trade D.sight (state_in D.faults elsewhere old) (state_in D.faults elsewhere new) }
+        → Carries D.sight D.tells trade old new → (elsewhere : ℕ → ℕ) (spares left : List Patterns)
+        → IsMoment trade D.sight (state_in D.faults elsewhere spares old) (state_in D.faults elsewhere left new) }
 {
     a_call_leaves_what_follows::<D>();
 }

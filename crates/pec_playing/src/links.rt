@@ -1,4 +1,4 @@
-ghost use Rattle.std.specs.Prelude.{◌<◌, length, IfOk};
+ghost use Rattle.std.specs.Prelude.{◌≡◌, ◌<◌, length, IfOk};
 ghost use Rattle.pec_plays.specs.Commands.{Inject, Lose, Repeat, Swap};
 ghost use Rattle.pec_playing.specs.Doing.{Carries, Does};
 ghost use Rattle.pec_playing.specs.Saying.{IsLinkText};
@@ -8,6 +8,7 @@ use pec_link::LinkFault;
 use pec_network::Network;
 use pec_network::laws::a_call_leaves_what_follows;
 use pec_outside::Disk;
+use pec_screen::Judge;
 use pec_script::{Answer, answer_text};
 use pec_seal::Sealer;
 use pec_types::{Frame, NoMemory, Text8};
@@ -16,9 +17,9 @@ use std::alloc::Global;
 // Commands on the link from one provider to another, at a place counted from 0.
 
 /// Loses a frame: `lost`, or `no-frame`.
-pub(crate) fn lose<D: Disk, S: Sealer>(
+pub(crate) fn lose<D: Disk, S: Sealer, J: Judge>(
     alloc: Global,
-    network: &mut Network<D, S>,
+    network: &mut Network<D, S, J>,
     from: u32,
     to: u32,
     place: u32,
@@ -28,6 +29,7 @@ pub(crate) fn lose<D: Disk, S: Sealer>(
     ensures does { Does D.sight D.faults D.tells (world_of S.seals network.old)
         (Lose from to place) network.old network.new result }
     ensures carries { Carries D.sight D.tells (world_of S.seals network.old) network.old network.new }
+    ensures looks { network.new.looks ≡ network.old.looks }
 {
     a_call_leaves_what_follows::<D>();
     let outcome = network.lose(from, to, place as usize);
@@ -36,9 +38,9 @@ pub(crate) fn lose<D: Disk, S: Sealer>(
 }
 
 /// Puts a copy of a frame behind the others: `repeated`, `no-frame` or `link-full`.
-pub(crate) fn repeat<D: Disk, S: Sealer>(
+pub(crate) fn repeat<D: Disk, S: Sealer, J: Judge>(
     alloc: Global,
-    network: &mut Network<D, S>,
+    network: &mut Network<D, S, J>,
     from: u32,
     to: u32,
     place: u32,
@@ -48,6 +50,7 @@ pub(crate) fn repeat<D: Disk, S: Sealer>(
     ensures does { Does D.sight D.faults D.tells (world_of S.seals network.old)
         (Repeat from to place) network.old network.new result }
     ensures carries { Carries D.sight D.tells (world_of S.seals network.old) network.old network.new }
+    ensures looks { network.new.looks ≡ network.old.looks }
 {
     a_call_leaves_what_follows::<D>();
     let outcome = network.repeat(alloc, from, to, place as usize);
@@ -56,9 +59,9 @@ pub(crate) fn repeat<D: Disk, S: Sealer>(
 }
 
 /// Exchanges a frame with the next one: `swapped`, or `no-frame`.
-pub(crate) fn swap<D: Disk, S: Sealer>(
+pub(crate) fn swap<D: Disk, S: Sealer, J: Judge>(
     alloc: Global,
-    network: &mut Network<D, S>,
+    network: &mut Network<D, S, J>,
     from: u32,
     to: u32,
     place: u32,
@@ -68,6 +71,7 @@ pub(crate) fn swap<D: Disk, S: Sealer>(
     ensures does { Does D.sight D.faults D.tells (world_of S.seals network.old)
         (Swap from to place) network.old network.new result }
     ensures carries { Carries D.sight D.tells (world_of S.seals network.old) network.old network.new }
+    ensures looks { network.new.looks ≡ network.old.looks }
 {
     a_call_leaves_what_follows::<D>();
     let outcome = network.swap(from, to, place as usize);
@@ -76,9 +80,9 @@ pub(crate) fn swap<D: Disk, S: Sealer>(
 }
 
 /// Puts a frame from outside behind the others: `injected`, or `link-full`.
-pub(crate) fn inject<D: Disk, S: Sealer>(
+pub(crate) fn inject<D: Disk, S: Sealer, J: Judge>(
     alloc: Global,
-    network: &mut Network<D, S>,
+    network: &mut Network<D, S, J>,
     from: u32,
     to: u32,
     frame: Text8,
@@ -88,6 +92,7 @@ pub(crate) fn inject<D: Disk, S: Sealer>(
     ensures does { Does D.sight D.faults D.tells (world_of S.seals network.old)
         (Inject from to frame) network.old network.new result }
     ensures carries { Carries D.sight D.tells (world_of S.seals network.old) network.old network.new }
+    ensures looks { network.new.looks ≡ network.old.looks }
 {
     a_call_leaves_what_follows::<D>();
     let outcome = network.inject(from, to, Frame::of(frame));

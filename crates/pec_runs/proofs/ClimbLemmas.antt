@@ -6,10 +6,11 @@ use Rattle.pec_ledger.specs.Network.{Site}
 use Rattle.pec_ledger.specs.Trade.{Trade}
 use Rattle.pec_plays.specs.Commands.{Command, Luck, played}
 use Rattle.pec_plays.specs.Possible.{GaveWhatWasKept, MayMeet}
-use Rattle.pec_plays.specs.Scripts.{script}
+use Rattle.pec_plays.specs.Scripts.{HandsIn, script}
+use Rattle.pec_screen.specs.Verdicts.{Patterns}
 use Rattle.pec_runs.specs.Endings.{End}
 use Rattle.pec_runs.specs.Plays.{HasMemory, MayPlay, MayStray, Rest, RoseAlong, RoseBy, ShowsItsOwn, Stopped, Strayed, ToTheEnd}
-use Rattle.pec_runs.specs.Plays.{UnchangedIn, faults_by, faults_told}
+use Rattle.pec_runs.specs.Plays.{UnchangedIn, faults_by, faults_told, spares_left}
 use Rattle.pec_runs.specs.ScriptLines.{Script, nothing_but, onto_script}
 
 rose_none : (a b : ℕ) → a ≤ b → RoseBy 0 a b
@@ -51,10 +52,11 @@ module _ (trade : Trade) where
   )
 
 module _ (trade : Trade) (tells : Type 0) where
-  pub plays_none : (sites : List Site) (from upto : ℕ → ℕ) (written : Script) → ((p : ℕ) → from p ≤ upto p)
-      → MayPlay trade tells sites from upto written [] Stopped
-  plays_none sites from upto written later = record {
+  pub plays_none : (spares : List Patterns) (sites : List Site) (from upto : ℕ → ℕ) (written : Script) → ((p : ℕ) → from p ≤ upto p)
+      → MayPlay trade tells spares sites from upto written [] Stopped
+  plays_none spares sites from upto written later = record {
     enough = omega arith;
+    handed = tt;
     meet = tt;
     memory = All-nil HasMemory;
     counts = later;
@@ -64,10 +66,11 @@ module _ (trade : Trade) (tells : Type 0) where
     strays = tt;
   }
 
-  pub plays_over : (sites : List Site) (from upto : ℕ → ℕ) (end : End) → ((p : ℕ) → from p ≤ upto p)
-      → MayPlay trade tells sites from upto (nothing_but end) [] ToTheEnd
-  plays_over sites from upto end later = record {
+  pub plays_over : (spares : List Patterns) (sites : List Site) (from upto : ℕ → ℕ) (end : End) → ((p : ℕ) → from p ≤ upto p)
+      → MayPlay trade tells spares sites from upto (nothing_but end) [] ToTheEnd
+  plays_over spares sites from upto end later = record {
     enough = omega arith;
+    handed = tt;
     meet = tt;
     memory = All-nil HasMemory;
     counts = later;
@@ -77,12 +80,13 @@ module _ (trade : Trade) (tells : Type 0) where
     strays = tt;
   }
 
-  pub plays_astray : (sites : List Site) (from upto : ℕ → ℕ) (command : Command) (written : Script)
+  pub plays_astray : (spares : List Patterns) (sites : List Site) (from upto : ℕ → ℕ) (command : Command) (written : Script)
       → ((p : ℕ) → from p ≤ upto p)
       → MayStray tells sites (slice_get (onto_script command written).commands 0)
-      → MayPlay trade tells sites from upto (onto_script command written) [] Strayed
-  plays_astray sites from upto command written later may = record {
+      → MayPlay trade tells spares sites from upto (onto_script command written) [] Strayed
+  plays_astray spares sites from upto command written later may = record {
     enough = omega arith;
+    handed = tt;
     meet = tt;
     memory = All-nil HasMemory;
     counts = later;
@@ -92,16 +96,18 @@ module _ (trade : Trade) (tells : Type 0) where
     strays = may;
   }
 
-  pub plays_on : (sites : List Site) (from mid upto : ℕ → ℕ) (command : Command) (luck : Luck) (written : Script)
+  pub plays_on : (spares : List Patterns) (sites : List Site) (from mid upto : ℕ → ℕ) (command : Command) (luck : Luck) (written : Script)
       (lucks : List Luck) (rest : Rest)
-      → MayMeet trade luck sites command → HasMemory (played trade luck sites command).answer
+      → MayMeet trade luck sites command → HandsIn spares command → HasMemory (played trade luck sites command).answer
       → ((p : ℕ) → RoseBy (faults_by trade p command (played trade luck sites command).answer) (from p) (mid p))
       → (tells → GaveWhatWasKept luck) → (tells → ShowsItsOwn luck)
       → (tells → UnchangedIn trade sites (played trade luck sites command).answer)
-      → MayPlay trade tells (played trade luck sites command).after mid upto written lucks rest
-      → MayPlay trade tells sites from upto (onto_script command written) (luck ∷ lucks) rest
-  plays_on sites from mid upto command luck written lucks rest may has rose kept shown same more = record {
+      → MayPlay trade tells (spares_left spares command (played trade luck sites command).answer)
+      (played trade luck sites command).after mid upto written lucks rest
+      → MayPlay trade tells spares sites from upto (onto_script command written) (luck ∷ lucks) rest
+  plays_on spares sites from mid upto command luck written lucks rest may hands has rose kept shown same more = record {
     enough = let l = more.enough in omega (arith, l);
+    handed = (hands, more.handed);
     meet = (may, more.meet);
     memory = All-cons HasMemory (played trade luck sites command).answer
         (script trade lucks (played trade luck sites command).after written.commands).answers has more.memory;

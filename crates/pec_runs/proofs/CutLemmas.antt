@@ -13,9 +13,10 @@ use Rattle.pec_ledger.specs.Steps.{half}
 use Rattle.pec_ledger.specs.Trade.{Trade}
 use Rattle.pec_plays.specs.Commands.{Answer, Command, Luck, played}
 use Rattle.pec_plays.specs.Scripts.{script}
+use Rattle.pec_screen.specs.Verdicts.{Patterns}
 use Rattle.pec_runs.specs.Headline.{IsBook}
 use Rattle.pec_runs.specs.Openings.{opened}
-use Rattle.pec_runs.specs.Resuming.{IsAtRest, journals_left, resumed}
+use Rattle.pec_runs.specs.Resuming.{IsAtRest, journals_left, resumed, screens_left}
 use Rattle.pec_runs.proofs.BeginningLemmas.{journal_opened}
 
 module _ (trade : Trade) where
@@ -47,10 +48,10 @@ module _ (trade : Trade) where
   both_sites x y xs ys e f = rw (e, f) refl
 
   -- a state at rest is the one that is resumed from its journals
-  pub rest_again : (sites : List Site) → IsAtRest trade sites → resumed trade sites ≡ sites
+  pub rest_again : (sites : List Site) → IsAtRest trade sites → resumed trade (screens_left sites) sites ≡ sites
   rest_again [] rests = refl
   rest_again (site ∷ sites) rests =
-      both_sites (opened trade site.journal) site (resumed trade sites) sites (sym rests.0) (rest_again sites rests.1)
+      both_sites (opened trade site.screens site.journal) site (resumed trade (screens_left sites) sites) sites (sym rests.0) (rest_again sites rests.1)
 
   -- ---- journals stay
 
@@ -64,16 +65,17 @@ module _ (trade : Trade) where
             ∙ sym (ap (λ (site : Site). site.journal) (get_or_past sites p empty_site l))
       ]
 
-  pub journals_stay : (sites : List Site) (p : ℕ) → journal_at (resumed trade sites) p ≡ journal_at sites p
-  journals_stay sites p = journal_opened trade (journals_left sites) p ∙ left_at sites p
+  pub journals_stay : (screens : List (List Patterns)) (sites : List Site) (p : ℕ)
+      → journal_at (resumed trade screens sites) p ≡ journal_at sites p
+  journals_stay screens sites p = journal_opened trade screens (journals_left sites) p ∙ left_at sites p
 
-  pub book_stays : (sites : List Site) (address : Bytes) (lines : List BookLine) → IsBook trade sites address lines
-      → IsBook trade (resumed trade sites) address lines
+  pub book_stays : (screens : List (List Patterns)) (sites : List Site) (address : Bytes) (lines : List BookLine) → IsBook trade sites address lines
+      → IsBook trade (resumed trade screens sites) address lines
   unfolding ledger
-  book_stays sites address lines is = record {
+  book_stays screens sites address lines is = record {
     provider = is.provider;
     home = is.home;
     account = is.account;
     are = is.are ∙ ap (λ (es : List Entry). book trade is.provider (half trade is.provider es) address)
-        (sym (journals_stay sites is.provider));
+        (sym (journals_stay screens sites is.provider));
   }

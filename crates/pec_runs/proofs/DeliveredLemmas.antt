@@ -1,4 +1,4 @@
--- What the sender knows delivered lies in the recipient's mailbox, once.
+-- What the sender knows delivered lies in the recipient's mailbox or archive, once.
 use Rattle.std.proofs.Common.{◌≡◌, ℕ, ◌≤◌, ◌==◌, ◌&&◌, List, [], ◌∷◌, Bool, true, false, refl, ap, sym, subst, ◌∙◌, arith, Some}
 use Rattle.std.specs.Prelude.{All, if◌then◌else◌}
 use Rattle.std.specs.List.{find}
@@ -11,10 +11,10 @@ use Rattle.pec_types.specs.Bytes.{Bytes}
 use Rattle.pec_types.specs.Message.{Id}
 use Rattle.pec_types.specs.declared.messages.Decision.TheVariants.{Placed}
 use Rattle.pec_ledger.specs.Along.{times}
-use Rattle.pec_ledger.specs.Guarantees.{OneDelivery, OneOutcome, is_envelope_of, is_placed, times_placed}
+use Rattle.pec_ledger.specs.Guarantees.{OneDelivery, OneOutcome, is_envelope_of, is_placed, times_held, times_placed}
 use Rattle.pec_ledger.specs.Half.{Fate, Known}
 use Rattle.pec_ledger.specs.Ledger.{IsDecidedSo, Journals, decided_at, ledger}
-use Rattle.pec_ledger.specs.Lookups.{decided_of, known_of, mailbox}
+use Rattle.pec_ledger.specs.Lookups.{decided_of, known_of}
 use Rattle.pec_ledger.specs.Pairs.{Pair, pair_of, same_id, same_pair}
 use Rattle.pec_ledger.specs.Trade.{Trade}
 
@@ -76,7 +76,7 @@ module _ {X : Type 0} (test also : X → Bool) where
 pub delivered_once : (trade : Trade) (J : Journals) → OneOutcome trade J → OneDelivery trade J
     → (pair : Pair) (row : Known) (home : ℕ) → known_of (ledger trade J pair.id.provider) pair ≡ Some row
     → row.decision ≡ Placed → trade.home pair.recipient ≡ Some home
-    → times (is_envelope_of pair.id) (mailbox (ledger trade J home) pair.recipient) ≡ 1
+    → times_held (is_envelope_of pair.id) (ledger trade J home) pair.recipient ≡ 1
 delivered_once trade J one deliveries pair row home known placed at_home =
     let found = found_holds (λ (k : Known). same_pair pair k.pair)
     (λ (k : Known). IsDecidedSo trade J k.pair k.decision k.decided) (ledger trade J pair.id.provider).known row known
@@ -91,6 +91,6 @@ delivered_once trade J one deliveries pair row home known placed at_home =
     (ledger trade J home).decided decided.fate there (ap is_placed (decided.so ∙ placed))
     in let many = deliveries.envelopes home pair
     in let most = deliveries.once home pair
-    in let n : times (is_envelope_of pair.id) (mailbox (ledger trade J home) pair.recipient) ≡ 1 =
+    in let n : times_held (is_envelope_of pair.id) (ledger trade J home) pair.recipient ≡ 1 =
     omega (arith, some, many, most)
     in n

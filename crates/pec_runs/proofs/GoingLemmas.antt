@@ -13,7 +13,7 @@ use Rattle.pec_plays.specs.Turns.{Whole}
 use Rattle.pec_runs.specs.AnswerLines.{answer_text}
 use Rattle.pec_runs.specs.Plays.{MayStray}
 use Rattle.pec_runs.specs.Ran.{Behind, LeavesOff}
-use Rattle.pec_runs.specs.Steps.{Act, AllMoments, AreMoments, AreSteps, Climbs, EndsSo, Goes, GoesAstray, Hands, IsCall, IsMoment, IsStep, IsWritten}
+use Rattle.pec_runs.specs.Steps.{Act, AllMoments, AreMoments, AreSteps, Climbs, EndsSo, Goes, GoesAstray, Hands, IsCall, IsHanded, IsMoment, IsStep, IsWritten}
 use Rattle.pec_runs.specs.Steps.{NoMemory, NoneFell, Plays, Point, ReadFault, State, Step, Stop, WriteFault, Writes, acts_of, next_of, state_behind}
 use Rattle.pec_runs.specs.Steps.{text_by, text_of}
 
@@ -348,11 +348,12 @@ module _ (trade : Trade) (providers : List Provider) (tells : Type 0) {D : Type 
 
   pub one_played : (command : Command) (luck : Luck) (here there : Point D) (stop : Option Stop)
       → IsCall trade tells here.state.sites here.state.counts there.state.counts command luck there.state.sites
+      → IsHanded trade here.state.spares here.state.sites command luck there.state.spares
       → (tells → IsMoment trade sight here.state there.state) → NoneFell here there
       → IsWritten (answer_text providers (played trade luck here.state.sites command).answer) here there stop
       → Goes trade providers tells sight (Plays command ∷ []) here there stop
-  one_played command luck here there stop is moment later wrote =
-      one_step (Plays command) luck here there there.state _ stop is moment refl refl later wrote
+  one_played command luck here there stop is handed moment later wrote =
+      one_step (Plays command) luck here there there.state _ stop (is, handed) moment refl refl later wrote
 
   pub one_written : (text : Bytes) (here there : Point D) (stop : Option Stop) → there.state ≡ here.state
       → NoneFell here there → IsWritten text here there stop

@@ -15,10 +15,10 @@ use Rattle.pec_records.specs.declared.entries.Entry.{Entry}
 use Rattle.pec_records.specs.declared.entries.Entry.TheVariants as entries
 use Rattle.pec_ledger.specs.Along.{times}
 use Rattle.pec_ledger.specs.Books.{book}
-use Rattle.pec_ledger.specs.Guarantees.{HasReceipt, NoReceiptMissing, NoticeByTheDay, OneDelivery, OneOutcome, is_notice_on, times_known}
+use Rattle.pec_ledger.specs.Guarantees.{HasReceipt, NoReceiptMissing, NoticeByTheDay, OneDelivery, OneOutcome, is_notice_on, times_held, times_known}
 use Rattle.pec_ledger.specs.Half.{Half, Known}
 use Rattle.pec_ledger.specs.Ledger.{Fit, Journals, ledger}
-use Rattle.pec_ledger.specs.Lookups.{accepted_at, known_of, mailbox}
+use Rattle.pec_ledger.specs.Lookups.{accepted_at, known_of}
 use Rattle.pec_ledger.specs.Network.{IsGenuine, IsGenuineText, IsNext, Site, Sound, empty_site, frames_between, journal_at, journals_of, site_at}
 use Rattle.pec_ledger.specs.Own.{IsOwnPair}
 use Rattle.pec_ledger.specs.Pairs.{Pair, pair_of, same_pair}
@@ -268,7 +268,7 @@ pub none_left : (trade : Trade) (J : Journals) → NoticeByTheDay trade J → (p
     → NoneWithoutNotice trade J p now
 unfolding ledger
 none_left trade J by_the_day p now es is pair message ours accepted has old none =
-    subst (λ (l : List Entry). 1 ≤ times (is_notice_on pair) (mailbox (half trade p l) message.sender)) (sym is)
+    subst (λ (l : List Entry). 1 ≤ times_held (is_notice_on pair) (half trade p l) message.sender) (sym is)
     (by_the_day.notice p es now [] is pair message ours
     (subst (λ (l : List Entry). accepted_at (half trade p l) pair.id.number ≡ Some message) is accepted) has old
     (subst (λ (l : List Entry). known_of (half trade p l) pair ≡ None) is none))

@@ -11,6 +11,7 @@ use Rattle.pec_ledger.specs.TradeLaws.{IsTrade}
 use Rattle.pec_plays.specs.Commands.{Command, Luck, played}
 use Rattle.pec_plays.specs.Possible.{GaveWhatWasKept}
 use Rattle.pec_plays.specs.Scripts.{AllUnforged, script}
+use Rattle.pec_screen.specs.Verdicts.{Patterns}
 use Rattle.pec_runs.specs.Happened.{Asked, Begun, Halted, Happened, Over, Stage, by_next, outcome_at, outcome_of, stage_of}
 use Rattle.pec_runs.specs.Headline.{AllHonest, NoneInjected}
 use Rattle.pec_runs.specs.Openings.{Disks, Fails, Form, Holds, Next, NoMore, Resume, Stops, Unfits}
@@ -41,14 +42,14 @@ module _ (asked : Asked) (status : Status) (unread before after : Option Bytes) 
     happened = ran.happened
 
     abbrev stage : Stage
-    stage = stage_of asked happened.early happened.parts
+    stage = stage_of asked happened.hands happened.early happened.parts
 
     abbrev Honest : Script → Type 0
     Honest script = AllHonest (world happened) happened.lucks (beginning happened) script.commands
 
     module _ (form : Form) (script : Script) (begun : stage ≡ Begun form script) where
       plays_so : happened.opening.next ≡ NoMore
-          → MayPlay (world happened) tells (beginning happened) old.disks new.disks script happened.lucks happened.rest
+          → MayPlay (world happened) tells happened.spares (beginning happened) old.disks new.disks script happened.lucks happened.rest
       plays_so all =
           subst (λ (next : Next). PlaysOn tells old_disks new_disks old new happened script next) all
           (has_begun asked status unread before after tells old_disks new_disks old new ran form script begun).plays
@@ -59,17 +60,17 @@ module _ (asked : Asked) (status : Status) (unread before after : Option Bytes) 
           all_honest (world happened) happened.lucks (beginning happened) script.commands ((plays_so all).kept told) none
 
       module _ (joint : JointStays (world happened)) (stays : StaysSound (world happened))
-          (start : Sound (world happened) (at_start (world happened))) (reads : ReadsSo)
+          (start : (all : ℕ → List Patterns) → Sound (world happened) (at_start (world happened) all)) (reads : ReadsSo)
           (premise : happened.opening.next ≡ NoMore
           → (form ≡ Resume → Fit (world happened) (journals_in happened.opening.journals)) × Honest script) where
         by_end : (next : Next) → happened.opening.next ≡ next
-            → All IsUnchanged (by_next (world happened) happened.opening happened.lucks happened.rest script next).answers
+            → All IsUnchanged (by_next (world happened) happened.screens happened.opening happened.lucks happened.rest script next).answers
         by_end NoMore all =
             let is = has_begun asked status unread before after tells old_disks new_disks old new ran form script begun
             in none_changed (world happened)
             (is_world asked status unread before after tells old_disks new_disks old new ran form script begun) stays
             happened.lucks (beginning happened) script.commands
-            (sound_beginning (world happened) old_disks form happened.opening joint start is.opening all (premise all).0)
+            (sound_beginning (world happened) old_disks happened.screens form happened.opening joint start is.opening all (premise all).0)
             (all_unforged (world happened) happened.lucks (beginning happened) script.commands
             (commands_can asked status unread before after tells old_disks new_disks old new ran form script begun reads)
             (premise all).1)
@@ -80,7 +81,7 @@ module _ (asked : Asked) (status : Status) (unread before after : Option Bytes) 
         by_end Stops all = All-nil IsUnchanged
 
     pub run_unchanged : JointStays (world happened) → (IsTrade (world happened) → StaysSound (world happened))
-        → Sound (world happened) (at_start (world happened)) → ReadsSo
+        → ((all : ℕ → List Patterns) → Sound (world happened) (at_start (world happened) all)) → ReadsSo
         → ((form : Form) (script : Script) → stage ≡ Begun form script → happened.opening.next ≡ NoMore
         → (form ≡ Resume → Fit (world happened) (journals_in happened.opening.journals)) × Honest script)
         → All IsUnchanged (outcome_of asked happened).answers

@@ -12,6 +12,7 @@ use Rattle.pec_chronicle.specs.Chronicle.{IsJournalOf}
 use Rattle.pec_ledger.specs.Network.{Site, chosen, interrupted_at, journal_at}
 use Rattle.pec_ledger.specs.Trade.{Trade}
 use Rattle.pec_plays.specs.Commands.{Command, Luck}
+use Rattle.pec_screen.specs.Verdicts.{Patterns}
 use Rattle.pec_runs.specs.Happened.{Asked, Begun, Halted, Happened, Over, Stage, by_next, outcome_at, outcome_of, stage_of}
 use Rattle.pec_runs.specs.Openings.{Disks, Form, Run, Resume, IsLeft, IsSpared, IsUntouched, Next, NoMore, Holds, Unfits, Fails, Stops, form_in, next_of, opened_all}
 use Rattle.pec_runs.specs.Plays.{Rest}
@@ -45,6 +46,8 @@ no_hand statuses.NotEmpty next rest lucks script not_both = refl
 no_hand statuses.NotFit next rest lucks script not_both = refl
 no_hand statuses.ClockFault next rest lucks script not_both = refl
 no_hand statuses.DoorFault next rest lucks script not_both = refl
+no_hand statuses.DiskFault next rest lucks script not_both = refl
+no_hand statuses.Changed next rest lucks script not_both = refl
 no_hand statuses.InputTooLong next rest lucks script not_both = refl
 
 leaves_behind : (trade : Trade) (after left : List Site) (hand : Option Command) → hand ≡ None
@@ -56,8 +59,8 @@ leaves_behind trade after left hand none (Within command luck is journals interr
 -- ---- before a script is played
 
 not_played : (happened : Happened) (script : Script) (next : Next) → (next ≡ NoMore → ⊥)
-    → (by_next (world happened) happened.opening happened.lucks happened.rest script next).after
-    ≡ opened_all (world happened) happened.opening.journals
+    → (by_next (world happened) happened.screens happened.opening happened.lucks happened.rest script next).after
+    ≡ opened_all (world happened) happened.screens happened.opening.journals
 not_played happened script NoMore not_all = absurd (not_all refl)
 not_played happened script Holds not_all = refl
 not_played happened script (Unfits unfit) not_all = refl
@@ -68,15 +71,15 @@ none_chosen : (choice : Bool) (i : Option Entry) → i ≡ None → chosen choic
 none_chosen true i e = ap option_to_list e
 none_chosen false i e = refl
 
-as_opened : (trade : Trade) (journals : List (List Entry)) (p : ℕ) (journal : List Entry) (bytes : Bytes)
-    → slice_get journals p ≡ Some journal → IsLeft (opened_all trade journals) p bytes → IsJournalOf journal bytes
-as_opened trade journals p journal bytes there is =
-    let sites = opened_all trade journals
+as_opened : (trade : Trade) (screens : List (List Patterns)) (journals : List (List Entry)) (p : ℕ) (journal : List Entry) (bytes : Bytes)
+    → slice_get journals p ≡ Some journal → IsLeft (opened_all trade screens journals) p bytes → IsJournalOf journal bytes
+as_opened trade screens journals p journal bytes there is =
+    let sites = opened_all trade screens journals
     in subst (λ (es : List Entry). IsJournalOf es bytes)
     (ap (λ (l : List Entry). journal_at sites p ++ l) (none_chosen is.0 (interrupted_at sites p)
-    (none_interrupted trade journals p))
+    (none_interrupted trade screens journals p))
     ∙ (append-nil (journal_at sites p)
-    ∙ (journal_opened trade journals p ∙ get_or_from_slice_get journals p journal [] there)))
+    ∙ (journal_opened trade screens journals p ∙ get_or_from_slice_get journals p journal [] there)))
     is.1
 
 -- ---- a run
@@ -85,7 +88,7 @@ module _ (asked : Asked) (status : Status) (unread before after : Option Bytes) 
     (old_disks new_disks : Disks)
     (old new : Counts) (ran : Ran asked status unread before after tells old_disks new_disks old new) (form : Form)
     (script : Script)
-    (begun : stage_of asked ran.happened.early ran.happened.parts ≡ Begun form script) where
+    (begun : stage_of asked ran.happened.hands ran.happened.early ran.happened.parts ≡ Begun form script) where
   abbrev is : HasBegun tells old_disks new_disks old new ran.happened status asked form script
   is = has_begun asked status unread before after tells old_disks new_disks old new ran form script begun
 
@@ -109,7 +112,7 @@ module _ (asked : Asked) (status : Status) (unread before after : Option Bytes) 
       subst (λ (s : List Site). IsLeft s p bytes) (left_is not_both) (reads_left p bytes l found)
 
   after_opened : (ran.happened.opening.next ≡ NoMore → ⊥)
-      → (outcome_of asked ran.happened).after ≡ opened_all (world ran.happened) ran.happened.opening.journals
+      → (outcome_of asked ran.happened).after ≡ opened_all (world ran.happened) ran.happened.screens ran.happened.opening.journals
   unfolding outcome_of
   after_opened not_all =
       ap (λ (stage : Stage). (outcome_at ran.happened stage).after) begun
@@ -120,7 +123,7 @@ module _ (asked : Asked) (status : Status) (unread before after : Option Bytes) 
       ⊎ (new_disks.may_leave p bytes)
       → IsJournalOf journal bytes
   leaves_opened not_all p journal bytes there found =
-      as_opened (world ran.happened) ran.happened.opening.journals p journal bytes there
+      as_opened (world ran.happened) ran.happened.screens ran.happened.opening.journals p journal bytes there
       (subst (λ (s : List Site). IsLeft s p bytes) (after_opened not_all)
       (leaves_journals (λ e f. not_all f) p bytes (slice_get_within ran.happened.opening.journals p journal there)
       found))
@@ -159,14 +162,14 @@ module _ (asked : Asked) (status : Status) (unread before after : Option Bytes) 
 
   -- no form but `resume` goes on with journals that are there
   pub survives : (form_in asked.words ≡ Some Resume → ⊥) → IsUntouched old_disks new_disks p was
-  survives apart = at (stage_of asked ran.happened.early ran.happened.parts) refl ran.is_at
+  survives apart = at (stage_of asked ran.happened.hands ran.happened.early ran.happened.parts) refl ran.is_at
     where
-      at : (stage : Stage) → stage_of asked ran.happened.early ran.happened.parts ≡ stage
+      at : (stage : Stage) → stage_of asked ran.happened.hands ran.happened.early ran.happened.parts ≡ stage
           → IsAt tells old_disks new_disks old new ran.happened status asked stage → IsUntouched old_disks new_disks p was
       at (Over end) e untouched = untouched p was held
       at Halted e untouched = untouched p was held
       at (Begun Resume script) e begun =
-          absurd (apart (has_all asked ran.happened.early ran.happened.parts Resume script e).words_are)
+          absurd (apart (has_all asked ran.happened.hands ran.happened.early ran.happened.parts Resume script e).words_are)
       at (Begun Run script) e begun = elim (cases_lt p (next_of ran.happened.opening)) [
         | inl within ↦ absurd (unmade script begun within)
         | inr past ↦ behind_made script begun past

@@ -3,6 +3,7 @@ pub mod ClimbLemmas
 pub mod CutLemmas
 pub mod DeliveredLemmas
 pub mod GoingLemmas
+pub mod HandsLemmas
 pub mod HeadlineLemmas
 pub mod InputLemmas
 pub mod KeptLemmas
@@ -27,3 +28,4 @@ pub mod TextLemmas
 pub mod ThereLemmas
 pub mod ThroughLemmas
 pub mod TranscriptLemmas
+pub mod TwinLemmas

@@ -62,9 +62,9 @@ module _ (trade : Trade) {D : Type 0} (sight : D → Sight) where
     pub sound_on : (here behind : State D) (act : Act) (luck : Luck) → IsStep trade tells here act luck behind → Sound trade here.sites
         → IsHonestAct trade luck here.sites act → Sound trade behind.sites
     sound_on here behind (Plays command) luck is sound honest =
-        subst (λ (s : List Site). Sound trade s) (sym is.state) (stays luck here.sites command sound honest)
+        subst (λ (s : List Site). Sound trade s) (sym is.0.state) (stays luck here.sites command sound honest)
     sound_on here behind (Hands command) luck is sound honest =
-        subst (λ (s : List Site). Sound trade s) (sym is.state) (stays luck here.sites command sound honest)
+        subst (λ (s : List Site). Sound trade s) (sym is.0.state) (stays luck here.sites command sound honest)
     sound_on here behind (Writes text) luck is sound honest =
         subst (λ (s : State D). Sound trade s.sites) (sym is) sound
 

@@ -7,6 +7,7 @@ use Rattle.pec_ledger.specs.Network.{Site, journals_in}
 use Rattle.pec_ledger.specs.Trade.{Trade}
 use Rattle.pec_ledger.specs.TradeLaws.{IsTrade}
 use Rattle.pec_plays.specs.Commands.{Luck}
+use Rattle.pec_screen.specs.Verdicts.{Patterns}
 use Rattle.pec_runs.specs.Endings.{End}
 use Rattle.pec_runs.specs.Happened.{Asked, Begun, Halted, Happened, Over, Stage, providers_in, stage_of}
 use Rattle.pec_runs.specs.Headline.{AllHonest}
@@ -43,7 +44,7 @@ module _ {D : Type 0} (tells : Type 0) (sight : D → Sight) (asked : Asked) (st
   happened = ran.ran.happened
 
   abbrev stage : Stage
-  stage = stage_of asked happened.early happened.parts
+  stage = stage_of asked happened.hands happened.early happened.parts
 
   abbrev Played : Form → Script → Type 0
   Played form script = PlaysThrough tells sight home left old.disks new.disks happened form script
@@ -73,22 +74,22 @@ module _ {D : Type 0} (tells : Type 0) (sight : D → Sight) (asked : Asked) (st
       → AreHadFrom sight tells form trade home left → AreFoundAs tells sight trade left found
       → Passes trade (held tells sight home) (held tells sight found))
       (ended : (trade : Trade) → IsTrade trade → (home left found : ℕ → Option D) (from upto : ℕ → ℕ) (form : Form)
-      (opening : Opening) → IsOpening trade (disks_at tells sight home) form opening → opening.next ≡ NoMore
+      (screens : List (List Patterns)) (opening : Opening) → IsOpening trade (disks_at tells sight home) form opening → opening.next ≡ NoMore
       → AreAtHome trade home
-      → MovesThrough tells sight home left from upto trade form opening.journals
+      → MovesThrough tells sight home left from upto trade form screens opening.journals
       → AreFoundAs tells sight trade left found → Passes trade (held tells sight home) (held tells sight found))
       (moves : (form : Form) (goes : GoesThrough tells sight home left old.disks new.disks (world happened) form
-      happened.opening.journals) → AreHonest (world happened) goes.first goes.steps
+      happened.screens happened.opening.journals) → AreHonest (world happened) goes.first goes.steps
       → IsTrade (world happened) → KeepSound (world happened) goes.first goes.steps)
       (found : ℕ → Option D) where
     abbrev Passed : Trade → Type 0
     Passed trade = Passes trade (held tells sight home) (held tells sight found)
 
     moves_so : (form : Form) (goes : GoesThrough tells sight home left old.disks new.disks (world happened) form
-        happened.opening.journals) → KeepSound (world happened) goes.first goes.steps
-        → MovesThrough tells sight home left old.disks new.disks (world happened) form happened.opening.journals
+        happened.screens happened.opening.journals) → KeepSound (world happened) goes.first goes.steps
+        → MovesThrough tells sight home left old.disks new.disks (world happened) form happened.screens happened.opening.journals
     moves_so form goes keep = as_moves tells sight home left old.disks new.disks (world happened) form
-        happened.opening.journals goes keep
+        happened.screens happened.opening.journals goes keep
 
     by_next : (form : Form) (script : Script) → stage ≡ Begun form script
         → (happened.opening.next ≡ NoMore
@@ -97,7 +98,7 @@ module _ {D : Type 0} (tells : Type 0) (sight : D → Sight) (asked : Asked) (st
         → (happened.opening.next ≡ NoMore) ⊎ (happened.opening.next ≢ NoMore) → Passed (world happened)
     by_next form script begun honest at_home left_as (inl all) =
         let played = ran.through.played form script begun all in
-        ended (world happened) (world_is form script begun) home left found old.disks new.disks form happened.opening
+        ended (world happened) (world_is form script begun) home left found old.disks new.disks form happened.screens happened.opening
         (opening_is form script begun) all at_home
         (moves_so form played.goes (moves form played.goes (honest_steps form script begun reads played (honest all))
         (world_is form script begun))) left_as
@@ -150,7 +151,7 @@ module _ {D : Type 0} (tells : Type 0) (sight : D → Sight) (trade : Trade) (en
 
 pub opened_fit : {D : Type 0} (tells : Type 0) (sight : D → Sight) (trade : Trade) (run : OneRun D)
     (honest : RanHonestly tells sight trade run) (script : Script)
-    → stage_of run.asked honest.ran.ran.happened.early honest.ran.ran.happened.parts ≡ Begun Resume script
+    → stage_of run.asked honest.ran.ran.happened.hands honest.ran.ran.happened.early honest.ran.ran.happened.parts ≡ Begun Resume script
     → ((opening : Opening) → IsOpening trade (disks_at tells sight run.home) Resume opening → opening.next ≡ NoMore
     → Fit trade (journals_in opening.journals))
     → honest.ran.ran.happened.opening.next ≡ NoMore

@@ -3,8 +3,9 @@ use Rattle.std.proofs.Common.{◌≡◌, ◌≢◌, ℕ, ◌+◌, ◌<◌, ◌�
 use Rattle.std.specs.Prelude.{slice_index_or}
 use Rattle.std.specs.List.{flat_map}
 use Rattle.std.specs.Int.{w32, to_be_bytes}
-use Rattle.std.proofs.lemmas.List.{length-append}
-use Rattle.std.proofs.lemmas.Option.{get_or_from_slice_get, slice_get-get_or, slice_get_within}
+use Rattle.std.proofs.lemmas.Bool.{cases_lt}
+use Rattle.std.proofs.lemmas.List.{get_or_past, length-append}
+use Rattle.std.proofs.lemmas.Option.{slice_get-get_or}
 use Rattle.pec_types.specs.Bytes.{Bytes}
 use Rattle.pec_outside.specs.DiskModel.{Sight}
 use Rattle.pec_journal.specs.JournalFile.{framed, framing, front, header, open_gate}
@@ -12,19 +13,17 @@ use Rattle.pec_records.specs.Entry.{entry_text}
 use Rattle.pec_records.specs.declared.entries.Entry.{Entry}
 use Rattle.pec_records.specs.declared.entries.Entry.TheVariants as entries
 use Rattle.pec_ledger.specs.Half.{empty}
-use Rattle.pec_ledger.specs.Ledger.{Begins, Fit}
-use Rattle.pec_ledger.specs.Network.{FollowsState, Site, Sound, at_start, journal_at, journals_in, journals_of}
+use Rattle.pec_ledger.specs.Ledger.{Begins, Fit, Follows, Journals}
+use Rattle.pec_ledger.specs.Network.{FollowsState, Site, Sound, journals_in}
 use Rattle.pec_ledger.specs.Own.{Own}
 use Rattle.pec_ledger.specs.Trade.{Trade}
 use Rattle.pec_chronicle.specs.Carrying.{FollowsSo}
 use Rattle.pec_chronicle.specs.Chronicle.{IsJournalOf, made_size}
 use Rattle.pec_stock.specs.Stock.{IsOwn}
 use Rattle.pec_runs.specs.Openings.{IsOpening, NoMore, Opening, Resume, disks_at}
-use Rattle.pec_runs.specs.Passing.{AreEmpty, AreFitting, AreRuns, Followed, HadOnly, Holdings, IsFoundOrMade, IsOurs, MayBe, Passes, fresh, held, last_found}
+use Rattle.pec_runs.specs.Passing.{AreEmpty, AreFitting, AreRuns, Followed, HadOnly, Holdings, IsFoundOrMade, IsFresh, IsOurs, MayBe, Passes, held, last_found}
 use Rattle.pec_runs.specs.Through.{AreAtHome, size_begun}
-use Rattle.pec_runs.proofs.BeginningLemmas.{fit_alike, journal_opened, made_at_start}
 use Rattle.pec_runs.proofs.RunLemmas.{all_there}
-use Rattle.pec_runs.proofs.StepLemmas.{JointStays}
 
 -- ---- how long journals are
 
@@ -79,7 +78,12 @@ starts_ours : (trade : Trade) (provider : ℕ) (list : List Entry) → Begins li
 starts_ours trade provider [] begins own = absurd begins
 starts_ours trade provider (entries.Start number digest ∷ rest) begins own = (
   rest,
-  ap (λ (n : ℕ). entries.Start n digest ∷ rest) own.1 ∙ ap (λ (d : Bytes). entries.Start provider d ∷ rest) own.2,
+  inr (ap (λ (n : ℕ). entries.Start n digest ∷ rest) own.1 ∙ ap (λ (d : Bytes). entries.Start provider d ∷ rest) own.2),
+)
+starts_ours trade provider (entries.StartTwo number digest ∷ rest) begins own = (
+  rest,
+  inl (ap (λ (n : ℕ). entries.StartTwo n digest ∷ rest) own.1
+      ∙ ap (λ (d : Bytes). entries.StartTwo provider d ∷ rest) own.2),
 )
 starts_ours trade provider (entries.Accepted moment sender message ∷ rest) begins own = absurd begins
 starts_ours trade provider (entries.NotAccepted moment sender cause path message ∷ rest) begins own = absurd begins
@@ -90,6 +94,8 @@ starts_ours trade provider (entries.Learned moment id recipient decision decided
 starts_ours trade provider (entries.Acked moment id recipient ∷ rest) begins own = absurd begins
 starts_ours trade provider (entries.Ticked moment ∷ rest) begins own = absurd begins
 starts_ours trade provider (entries.Anomaly moment accounts message ∷ rest) begins own = absurd begins
+starts_ours trade provider (entries.Upgraded moment ∷ rest) begins own = absurd begins
+starts_ours trade provider (entries.Archived moment account place ∷ rest) begins own = absurd begins
 
 own_first : (trade : Trade) (provider : ℕ) (list : List Entry) → IsOwn trade provider list → FirstOwn trade provider list
 own_first trade provider [] is = tt
@@ -99,13 +105,24 @@ own_ours : (trade : Trade) (provider : ℕ) (list : List Entry) → IsOwn trade 
 own_ours trade provider list is = starts_ours trade provider list is.begins (own_first trade provider list is)
 
 module _ (trade : Trade) where
-  fresh_so : (provider : ℕ) (list : List Entry) (bytes : Bytes) → IsOurs trade provider list → IsJournalOf list bytes
-      → length bytes ≤ size_begun trade provider → list ≡ fresh trade provider
-  fresh_so provider list bytes ours is small =
-      let start = entries.Start provider trade.digest in
-      ours.1
+  start_alone : (start : Entry) (rest list : List Entry) (bytes : Bytes) → list ≡ start ∷ rest → IsJournalOf list bytes
+      → length bytes ≤ made_size start → list ≡ start ∷ []
+  start_alone start rest list bytes first is small =
+      first
       ∙ ap (λ (r : List Entry). start ∷ r)
-      (fresh_alone start ours.0 bytes (subst (λ (l : List Entry). IsJournalOf l bytes) ours.1 is) small)
+      (fresh_alone start rest bytes (subst (λ (l : List Entry). IsJournalOf l bytes) first is) small)
+
+  -- a first entry of either version takes as many bytes
+  fresh_so : (provider : ℕ) (list : List Entry) (bytes : Bytes) → IsOurs trade provider list → IsJournalOf list bytes
+      → length bytes ≤ size_begun trade provider → IsFresh trade provider list
+  fresh_so provider list bytes ours is small = by_first ours.1
+    where
+      by_first : (list ≡ entries.StartTwo provider trade.digest ∷ ours.0)
+          ⊎ (list ≡ entries.Start provider trade.digest ∷ ours.0) → IsFresh trade provider list
+      by_first (inl first) =
+          inl (start_alone (entries.StartTwo provider trade.digest) ours.0 list bytes first is small)
+      by_first (inr first) =
+          inr (start_alone (entries.Start provider trade.digest) ours.0 list bytes first is small)
 
   -- ---- from one run to the next
 
@@ -190,28 +207,42 @@ module _ (trade : Trade) where
 
   module _ (holds : Holdings) (none : AreEmpty trade holds) where
     fresh_by : (provider : ℕ) → provider < trade.providers → (list : List Entry) → MayBe trade holds provider list
-        → list ≡ fresh trade provider
+        → IsFresh trade provider list
     fresh_by provider within list (inl there) =
         absurd (no_journal list (subst (λ (b : Bytes). IsJournalOf list b)
         (none provider there.1.0 within there.1.1) there.1.2))
     fresh_by provider within list (inr there) = there.0
 
-    fits_fresh : JointStays trade → Sound trade (at_start trade) → (lists : List (List Entry))
-        → length lists ≡ trade.providers
+    first_begins : (provider : ℕ) (list : List Entry) → IsFresh trade provider list → Begins list
+    first_begins provider list (inl is) = subst Begins (sym is) tt
+    first_begins provider list (inr is) = subst Begins (sym is) tt
+
+    first_follows : (journals : Journals) (provider : ℕ) (list : List Entry) → IsFresh trade provider list
+        → Follows trade journals provider empty list
+    first_follows journals provider list (inl is) =
+        subst (λ (l : List Entry). Follows trade journals provider empty l) (sym is)
+        (record { own = (refl, refl, refl); in_time = omega arith; in_range = omega arith; joint = tt }, tt)
+    first_follows journals provider list (inr is) =
+        subst (λ (l : List Entry). Follows trade journals provider empty l) (sym is)
+        (record { own = (refl, refl, refl); in_time = omega arith; in_range = omega arith; joint = tt }, tt)
+
+    fits_fresh : (lists : List (List Entry)) → length lists ≡ trade.providers
         → ((provider : ℕ) → provider < trade.providers → MayBe trade holds provider (slice_index_or lists provider []))
         → Fit trade (journals_in lists)
-    fits_fresh stays start lists count each =
-        let made = made_at_start trade lists count (λ k journal there.
-        let is = get_or_from_slice_get lists k journal [] there in
-        let within = slice_get_within lists k journal there in
-        let below : k < trade.providers = omega (arith, count, within) in
-        sym is ∙ fresh_by k below (slice_index_or lists k []) (each k below)) in
-        fit_alike trade stays (journals_of (at_start trade)) (journals_in lists)
-        (λ p. ap (λ (s : List Site). journal_at s p) (sym made) ∙ journal_opened trade lists p) start.fit
+    fits_fresh lists count each = record {
+      begins = λ p l. first_begins p (slice_index_or lists p []) (fresh_by p l (slice_index_or lists p []) (each p l));
+      follows = λ p. elim (cases_lt p trade.providers) [
+        | inl l ↦ first_follows (journals_in lists) p (slice_index_or lists p [])
+            (fresh_by p l (slice_index_or lists p []) (each p l))
+        | inr l ↦
+            let past : slice_index_or lists p [] ≡ [] = get_or_past lists p [] (omega (arith, count, l)) in
+            subst (λ (list : List Entry). Follows trade (journals_in lists) p empty list) (sym past) tt
+      ];
+    }
 
-    pub empty_fitting : JointStays trade → Sound trade (at_start trade) → AreFitting trade holds
-    empty_fitting stays start = record {
-      fits = fits_fresh stays start;
+    pub empty_fitting : AreFitting trade holds
+    empty_fitting = record {
+      fits = fits_fresh;
       small = λ p l nothing bytes there.
           let size = ap (λ (b : Bytes). length b) (none p bytes l there) in omega (arith, size);
     }

@@ -10,6 +10,7 @@ use Rattle.pec_ledger.specs.Network.{Site}
 use Rattle.pec_ledger.specs.Trade.{Trade}
 use Rattle.pec_plays.specs.Commands.{Command, Luck, played}
 use Rattle.pec_plays.specs.Scripts.{script}
+use Rattle.pec_screen.specs.Verdicts.{Patterns}
 use Rattle.pec_runs.specs.AnswerLines.{answer_text, answers_text}
 use Rattle.pec_runs.specs.Endings.{End, end_text}
 use Rattle.pec_runs.specs.Plays.{Ends, Finish, MayPlay, MayStray, Rest, Stopped, Strayed, ToTheEnd, at_end, finish_text}
@@ -59,8 +60,9 @@ module _ (trade : Trade) (providers : List Provider) (tells : Type 0) {D : Type 
     pub more : Script
     pub end : more.end ≡ written.end
     pub may : (upto : ℕ → ℕ) (rest : Rest)
-        → MayPlay trade tells (state_behind here steps).sites (state_behind here steps).counts upto more [] rest
-        → MayPlay trade tells here.sites here.counts upto written (lucks_in steps) rest
+        → MayPlay trade tells (state_behind here steps).spares (state_behind here steps).sites
+        (state_behind here steps).counts upto more [] rest
+        → MayPlay trade tells here.spares here.sites here.counts upto written (lucks_in steps) rest
     pub after : (script trade (lucks_in steps) here.sites written.commands).after ≡ (state_behind here steps).sites
     pub text : IsText here steps left written more
 
@@ -82,7 +84,7 @@ module _ (trade : Trade) (providers : List Provider) (tells : Type 0) {D : Type 
     more = nothing_but end;
     end = refl;
     may = λ upto rest may.
-        subst (λ (s : State D). MayPlay trade tells s.sites s.counts upto (nothing_but end) [] rest)
+        subst (λ (s : State D). MayPlay trade tells s.spares s.sites s.counts upto (nothing_but end) [] rest)
         same may;
     after = ap (λ (s : State D). s.sites) (sym same);
     text = All refl refl refl (append-nil (end_text providers end));
@@ -97,12 +99,13 @@ module _ (trade : Trade) (providers : List Provider) (tells : Type 0) {D : Type 
     more = front.more;
     end = front.end;
     may = λ upto rest may.
-        plays_on trade tells here.sites here.counts behind.counts upto command luck written (lucks_in steps) rest
-        is.meet
-        is.memory is.counts is.kept is.shown is.unchanged
-        (subst (λ (s : List Site). MayPlay trade tells s behind.counts upto written (lucks_in steps) rest) is.state
-        (front.may upto rest may));
-    after = ap (λ (s : List Site). (script trade (lucks_in steps) s written.commands).after) (sym is.state) ∙
+        plays_on trade tells here.spares here.sites here.counts behind.counts upto command luck written (lucks_in steps)
+        rest is.0.meet is.1.last is.0.memory is.0.counts is.0.kept is.0.shown is.0.unchanged
+        (subst (λ (left : List Patterns). MayPlay trade tells left (played trade luck here.sites command).after
+        behind.counts upto written (lucks_in steps) rest) is.1.behind
+        (subst (λ (s : List Site). MayPlay trade tells behind.spares s behind.counts upto written (lucks_in steps) rest)
+        is.0.state (front.may upto rest may)));
+    after = ap (λ (s : List Site). (script trade (lucks_in steps) s written.commands).after) (sym is.0.state) ∙
         front.after;
     text = by_text front.text;
   }
@@ -118,7 +121,7 @@ module _ (trade : Trade) (providers : List Provider) (tells : Type 0) {D : Type 
           ++ last
       more_text last e =
           ap (λ (t : Bytes). line ++ t) e
-          ∙ (ap (λ (s : List Site). line ++ (told s ++ last)) is.state
+          ∙ (ap (λ (s : List Site). line ++ (told s ++ last)) is.0.state
           ∙ sym (append_assoc line (told (played trade luck here.sites command).after) last))
 
       by_text : IsText behind steps left written front.more
@@ -166,7 +169,7 @@ module _ (trade : Trade) (providers : List Provider) (tells : Type 0) {D : Type 
 
     -- it was played so, with its state told
     as_played : (status : Status) (rest : Rest)
-        → MayPlay trade tells behind.sites behind.counts there.state.counts front.more [] rest
+        → MayPlay trade tells behind.spares behind.sites behind.counts there.state.counts front.more [] rest
         → Tells providers status here.held there.held (outcome_from trade lucks rest here.state.sites written)
         → LeavesOff trade behind.sites (command_in_hand status NoMore rest lucks written) there.state.sites
         → IsScriptPlayed trade providers tells sight written status here there
@@ -190,21 +193,21 @@ module _ (trade : Trade) (providers : List Provider) (tells : Type 0) {D : Type 
     at_state : {next : Option Command} → there.state ≡ behind → LeavesOff trade behind.sites next there.state.sites
     at_state same = Behind (ap (λ (s : State D). s.sites) same)
 
-    may_stop : MayPlay trade tells behind.sites behind.counts there.state.counts front.more [] Stopped
-    may_stop = plays_none trade tells behind.sites behind.counts there.state.counts front.more goes.since
+    may_stop : MayPlay trade tells behind.spares behind.sites behind.counts there.state.counts front.more [] Stopped
+    may_stop = plays_none trade tells behind.spares behind.sites behind.counts there.state.counts front.more goes.since
 
     may_end : front.more.commands ≡ []
-        → MayPlay trade tells behind.sites behind.counts there.state.counts front.more [] ToTheEnd
+        → MayPlay trade tells behind.spares behind.sites behind.counts there.state.counts front.more [] ToTheEnd
     may_end none =
-        subst (λ (l : List Command). MayPlay trade tells behind.sites behind.counts there.state.counts
+        subst (λ (l : List Command). MayPlay trade tells behind.spares behind.sites behind.counts there.state.counts
         (written_as l front.more.end) [] ToTheEnd) (sym none)
-        (plays_over trade tells behind.sites behind.counts there.state.counts front.more.end goes.since)
+        (plays_over trade tells behind.spares behind.sites behind.counts there.state.counts front.more.end goes.since)
 
     may_stray : (commands : List Command) (end : End)
         → MayStray tells behind.sites (next_of (acts_of_script providers (written_as commands end)))
-        → MayPlay trade tells behind.sites behind.counts there.state.counts (written_as commands end) [] Strayed
+        → MayPlay trade tells behind.spares behind.sites behind.counts there.state.counts (written_as commands end) [] Strayed
     may_stray [] end may = absurd (is_left [] may.restarts refl)
-    may_stray (command ∷ commands) end may = plays_astray trade tells behind.sites behind.counts there.state.counts
+    may_stray (command ∷ commands) end may = plays_astray trade tells behind.spares behind.sites behind.counts there.state.counts
         command
         (written_as commands end) goes.since may
 

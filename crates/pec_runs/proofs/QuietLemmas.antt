@@ -1,7 +1,6 @@
--- A run of which no fault is told is one without faults.
+-- A command of which no fault is told is one without faults.
 use Rattle.std.proofs.Common.{◌≡◌, ◌≢◌, ℕ, zero, suc, ◌+◌, ◌<◌, ◌==◌, ◌&&◌, ◌⊎◌, inl, inr, List, [], ◌∷◌, Bool, true, false, length, refl, ap, sym, subst, ◌∙◌, arith, nat_lt, Option, Some, None}
 use Rattle.std.specs.Prelude.{All, IfSome, filter, slice_get, slice_index_or, if◌then◌else◌}
-use Rattle.std.specs.List.{AllByRecursion}
 use Rattle.std.specs.Option.{unwrap_or}
 use Rattle.std.proofs.lemmas.Bool.{eq-eqb, false≢true}
 use Rattle.std.proofs.lemmas.List.Elements.{All-cons, All-head, All-nil, All-tail}
@@ -13,20 +12,22 @@ use Rattle.pec_types.specs.declared.turns.Turn.{Turn}
 use Rattle.pec_records.specs.declared.entries.Entry.{Entry}
 use Rattle.pec_records.specs.declared.entries.Entry.TheVariants as entries
 use Rattle.pec_ledger.specs.Along.{times}
-use Rattle.pec_ledger.specs.Books.{book, mailbox_lines}
+use Rattle.pec_ledger.specs.Books.{archive_lines, book, mailbox_lines}
 use Rattle.pec_ledger.specs.Half.{Half, Posted}
 use Rattle.pec_ledger.specs.Items.{item_text}
-use Rattle.pec_ledger.specs.Lookups.{mailbox}
+use Rattle.pec_ledger.specs.Lookups.{archive, mailbox}
 use Rattle.pec_ledger.specs.Network.{Site, empty_site, frames_between, journal_at, site_at}
 use Rattle.pec_ledger.specs.Steps.{half}
 use Rattle.pec_ledger.specs.Trade.{Trade}
-use Rattle.pec_plays.specs.Commands.{Answer, Command, Luck, Played, IsUp, Items, LinkFull, Lines, NoFrame, Refuses, Restarted, Turns, Submit, Tick, Round, Lose, Repeat, Swap, Inject, Crash, Restart, Book, Mailbox, Show, account_home, answers, append, appended, asked, at_work, messages_at, played, put_again, read_back, restarted, restarted_site, shown, shown_bytes, submitted, swapped, swapped_at, ticked, with_site}
-use Rattle.pec_plays.specs.Possible.{AllQuiet, GaveWhatWasKept, IsCalm, IsOfKept, IsOfRead, IsQuiet, MayCut, MayMeet}
+use Rattle.pec_plays.specs.Commands.{Answer, Archive, Archived, Command, Luck, NoScreen, Played, IsUp, Items, LinkFull, Lines, NoFrame, Refuses, Restarted, Turns, Submit, Tick, Round, Lose, Repeat, Swap, Inject, Crash, Restart, Book, Mailbox, Screen, Show, Upgrade, Upgraded, Vault, VaultShow, Vaults}
+use Rattle.pec_plays.specs.Commands.{account_home, answers, append, appended, archived, archived_at, asked, at_work, finds_at, items_at, screened, upgraded, version_at}
+use Rattle.pec_plays.specs.Commands.{messages_at, played, put_again, read_back, restarted, restarted_site, shown, shown_bytes, submitted, swapped, swapped_at, ticked, with_site}
+use Rattle.pec_plays.specs.Possible.{GaveWhatWasKept, IsCalm, IsOfKept, IsOfRead, IsQuiet, MayCut, MayMeet}
 use Rattle.pec_plays.specs.Rounds.{Rounded, delivered, link_size, outs_of, rooms_of, rounded, sent_from, told_from, turns_from, turns_of}
-use Rattle.pec_plays.specs.Scripts.{onto, script}
 use Rattle.pec_plays.specs.Steps.{Step, has_no_room}
-use Rattle.pec_plays.specs.Turns.{Cut, Turned, Whole, Fails, Full, Stops, Other, cut_turn, frames_in, last_of, not_begun, plan, turned}
-use Rattle.pec_runs.specs.Plays.{AllMeet, HasMemory, IsUnchanged, ShowsItsOwn, faults_at, faults_at_home, faults_by, faults_in, faults_told, is_change}
+use Rattle.pec_plays.specs.Turns.{Cut, Turned, Whole, Fails, Full, Stops, Unread, Other, Sees, cut_turn, last_of, not_begun, steps_of, turned}
+use Rattle.pec_screen.specs.Verdicts.{Patterns}
+use Rattle.pec_runs.specs.Plays.{HasMemory, IsUnchanged, ShowsItsOwn, faults_at, faults_at_home, faults_by, faults_in, is_change}
 use Rattle.pec_runs.specs.Plays.{is_disk_fault}
 
 -- ---- cuts
@@ -37,21 +38,27 @@ calmed Whole = Whole
 calmed (Fails n fault) = Whole
 calmed (Full n) = Full n
 calmed (Stops n) = Whole
+calmed (Unread n fault) = Whole
 calmed (Other out) = Whole
+calmed (Sees looks cut) = Whole
 
 calmed_calm : (cut : Cut) → IsCalm (calmed cut)
 calmed_calm Whole = tt
 calmed_calm (Fails n fault) = tt
 calmed_calm (Full n) = tt
 calmed_calm (Stops n) = tt
+calmed_calm (Unread n fault) = tt
 calmed_calm (Other out) = tt
+calmed_calm (Sees looks cut) = tt
 
 calmed_same : (cut : Cut) → IsCalm cut → calmed cut ≡ cut
 calmed_same Whole calm = refl
 calmed_same (Fails n fault) calm = absurd calm
 calmed_same (Full n) calm = refl
 calmed_same (Stops n) calm = absurd calm
+calmed_same (Unread n fault) calm = absurd calm
 calmed_same (Other out) calm = absurd calm
+calmed_same (Sees looks cut) calm = absurd calm
 
 -- a turn went well: neither its disk failed, nor was memory missing, nor is an entry told as changed
 pub record WentWell (ended : Option ProviderFault) : Type 0 where
@@ -70,6 +77,8 @@ not_read faults.NoAccount of disk same = of
 not_read faults.Full of disk same = of
 not_read faults.NoItem of disk same = of
 not_read faults.JournalFull of disk same = of
+not_read faults.OldJournal of disk same = of
+not_read faults.NoNeed of disk same = of
 not_read (faults.Changed entry) of disk same = false≢true (sym same)
 
 cut_calm : (trade : Trade) (p : ℕ) (rooms : ℕ → ℕ) (site : Site) (steps : List Step) (cut : Cut) → IsOfKept cut
@@ -78,7 +87,9 @@ cut_calm trade p rooms site steps Whole kept well = tt
 cut_calm trade p rooms site steps (Fails n fault) kept well = absurd (not_read fault kept well.disk well.same)
 cut_calm trade p rooms site steps (Full n) kept well = tt
 cut_calm trade p rooms site steps (Stops n) kept well = absurd (well.memory refl)
+cut_calm trade p rooms site steps (Unread n fault) kept well = absurd (not_read fault kept well.disk well.same)
 cut_calm trade p rooms site steps (Other out) kept well = absurd kept
+cut_calm trade p rooms site steps (Sees looks cut) kept well = absurd kept
 
 -- ---- a command
 
@@ -87,7 +98,7 @@ module _ (trade : Trade) (sites : List Site) (luck : Luck) where
   calm_luck =
       record { cuts = λ p. calmed (luck.cuts p); fails = false; found = luck.found; read = None; shown = None }
 
-  calm_quiet : IsQuiet calm_luck
+  pub calm_quiet : IsQuiet calm_luck
   unfolding calm_luck
   calm_quiet = record { cuts = λ p. calmed_calm (luck.cuts p); works = refl; reads = refl; shows = refl }
 
@@ -171,22 +182,47 @@ module _ (trade : Trade) (sites : List Site) (luck : Luck) where
       absurd (one_is_some (asked == asked) (eq-eqb asked asked refl)
       (subst (λ (a : Answer). faults_at asked asked a ≡ 0) told none))
 
+  -- ---- archives
+
+  archived_alike : (p now : ℕ) (account : Bytes) (place : ℕ)
+      → Alike (archived_at trade luck sites p now account place) (archived_at trade calm_luck sites p now account place)
+  archived_alike p now account place =
+      work_alike p now _ _
+      (alike_if (nat_lt place (items_at trade sites p account)) _ _ (answers sites (Refuses faults.NoItem))
+      (answers sites (Refuses faults.NoItem))
+      (alike_if (version_at trade sites p == 2) _ _ (answers sites (Refuses faults.OldJournal))
+      (answers sites (Refuses faults.OldJournal)) (append_alike p (entries.Archived now account place) Archived) (inr refl))
+      (inr refl))
+
+  archived_same : (now : ℕ) (account : Bytes) (place : ℕ) (home : Option ℕ)
+      → ((k : ℕ) → faults_at_home k home (archived trade luck sites home now account place).answer ≡ 0)
+      → archived trade luck sites home now account place ≡ archived trade calm_luck sites home now account place
+  archived_same now account place None none = refl
+  archived_same now account place (Some p) none =
+      no_fault p (archived_at trade luck sites p now account place) (archived_at trade calm_luck sites p now account place)
+      (archived_alike p now account place) (none p)
+
+  upgraded_alike : (p now : ℕ) → Alike (upgraded trade luck sites p now) (upgraded trade calm_luck sites p now)
+  upgraded_alike p now =
+      work_alike p now _ _
+      (alike_if (version_at trade sites p == 1) _ _ (answers sites (Refuses faults.NoNeed))
+      (answers sites (Refuses faults.NoNeed)) (append_alike p (entries.Upgraded now) Upgraded) (inr refl))
+
   -- ---- rounds
 
   module _ (now : ℕ) where
     abbrev turn_by : ℕ → (ℕ → ℕ) → Site → Cut → Bool → Bool → Turned
     turn_by p rooms site cut up late =
         if up then (if late then not_begun site (faults.ClockBack (last_of trade p site.journal))
-        else cut_turn trade p rooms site (plan trade p now site.journal (frames_in site.waiting)) cut)
+        else cut_turn trade p rooms site (steps_of trade p now site cut) cut)
         else not_begun site faults.Down
 
     turn_same : (p : ℕ) (rooms : ℕ → ℕ) (site : Site) (cut : Cut) (up late : Bool) → IsOfKept cut
         → WentWell (turn_by p rooms site cut up late).ended
         → turn_by p rooms site cut up late ≡ turn_by p rooms site (calmed cut) up late
     turn_same p rooms site cut true false kept well =
-        let steps = plan trade p now site.journal (frames_in site.waiting)
-        in ap (cut_turn trade p rooms site steps)
-        (sym (calmed_same cut (cut_calm trade p rooms site steps cut kept well)))
+        ap (λ (c : Cut). cut_turn trade p rooms site (steps_of trade p now site c) c)
+        (sym (calmed_same cut (cut_calm trade p rooms site (steps_of trade p now site cut) cut kept well)))
     turn_same p rooms site cut true true kept well = refl
     turn_same p rooms site cut false late kept well = refl
 
@@ -201,7 +237,7 @@ module _ (trade : Trade) (sites : List Site) (luck : Luck) where
     turn_calm : (p : ℕ) (rooms : ℕ → ℕ) (site : Site) (cut : Cut) (up late : Bool) → up ≡ true → late ≡ false
         → IsOfKept cut → WentWell (turn_by p rooms site cut up late).ended → IsCalm cut
     turn_calm p rooms site cut true false u l kept well =
-        cut_calm trade p rooms site (plan trade p now site.journal (frames_in site.waiting)) cut kept well
+        cut_calm trade p rooms site (steps_of trade p now site cut) cut kept well
     turn_calm p rooms site cut true true u l kept well = absurd (false≢true (sym l))
     turn_calm p rooms site cut false late u l kept well = absurd (false≢true u)
 
@@ -325,8 +361,7 @@ module _ (trade : Trade) (sites : List Site) (luck : Luck) where
         subst (λ (q : ℕ). CalmAt q (slice_index_or sites p empty_site) → IsCalm (luck.cuts p))
         (let z : p ≡ 0 + p = omega arith in z) (λ at. at u late)
         (all_calm 0 sites kept all p l)
-        in subst (λ (cut : Cut). MayCut
-        (plan trade p now (site_at sites p).journal (frames_in (site_at sites p).waiting)) cut)
+        in subst (λ (cut : Cut). MayCut trade p (steps_of trade p now (site_at sites p) cut) cut)
         (sym (calmed_same (luck.cuts p) calm)) (may p l u late)
 
   -- ---- looks at items
@@ -344,6 +379,8 @@ module _ (trade : Trade) (sites : List Site) (luck : Luck) where
     read_same p bytes (Some faults.Full) of none same = absurd of
     read_same p bytes (Some faults.NoItem) of none same = absurd of
     read_same p bytes (Some faults.JournalFull) of none same = absurd of
+    read_same p bytes (Some faults.OldJournal) of none same = absurd of
+    read_same p bytes (Some faults.NoNeed) of none same = absurd of
     read_same p bytes (Some (faults.Changed entry)) of none same = absurd (false≢true (sym same))
 
     bytes_same : (p : ℕ) (text : Option Bytes) → faults_at p p (shown_bytes luck sites p text).answer ≡ 0
@@ -364,16 +401,17 @@ module _ (trade : Trade) (sites : List Site) (luck : Luck) where
     posted_same p (Some posted) none same =
         bytes_same p (item_text trade p (journal_at sites p) posted) none same
 
-    module _ (address : Bytes) (place : ℕ) where
+    -- the item that is looked for in a half
+    module _ (find : Half → Option Posted) where
       abbrev look_with : Luck → ℕ → Half → Played
-      look_with l p h = shown trade l sites p (slice_get (mailbox h address) place)
+      look_with l p h = shown trade l sites p (find h)
 
       looked_by : (p : ℕ) (up : Bool) (h : Half)
           → faults_at p p (if up then look_with luck p h else answers sites (Refuses faults.Down)).answer ≡ 0
           → IsUnchanged (if up then look_with luck p h else answers sites (Refuses faults.Down)).answer
           → (if up then look_with luck p h else answers sites (Refuses faults.Down))
           ≡ (if up then look_with calm_luck p h else answers sites (Refuses faults.Down))
-      looked_by p true h none same = posted_same p (slice_get (mailbox h address) place) none same
+      looked_by p true h none same = posted_same p (find h) none same
       looked_by p false h none same = refl
 
       looked_same : (home : Option ℕ)
@@ -398,11 +436,11 @@ module _ (trade : Trade) (sites : List Site) (luck : Luck) where
   pub twin : (command : Command) → MayMeet trade luck sites command → GaveWhatWasKept luck → ShowsItsOwn luck
       → ToldWell command → Twin command
   unfolding played calm_luck
-  twin (Submit p now sender along message found) may kept own well = (
+  twin (Submit p now sender along message) may kept own well = (
     tt,
-    no_fault p (submitted trade luck sites p now sender along message found)
-        (submitted trade calm_luck sites p now sender along message found)
-        (submitted_alike p now sender along message found) (well.1 p),
+    no_fault p (submitted trade luck sites p now sender along message (finds_at sites p message))
+        (submitted trade calm_luck sites p now sender along message (finds_at sites p message))
+        (submitted_alike p now sender along message (finds_at sites p message)) (well.1 p),
   )
   twin (Tick p now) may kept own well = (
     tt,
@@ -431,8 +469,24 @@ module _ (trade : Trade) (sites : List Site) (luck : Luck) where
   twin (Mailbox address) may kept own well = (tt, refl)
   twin (Show address place) may kept own well = (
     tt,
-    looked_same own may address place (account_home trade address (trade.home address)) well.1 well.2,
+    looked_same own may (λ h. slice_get (mailbox h address) place) (account_home trade address (trade.home address))
+        well.1 well.2,
   )
+  twin (Archive address now place) may kept own well = (
+    tt,
+    archived_same now address place (account_home trade address (trade.home address)) well.1,
+  )
+  twin (Upgrade p now) may kept own well = (
+    tt,
+    no_fault p (upgraded trade luck sites p now) (upgraded trade calm_luck sites p now) (upgraded_alike p now) (well.1 p),
+  )
+  twin (Vault address) may kept own well = (tt, refl)
+  twin (VaultShow address place) may kept own well = (
+    tt,
+    looked_same own may (λ h. slice_get (archive h address) place) (account_home trade address (trade.home address))
+        well.1 well.2,
+  )
+  twin (Screen p place spare) may kept own well = (tt, refl)
 
 -- ---- what is told of a command without faults
 
@@ -494,7 +548,9 @@ module _ (trade : Trade) (sites : List Site) (luck : Luck) (quiet : IsQuiet luck
   cut_well p rooms site steps (Fails n fault) calm = absurd calm
   cut_well p rooms site steps (Full n) calm = record { disk = refl; memory = λ e. cc; same = refl }
   cut_well p rooms site steps (Stops n) calm = absurd calm
+  cut_well p rooms site steps (Unread n fault) calm = absurd calm
   cut_well p rooms site steps (Other out) calm = absurd calm
+  cut_well p rooms site steps (Sees looks cut) calm = absurd calm
 
   ended_if : (b : Bool) (x y : Turned) → WentWell x.ended → WentWell y.ended → WentWell (if b then x else y).ended
   ended_if true x y a c = a
@@ -508,7 +564,7 @@ module _ (trade : Trade) (sites : List Site) (luck : Luck) (quiet : IsQuiet luck
       (ended_if (nat_lt now (last_of trade p site.journal))
       (not_begun site (faults.ClockBack (last_of trade p site.journal))) _
       (record { disk = refl; memory = λ e. cc; same = refl })
-      (cut_well p rooms site (plan trade p now site.journal (frames_in site.waiting)) cut calm))
+      (cut_well p rooms site (steps_of trade p now site cut) cut calm))
       (record { disk = refl; memory = λ e. cc; same = refl })
 
   none_more : (k : ℕ) (turn : Turn) (turns : List Turn) (b : Bool) → b ≡ false
@@ -600,9 +656,36 @@ module _ (trade : Trade) (sites : List Site) (luck : Luck) (quiet : IsQuiet luck
   swapped_well from to None = (tt, tt)
   swapped_well from to (Some frames) = (tt, tt)
 
+  screened_well : (p place : ℕ) (spare : Option Patterns) → Remembers (screened sites p place spare)
+  screened_well p place None = (tt, tt)
+  screened_well p place (Some patterns) =
+      remembers_if (site_at sites p).up _ (answers sites (Refuses faults.Down))
+      (remembers_if (nat_lt place (length (site_at sites p).screens)) _ (answers sites NoScreen) (tt, tt) (tt, tt)) (tt, refl)
+
+  -- ---- archives
+
+  archived_well : (now : ℕ) (account : Bytes) (place : ℕ) (home : Option ℕ)
+      → HasMemory (archived trade luck sites home now account place).answer
+      × ((k : ℕ) → faults_at_home k home (archived trade luck sites home now account place).answer ≡ 0)
+      × IsUnchanged (archived trade luck sites home now account place).answer
+  archived_well now account place None = (tt, λ k. refl, refl)
+  archived_well now account place (Some p) =
+      work_well p p now _
+      (well_if p (nat_lt place (items_at trade sites p account)) _ (answers sites (Refuses faults.NoItem))
+      (well_if p (version_at trade sites p == 2) _ (answers sites (Refuses faults.OldJournal))
+      (append_well p p (entries.Archived now account place) Archived (tt, λ k. refl, tt)) (tt, λ k. refl, refl))
+      (tt, λ k. refl, refl))
+
+  upgraded_well : (p now : ℕ) → Well p (upgraded trade luck sites p now)
+  upgraded_well p now =
+      work_well p p now _
+      (well_if p (version_at trade sites p == 1) _ (answers sites (Refuses faults.NoNeed))
+      (append_well p p (entries.Upgraded now) Upgraded (tt, λ k. refl, tt)) (tt, λ k. refl, refl))
+
   pub quiet_well : (command : Command) → ToldWell trade sites luck command
   unfolding played
-  quiet_well (Submit p now sender along message found) = submitted_well p now sender along message found
+  quiet_well (Submit p now sender along message) =
+      submitted_well p now sender along message (finds_at sites p message)
   quiet_well (Tick p now) = ticked_well p now
   quiet_well (Round now) = rounded_well now
   quiet_well (Lose from to place) =
@@ -631,108 +714,15 @@ module _ (trade : Trade) (sites : List Site) (luck : Luck) (quiet : IsQuiet luck
       asked_well (λ (p : ℕ) (h : Half). shown trade luck sites p (slice_get (mailbox h address) place))
       (account_home trade address (trade.home address))
       (λ p h. shown_well p (slice_get (mailbox h address) place))
-
--- ---- scripts
-
--- Lucks without faults that lead the same way.
-pub record Twins (trade : Trade) (lucks : List Luck) (sites : List Site) (commands : List Command) : Type 0 where
-  pub calms : List Luck
-  pub quiet : AllQuiet trade calms sites commands
-  pub count : length calms ≡ length lucks
-  pub same : script trade calms sites commands ≡ script trade lucks sites commands
-
-none_in_sum : (a b : ℕ) → a + b ≡ 0 → (a ≡ 0) × (b ≡ 0)
-none_in_sum a b e = (omega (arith, e), omega (arith, e))
-
-module _ (trade : Trade) where
-  pub twins : (lucks : List Luck) (sites : List Site) (commands : List Command) → AllMeet trade lucks sites commands
-      → AllByRecursion GaveWhatWasKept lucks → AllByRecursion ShowsItsOwn lucks
-      → All HasMemory (script trade lucks sites commands).answers
-      → All IsUnchanged (script trade lucks sites commands).answers
-      → ((k : ℕ) → faults_told trade k commands (script trade lucks sites commands).answers ≡ 0)
-      → Twins trade lucks sites commands
-  twins [] sites commands meet kept own memory unchanged none =
-      record { calms = []; quiet = tt; count = refl; same = refl }
-  twins (luck ∷ lucks) sites [] meet kept own memory unchanged none =
-      record { calms = luck ∷ lucks; quiet = tt; count = refl; same = refl }
-  twins (luck ∷ lucks) sites (c ∷ commands) meet kept own memory unchanged none =
-      let here = played trade luck sites c
-      in let told = (script trade lucks here.after commands).answers
-      in let first = twin trade sites luck c meet.0 kept.0 own.0 (
-        All-head HasMemory here.answer told memory,
-        λ k.
-            (none_in_sum (faults_by trade k c here.answer) (faults_told trade k commands told) (none k)).0,
-        All-head IsUnchanged here.answer told unchanged,
-      )
-      in let later = twins lucks here.after commands meet.1 kept.1 own.1 (All-tail HasMemory here.answer told memory)
-      (All-tail IsUnchanged here.answer told unchanged)
-      (λ k. (none_in_sum (faults_by trade k c here.answer) (faults_told trade k commands told) (none k)).1)
-      in record {
-        calms = calm_luck trade sites luck ∷ later.calms;
-        quiet = (
-          first.0,
-          calm_quiet trade sites luck,
-          subst (λ (p : Played). AllQuiet trade later.calms p.after commands) first.1 later.quiet,
-        );
-        count = ap suc later.count;
-        same = ap (λ (p : Played). onto p.answer (script trade later.calms p.after commands)) (sym first.1)
-            ∙ ap (onto here.answer) later.same;
-      }
-
-  -- a script without faults tells none
-  pub quiet_meet : (lucks : List Luck) (sites : List Site) (commands : List Command)
-      → AllQuiet trade lucks sites commands
-      → AllMeet trade lucks sites commands
-  quiet_meet [] sites commands quiet = tt
-  quiet_meet (luck ∷ lucks) sites [] quiet = tt
-  quiet_meet (luck ∷ lucks) sites (c ∷ commands) quiet =
-      (quiet.0, quiet_meet lucks (played trade luck sites c).after commands quiet.2)
-
-  pub quiet_memory : (lucks : List Luck) (sites : List Site) (commands : List Command)
-      → AllQuiet trade lucks sites commands
-      → All HasMemory (script trade lucks sites commands).answers
-  quiet_memory [] sites commands quiet = All-nil HasMemory
-  quiet_memory (luck ∷ lucks) sites [] quiet = All-nil HasMemory
-  quiet_memory (luck ∷ lucks) sites (c ∷ commands) quiet =
-      let here = played trade luck sites c
-      in All-cons HasMemory here.answer (script trade lucks here.after commands).answers
-      (quiet_well trade sites luck quiet.1 c).0
-      (quiet_memory lucks here.after commands quiet.2)
-
-  pub quiet_none : (k : ℕ) (lucks : List Luck) (sites : List Site) (commands : List Command)
-      → AllQuiet trade lucks sites commands
-      → faults_told trade k commands (script trade lucks sites commands).answers ≡ 0
-  quiet_none k [] sites [] quiet = refl
-  quiet_none k [] sites (c ∷ commands) quiet = refl
-  quiet_none k (luck ∷ lucks) sites [] quiet = refl
-  quiet_none k (luck ∷ lucks) sites (c ∷ commands) quiet =
-      let first = (quiet_well trade sites luck quiet.1 c).1 k
-      in let later = quiet_none k lucks (played trade luck sites c).after commands quiet.2
-      in omega (arith, first, later)
-
-  pub quiet_unchanged : (lucks : List Luck) (sites : List Site) (commands : List Command)
-      → AllQuiet trade lucks sites commands
-      → All IsUnchanged (script trade lucks sites commands).answers
-  quiet_unchanged [] sites commands quiet = All-nil IsUnchanged
-  quiet_unchanged (luck ∷ lucks) sites [] quiet = All-nil IsUnchanged
-  quiet_unchanged (luck ∷ lucks) sites (c ∷ commands) quiet =
-      let here = played trade luck sites c
-      in All-cons IsUnchanged here.answer (script trade lucks here.after commands).answers
-      (quiet_well trade sites luck quiet.1 c).2
-      (quiet_unchanged lucks here.after commands quiet.2)
-
-  calm_kept : (cut : Cut) → IsCalm cut → IsOfKept cut
-  calm_kept Whole calm = tt
-  calm_kept (Fails n fault) calm = absurd calm
-  calm_kept (Full n) calm = tt
-  calm_kept (Stops n) calm = tt
-  calm_kept (Other out) calm = absurd calm
-
-  pub quiet_kept : (lucks : List Luck) (sites : List Site) (commands : List Command) → length lucks ≡ length commands
-      → AllQuiet trade lucks sites commands → AllByRecursion GaveWhatWasKept lucks × AllByRecursion ShowsItsOwn lucks
-  quiet_kept [] sites commands e quiet = (tt, tt)
-  quiet_kept (luck ∷ lucks) sites [] e quiet = absurd (omega (arith, e))
-  quiet_kept (luck ∷ lucks) sites (c ∷ commands) e quiet =
-      let more = quiet_kept lucks (played trade luck sites c).after commands
-      (let f : length lucks ≡ length commands = omega (arith, e) in f) quiet.2
-      in ((λ p. calm_kept (luck.cuts p) (quiet.1.cuts p), more.0), (quiet.1.shows, more.1))
+  quiet_well (Archive address now place) =
+      archived_well now address place (account_home trade address (trade.home address))
+  quiet_well (Upgrade p now) = upgraded_well p now
+  quiet_well (Vault address) =
+      let so = asked_well (λ (p : ℕ) (h : Half). answers sites (Vaults (archive_lines h address)))
+      (account_home trade address (trade.home address)) (λ p h. (tt, λ k. refl, tt))
+      in (so.0, λ k. refl, so.2)
+  quiet_well (VaultShow address place) =
+      asked_well (λ (p : ℕ) (h : Half). shown trade luck sites p (slice_get (archive h address) place))
+      (account_home trade address (trade.home address))
+      (λ p h. shown_well p (slice_get (archive h address) place))
+  quiet_well (Screen p place spare) = let so = screened_well p place spare in (so.0, λ k. refl, so.1)

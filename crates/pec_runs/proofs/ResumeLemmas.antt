@@ -3,7 +3,7 @@ use Rattle.std.proofs.Common.{◌≡◌, ℕ, ◌<◌, ◌≤◌, List, [], ◌+
 use Rattle.std.specs.Prelude.{if◌then◌else◌, slice_get, slice_index_or}
 use Rattle.std.proofs.lemmas.Bool.{cases_lt}
 use Rattle.std.proofs.lemmas.List.{append-nil, get_or_past}
-use Rattle.std.proofs.lemmas.Option.{slice_get-get_or}
+use Rattle.std.proofs.lemmas.Option.{none-some, slice_get-get_or}
 use Rattle.pec_types.specs.Bytes.{Bytes}
 use Rattle.pec_types.specs.declared.turns.ProviderFault.TheVariants as faults
 use Rattle.pec_records.specs.declared.entries.Entry.{Entry}
@@ -11,11 +11,14 @@ use Rattle.pec_chronicle.specs.Chronicle.{IsJournalOf}
 use Rattle.pec_ledger.specs.Ledger.{Fit}
 use Rattle.pec_ledger.specs.Network.{Site, Sound, chosen, empty_site, interrupted_at, journal_at, journals_in, site_at, with_choice}
 use Rattle.pec_ledger.specs.Trade.{Trade}
-use Rattle.pec_plays.specs.Commands.{Command, Luck, Submit, Tick, Round, Lose, Repeat, Swap, Inject, Crash, Restart, Book, Mailbox, Show, played}
+use Rattle.pec_plays.specs.Commands.{Command, Luck, Submit, Tick, Round, Lose, Repeat, Swap, Inject, Crash, Restart, Book, Mailbox, Show, Archive, Upgrade, Vault, VaultShow, Screen, played}
 use Rattle.pec_plays.specs.Rounds.{rooms_of, rounded}
 use Rattle.pec_plays.specs.Steps.{Step}
-use Rattle.pec_plays.specs.Turns.{Cut, Turned, Whole, Fails, Full, Stops, Other, cut_turn, frames_in, last_of, not_begun}
-use Rattle.pec_plays.specs.Turns.{plan, turned}
+use Rattle.pec_plays.specs.Decisions.{Looks}
+use Rattle.pec_plays.specs.Scripts.{put_instead}
+use Rattle.pec_plays.specs.Turns.{Cut, Turned, Whole, Fails, Full, Stops, Unread, Other, Sees, cut_turn, frames_in, last_of}
+use Rattle.pec_plays.specs.Turns.{looks_by, not_begun, plan, steps_of, turned}
+use Rattle.pec_screen.specs.Verdicts.{Patterns}
 use Rattle.pec_runs.specs.Headline.{PutsHonestly}
 use Rattle.pec_runs.specs.Openings.{IsLeft}
 use Rattle.pec_runs.specs.Ran.{LeavesOff, Behind, Within}
@@ -34,15 +37,19 @@ due_cut Whole = Whole
 due_cut (Fails number fault) = Fails number fault
 due_cut (Full number) = Full number
 due_cut (Stops number) = Stops number
+due_cut (Unread number fault) = Unread number fault
 due_cut (Other out) = Whole
+due_cut (Sees looks cut) = Sees looks (due_cut cut)
 
-never_other : (cut : Cut) (out : List (List Bytes)) → due_cut cut ≡ Other out → ⊥
+never_other : (cut : Cut) (out : List (List Bytes)) → put_instead (due_cut cut) ≡ Some out → ⊥
 unfolding due_cut
-never_other Whole out e = cc
-never_other (Fails number fault) out e = cc
-never_other (Full number) out e = cc
-never_other (Stops number) out e = cc
-never_other (Other other) out e = cc
+never_other Whole out e = none-some out e
+never_other (Fails number fault) out e = none-some out e
+never_other (Full number) out e = none-some out e
+never_other (Stops number) out e = none-some out e
+never_other (Unread number fault) out e = none-some out e
+never_other (Other other) out e = none-some out e
+never_other (Sees looks cut) out e = never_other cut out e
 
 due_luck : Luck → Luck
 due_luck luck = record {
@@ -71,7 +78,29 @@ module _ (trade : Trade) (rounds : RoundsSo trade) where
   cut_site p rooms site steps (Fails number fault) = refl
   cut_site p rooms site steps (Full number) = refl
   cut_site p rooms site steps (Stops number) = refl
+  cut_site p rooms site steps (Unread number fault) = refl
   cut_site p rooms site steps (Other out) = refl
+  cut_site p rooms site steps (Sees looks cut) = cut_site p rooms site steps cut
+
+  -- screens look at the same messages
+  same_looks : (p : ℕ) (screens : List Patterns) (cut : Cut)
+      → looks_by trade p screens (due_cut cut) ≡ looks_by trade p screens cut
+  unfolding due_cut
+  same_looks p screens Whole = refl
+  same_looks p screens (Fails number fault) = refl
+  same_looks p screens (Full number) = refl
+  same_looks p screens (Stops number) = refl
+  same_looks p screens (Unread number fault) = refl
+  same_looks p screens (Other out) = refl
+  same_looks p screens (Sees looks cut) = refl
+
+  due_site : (p now : ℕ) (rooms : ℕ → ℕ) (site : Site) (cut : Cut)
+      → (cut_turn trade p rooms site (steps_of trade p now site (due_cut cut)) (due_cut cut)).site
+      ≡ (cut_turn trade p rooms site (steps_of trade p now site cut) cut).site
+  due_site p now rooms site cut =
+      ap (λ (looks : Looks). (cut_turn trade p rooms site (plan trade p now looks site.journal (frames_in site.waiting))
+      (due_cut cut)).site) (same_looks p site.screens cut)
+      ∙ cut_site p rooms site (steps_of trade p now site cut) cut
 
   site_if : (b : Bool) (x y z : Turned) → y.site ≡ z.site → (if b then x else y).site ≡ (if b then x else z).site
   site_if true x y z e = refl
@@ -85,13 +114,12 @@ module _ (trade : Trade) (rounds : RoundsSo trade) where
       → (turned trade p now rooms (due_cut cut) site).site ≡ (turned trade p now rooms cut site).site
   unfolding turned
   turned_site p now rooms site cut =
-      let steps = plan trade p now site.journal (frames_in site.waiting)
-      in let is_late = nat_lt now (last_of trade p site.journal)
+      let is_late = nat_lt now (last_of trade p site.journal)
       in let late = not_begun site (faults.ClockBack (last_of trade p site.journal))
-      in let one = cut_turn trade p rooms site steps (due_cut cut)
-      in let other = cut_turn trade p rooms site steps cut
+      in let one = cut_turn trade p rooms site (steps_of trade p now site (due_cut cut)) (due_cut cut)
+      in let other = cut_turn trade p rooms site (steps_of trade p now site cut) cut
       in site_else site.up (if is_late then late else one) (if is_late then late else other) (not_begun site faults.Down)
-      (site_if is_late late one other (cut_site p rooms site steps cut))
+      (site_if is_late late one other (due_site p now rooms site cut))
 
   past_round : (now : ℕ) (cuts : ℕ → Cut) (sites : List Site) (p : ℕ) → length sites ≤ p
       → site_at (rounded trade now cuts sites).sites p ≡ empty_site
@@ -126,7 +154,7 @@ module _ (trade : Trade) (rounds : RoundsSo trade) where
       × (interrupted_at (played trade (due_luck luck) sites command).after p
       ≡ interrupted_at (played trade luck sites command).after p)
   unfolding played due_luck
-  due_same luck sites (Submit q now sender along message found) p = (refl, refl)
+  due_same luck sites (Submit q now sender along message) p = (refl, refl)
   due_same luck sites (Tick q now) p = (refl, refl)
   due_same luck sites (Round now) p = due_round now luck sites p
   due_same luck sites (Lose from to at) p = (refl, refl)
@@ -138,11 +166,16 @@ module _ (trade : Trade) (rounds : RoundsSo trade) where
   due_same luck sites (Book account) p = (refl, refl)
   due_same luck sites (Mailbox account) p = (refl, refl)
   due_same luck sites (Show account at) p = (refl, refl)
+  due_same luck sites (Archive account now at) p = (refl, refl)
+  due_same luck sites (Upgrade q now) p = (refl, refl)
+  due_same luck sites (Vault account) p = (refl, refl)
+  due_same luck sites (VaultShow account at) p = (refl, refl)
+  due_same luck sites (Screen q at spare) p = (refl, refl)
 
   -- and puts no forged frame
   due_puts : (luck : Luck) (sites : List Site) (command : Command) → PutsHonestly trade (due_luck luck) sites command
   unfolding due_luck
-  due_puts luck sites (Submit q now sender along message found) = tt
+  due_puts luck sites (Submit q now sender along message) = tt
   due_puts luck sites (Tick q now) = tt
   due_puts luck sites (Round now) = λ p out within other. absurd (never_other (luck.cuts p) out other)
   due_puts luck sites (Lose from to at) = tt
@@ -154,6 +187,11 @@ module _ (trade : Trade) (rounds : RoundsSo trade) where
   due_puts luck sites (Book account) = tt
   due_puts luck sites (Mailbox account) = tt
   due_puts luck sites (Show account at) = tt
+  due_puts luck sites (Archive account now at) = tt
+  due_puts luck sites (Upgrade q now) = tt
+  due_puts luck sites (Vault account) = tt
+  due_puts luck sites (VaultShow account at) = tt
+  due_puts luck sites (Screen q at spare) = tt
 
 -- ---- what is left
 

@@ -14,6 +14,7 @@ use Rattle.pec_ledger.specs.Trade.{Trade}
 use Rattle.pec_ledger.specs.TradeLaws.{IsTrade}
 use Rattle.pec_plays.specs.Commands.{Command, Luck, played}
 use Rattle.pec_plays.specs.Scripts.{AllUnforged, IsUnforged, script}
+use Rattle.pec_screen.specs.Verdicts.{Patterns}
 use Rattle.pec_runs.specs.Happened.{Asked, Begun, Happened, IsSetting, Stage, by_next, outcome_at, outcome_of, providers_in, stage_of}
 use Rattle.pec_runs.specs.Headline.{AllHonest, CanBeSaid, IsHonest}
 use Rattle.pec_runs.specs.Openings.{AreLeft, Disks, Form, IsLeft, IsNext, IsOpening, Next, NoMore, Opening, Resume, Run, next_of, opened_all}
@@ -23,7 +24,7 @@ use Rattle.pec_runs.specs.Ran.{Counts, HasBegun, IsAt, Ran, beginning, command_i
 use Rattle.pec_runs.specs.ScriptLines.{Script}
 use Rattle.pec_runs.specs.Statuses.{Status}
 use Rattle.pec_runs.specs.Statuses as statuses
-use Rattle.pec_runs.proofs.BeginningLemmas.{made_at_start, sound_opened}
+use Rattle.pec_runs.proofs.BeginningLemmas.{by_lists, made_at_start, sound_opened}
 use Rattle.pec_runs.proofs.LineLemmas.{ReadsSo, all_unforged, one_unforged, script_can}
 use Rattle.pec_runs.proofs.ResumeLemmas.{FitsAnyWay, RoundsSo, left_fits, opened_fit}
 use Rattle.pec_runs.proofs.StageLemmas.{HasAll, has_all}
@@ -36,16 +37,16 @@ pub all_there : (trade : Trade) (disks : Disks) (form : Form) (opening : Opening
     → next_of opening ≡ trade.providers
 all_there trade disks form opening is e = subst (λ (n : Next). IsNext trade disks form (next_of opening) n) e is.next
 
-pub sound_beginning : (trade : Trade) (disks : Disks) (form : Form) (opening : Opening) → JointStays trade
-    → Sound trade (at_start trade)
+pub sound_beginning : (trade : Trade) (disks : Disks) (screens : List (List Patterns)) (form : Form) (opening : Opening) → JointStays trade
+    → ((all : ℕ → List Patterns) → Sound trade (at_start trade all))
     → IsOpening trade disks form opening → opening.next ≡ NoMore
     → (form ≡ Resume → Fit trade (journals_in opening.journals))
-    → Sound trade (opened_all trade opening.journals)
-sound_beginning trade disks Run opening stays start is e fit =
-    subst (Sound trade) (sym (made_at_start trade opening.journals (all_there trade disks Run opening is e)
-    (λ k j there. (is.each k j there).0))) start
-sound_beginning trade disks Resume opening stays start is e fit =
-    sound_opened trade opening.journals stays (all_there trade disks Resume opening is e) (fit refl)
+    → Sound trade (opened_all trade screens opening.journals)
+sound_beginning trade disks screens Run opening stays start is e fit =
+    subst (Sound trade) (sym (made_at_start trade screens opening.journals (all_there trade disks Run opening is e)
+    (λ k j there. (is.each k j there).0))) (start (by_lists screens))
+sound_beginning trade disks screens Resume opening stays start is e fit =
+    sound_opened trade screens opening.journals stays (all_there trade disks Resume opening is e) (fit refl)
 
 -- ---- commands at hand
 
@@ -77,16 +78,18 @@ hand_can statuses.NotEmpty rest lucks script command all e = absurd (none-some c
 hand_can statuses.NotFit rest lucks script command all e = absurd (none-some command e)
 hand_can statuses.ClockFault rest lucks script command all e = absurd (none-some command e)
 hand_can statuses.DoorFault rest lucks script command all e = absurd (none-some command e)
+hand_can statuses.DiskFault rest lucks script command all e = absurd (none-some command e)
+hand_can statuses.Changed rest lucks script command all e = absurd (none-some command e)
 hand_can statuses.InputTooLong rest lucks script command all e = absurd (none-some command e)
 
 -- what is played by a run that has its journals
 pub outcome_is : (asked : Asked) (happened : Happened) (form : Form) (script : Script)
-    → stage_of asked happened.early happened.parts ≡ Begun form script → happened.opening.next ≡ NoMore
+    → stage_of asked happened.hands happened.early happened.parts ≡ Begun form script → happened.opening.next ≡ NoMore
     → outcome_of asked happened ≡ outcome_from (world happened) happened.lucks happened.rest (beginning happened) script
 unfolding outcome_of
 outcome_is asked happened form script begun at_hand =
     ap (outcome_at happened) begun
-    ∙ ap (by_next (world happened) happened.opening happened.lucks happened.rest script) at_hand
+    ∙ ap (by_next (world happened) happened.screens happened.opening happened.lucks happened.rest script) at_hand
 
 -- what the laws of plays say
 pub record StaysSound (trade : Trade) : Type 0 where
@@ -103,9 +106,9 @@ module _ (asked : Asked) (status : Status) (unread before after : Option Bytes) 
     (old_disks new_disks : Disks)
     (old new : Counts) (ran : Ran asked status unread before after tells old_disks new_disks old new) (form : Form)
     (script : Script)
-    (begun : stage_of asked ran.happened.early ran.happened.parts ≡ Begun form script) where
-  abbrev all : HasAll asked ran.happened.early ran.happened.parts form script
-  all = has_all asked ran.happened.early ran.happened.parts form script begun
+    (begun : stage_of asked ran.happened.hands ran.happened.early ran.happened.parts ≡ Begun form script) where
+  abbrev all : HasAll asked ran.happened.hands ran.happened.early ran.happened.parts form script
+  all = has_all asked ran.happened.hands ran.happened.early ran.happened.parts form script begun
 
   pub has_begun : HasBegun tells old_disks new_disks old new ran.happened status asked form script
   has_begun = subst (λ (s : Stage). IsAt tells old_disks new_disks old new ran.happened status asked s) begun ran.is_at
@@ -128,11 +131,11 @@ module _ (asked : Asked) (status : Status) (unread before after : Option Bytes) 
   pub commands_can : ReadsSo → AllByRecursion CanBeSaid script.commands
   commands_can reads =
       subst (λ (s : Script). AllByRecursion CanBeSaid s.commands) (sym all.script_is)
-      (script_can reads asked.finds all.providers 1 all.lines)
+      (script_can reads ran.happened.hands all.providers 1 all.lines)
 
   -- what it leaves fits
   pub fits_left : JointStays (world ran.happened) → RoundsSo (world ran.happened) → StaysSound (world ran.happened)
-      → Sound (world ran.happened) (at_start (world ran.happened))
+      → ((all : ℕ → List Patterns) → Sound (world ran.happened) (at_start (world ran.happened) all))
       → ReadsSo → ran.happened.opening.next ≡ NoMore
       → (form ≡ Resume → Fit (world ran.happened) (journals_in ran.happened.opening.journals))
       → AllHonest (world ran.happened) ran.happened.lucks (beginning ran.happened) script.commands
@@ -147,7 +150,7 @@ module _ (asked : Asked) (status : Status) (unread before after : Option Bytes) 
       in let end : Sound trade after =
       subst (λ (o : Outcome). Sound trade o.after) (sym (outcome_is asked ran.happened form script begun at_hand))
       (plays.ends ran.happened.lucks (beginning ran.happened) script.commands
-      (sound_beginning trade old_disks form ran.happened.opening stays start has_begun.opening at_hand fit)
+      (sound_beginning trade old_disks ran.happened.screens form ran.happened.opening stays start has_begun.opening at_hand fit)
       (all_unforged trade ran.happened.lucks (beginning ran.happened) script.commands can honest))
       in left_fits trade stays rounds after has_begun.left
       (command_in_hand status ran.happened.opening.next ran.happened.rest ran.happened.lucks script) end

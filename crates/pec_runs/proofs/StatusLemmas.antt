@@ -21,8 +21,7 @@ use Rattle.pec_runs.specs.Openings.{Disks, Form, Next, NoMore, Holds, Unfits, Fa
 use Rattle.pec_runs.specs.Plays.{Finish, MayPlay, Outcome, Rest, Stopped, Strayed, ToTheEnd, at_end, finish_of, finish_text, outcome_from, outcome_text}
 use Rattle.pec_runs.specs.Plays as plays
 use Rattle.pec_runs.specs.Ran.{Counts, IsAt, PlaysOn, Ran, Tells, TellsAs, beginning, status_at, world}
-use Rattle.pec_runs.specs.ScriptLines.{Line, PassedOver, Says, SaysNone, TooLong, TooMany, Script, behind_line, said_by, script_of}
-use Rattle.pec_screen.specs.Screened.{Finds}
+use Rattle.pec_runs.specs.ScriptLines.{Hands, Line, PassedOver, Says, SaysNone, TooLong, TooMany, Script, behind_line, said_by, script_of}
 use Rattle.pec_runs.specs.Statuses.{Status, status_of}
 use Rattle.pec_runs.specs.Statuses as statuses
 use Rattle.pec_runs.specs.Writing.{HasEnded, IsDone, IsOfEnd, WroteAnswers}
@@ -67,15 +66,15 @@ module _ (tells : Type 0) (old_disks new_disks : Disks) (old new : Counts) (stat
   rest_strays written Strayed not e = not refl
 
   never_strayed : (written : Script) (rest : Rest) (at : Rest) → rest ≡ at
-      → MayPlay (world happened) tells (beginning happened) old.disks new.disks written happened.lucks rest
+      → MayPlay (world happened) tells happened.spares (beginning happened) old.disks new.disks written happened.lucks rest
       → rest ≡ Strayed → ⊥
   never_strayed written rest at e may strays =
-      let same = subst (λ (r : Rest). MayPlay (world happened) tells
+      let same = subst (λ (r : Rest). MayPlay (world happened) tells happened.spares
       (beginning happened) old.disks new.disks written happened.lucks r) strays may
       in same.strays.untold told
 
   next_strays : (written : Script) (next : Next) → PlaysOn tells old_disks new_disks old new happened written next
-      → (by_next (world happened) happened.opening happened.lucks happened.rest written next).finish ≡ plays.Strays → ⊥
+      → (by_next (world happened) happened.screens happened.opening happened.lucks happened.rest written next).finish ≡ plays.Strays → ⊥
   next_strays written NoMore may e =
       rest_strays written happened.rest (never_strayed written happened.rest happened.rest refl may) e
   next_strays written Holds may e = cc
@@ -94,8 +93,8 @@ module _ (tells : Type 0) (old_disks new_disks : Disks) (old new : Counts) (stat
 module _ (happened : Happened) where
   -- a run that failed at its disks answered nothing
   next_fails : (written : Script) (next : Next)
-      → (by_next (world happened) happened.opening happened.lucks happened.rest written next).finish ≡ plays.Fails
-      → (by_next (world happened) happened.opening happened.lucks happened.rest written next).answers ≡ []
+      → (by_next (world happened) happened.screens happened.opening happened.lucks happened.rest written next).finish ≡ plays.Fails
+      → (by_next (world happened) happened.screens happened.opening happened.lucks happened.rest written next).answers ≡ []
   next_fails written NoMore e = absurd (not_so happened.rest e)
     where
       not_so : (rest : Rest) → finish_of rest happened.lucks written ≡ plays.Fails → ⊥
@@ -143,6 +142,8 @@ ends_so statuses.NotEmpty of before after text finish told = (finish_is statuses
 ends_so statuses.NotFit of before after text finish told = (finish_is statuses.NotFit of finish told.0, told.1)
 ends_so statuses.ClockFault of before after text finish told = (finish_is statuses.ClockFault of finish told.0, told.1)
 ends_so statuses.DoorFault of before after text finish told = (finish_is statuses.DoorFault of finish told.0, told.1)
+ends_so statuses.DiskFault of before after text finish told = (finish_is statuses.DiskFault of finish told.0, told.1)
+ends_so statuses.Changed of before after text finish told = (finish_is statuses.Changed of finish told.0, told.1)
 ends_so statuses.InputTooLong of before after text finish told =
     (finish_is statuses.InputTooLong of finish told.0, told.1)
 
@@ -180,12 +181,12 @@ module _ (asked : Asked) (happened : Happened) where
   line_ends number TooLong written is = tt
   line_ends number TooMany written is = tt
 
-  pub script_ends : (finds : Finds) (providers : List Provider) (number : ℕ) (lines : List Bytes)
-      → IsOfScript (script_of finds providers number lines).end
-  script_ends finds providers number [] = tt
-  script_ends finds providers number (line ∷ lines) =
-      line_ends number (said_by finds providers number line) (script_of finds providers (number + 1) lines)
-      (script_ends finds providers (number + 1) lines)
+  pub script_ends : (hands : Hands) (providers : List Provider) (number : ℕ) (lines : List Bytes)
+      → IsOfScript (script_of hands providers number lines).end
+  script_ends hands providers number [] = tt
+  script_ends hands providers number (line ∷ lines) =
+      line_ends number (said_by (hands number) providers number line) (script_of hands providers (number + 1) lines)
+      (script_ends hands providers (number + 1) lines)
 
   -- ---- how a stage ends
 
@@ -203,7 +204,7 @@ module _ (asked : Asked) (happened : Happened) where
   rest_done written Strayed e = cc
 
   next_done : (form : Form) (written : Script) (next : Next) → happened.opening.next ≡ next
-      → (by_next (world happened) happened.opening happened.lucks happened.rest written next).finish
+      → (by_next (world happened) happened.screens happened.opening happened.lucks happened.rest written next).finish
       ≡ plays.Ends ends.Done
       → DoneAt (Begun form written)
   next_done form written NoMore is e =
@@ -215,32 +216,32 @@ module _ (asked : Asked) (happened : Happened) where
 
   -- before a script there is no end that is done
   not_done_by : (form : Form) (lines : List Bytes) (told : Result (List Provider) Refusal)
-      → EndsSo (by_directory asked.finds form lines told) ends.Done
-      → DoneAt (by_directory asked.finds form lines told)
+      → EndsSo (by_directory happened.hands form lines told) ends.Done
+      → DoneAt (by_directory happened.hands form lines told)
   not_done_by form lines (Err fault) e = cc
-  not_done_by form lines (Ok providers) e = next_done form (script_of asked.finds providers 1 lines) happened.opening.next refl e
+  not_done_by form lines (Ok providers) e = next_done form (script_of happened.hands providers 1 lines) happened.opening.next refl e
 
   done_lines : (form : Form) (directory : Bytes) (found : Option (List Bytes))
-      → EndsSo (by_script asked.finds form directory found) ends.Done
-      → DoneAt (by_script asked.finds form directory found)
+      → EndsSo (by_script happened.hands form directory found) ends.Done
+      → DoneAt (by_script happened.hands form directory found)
   done_lines form directory None e = cc
   done_lines form directory (Some lines) e = not_done_by form lines (directory_in directory) e
 
   done_long : (parts : Parts) (form : Form) (long : Bool)
-      → EndsSo (if long then Over ends.LongDirectory else by_script asked.finds form parts.directory parts.script) ends.Done
-      → DoneAt (if long then Over ends.LongDirectory else by_script asked.finds form parts.directory parts.script)
+      → EndsSo (if long then Over ends.LongDirectory else by_script happened.hands form parts.directory parts.script) ends.Done
+      → DoneAt (if long then Over ends.LongDirectory else by_script happened.hands form parts.directory parts.script)
   done_long parts form true e = cc
   done_long parts form false e = done_lines form parts.directory parts.script e
 
-  done_form : (early : Bool) (parts : Parts) (found : Option Form) → EndsSo (by_form asked.finds early parts found) ends.Done
-      → DoneAt (by_form asked.finds early parts found)
+  done_form : (early : Bool) (parts : Parts) (found : Option Form) → EndsSo (by_form happened.hands early parts found) ends.Done
+      → DoneAt (by_form happened.hands early parts found)
   done_form true parts None e = cc
   done_form false parts None e = cc
   done_form true parts (Some form) e = cc
   done_form false parts (Some form) e = done_long parts form (nat_lt LONGEST_DIRECTORY (length parts.directory)) e
 
   no_form : (early : Bool) (parts : Parts) (found : Option Form) → found ≡ None
-      → by_form asked.finds early parts found ≡ Over ends.Usage
+      → by_form happened.hands early parts found ≡ Over ends.Usage
   no_form true parts None e = refl
   no_form false parts None e = refl
   no_form true parts (Some form) e = absurd (none-some form (sym e))
@@ -286,7 +287,7 @@ module _ (asked : Asked) (status : Status) (unread before after : Option Bytes) 
   unfolding outcome_of
   straight told e =
       no_stray tells old_disks new_disks old new status asked ran.happened told
-      (stage_of asked ran.happened.early ran.happened.parts) ran.is_at e
+      (stage_of asked ran.happened.hands ran.happened.early ran.happened.parts) ran.is_at e
 
   by_told : tells → Tells providers status before after outcome
       → TellsAs status before after (outcome_text providers outcome) outcome.finish
@@ -303,7 +304,7 @@ module _ (asked : Asked) (status : Status) (unread before after : Option Bytes) 
 
   no_answers : outcome.finish ≡ plays.Fails → outcome.answers ≡ []
   unfolding outcome_of
-  no_answers e = fails_early ran.happened (stage_of asked ran.happened.early ran.happened.parts) e
+  no_answers e = fails_early ran.happened (stage_of asked ran.happened.hands ran.happened.early ran.happened.parts) e
 
   pub nothing_written : outcome.finish ≡ plays.Fails → after ≡ followed_by before (outcome_text providers outcome)
       → after ≡ followed_by before []

@@ -16,9 +16,9 @@ use Rattle.pec_runs.specs.Happened.{providers_in, stage_of, trade_in}
 use Rattle.pec_input.specs.Lines.{raw_lines}
 use Rattle.pec_input.specs.Parts.{parts_of}
 use Rattle.pec_runs.specs.Openings.{AreLeft, Disks, Form, IsOpening, NoMore, opened_all}
-use Rattle.pec_runs.specs.Plays.{Ends, Finish, Outcome, ToTheEnd, outcome_from, outcome_text}
+use Rattle.pec_runs.specs.Plays.{AllHanded, Ends, Finish, Outcome, ToTheEnd, outcome_from, outcome_text}
 use Rattle.pec_runs.specs.Ran.{Behind, Blames, Counts, IsAt, NoneFell, Ran, TellsAs}
-use Rattle.pec_runs.specs.ScriptLines.{Script}
+use Rattle.pec_runs.specs.ScriptLines.{Hands, Script}
 use Rattle.pec_runs.specs.Statuses.{status_of}
 use Rattle.pec_runs.proofs.TranscriptLemmas.{QuietThere, at_end_all, quiet_plays}
 
@@ -53,8 +53,11 @@ none_fell counts = record { source = omega arith; sink = omega arith; depot = om
 
 module _ (there : QuietThere) (tells : Type 0) (old_disks new_disks : Disks) (counts : Counts) (asked : Asked)
     (text : Bytes)
-    (setting : Setting) (form : Form) (written : Script) (journals : List (List Entry)) (before : Option Bytes)
-    (begun : stage_of asked false (parts_of (raw_lines text)) ≡ Begun form written)
+    (setting : Setting) (hands : Hands) (form : Form) (written : Script) (journals : List (List Entry)) (before : Option Bytes)
+    (begun : stage_of asked hands false (parts_of (raw_lines text)) ≡ Begun form written)
+    (handed : AllHanded (trade_in setting)
+    (quiet_lucks (trade_in setting) (opened_all (trade_in setting) asked.screens journals) written.commands)
+    asked.spares (opened_all (trade_in setting) asked.screens journals) written.commands)
     (is_setting : (providers : List Provider) → directory_in (parts_of (raw_lines text)).directory ≡ Ok providers
     → IsSetting providers setting)
     (opens : IsOpening (trade_in setting) old_disks form (record { journals = journals; next = NoMore })) where
@@ -62,7 +65,7 @@ module _ (there : QuietThere) (tells : Type 0) (old_disks new_disks : Disks) (co
   trade = trade_in setting
 
   abbrev start : List Site
-  start = opened_all trade journals
+  start = opened_all trade asked.screens journals
 
   abbrev lucks : List Luck
   lucks = quiet_lucks trade start written.commands
@@ -75,6 +78,9 @@ module _ (there : QuietThere) (tells : Type 0) (old_disks new_disks : Disks) (co
     parts = parts_of (raw_lines text);
     early = false;
     setting = setting;
+    screens = asked.screens;
+    spares = asked.spares;
+    hands = hands;
     opening = record { journals = journals; next = NoMore };
     lucks = lucks;
     rest = ToTheEnd;
@@ -93,6 +99,7 @@ module _ (there : QuietThere) (tells : Type 0) (old_disks new_disks : Disks) (co
       old_disks new_disks counts counts
   quiet_ran left = record {
     happened = happened;
+    given = record { screens = refl; spares = refl };
     input = refl;
     setting = λ form written begun. is_setting;
     told = inl (subst
@@ -109,7 +116,7 @@ module _ (there : QuietThere) (tells : Type 0) (old_disks new_disks : Disks) (co
         asked stage) (sym begun)
         (record {
           opening = opens;
-          plays = quiet_plays there trade tells start counts.disks written;
+          plays = quiet_plays there trade tells asked.spares start counts.disks written handed;
           left = outcome.after;
           leaves_off = Behind (sym (ap (λ (o : Outcome). o.after) played_so));
           disks = left;

@@ -11,6 +11,7 @@ use Rattle.pec_ledger.specs.Trade.{Trade}
 use Rattle.pec_ledger.specs.TradeLaws.{IsTrade}
 use Rattle.pec_chronicle.specs.Chronicle.{ChronicleState}
 use Rattle.pec_plays.specs.Commands.{Command}
+use Rattle.pec_screen.specs.Verdicts.{Patterns}
 use Rattle.pec_runs.specs.Endings.{End, end_text}
 use Rattle.pec_runs.specs.Headline.{AllHonest, CanBeSaid}
 use Rattle.pec_runs.specs.Moments.{AllStandIn, AreHonest, IsHonestAct, IsKilledIn, state_at}
@@ -128,16 +129,16 @@ last_number here there (step ∷ steps) =
     let n = last_number step.behind there steps in (suc n.0, omega (arith, n.1), n.2, n.3)
 
 module _ {D : Type 0} (tells : Type 0) (sight : D → Sight) (trade : Trade) (told : tells) (is_trade : IsTrade trade)
-    (joint : JointStays trade) (start : Sound trade (at_start trade))
+    (joint : JointStays trade) (start : (all : ℕ → List Patterns) → Sound trade (at_start trade all))
     (only_now : (disk : D) (bytes : Bytes) → (sight disk).left_since (sight disk).moment bytes
     → (sight disk).may_leave bytes)
     (counts_now : (disk : D) (t : ℕ) (bytes : Bytes) → t ≤ (sight disk).moment → (sight disk).may_leave bytes
     → (sight disk).left_since t bytes)
     (reads_so : (disk : D) → (sight disk).may_leave (sight disk).seen)
-    (home left : ℕ → Option D) (form : Form) (opening : Opening)
+    (home left : ℕ → Option D) (form : Form) (screens : List (List Patterns)) (opening : Opening)
     (is : IsOpening trade (disks_at tells sight home) form opening) (all : opening.next ≡ NoMore)
     (at_home : AreAtHome trade home) (from upto : ℕ → ℕ)
-    (goes : MovesThrough tells sight home left from upto trade form opening.journals) where
+    (goes : MovesThrough tells sight home left from upto trade form screens opening.journals) where
   abbrev steps : List (Step D)
   steps = goes.moves.steps
 
@@ -151,7 +152,7 @@ module _ {D : Type 0} (tells : Type 0) (sight : D → Sight) (trade : Trade) (to
   sound_first : AreFitting trade (held tells sight home) → Sound trade goes.first.sites
   sound_first fitting =
       subst (λ (s : List Site). Sound trade s) (sym goes.begins)
-      (sound_beginning trade (disks_at tells sight home) form opening joint start is all (λ resume.
+      (sound_beginning trade (disks_at tells sight home) screens form opening joint start is all (λ resume.
       opened_fitting tells sight home trade told reads_so at_home fitting opening
       (subst (λ (f : Form). IsOpening trade (disks_at tells sight home) f opening) resume is) all))
 
@@ -227,10 +228,10 @@ steps_move trade tells sight stays here (step ∷ done) are honest = (
 )
 
 abbrev pub as_moves : {D : Type 0} (tells : Type 0) (sight : D → Sight) (home left : ℕ → Option D) (from upto : ℕ → ℕ)
-    (trade : Trade) (form : Form) (journals : List (List Entry))
-    → (goes : GoesThrough tells sight home left from upto trade form journals)
-    → KeepSound trade goes.first goes.steps → MovesThrough tells sight home left from upto trade form journals
-as_moves tells sight home left from upto trade form journals goes keep = record {
+    (trade : Trade) (form : Form) (screens : List (List Patterns)) (journals : List (List Entry))
+    → (goes : GoesThrough tells sight home left from upto trade form screens journals)
+    → KeepSound trade goes.first goes.steps → MovesThrough tells sight home left from upto trade form screens journals
+as_moves tells sight home left from upto trade form screens journals goes keep = record {
   first = goes.first;
   last = goes.last;
   begins = goes.begins;
@@ -271,5 +272,5 @@ module _ {D : Type 0} (trade : Trade) (tells : Type 0) (providers : List Provide
         subst (λ (a : Act). IsHonestAct trade step.luck here.sites a) (sym act)
             (one_unforged trade step.luck here.sites command can.0 all.0 all.1),
         steps_honest step.behind steps unplayed commands end rest are.1 can.1
-            (subst (λ (s : List Site). AllHonest trade (lucks_in steps) s commands) (sym done.state) all.2),
+            (subst (λ (s : List Site). AllHonest trade (lucks_in steps) s commands) (sym done.0.state) all.2),
       )

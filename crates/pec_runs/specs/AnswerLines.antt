@@ -3,8 +3,8 @@ use Rattle.std.specs.Prelude.{◌≡◌, List}
 use Rattle.std.specs.List.{flat_map}
 use Rattle.pec_types.specs.Bytes.{Bytes}
 use Rattle.pec_directory.specs.Directory.{Provider}
-use Rattle.pec_plays.specs.Commands.{Answer, Submits, Marks, Turns, Lost, Repeated, Swapped, Injected, Crashed, Restarted, Lines, Items, Shown, Refuses, NoFrame, LinkFull, IsUp}
-use Rattle.pec_script.specs.Texts.{Row, book_text, fault_text, item_text, items_text, marks_text, submitted_text, text_of, turns_text}
+use Rattle.pec_plays.specs.Commands.{Answer, Submits, Marks, Turns, Lost, Repeated, Swapped, Injected, Crashed, Restarted, Lines, Items, Vaults, Archived, Upgraded, Screened, Shown, Refuses, NoFrame, NoSpare, NoScreen, LinkFull, IsUp}
+use Rattle.pec_script.specs.Texts.{Row, book_text, fault_text, item_text, items_text, marks_text, submitted_text, text_of, turns_text, vault_text}
 use Rattle.pec_script.specs.Texts as texts
 use Rattle.pec_script.specs.declared.answers.Answer.TheVariants as written
 
@@ -21,9 +21,15 @@ answer_text providers Crashed = texts.answer_text written.Crashed
 answer_text providers (Restarted entries) = texts.answer_text (written.Restarted entries)
 answer_text providers (Lines lines) = book_text providers lines
 answer_text providers (Items lines) = items_text providers lines
+answer_text providers (Vaults lines) = vault_text providers lines
+answer_text providers Archived = texts.answer_text written.Archived
+answer_text providers Upgraded = texts.answer_text written.Upgraded
+answer_text providers Screened = texts.answer_text written.Screened
 answer_text providers (Shown bytes) = item_text bytes
 answer_text providers (Refuses fault) = fault_text fault
 answer_text providers NoFrame = texts.answer_text written.NoFrame
+answer_text providers NoSpare = texts.answer_text written.NoSpare
+answer_text providers NoScreen = texts.answer_text written.NoScreen
 answer_text providers LinkFull = texts.answer_text written.LinkFull
 answer_text providers IsUp = texts.answer_text written.Up
 

@@ -1,6 +1,6 @@
 -- Worked examples: inputs and their parts, lines and what they say, lines that are written, and runs in the small
 -- world of the ledger. Its providers are alfa, the number 0, and beta, the number 1.
-use Rattle.std.specs.Prelude.{List, [], ◌∷◌, codes, false, replicate, None}
+use Rattle.std.specs.Prelude.{List, [], ◌∷◌, codes, replicate, None}
 use Rattle.pec_types.specs.Bytes.{Bytes}
 use Rattle.pec_directory.specs.Directory.{Provider}
 use Rattle.pec_ledger.specs.Network.{Site}
@@ -11,8 +11,7 @@ use Rattle.pec_types.specs.declared.turns.Event.TheVariants as events
 use Rattle.pec_types.specs.declared.turns.ProviderFault.TheVariants as faults
 use Rattle.pec_runs.specs.Endings.{Done}
 use Rattle.pec_runs.specs.Openings.{opened}
-use Rattle.pec_runs.specs.ScriptLines.{Script}
-use Rattle.pec_screen.specs.Screened.{Finds}
+use Rattle.pec_runs.specs.ScriptLines.{Hands, Script}
 
 -- ---- a directory of two providers
 
@@ -50,9 +49,9 @@ six_lines =
     codes "# remark\n" ∷ codes "\r\n" ∷ codes "crash beta\n" ∷ codes "restart beta\r\n" ∷ codes "crash gamma\n"
     ∷ codes "crash alfa\n" ∷ []
 
--- no screen finds anything
-abbrev pub none_finds : Finds
-none_finds provider message = false
+-- no spare is at hand
+abbrev pub none_left : Hands
+none_left number = None
 
 -- ---- lines that are written
 
@@ -82,4 +81,4 @@ looking_script = record { commands = with_a_look; end = Done }
 
 -- a full link, from alfa to alfa
 abbrev pub full_link : List Site
-full_link = record (opened small []) { waiting = replicate 64 [] ∷ [] ∷ [] } ∷ opened small [] ∷ []
+full_link = record (opened small [] []) { waiting = replicate 64 [] ∷ [] ∷ [] } ∷ opened small [] [] ∷ []

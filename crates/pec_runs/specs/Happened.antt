@@ -20,8 +20,8 @@ use Rattle.pec_runs.specs.Endings as ends
 use Rattle.pec_runs.specs.Openings.{Form, Next, NoMore, Holds, Unfits, Fails, Stops, Opening, form_in, next_of, opened_all}
 use Rattle.pec_runs.specs.Plays.{Finish, Outcome, Rest, outcome_from}
 use Rattle.pec_runs.specs.Plays as plays
-use Rattle.pec_runs.specs.ScriptLines.{Script, script_of}
-use Rattle.pec_screen.specs.Screened.{Finds}
+use Rattle.pec_runs.specs.ScriptLines.{Hands, Script, script_of}
+use Rattle.pec_screen.specs.Verdicts.{Patterns}
 
 -- ---- the setting
 
@@ -50,19 +50,30 @@ pub record IsSetting (providers : List Provider) (setting : Setting) : Type 0 wh
 
 -- ---- what happened
 
--- What a run is asked beside its input: its words; and what the screens of its providers find.
+-- What a run is asked beside its input: its words; and the patterns of the screens of its providers, a list of boxes for
+-- each from 0 on, and those of the spares, of which the last is used first. A provider past the lists has no screens.
 pub record Asked : Type 0 where
   pub words : List Bytes
-  pub finds : Finds
+  pub screens : List (List Patterns)
+  pub spares : List Patterns
 
--- What happened in a run: its input, whether it was stopped early, its world, its journals, and how its commands went.
+-- What happened in a run: its input, whether it was stopped early, its world, its screens, spares and journals, and how
+-- its commands went.
 pub record Happened : Type 0 where
   pub parts : Parts
   pub early : Bool  -- it was stopped before a disk was asked for
   pub setting : Setting
+  pub screens : List (List Patterns)  -- as it began
+  pub spares : List Patterns  -- as it began
+  pub hands : Hands
   pub opening : Opening
   pub lucks : List Luck  -- one for each command that was played
   pub rest : Rest
+
+-- The screens and spares are those that were asked for.
+pub record IsGiven (asked : Asked) (happened : Happened) : Type 0 where
+  pub screens : happened.screens ≡ asked.screens
+  pub spares : happened.spares ≡ asked.spares
 
 -- How far a run comes without its disks: it ends; it is stopped; or it begins, in one of its forms, with a script.
 pub data Stage : Type 0 where
@@ -71,50 +82,51 @@ pub data Stage : Type 0 where
   Begun : (form : Form) (script : Script) → Stage
 
 -- the last test: the directory is refused, or the run begins with the script of these lines
-abbrev pub by_directory : Finds → Form → List Bytes → Result (List Provider) Refusal → Stage
-by_directory finds form lines (Err why) = Over (ends.DirectoryRefused why)
-by_directory finds form lines (Ok providers) = Begun form (script_of finds providers 1 lines)
+abbrev pub by_directory : Hands → Form → List Bytes → Result (List Provider) Refusal → Stage
+by_directory hands form lines (Err why) = Over (ends.DirectoryRefused why)
+by_directory hands form lines (Ok providers) = Begun form (script_of hands providers 1 lines)
 
 -- the test before it: no line says `%%`, so there is no script
-abbrev pub by_script : Finds → Form → Bytes → Option (List Bytes) → Stage
-by_script finds form directory None = Over ends.NoScript
-by_script finds form directory (Some lines) = by_directory finds form lines (directory_in directory)
+abbrev pub by_script : Hands → Form → Bytes → Option (List Bytes) → Stage
+by_script hands form directory None = Over ends.NoScript
+by_script hands form directory (Some lines) = by_directory hands form lines (directory_in directory)
 
 -- the tests before these: the words are no form, the run was stopped early, or the directory is too long
-abbrev pub by_form : Finds → Bool → Parts → Option Form → Stage
-by_form finds early parts None = Over ends.Usage
-by_form finds true parts (Some form) = Halted
-by_form finds false parts (Some form) =
+abbrev pub by_form : Hands → Bool → Parts → Option Form → Stage
+by_form hands early parts None = Over ends.Usage
+by_form hands true parts (Some form) = Halted
+by_form hands false parts (Some form) =
     if nat_lt LONGEST_DIRECTORY (length parts.directory) then Over ends.LongDirectory
-    else by_script finds form parts.directory parts.script
+    else by_script hands form parts.directory parts.script
 
 -- The words first, then the directory's length, the script's mark, and the directory itself.
-unfoldable pub stage_of : Asked → Bool → Parts → Stage
-stage_of asked early parts = by_form asked.finds early parts (form_in asked.words)
+unfoldable pub stage_of : Asked → Hands → Bool → Parts → Stage
+stage_of asked hands early parts = by_form hands early parts (form_in asked.words)
 
 -- an outcome without a command
-abbrev pub nothing_played : Trade → Opening → Finish → Outcome
-nothing_played trade opening finish =
-    record { answers = []; after = opened_all trade opening.journals; finish = finish }
+abbrev pub nothing_played : Trade → List (List Patterns) → Opening → Finish → Outcome
+nothing_played trade screens opening finish =
+    record { answers = []; after = opened_all trade screens opening.journals; finish = finish }
 
 -- what a run that begins comes to: where it has all its journals the script is played, and else no command is
-abbrev pub by_next : Trade → Opening → List Luck → Rest → Script → Next → Outcome
-by_next trade opening lucks rest script NoMore = outcome_from trade lucks rest
-    (opened_all trade opening.journals) script
-by_next trade opening lucks rest script Holds =
-    nothing_played trade opening (plays.Ends (ends.NotEmpty (next_of opening)))
-by_next trade opening lucks rest script (Unfits unfit) =
-    nothing_played trade opening (plays.Ends (ends.NotFit (next_of opening) unfit))
-by_next trade opening lucks rest script Fails = nothing_played trade opening plays.Fails
-by_next trade opening lucks rest script Stops = nothing_played trade opening plays.Stops
+abbrev pub by_next : Trade → List (List Patterns) → Opening → List Luck → Rest → Script → Next → Outcome
+by_next trade screens opening lucks rest script NoMore = outcome_from trade lucks rest
+    (opened_all trade screens opening.journals) script
+by_next trade screens opening lucks rest script Holds =
+    nothing_played trade screens opening (plays.Ends (ends.NotEmpty (next_of opening)))
+by_next trade screens opening lucks rest script (Unfits unfit) =
+    nothing_played trade screens opening (plays.Ends (ends.NotFit (next_of opening) unfit))
+by_next trade screens opening lucks rest script Fails = nothing_played trade screens opening plays.Fails
+by_next trade screens opening lucks rest script Stops = nothing_played trade screens opening plays.Stops
 
 -- what a run comes to at its stage
 abbrev pub outcome_at : Happened → Stage → Outcome
 outcome_at happened (Over end) = record { answers = []; after = []; finish = plays.Ends end }
 outcome_at happened Halted = record { answers = []; after = []; finish = plays.Stops }
 outcome_at happened (Begun form script) =
-    by_next (trade_in happened.setting) happened.opening happened.lucks happened.rest script happened.opening.next
+    by_next (trade_in happened.setting) happened.screens happened.opening happened.lucks happened.rest script
+    happened.opening.next
 
 -- What a run comes to.
 unfoldable pub outcome_of : Asked → Happened → Outcome
-outcome_of asked happened = outcome_at happened (stage_of asked happened.early happened.parts)
+outcome_of asked happened = outcome_at happened (stage_of asked happened.hands happened.early happened.parts)

@@ -12,16 +12,16 @@ use Rattle.pec_types.specs.declared.messages.Decision.TheVariants.{Placed}
 use Rattle.pec_types.specs.declared.moments.TheConstants.{END_OF_TIME}
 use Rattle.pec_types.specs.declared.receipts.Kind.TheVariants as kinds
 use Rattle.pec_records.specs.Entry.{most_addresses}
-use Rattle.pec_ledger.specs.Along.{AllDiffer, times}
+use Rattle.pec_ledger.specs.Along.{AllDiffer}
 use Rattle.pec_ledger.specs.Books.{book}
-use Rattle.pec_ledger.specs.Guarantees.{HasReceipt, is_envelope_of, is_notice_on}
+use Rattle.pec_ledger.specs.Guarantees.{HasReceipt, is_envelope_of, is_notice_on, times_held}
 use Rattle.pec_ledger.specs.Half.{Known}
 use Rattle.pec_ledger.specs.Ledger.{Journals, ledger}
-use Rattle.pec_ledger.specs.Lookups.{Accepted, HasPair, accepted_at, known_of, mailbox}
+use Rattle.pec_ledger.specs.Lookups.{Accepted, HasPair, accepted_at, known_of}
 use Rattle.pec_ledger.specs.Network.{IsGenuine, Site, Sound, frames_between, journals_of}
 use Rattle.pec_ledger.specs.Pairs.{Pair, pair_of}
 use Rattle.pec_ledger.specs.Trade.{Framed, Receipt, SeenReceipt, Trade}
-use Rattle.pec_plays.specs.Commands.{Book, Command, Inject, Lines, Luck, Marks, Round, Submit, Tick, played}
+use Rattle.pec_plays.specs.Commands.{Archive, Book, Command, Inject, Lines, Luck, Marks, Round, Submit, Tick, Upgrade, played}
 use Rattle.pec_plays.specs.Scripts.{Kept, PutsNoneForged, script}
 use Rattle.pec_plays.specs.Told.{decided_told, learned_told}
 use Rattle.pec_runs.specs.Reaching.{IsReached}
@@ -30,10 +30,12 @@ use Rattle.pec_runs.specs.Reaching.{IsReached}
 
 -- A command can stand in a script: its moment is one that a clock tells, and its path has 1 to 1,000 addresses.
 abbrev pub CanBeSaid : Command → Type 0
-CanBeSaid (Submit provider moment sender path message found) =
+CanBeSaid (Submit provider moment sender path message) =
     (0 < length path) × (length path ≤ most_addresses) × (moment < END_OF_TIME)
 CanBeSaid (Tick provider moment) = moment < END_OF_TIME
 CanBeSaid (Round moment) = moment < END_OF_TIME
+CanBeSaid (Archive address moment place) = moment < END_OF_TIME
+CanBeSaid (Upgrade provider moment) = moment < END_OF_TIME
 CanBeSaid _ = Unit {0}
 
 -- No forged frame is injected: where a message stands in the frame and opens, that is the text of a licensed letter
@@ -76,13 +78,13 @@ pub record IsBook (trade : Trade) (sites : List Site) (address : Bytes) (lines :
   pub are : lines ≡ book trade provider (ledger trade (journals_of sites) provider) address
 
 -- Each pair that the provider accepted 24 hours before the moment or earlier, and of which it knows nothing, has a
--- notice in the sender's mailbox.
+-- notice in the sender's mailbox or archive.
 abbrev pub NoneWithoutNotice : Trade → Journals → ℕ → ℕ → Type 0
 NoneWithoutNotice trade journals provider moment =
     (pair : Pair) (message : Accepted) → pair.id.provider ≡ provider
     → accepted_at (ledger trade journals provider) pair.id.number ≡ Some message → HasPair trade message pair.recipient
     → message.moment + LATE_AFTER ≤ moment → known_of (ledger trade journals provider) pair ≡ None
-    → 1 ≤ times (is_notice_on pair) (mailbox (ledger trade journals provider) message.sender)
+    → 1 ≤ times_held (is_notice_on pair) (ledger trade journals provider) message.sender
 
 -- The frame holds the acknowledgement of a pair.
 pub record Acknowledges (trade : Trade) (frame : Bytes) (pair : Pair) : Type 0 where
@@ -103,11 +105,11 @@ pub record Stands (trade : Trade) (start now : List Site) : Type 0 where
   pub reached : IsReached trade (journals_of start) (journals_of now)
   -- one outcome, one delivery, no receipt missing, a notice by the day
   pub kept : Kept trade now
-  -- a message that its sender knows delivered lies in the recipient's mailbox, once
+  -- a message that its sender knows delivered lies in the recipient's mailbox or archive, once
   pub delivered : (pair : Pair) (row : Known) (home : ℕ)
       → known_of (ledger trade (journals_of now) pair.id.provider) pair ≡ Some row → row.decision ≡ Placed
       → trade.home pair.recipient ≡ Some home
-      → times (is_envelope_of pair.id) (mailbox (ledger trade (journals_of now) home) pair.recipient) ≡ 1
+      → times_held (is_envelope_of pair.id) (ledger trade (journals_of now) home) pair.recipient ≡ 1
   -- a receipt whose acknowledgement waits on a link isn't missing
   pub acknowledged : (from to : ℕ) (frame : Bytes) (pair : Pair) → Contains (frames_between now from to) frame
       → Acknowledges trade frame pair → HasReceipt trade (journals_of now) pair

@@ -1,7 +1,7 @@
 -- How a run comes to its journals, from provider 0 on: `run` makes each on an empty disk, `resume` opens each that is
 -- there; one that can't be had ends the run. `IsOpening` says of what was found on disks what came of it. Then what the
 -- disks hold when the run is over: `AreLeft`. This project's profile.
-use Rattle.std.specs.Prelude.{◌≡◌, ℕ, ◌<◌, ◌≤◌, Bool, true, List, [], ◌∷◌, ◌++◌, length, map, replicate, slice_get, codes, Option, Some, None, if◌then◌else◌}
+use Rattle.std.specs.Prelude.{◌≡◌, ℕ, ◌<◌, ◌≤◌, Bool, true, List, [], ◌∷◌, ◌++◌, length, replicate, slice_get, codes, Option, Some, None, if◌then◌else◌}
 use Rattle.std.specs.Str.{bytes_eq}
 use Rattle.pec_types.specs.Bytes.{Bytes}
 use Rattle.pec_outside.specs.DiskModel.{Sight}
@@ -10,6 +10,7 @@ use Rattle.pec_records.specs.declared.entries.Entry.TheVariants as entries
 use Rattle.pec_ledger.specs.Network.{Site, chosen, interrupted_at, journal_at}
 use Rattle.pec_ledger.specs.Trade.{Trade}
 use Rattle.pec_chronicle.specs.Chronicle.{IsJournalOf}
+use Rattle.pec_screen.specs.Verdicts.{Patterns}
 use Rattle.pec_script.specs.declared.answers.Unfit.{Unfit}
 use Rattle.pec_script.specs.declared.answers.Unfit.TheVariants as unfits
 use Rattle.pec_stock.specs.Opening.{IsUnfit}
@@ -55,14 +56,22 @@ pub record Opening : Type 0 where
 abbrev pub next_of : Opening → ℕ
 next_of opening = length opening.journals
 
--- a journal as the network has it at the beginning: its provider is up, and nothing waits
-abbrev pub opened : Trade → List Entry → Site
-opened trade journal =
-    record { journal = journal; up = true; interrupted = None; waiting = replicate trade.providers [] }
+-- a journal as the network has it at the beginning: its provider is up, with screens of these patterns, and nothing waits
+abbrev pub opened : Trade → List Patterns → List Entry → Site
+opened trade boxes journal = record {
+  journal = journal;
+  up = true;
+  interrupted = None;
+  screens = boxes;
+  waiting = replicate trade.providers [];
+}
 
--- The state at the beginning of a script.
-abbrev pub opened_all : Trade → List (List Entry) → List Site
-opened_all trade journals = map (opened trade) journals
+-- The state at the beginning of a script, with the screens of each provider, from 0 on; one past the lists has none.
+abbrev pub opened_all : Trade → List (List Patterns) → List (List Entry) → List Site
+opened_all trade screens [] = []
+opened_all trade [] (journal ∷ journals) = opened trade [] journal ∷ opened_all trade [] journals
+opened_all trade (boxes ∷ screens) (journal ∷ journals) =
+    opened trade boxes journal ∷ opened_all trade screens journals
 
 -- why a journal wasn't opened, in the words of the calls below
 abbrev pub fault_of : Unfit → ReopenFault
@@ -71,11 +80,11 @@ fault_of (unfits.Directory kept given) = faults.OtherDirectory kept given
 fault_of (unfits.Entry number) = faults.BadEntry number
 
 module _ (trade : Trade) (disks : Disks) where
-  -- A journal was made on an empty disk, with its Start alone, or these are the provider's own entries that its disk
+  -- A journal was made on an empty disk, with its StartTwo alone, or these are the provider's own entries that its disk
   -- holds.
   abbrev pub IsHad : Form → ℕ → List Entry → Type 0
   IsHad Run provider journal =
-      (journal ≡ entries.Start provider trade.digest ∷ []) × ((bytes : Bytes) → disks.reads provider bytes → bytes ≡ [])
+      (journal ≡ entries.StartTwo provider trade.digest ∷ []) × ((bytes : Bytes) → disks.reads provider bytes → bytes ≡ [])
   IsHad Resume provider journal =
       IsOwn trade provider journal × ((bytes : Bytes) → disks.reads provider bytes → IsJournalOf journal bytes)
 

@@ -33,20 +33,23 @@ held {D} tells sight home provider bytes =
     tells × ((disk : D) × (home provider ≡ Some disk) × (sight disk).may_leave bytes)
 
 module _ (trade : Trade) where
-  -- a journal of a provider as it is made
-  abbrev pub fresh : ℕ → List Entry
-  fresh provider = entries.Start provider trade.digest ∷ []
+  -- A journal of a provider as it is made, of either version: its first entry stands alone.
+  abbrev pub IsFresh : ℕ → List Entry → Type 0
+  IsFresh provider list =
+      (list ≡ entries.StartTwo provider trade.digest ∷ []) ⊎ (list ≡ entries.Start provider trade.digest ∷ [])
 
-  -- Entries begin with the provider's Start, under this directory.
+  -- Entries begin with the provider's Start or StartTwo, under this directory.
   abbrev pub IsOurs : ℕ → List Entry → Type 0
-  IsOurs provider list = (rest : List Entry) × (list ≡ entries.Start provider trade.digest ∷ rest)
+  IsOurs provider list =
+      (rest : List Entry) × ((list ≡ entries.StartTwo provider trade.digest ∷ rest)
+      ⊎ (list ≡ entries.Start provider trade.digest ∷ rest))
 
   module _ (holds : Holdings) where
     -- This may be a provider's journal: its disk may hold it, or the disk may be empty and the journal be made.
     abbrev pub MayBe : ℕ → List Entry → Type 0
     MayBe provider list =
         (IsOurs provider list × ((bytes : Bytes) × holds provider bytes × IsJournalOf list bytes))
-        ⊎ ((list ≡ fresh provider) × holds provider [])
+        ⊎ (IsFresh provider list × holds provider [])
 
     -- Journals that may be those of all providers fit together; and where a provider's disk may be empty, it holds no more
     -- bytes than a journal as it is made.
@@ -144,11 +147,11 @@ module _ {D : Type 0} (tells : Type 0) (sight : D → Sight) (trade : Trade) whe
   pub record RanHonestly (run : OneRun D) : Type 0 where
     pub ran : RanThrough tells sight run.asked run.status run.unread run.before run.after run.home run.left run.old run.new
     pub world_is : (form : Form) (script : Script)
-        → stage_of run.asked ran.ran.happened.early ran.ran.happened.parts ≡ Begun form script
+        → stage_of run.asked ran.ran.happened.hands ran.ran.happened.early ran.ran.happened.parts ≡ Begun form script
         → world ran.ran.happened ≡ trade
     pub at_home : AreAtHome trade run.home
     pub honest : (form : Form) (script : Script)
-        → stage_of run.asked ran.ran.happened.early ran.ran.happened.parts ≡ Begun form script
+        → stage_of run.asked ran.ran.happened.hands ran.ran.happened.early ran.ran.happened.parts ≡ Begun form script
         → ran.ran.happened.opening.next ≡ NoMore
         → AllHonest trade ran.ran.happened.lucks (beginning ran.ran.happened) script.commands
 

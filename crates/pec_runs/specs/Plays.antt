@@ -1,7 +1,7 @@
 -- How a script is played from a state: with a luck for each command, until the script ends, something stops the run,
 -- or it strays. The headlines are `Outcome`, `outcome_from`, and `MayPlay`, which says what devices have to do with
 -- it. This project's profile.
-use Rattle.std.specs.Prelude.{◌≡◌, ◌≢◌, ℕ, ◌+◌, ◌-◌, ◌^◌, ◌<◌, ◌≤◌, ◌==◌, Bool, false, true, ◌&&◌, List, [], ◌∷◌, ◌++◌, length, slice_get, All, Option, Some, None, if◌then◌else◌}
+use Rattle.std.specs.Prelude.{◌≡◌, ◌≢◌, ℕ, ◌+◌, ◌-◌, ◌^◌, ◌<◌, ◌≤◌, ◌==◌, Bool, false, true, ◌&&◌, List, [], ◌∷◌, ◌++◌, length, slice_get, take, All, Option, Some, None, if◌then◌else◌}
 use Rattle.std.specs.List.{AllByRecursion}
 use Rattle.pec_types.specs.Bytes.{Bytes}
 use Rattle.pec_types.specs.declared.turns.ProviderFault.{ProviderFault}
@@ -12,9 +12,10 @@ use Rattle.pec_ledger.specs.Along.{times}
 use Rattle.pec_ledger.specs.Network.{Site, Sound, is_up}
 use Rattle.pec_ledger.specs.Trade.{Trade}
 use Rattle.pec_ledger.specs.TradeLaws.{IsTrade}
-use Rattle.pec_plays.specs.Commands.{Answer, Command, Luck, Refuses, Restart, Round, Show, Submit, Tick, Turns, account_home, played}
+use Rattle.pec_plays.specs.Commands.{Answer, Archive, Command, Luck, Refuses, Restart, Round, Screen, Screened, Show, Submit, Tick, Turns, Upgrade, VaultShow, account_home, played}
 use Rattle.pec_plays.specs.Possible.{GaveWhatWasKept, MayMeet}
-use Rattle.pec_plays.specs.Scripts.{script}
+use Rattle.pec_plays.specs.Scripts.{HandsIn, script}
+use Rattle.pec_screen.specs.Verdicts.{Patterns}
 use Rattle.pec_runs.specs.AnswerLines.{answers_text}
 use Rattle.pec_runs.specs.Endings.{End, end_text}
 use Rattle.pec_runs.specs.ScriptLines.{Script}
@@ -99,10 +100,15 @@ faults_at_home provider (Some asked) answer = faults_at provider asked answer
 module _ (trade : Trade) where
   -- How many faults of a provider's disk an answer tells.
   abbrev pub faults_by : ℕ → Command → Answer → ℕ
-  faults_by provider (Submit asked moment sender path message found) answer = faults_at provider asked answer
+  faults_by provider (Submit asked moment sender path message) answer = faults_at provider asked answer
   faults_by provider (Tick asked moment) answer = faults_at provider asked answer
+  faults_by provider (Upgrade asked moment) answer = faults_at provider asked answer
+  faults_by provider (Archive address moment place) answer =
+      faults_at_home provider (account_home trade address (trade.home address)) answer
   faults_by provider (Restart asked) answer = faults_at provider asked answer
   faults_by provider (Show address place) answer =
+      faults_at_home provider (account_home trade address (trade.home address)) answer
+  faults_by provider (VaultShow address place) answer =
       faults_at_home provider (account_home trade address (trade.home address)) answer
   faults_by provider (Round moment) (Turns turns) = faults_in provider turns
   faults_by provider _ _ = 0
@@ -147,6 +153,22 @@ UnchangedAlong trade (luck ∷ lucks) sites (command ∷ commands) =
     UnchangedIn trade sites (played trade luck sites command).answer
     × UnchangedAlong trade lucks (played trade luck sites command).after commands
 
+-- ---- spares
+
+-- the spares that are left behind a command: the last is used where a screen was put into its place
+abbrev pub spares_left : List Patterns → Command → Answer → List Patterns
+spares_left spares (Screen provider place spare) Screened = take (length spares - 1) spares
+spares_left spares _ _ = spares
+
+-- Of each command of a script, a further screen is the last spare that is left.
+abbrev pub AllHanded : Trade → List Luck → List Patterns → List Site → List Command → Type 0
+AllHanded trade [] spares sites commands = Unit {0}
+AllHanded trade (luck ∷ lucks) spares sites [] = Unit {0}
+AllHanded trade (luck ∷ lucks) spares sites (command ∷ commands) =
+    HandsIn spares command
+    × AllHanded trade lucks (spares_left spares command (played trade luck sites command).answer)
+    (played trade luck sites command).after commands
+
 -- ---- what may be
 
 -- The commands may meet these lucks.
@@ -185,13 +207,15 @@ RoseAlong trade (luck ∷ lucks) sites (command ∷ commands) from upto =
     (behind provider))
     × RoseAlong trade lucks (played trade luck sites command).after commands behind upto
 
--- A script may be played so from a state, while the counts of faults of disks rise from some to others: each command
--- may meet its luck, no memory was missing in what is told, and each fault that is told of a disk raised that disk's
--- count in the command that tells it. Where disks tell what they hold, what was read is what was kept: no frame was put
--- and no item shown in place of another, and from a Sound state no entry is told as changed.
-pub record MayPlay (trade : Trade) (tells : Type 0) (sites : List Site) (from upto : ℕ → ℕ) (written : Script)
-    (lucks : List Luck) (rest : Rest) : Type 0 where
+-- A script may be played so from a state, with these spares, while the counts of faults of disks rise from some to
+-- others: each command may meet its luck, and takes the last spare that is left where it asks for one, no memory was
+-- missing in what is told, and each fault that is told of a disk raised that disk's count in the command that tells it.
+-- Where disks tell what they hold, what was read is what was kept: no frame was put and no item shown in place of
+-- another, and from a Sound state no entry is told as changed.
+pub record MayPlay (trade : Trade) (tells : Type 0) (spares : List Patterns) (sites : List Site) (from upto : ℕ → ℕ)
+    (written : Script) (lucks : List Luck) (rest : Rest) : Type 0 where
   pub enough : length lucks ≤ length written.commands
+  pub handed : AllHanded trade lucks spares sites written.commands
   pub meet : AllMeet trade lucks sites written.commands
   pub memory : All HasMemory (script trade lucks sites written.commands).answers
   pub counts : RoseAlong trade lucks sites written.commands from upto

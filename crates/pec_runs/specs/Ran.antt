@@ -11,7 +11,7 @@ use Rattle.pec_ledger.specs.Network.{Site, interrupted_at, journal_at}
 use Rattle.pec_ledger.specs.Trade.{Trade}
 use Rattle.pec_plays.specs.Commands.{Command, Luck, played}
 use Rattle.pec_input.specs.Directory.{directory_in}
-use Rattle.pec_runs.specs.Happened.{Asked, Happened, IsSetting, Stage, Over, Halted, Begun, outcome_of, providers_in, stage_of, trade_in}
+use Rattle.pec_runs.specs.Happened.{Asked, Happened, IsGiven, IsSetting, Stage, Over, Halted, Begun, outcome_of, providers_in, stage_of, trade_in}
 use Rattle.pec_input.specs.Opening.{parts_left}
 use Rattle.pec_input.specs.Parts.{Parts}
 use Rattle.pec_runs.specs.Openings.{disks_at, AreLeft, AreUntouched, Disks, Form, IsOpening, Next, NoMore, opened_all}
@@ -77,6 +77,7 @@ Blames statuses.ReadFault old new = HasRisen old.source new.source
 Blames statuses.WriteFault old new = HasRisen old.sink new.sink
 Blames statuses.StartFault old new =
     HasRisen old.depot new.depot ⊎ ((provider : ℕ) × HasRisen (old.disks provider) (new.disks provider))
+Blames statuses.DiskFault old new = (provider : ℕ) × HasRisen (old.disks provider) (new.disks provider)
 Blames _ old new = Unit {0}
 
 -- ---- disks
@@ -104,13 +105,14 @@ world happened = trade_in happened.setting
 
 -- its state as its script begins
 abbrev pub beginning : Happened → List Site
-beginning happened = opened_all (world happened) happened.opening.journals
+beginning happened = opened_all (world happened) happened.screens happened.opening.journals
 
 module _ (tells : Type 0) (old_disks new_disks : Disks) (old new : Counts) (happened : Happened) where
   -- With all journals at hand the script is played.
   abbrev pub PlaysOn : Script → Next → Type 0
   PlaysOn script NoMore =
-      MayPlay (world happened) tells (beginning happened) old.disks new.disks script happened.lucks happened.rest
+      MayPlay (world happened) tells happened.spares (beginning happened) old.disks new.disks script happened.lucks
+      happened.rest
   PlaysOn script _ = Unit {0}
 
   -- A run that begins: it has its journals, plays its script where it has all, and leaves the disks so.
@@ -134,16 +136,17 @@ module _ (tells : Type 0) (old_disks new_disks : Disks) (old new : Counts) (happ
 pub record Ran (asked : Asked) (status : Status) (unread before after : Option Bytes) (tells : Type 0)
     (old_disks new_disks : Disks) (old new : Counts) : Type 0 where
   pub happened : Happened
+  pub given : IsGiven asked happened
   pub input : IsInput unread happened.parts
   -- of a run that begins
-  pub setting : (form : Form) (script : Script) → stage_of asked happened.early happened.parts ≡ Begun form script
+  pub setting : (form : Form) (script : Script) → stage_of asked happened.hands happened.early happened.parts ≡ Begun form script
       → (providers : List Provider) → directory_in happened.parts.directory ≡ Ok providers
       → IsSetting providers happened.setting
   pub told : Tells (providers_in happened.setting) status before after (outcome_of asked happened)
   pub blame : Blames status old new
   pub counts : NoneFell old new
   pub is_at : IsAt tells old_disks new_disks old new happened status asked
-      (stage_of asked happened.early happened.parts)
+      (stage_of asked happened.hands happened.early happened.parts)
 
 -- The same over a depot that had these disks at home, by provider, and has those.
 abbrev pub RanOver : {D : Type 0} → Type 0 → (D → Sight) → Asked → Status → (unread before after : Option Bytes)

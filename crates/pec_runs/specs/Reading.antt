@@ -1,14 +1,13 @@
 -- How a loop over the lines of a script goes: it reads a line, plays what it says, and writes the last line behind the
 -- commands (`Reads`, `IsRead`). This project's profile.
-use Rattle.std.specs.Prelude.{◌≡◌, ℕ, ◌+◌, List, [], ◌∷◌, ◌++◌, map, Option, Some, None, IfSome}
+use Rattle.std.specs.Prelude.{◌≡◌, ℕ, ◌+◌, ◌<◌, List, [], ◌∷◌, ◌++◌, map, Option, Some, None, IfSome}
 use Rattle.pec_types.specs.Bytes.{Bytes}
 use Rattle.pec_outside.specs.DiskModel.{Sight}
 use Rattle.pec_directory.specs.Directory.{Provider}
 use Rattle.pec_ledger.specs.Trade.{Trade}
 use Rattle.pec_plays.specs.Commands.{Command}
 use Rattle.pec_input.specs.Lines.{raw_lines}
-use Rattle.pec_screen.specs.Screened.{Finds}
-use Rattle.pec_runs.specs.ScriptLines.{Line, PassedOver, Says, Script, script_of}
+use Rattle.pec_runs.specs.ScriptLines.{Hands, Line, PassedOver, Says, Script, script_of}
 use Rattle.pec_runs.specs.Statuses.{Status}
 use Rattle.pec_runs.specs.Steps.{Goes, IsScriptPlayed, Plays, Point}
 
@@ -50,21 +49,27 @@ GoesOn _ = ⊥
 abbrev pub behind_commands : List Command → Script → Script
 behind_commands commands script = record { commands = commands ++ script.commands; end = script.end }
 
-module _ (trade : Trade) (finds : Finds) (providers : List Provider) (tells : Type 0) {D : Type 0}
-    (sight : D → Sight) where
-  -- The loop came from the first place to this one: it played these commands, and they are what the lines between say,
-  -- whatever lines are left.
+-- These spares were at hand before the line of a number as those were.
+abbrev pub AgreeBefore : ℕ → Hands → Hands → Type 0
+AgreeBefore number hands others = (before : ℕ) → before < number → others before ≡ hands before
+
+module _ (trade : Trade) (providers : List Provider) (tells : Type 0) {D : Type 0} (sight : D → Sight) where
+  -- The loop came from the first place to this one: it played these commands, and they are what the lines between say with
+  -- the spares that were at hand, whatever lines are left, and whatever will be at hand for them.
   pub record Reads (first here : LinePoint D) : Type 0 where
     pub done : List Command
     pub goes : Goes trade providers tells sight (map Plays done) first.point here.point None
-    pub script : (lines : List Bytes) → AreLinesLeft here.unread lines
+    pub hands : Hands
+    pub script : (later : Hands) → AgreeBefore here.number hands later → (lines : List Bytes)
+        → AreLinesLeft here.unread lines
         → (all : List Bytes) × AreLinesLeft first.unread all
-        × (script_of finds providers first.number all
-        ≡ behind_commands done (script_of finds providers here.number lines))
+        × (script_of later providers first.number all
+        ≡ behind_commands done (script_of later providers here.number lines))
 
   -- The script of the lines that were left was played so, to there.
   pub record IsRead (first : LinePoint D) (there : Point D) (status : Status) : Type 0 where
+    pub hands : Hands
     pub lines : List Bytes
     pub left : AreLinesLeft first.unread lines
-    pub played : IsScriptPlayed trade providers tells sight (script_of finds providers first.number lines) status
+    pub played : IsScriptPlayed trade providers tells sight (script_of hands providers first.number lines) status
         first.point there

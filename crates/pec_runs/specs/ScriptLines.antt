@@ -1,10 +1,10 @@
 -- The lines of a script, in a directory: what each says (`said_by`), and the commands that they come to, with the end
 -- to which the last of them leads (`script_of`). This project's profile.
-use Rattle.std.specs.Prelude.{ℕ, ◌+◌, ◌==◌, nat_lt, Bool, true, List, [], ◌∷◌, length, Result, Ok, Err, if◌then◌else◌}
+use Rattle.std.specs.Prelude.{ℕ, ◌+◌, ◌==◌, nat_lt, Bool, true, List, [], ◌∷◌, length, Option, Result, Ok, Err, if◌then◌else◌}
 use Rattle.pec_types.specs.Bytes.{Bytes}
 use Rattle.pec_directory.specs.Directory.{Provider}
-use Rattle.pec_plays.specs.Commands.{Command, Submit, Tick, Round, Lose, Repeat, Swap, Inject, Crash, Restart, Book, Mailbox, Show}
-use Rattle.pec_screen.specs.Screened.{Finds}
+use Rattle.pec_plays.specs.Commands.{Command, Submit, Tick, Round, Lose, Repeat, Swap, Inject, Crash, Restart, Book, Mailbox, Show, Archive, Upgrade, Vault, VaultShow, Screen}
+use Rattle.pec_screen.specs.Verdicts.{Patterns}
 use Rattle.pec_script.specs.LinesReading.{command_of}
 use Rattle.pec_script.specs.declared.commands.Command.{Command as Written}
 use Rattle.pec_script.specs.declared.commands.Command.TheVariants as written
@@ -21,21 +21,30 @@ most_lines = 1000000
 abbrev pub longest_line : ℕ
 longest_line = 67108864
 
--- a command as the network plays it, where screens find this
-abbrev pub command_in : Finds → Written → Command
-command_in finds (written.Submit provider moment sender path message) =
-    Submit provider moment sender path message (finds provider message)
-command_in finds (written.Tick provider moment) = Tick provider moment
-command_in finds (written.Round moment) = Round moment
-command_in finds (written.Lose from to place) = Lose from to place
-command_in finds (written.Repeat from to place) = Repeat from to place
-command_in finds (written.Swap from to place) = Swap from to place
-command_in finds (written.Inject from to frame) = Inject from to frame
-command_in finds (written.Crash provider) = Crash provider
-command_in finds (written.Restart provider) = Restart provider
-command_in finds (written.Book address) = Book address
-command_in finds (written.Mailbox address) = Mailbox address
-command_in finds (written.Show address place) = Show address place
+-- Which spare was at hand as each line was played, by the line's number, from 1: its patterns, or none.
+abbrev pub Hands : Type 0
+Hands = ℕ → Option Patterns
+
+-- a command as the network plays it, where this spare is at hand
+abbrev pub command_in : Option Patterns → Written → Command
+command_in spare (written.Submit provider moment sender path message) =
+    Submit provider moment sender path message
+command_in spare (written.Tick provider moment) = Tick provider moment
+command_in spare (written.Round moment) = Round moment
+command_in spare (written.Lose from to place) = Lose from to place
+command_in spare (written.Repeat from to place) = Repeat from to place
+command_in spare (written.Swap from to place) = Swap from to place
+command_in spare (written.Inject from to frame) = Inject from to frame
+command_in spare (written.Crash provider) = Crash provider
+command_in spare (written.Restart provider) = Restart provider
+command_in spare (written.Book address) = Book address
+command_in spare (written.Mailbox address) = Mailbox address
+command_in spare (written.Show address place) = Show address place
+command_in spare (written.Archive address moment place) = Archive address moment place
+command_in spare (written.Upgrade provider moment) = Upgrade provider moment
+command_in spare (written.Vault address) = Vault address
+command_in spare (written.VaultShow address place) = VaultShow address place
+command_in spare (written.Screen provider place) = Screen provider place spare
 
 -- What a line of a script is: one that is passed over, a command, a line that says none, or one past a limit.
 pub data Line : Type 0 where
@@ -51,16 +60,16 @@ is_passed_over [] = true
 is_passed_over (b ∷ bs) = b == 35
 
 -- a line that is read as a command, or has a fault
-abbrev pub line_by : Finds → Result Written LineFault → Line
-line_by finds (Ok command) = Says (command_in finds command)
-line_by finds (Err fault) = SaysNone fault
+abbrev pub line_by : Option Patterns → Result Written LineFault → Line
+line_by spare (Ok command) = Says (command_in spare command)
+line_by spare (Err fault) = SaysNone fault
 
--- What the line of a number, from 1, is.
-unfoldable pub said_by : Finds → List Provider → ℕ → Bytes → Line
-said_by finds providers number line =
+-- What the line of a number, from 1, is, where this spare is at hand.
+unfoldable pub said_by : Option Patterns → List Provider → ℕ → Bytes → Line
+said_by spare providers number line =
     if nat_lt most_lines number then TooMany
     else (if nat_lt longest_line (length (content_of line)) then TooLong
-    else (if is_passed_over (content_of line) then PassedOver else line_by finds (command_of providers (content_of line))))
+    else (if is_passed_over (content_of line) then PassedOver else line_by spare (command_of providers (content_of line))))
 
 -- The commands of a script in order, and the end to which it comes behind them.
 pub record Script : Type 0 where
@@ -84,7 +93,7 @@ behind_line number TooLong script = nothing_but (ends.LongLine number)
 behind_line number TooMany script = nothing_but ends.LongScript
 
 -- The script of these lines, the first of which has this number.
-abbrev pub script_of : Finds → List Provider → ℕ → List Bytes → Script
-script_of finds providers number [] = nothing_but ends.Done
-script_of finds providers number (line ∷ lines) =
-    behind_line number (said_by finds providers number line) (script_of finds providers (number + 1) lines)
+abbrev pub script_of : Hands → List Provider → ℕ → List Bytes → Script
+script_of hands providers number [] = nothing_but ends.Done
+script_of hands providers number (line ∷ lines) =
+    behind_line number (said_by (hands number) providers number line) (script_of hands providers (number + 1) lines)

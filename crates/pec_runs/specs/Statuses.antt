@@ -3,7 +3,8 @@ use Rattle.std.specs.Prelude.{ℕ}
 use Rattle.pec_runs.specs.Endings.{End}
 use Rattle.pec_runs.specs.Endings as ends
 
--- What the program says when it exits. `ClockFault` and `DoorFault` come only where it serves connections.
+-- What the program says when it exits. `ClockFault` and `DoorFault` come only where it serves connections, `DiskFault` and
+-- `Changed` only where it writes an extract of logs.
 pub data Status : Type 0 where
   Done : Status
   Usage : Status
@@ -17,6 +18,8 @@ pub data Status : Type 0 where
   ClockFault : Status
   DoorFault : Status
   InputTooLong : Status
+  DiskFault : Status
+  Changed : Status
 
 -- the number with which the program exits
 abbrev pub code_of : Status → ℕ
@@ -32,6 +35,8 @@ code_of NotFit = 9
 code_of ClockFault = 10
 code_of DoorFault = 11
 code_of InputTooLong = 12
+code_of DiskFault = 13
+code_of Changed = 14
 
 -- the status of a run that came to this end
 abbrev pub status_of : End → Status

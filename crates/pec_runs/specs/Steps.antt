@@ -13,10 +13,12 @@ use Rattle.pec_ledger.specs.Network.{Site, Sound, interrupted_at, journal_at}
 use Rattle.pec_ledger.specs.Trade.{Trade}
 use Rattle.pec_plays.specs.Commands.{Command, Luck, played}
 use Rattle.pec_plays.specs.Possible.{GaveWhatWasKept, MayMeet}
+use Rattle.pec_plays.specs.Scripts.{HandsIn}
+use Rattle.pec_screen.specs.Verdicts.{Patterns}
 use Rattle.pec_runs.specs.AnswerLines.{answer_text}
 use Rattle.pec_runs.specs.Endings.{End, end_text}
 use Rattle.pec_runs.specs.Openings.{NoMore}
-use Rattle.pec_runs.specs.Plays.{HasMemory, MayPlay, MayStray, Rest, RoseBy, ShowsItsOwn, Strayed, UnchangedIn, faults_by, outcome_from}
+use Rattle.pec_runs.specs.Plays.{HasMemory, MayPlay, MayStray, Rest, RoseBy, ShowsItsOwn, Strayed, UnchangedIn, faults_by, outcome_from, spares_left}
 use Rattle.pec_runs.specs.Ran.{LeavesOff, Tells, command_in_hand}
 use Rattle.pec_runs.specs.ScriptLines.{Script}
 use Rattle.pec_runs.specs.Statuses.{Status, status_of}
@@ -44,9 +46,11 @@ acts_of_script providers script = map Plays script.commands ++ Writes (end_text 
 
 -- ---- steps
 
--- A network between two acts: its state; and by provider the count of faults of its disk, and its entries over it.
+-- A network between two acts: its state; the patterns of the spares that are left; and by provider the count of faults
+-- of its disk, and its entries over it.
 pub record State (D : Type 0) : Type 0 where
   pub sites : List Site
+  pub spares : List Patterns
   pub counts : ℕ → ℕ
   pub chronicles : ℕ → Option (ChronicleState D)
 
@@ -77,6 +81,12 @@ module _ {D : Type 0} where
   lucks_in [] = []
   lucks_in (step ∷ steps) = luck_before step.act step.luck (lucks_in steps)
 
+-- A command takes the last spare where it asks for one, and these spares are left behind its answer.
+pub record IsHanded (trade : Trade) (spares : List Patterns) (sites : List Site) (command : Command) (luck : Luck)
+    (left : List Patterns) : Type 0 where
+  pub last : HandsIn spares command
+  pub behind : left ≡ spares_left spares command (played trade luck sites command).answer
+
 module _ (trade : Trade) (tells : Type 0) where
   -- A command was played from a state to another, with a luck that it may meet. No turn that is told ended for want of
   -- memory, and each fault that is told of a disk raised that disk's count. Where disks tell what they hold, what was
@@ -99,8 +109,10 @@ module _ (trade : Trade) (tells : Type 0) where
     abbrev pub IsStep : State D → Act → Luck → State D → Type 0
     IsStep here (Plays command) luck behind =
         IsCall here.sites here.counts behind.counts command luck behind.sites
+        × IsHanded trade here.spares here.sites command luck behind.spares
     IsStep here (Hands command) luck behind =
         IsCall here.sites here.counts behind.counts command luck behind.sites
+        × IsHanded trade here.spares here.sites command luck behind.spares
     IsStep here (Writes text) luck behind = behind ≡ here
 
     -- Each was done from the network behind those before it.
@@ -243,7 +255,8 @@ module _ (trade : Trade) (providers : List Provider) (tells : Type 0) {D : Type 
     pub moments : tells → AllMoments trade sight here.state there.state steps
     pub since : (provider : ℕ) → (state_behind here.state steps).counts provider ≤ there.state.counts provider
     pub rest : Rest
-    pub may : MayPlay trade tells here.state.sites here.state.counts there.state.counts script (lucks_in steps) rest
+    pub may : MayPlay trade tells here.state.spares here.state.sites here.state.counts there.state.counts script
+        (lucks_in steps) rest
     pub told : Tells providers status here.held there.held
         (outcome_from trade (lucks_in steps) rest here.state.sites script)
     pub left : List Site

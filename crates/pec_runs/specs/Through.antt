@@ -9,6 +9,7 @@ use Rattle.pec_records.specs.declared.entries.Entry.{Entry}
 use Rattle.pec_records.specs.declared.entries.Entry.TheVariants as entries
 use Rattle.pec_ledger.specs.Trade.{Trade}
 use Rattle.pec_chronicle.specs.Chronicle.{ChronicleState, made_size}
+use Rattle.pec_screen.specs.Verdicts.{Patterns}
 use Rattle.pec_runs.specs.Happened.{Asked, Begun, Happened, providers_in, stage_of}
 use Rattle.pec_runs.specs.Moments.{AllStandIn}
 use Rattle.pec_runs.specs.Moves.{Moves}
@@ -21,9 +22,9 @@ use Rattle.pec_runs.specs.Steps.{state_behind}
 
 -- ---- while journals are had
 
--- how many bytes a provider's journal has as it is made, with its Start alone
+-- how many bytes a provider's journal has as it is made, with its StartTwo alone
 abbrev pub size_begun : Trade → ℕ → ℕ
-size_begun trade provider = made_size (entries.Start provider trade.digest)
+size_begun trade provider = made_size (entries.StartTwo provider trade.digest)
 
 -- each provider whose disk the network asks for has it at home
 abbrev pub AreAtHome : {D : Type 0} → Trade → (ℕ → Option D) → Type 0
@@ -54,11 +55,12 @@ disks_in {D} state provider = option_map (λ (one : ChronicleState D). one.disk)
 module _ {D : Type 0} (tells : Type 0) (sight : D → Sight) (home left : ℕ → Option D) (from upto : ℕ → ℕ) where
   -- All journals were had, these in this form; the run went on from them by these steps, and the last may have been left
   -- within; and the disks were put back as they were then.
-  pub record GoesThrough (trade : Trade) (form : Form) (journals : List (List Entry)) : Type 0 where
+  pub record GoesThrough (trade : Trade) (form : Form) (screens : List (List Patterns)) (journals : List (List Entry))
+      : Type 0 where
     pub first : State D
     pub steps : List (Step D)
     pub last : State D
-    pub begins : first.sites ≡ opened_all trade journals
+    pub begins : first.sites ≡ opened_all trade screens journals
     pub seen : AreSeen first
     pub stand : tells → AllStandIn sight first
     pub had : AreHadFrom sight tells form trade home (disks_in first)
@@ -71,10 +73,11 @@ module _ {D : Type 0} (tells : Type 0) (sight : D → Sight) (home left : ℕ �
 
   -- All journals were had, these in this form; the network moved on from them, whatever came in and was played; and the disks
   -- were put back as they were then.
-  pub record MovesThrough (trade : Trade) (form : Form) (journals : List (List Entry)) : Type 0 where
+  pub record MovesThrough (trade : Trade) (form : Form) (screens : List (List Patterns)) (journals : List (List Entry))
+      : Type 0 where
     pub first : State D
     pub last : State D
-    pub begins : first.sites ≡ opened_all trade journals
+    pub begins : first.sites ≡ opened_all trade screens journals
     pub seen : AreSeen first
     pub stand : tells → AllStandIn sight first
     pub had : AreHadFrom sight tells form trade home (disks_in first)
@@ -84,7 +87,7 @@ module _ {D : Type 0} (tells : Type 0) (sight : D → Sight) (home left : ℕ �
 
   -- These steps are the commands of a script, with the lucks that happened.
   pub record PlaysThrough (happened : Happened) (form : Form) (script : Script) : Type 0 where
-    pub goes : GoesThrough (world happened) form happened.opening.journals
+    pub goes : GoesThrough (world happened) form happened.screens happened.opening.journals
     pub lucks : lucks_in goes.steps ≡ happened.lucks
     pub unplayed : List Act
     pub acts : acts_of goes.steps ++ unplayed ≡ acts_of_script (providers_in happened.setting) script
@@ -93,13 +96,13 @@ module _ {D : Type 0} (tells : Type 0) (sight : D → Sight) (home left : ℕ �
   -- were had, each disk is as that left it; and else a script was played.
   pub record DisksWent (asked : Asked) (happened : Happened) : Type 0 where
     pub unasked :
-        ((form : Form) (script : Script) → stage_of asked happened.early happened.parts ≡ Begun form script → ⊥)
+        ((form : Form) (script : Script) → stage_of asked happened.hands happened.early happened.parts ≡ Begun form script → ⊥)
         → AreHadFrom sight tells Resume (world happened) home left
     pub stopped : (form : Form) (script : Script)
-        → stage_of asked happened.early happened.parts ≡ Begun form script → happened.opening.next ≢ NoMore
+        → stage_of asked happened.hands happened.early happened.parts ≡ Begun form script → happened.opening.next ≢ NoMore
         → AreHadFrom sight tells form (world happened) home left
     pub played : (form : Form) (script : Script)
-        → stage_of asked happened.early happened.parts ≡ Begun form script → happened.opening.next ≡ NoMore
+        → stage_of asked happened.hands happened.early happened.parts ≡ Begun form script → happened.opening.next ≡ NoMore
         → PlaysThrough happened form script
 
 -- The program ran so, and its disks went through this.

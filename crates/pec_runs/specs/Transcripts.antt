@@ -1,12 +1,13 @@
 -- Runs without faults: no count of faults rose (`NoFaults`); the one transcript of such a run (`transcript`), a
--- function of its words, its input, its world and the journals that it had; and two runs that wrote it (`WroteAlike`).
--- This project's profile.
+-- function of its words, its input, its world, its screens and spares and the journals that it had; and two runs that
+-- wrote it (`WroteAlike`). This project's profile.
 use Rattle.std.specs.Prelude.{◌≡◌, ℕ, ◌-◌, ◌^◌, ◌<◌, false, List, [], Option, Some}
 use Rattle.pec_types.specs.Bytes.{Bytes}
 use Rattle.pec_outside.specs.Flow.{followed_by}
 use Rattle.pec_records.specs.declared.entries.Entry.{Entry}
 use Rattle.pec_plays.specs.Commands.{Luck}
 use Rattle.pec_plays.specs.Possible.{quiet_lucks}
+use Rattle.pec_screen.specs.Verdicts.{Patterns}
 use Rattle.pec_runs.specs.Happened.{Asked, Begun, Happened, Setting, Stage, outcome_at, providers_in, stage_of, trade_in}
 use Rattle.pec_runs.specs.Openings.{opened_all}
 use Rattle.pec_runs.specs.Plays.{Outcome, ToTheEnd, outcome_from, outcome_text}
@@ -30,12 +31,12 @@ abbrev pub quiet_at : Happened → Stage → List Luck
 quiet_at happened (Begun form script) = quiet_lucks (world happened) (beginning happened) script.commands
 quiet_at happened _ = []
 
--- what a script comes to without a fault, from journals that are at hand
-abbrev pub quiet_outcome : Setting → List (List Entry) → Script → Outcome
-quiet_outcome setting journals written =
+-- what a script comes to without a fault, from screens and journals that are at hand
+abbrev pub quiet_outcome : Setting → List (List Patterns) → List (List Entry) → Script → Outcome
+quiet_outcome setting screens journals written =
     outcome_from (trade_in setting)
-    (quiet_lucks (trade_in setting) (opened_all (trade_in setting) journals) written.commands) ToTheEnd
-    (opened_all (trade_in setting) journals) written
+    (quiet_lucks (trade_in setting) (opened_all (trade_in setting) screens journals) written.commands) ToTheEnd
+    (opened_all (trade_in setting) screens journals) written
 
 -- what a run comes to at its stage, where its commands meet no fault
 abbrev pub transcript_at : Happened → Stage → Outcome
@@ -43,7 +44,7 @@ transcript_at happened stage = outcome_at (record happened { lucks = quiet_at ha
 
 -- What a run comes to where nothing fails, and memory is there.
 unfoldable pub transcript : Asked → Happened → Outcome
-transcript asked happened = transcript_at happened (stage_of asked false happened.parts)
+transcript asked happened = transcript_at happened (stage_of asked happened.hands false happened.parts)
 
 -- All of the transcript was written, and the status is that of its end.
 pub record TellsTranscript (asked : Asked) (happened : Happened) (status : Status) (before after : Option Bytes)

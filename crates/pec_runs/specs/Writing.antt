@@ -38,7 +38,7 @@ pub record HasEnded (asked : Asked) (happened : Happened) (status : Status)
 pub record IsDone (asked : Asked) (happened : Happened) : Type 0 where
   pub form : Form
   pub script : Script
-  pub begun : stage_of asked happened.early happened.parts ≡ Begun form script
+  pub begun : stage_of asked happened.hands happened.early happened.parts ≡ Begun form script
   pub at_hand : happened.opening.next ≡ NoMore
   pub all : length happened.lucks ≡ length script.commands
   pub done : script.end ≡ Done

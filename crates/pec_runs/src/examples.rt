@@ -6,10 +6,10 @@ ghost use Rattle.pec_script.specs.declared.faults.LineFault.TheVariants as line_
 ghost use Rattle.pec_ledger.specs.Network.{at_start};
 ghost use Rattle.pec_ledger.specs.SmallWorld.{small};
 ghost use Rattle.pec_plays.specs.Commands.{Crash, IsUp, NoFrame, Repeat, Restart, Restarted, played};
-ghost use Rattle.pec_plays.specs.Examples.{calm, calmly, left_by, to_the_end};
+ghost use Rattle.pec_plays.specs.Examples.{calm, calmly, left_by, no_screens, to_the_end};
 ghost use Rattle.pec_runs.specs.AnswerLines.{answers_text};
 ghost use Rattle.pec_runs.specs.Endings as ends;
-ghost use Rattle.pec_runs.specs.Examples.{faulty_lucks, faulty_script, full_link, looking_script, none_finds, six_lines, some_answers, twice_marked, two};
+ghost use Rattle.pec_runs.specs.Examples.{faulty_lucks, faulty_script, full_link, looking_script, none_left, six_lines, some_answers, twice_marked, two};
 ghost use Rattle.pec_runs.specs.Examples.{unmarked, unread_lucks};
 ghost use Rattle.pec_runs.specs.Headline.{Headline};
 ghost use Rattle.pec_input.specs.Directory.{of_directory};
@@ -34,11 +34,11 @@ pub fn texts_of_the_examples()
         ≡ record { directory = codes "name\n"; script = Some (codes "# remark\n" ∷ codes "%%\n" ∷ codes "last" ∷ []) } }
     ensures not_marked { parts_of (raw_lines unmarked) ≡ record { directory = unmarked; script = None } }
     // A remark and an empty line are passed over but counted, and nothing behind a refused line is played.
-    ensures script { script_of none_finds two 1 six_lines ≡ record {
+    ensures script { script_of none_left two 1 six_lines ≡ record {
       commands = Crash 1 ∷ Restart 1 ∷ [];
       end = ends.LineRefused 5 (line_faults.UnknownProvider 1);
     } }
-    ensures too_many { said_by none_finds two 1000001 (codes "crash alfa\n") ≡ TooMany }
+    ensures too_many { said_by None two 1000001 (codes "crash alfa\n") ≡ TooMany }
     ensures answers { answers_text two some_answers
         ≡ codes "lost\nno-frame\nlink-full\nfault disk\nclock-back 7\nalfa dropped\nalfa sent beta 3\nround\n" }
     ensures ends { ends.end_text two ends.Done ++ ends.end_text two ends.Usage ++ ends.end_text two ends.LongDirectory
@@ -55,26 +55,26 @@ pub fn texts_of_the_examples()
 /// Worked runs in the small world, computed: there are runs of every kind that laws ask for.
 pub fn runs_of_the_examples<P: Depot>()
     // An append fails, and the restart finds the entry: one fault of alfa's disk is told, and none of beta's.
-    ensures faulty { outcome_from small faulty_lucks ToTheEnd (at_start small) faulty_script
-        ≡ record (outcome_from small faulty_lucks ToTheEnd (at_start small) faulty_script) { finish = Ends ends.Done } }
+    ensures faulty { outcome_from small faulty_lucks ToTheEnd (at_start small no_screens) faulty_script
+        ≡ record (outcome_from small faulty_lucks ToTheEnd (at_start small no_screens) faulty_script) { finish = Ends ends.Done } }
     ensures faults { faults_told small 0 faulty_script.commands
-        (outcome_from small faulty_lucks ToTheEnd (at_start small) faulty_script).answers
+        (outcome_from small faulty_lucks ToTheEnd (at_start small no_screens) faulty_script).answers
         ∷ faults_told small 1 faulty_script.commands
-        (outcome_from small faulty_lucks ToTheEnd (at_start small) faulty_script).answers ∷ []
+        (outcome_from small faulty_lucks ToTheEnd (at_start small no_screens) faulty_script).answers ∷ []
         ≡ 1 ∷ 0 ∷ [] }
     // The read of an item fails, as an account of alfa looks at it: so it is told, once.
     ensures looked { faults_told small 0 looking_script.commands
-        (outcome_from small unread_lucks ToTheEnd (at_start small) looking_script).answers
+        (outcome_from small unread_lucks ToTheEnd (at_start small no_screens) looking_script).answers
         ∷ faults_told small 1 looking_script.commands
-        (outcome_from small unread_lucks ToTheEnd (at_start small) looking_script).answers ∷ []
+        (outcome_from small unread_lucks ToTheEnd (at_start small no_screens) looking_script).answers ∷ []
         ≡ 1 ∷ 0 ∷ [] }
     // With a luck too few the script isn't at its end.
-    ensures unfinished { (outcome_from small (calm ∷ []) ToTheEnd (at_start small) faulty_script).finish ≡ Stops }
+    ensures unfinished { (outcome_from small (calm ∷ []) ToTheEnd (at_start small no_screens) faulty_script).finish ≡ Stops }
     // No frame waits at the place, and the link is full: that there is none is told.
     ensures no_frame_first { (played small calm full_link (Repeat 0 0 64)).answer ≡ NoFrame }
     // To the end: all letters are answered, and nothing waits.
     ensures at_rest { IsAtRest small (left_by to_the_end) }
-    ensures headline { Headline small (at_start small) (calmly to_the_end) to_the_end }
+    ensures headline { Headline small (at_start small no_screens) (calmly to_the_end) to_the_end }
 {
     the_books_belong_to_the_ledger();
     a_world_is_there();

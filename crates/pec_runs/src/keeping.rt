@@ -32,7 +32,7 @@ pub fn what_is_due_is_no_forged_frame<P: Depot>()
         (old new : Counts) → P.tells × P.D.tells
         → (ran : RanOver (P.tells × P.D.tells) P.D.sight asked status unread before after (P.home depot) (P.home left)
         old new)
-        (form : Form) (script : Script) → stage_of asked ran.happened.early ran.happened.parts ≡ Begun form script
+        (form : Form) (script : Script) → stage_of asked ran.happened.hands ran.happened.early ran.happened.parts ≡ Begun form script
         → ran.happened.opening.next ≡ NoMore
         → NoneInjected (world ran.happened) ran.happened.lucks (beginning ran.happened) script.commands
         → AllHonest (world ran.happened) ran.happened.lucks (beginning ran.happened) script.commands }
@@ -49,7 +49,7 @@ pub fn no_entry_is_told_as_changed<P: Depot>()
         (old new : Counts) → P.tells × P.D.tells
         → (ran : RanOver (P.tells × P.D.tells) P.D.sight asked status unread before after (P.home depot) (P.home left)
         old new)
-        → ((form : Form) (script : Script) → stage_of asked ran.happened.early ran.happened.parts ≡ Begun form script
+        → ((form : Form) (script : Script) → stage_of asked ran.happened.hands ran.happened.early ran.happened.parts ≡ Begun form script
         → ran.happened.opening.next ≡ NoMore
         → (form ≡ Resume → Fit (world ran.happened) (journals_in ran.happened.opening.journals))
         × AllHonest (world ran.happened) ran.happened.lucks (beginning ran.happened) script.commands)

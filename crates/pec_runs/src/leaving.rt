@@ -19,7 +19,7 @@ pub fn a_run_leaves_its_journals<P: Depot>()
         (old new : Counts)
         (ran : RanOver (P.tells × P.D.tells) P.D.sight asked status unread before after (P.home depot) (P.home left)
         old new)
-        (form : Form) (script : Script) → stage_of asked ran.happened.early ran.happened.parts ≡ Begun form script
+        (form : Form) (script : Script) → stage_of asked ran.happened.hands ran.happened.early ran.happened.parts ≡ Begun form script
         → status ≢ statuses.NoMemory
         → (provider : ℕ) (bytes : Bytes) → provider < next_of ran.happened.opening
         → (disks_at (P.tells × P.D.tells) P.D.sight (P.home left)).reads provider bytes
@@ -29,7 +29,7 @@ pub fn a_run_leaves_its_journals<P: Depot>()
         (depot left : P) (old new : Counts)
         (ran : RanOver (P.tells × P.D.tells) P.D.sight asked status unread before after (P.home depot) (P.home left)
         old new)
-        (form : Form) (script : Script) → stage_of asked ran.happened.early ran.happened.parts ≡ Begun form script
+        (form : Form) (script : Script) → stage_of asked ran.happened.hands ran.happened.early ran.happened.parts ≡ Begun form script
         → ran.happened.opening.next ≢ NoMore
         → (provider : ℕ) (journal : List Entry) (bytes : Bytes)
         → slice_get ran.happened.opening.journals provider ≡ Some journal

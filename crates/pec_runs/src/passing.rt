@@ -5,6 +5,7 @@ ghost use Rattle.pec_ledger.specs.Ledger.{Fit};
 ghost use Rattle.pec_ledger.specs.Network.{journals_in};
 ghost use Rattle.pec_ledger.specs.Trade.{Trade};
 ghost use Rattle.pec_ledger.specs.TradeLaws.{IsTrade};
+ghost use Rattle.pec_screen.specs.Verdicts.{Patterns};
 ghost use Rattle.pec_runs.specs.Happened.{Asked, Begun, stage_of};
 ghost use Rattle.pec_runs.specs.Headline.{AllHonest};
 ghost use Rattle.pec_runs.specs.Moments.{AreHonest};
@@ -43,8 +44,6 @@ pub fn what_is_passed_on_fits<P: Depot>()
 {
     a_disk_holds_one_list();
     any_images();
-    licences_stand();
-    soundness();
     a_disk_is_so::<P::D>();
 }
 
@@ -61,24 +60,26 @@ pub fn disks_are_passed_on<P: Depot>()
         → AreFoundBetween (P.tells × P.D.tells) P.D.sight trade home new found
         → Passes trade (held (P.tells × P.D.tells) P.D.sight home) (held (P.tells × P.D.tells) P.D.sight found) }
     ensures ended { P.tells × P.D.tells → (trade : Trade) → IsTrade trade
-        → (home left found : ℕ → Option P.D) (from upto : ℕ → ℕ) (form : Form) (opening : Opening)
+        → (home left found : ℕ → Option P.D) (from upto : ℕ → ℕ) (form : Form)
+        (screens : List (List Patterns)) (opening : Opening)
         → IsOpening trade (disks_at (P.tells × P.D.tells) P.D.sight home) form opening → opening.next ≡ NoMore
         → AreAtHome trade home
-        → (goes : MovesThrough (P.tells × P.D.tells) P.D.sight home left from upto trade form opening.journals)
+        → (goes : MovesThrough (P.tells × P.D.tells) P.D.sight home left from upto trade form screens opening.journals)
         → AreFoundAs (P.tells × P.D.tells) P.D.sight trade left found
         → Passes trade (held (P.tells × P.D.tells) P.D.sight home) (held (P.tells × P.D.tells) P.D.sight found) }
     ensures killed { P.tells × P.D.tells → (trade : Trade) → IsTrade trade
-        → (home left found : ℕ → Option P.D) (from upto : ℕ → ℕ) (form : Form) (opening : Opening)
+        → (home left found : ℕ → Option P.D) (from upto : ℕ → ℕ) (form : Form)
+        (screens : List (List Patterns)) (opening : Opening)
         → IsOpening trade (disks_at (P.tells × P.D.tells) P.D.sight home) form opening → opening.next ≡ NoMore
         → AreAtHome trade home
-        → (goes : MovesThrough (P.tells × P.D.tells) P.D.sight home left from upto trade form opening.journals)
+        → (goes : MovesThrough (P.tells × P.D.tells) P.D.sight home left from upto trade form screens opening.journals)
         → (number : ℕ) → number ≤ length goes.moves.steps
         → AreFoundWithin (P.tells × P.D.tells) P.D.sight trade number goes.first goes.last goes.moves.steps found
         → Passes trade (held (P.tells × P.D.tells) P.D.sight home) (held (P.tells × P.D.tells) P.D.sight found) }
     // A run that goes by steps and injects no forged frame moves so.
     ensures moves { (trade : Trade) → IsTrade trade → (home left : ℕ → Option P.D) (from upto : ℕ → ℕ) (form : Form)
-        (journals : List (List Entry))
-        (goes : GoesThrough (P.tells × P.D.tells) P.D.sight home left from upto trade form journals)
+        (screens : List (List Patterns)) (journals : List (List Entry))
+        (goes : GoesThrough (P.tells × P.D.tells) P.D.sight home left from upto trade form screens journals)
         → AreHonest trade goes.first goes.steps → KeepSound trade goes.first goes.steps }
 {
     a_network_stays_sound();
@@ -95,11 +96,11 @@ pub fn a_run_passes_its_disks_on<P: Depot>()
         (unread before after : Option Bytes) (home left found : ℕ → Option P.D) (old new : Counts)
         (ran : RanThrough (P.tells × P.D.tells) P.D.sight asked status unread before after home left old new)
         → ((form : Form) (script : Script)
-        → stage_of asked ran.ran.happened.early ran.ran.happened.parts ≡ Begun form script
+        → stage_of asked ran.ran.happened.hands ran.ran.happened.early ran.ran.happened.parts ≡ Begun form script
         → world ran.ran.happened ≡ trade)
         → AreAtHome trade home
         → ((form : Form) (script : Script)
-        → stage_of asked ran.ran.happened.early ran.ran.happened.parts ≡ Begun form script
+        → stage_of asked ran.ran.happened.hands ran.ran.happened.early ran.ran.happened.parts ≡ Begun form script
         → ran.ran.happened.opening.next ≡ NoMore
         → AllHonest trade ran.ran.happened.lucks (beginning ran.ran.happened) script.commands)
         → AreFoundAs (P.tells × P.D.tells) P.D.sight trade left found
@@ -108,14 +109,14 @@ pub fn a_run_passes_its_disks_on<P: Depot>()
         (unread before after : Option Bytes) (home left found : ℕ → Option P.D) (old new : Counts)
         (ran : RanThrough (P.tells × P.D.tells) P.D.sight asked status unread before after home left old new)
         → ((form : Form) (script : Script)
-        → stage_of asked ran.ran.happened.early ran.ran.happened.parts ≢ Begun form script)
+        → stage_of asked ran.ran.happened.hands ran.ran.happened.early ran.ran.happened.parts ≢ Begun form script)
         → AreFoundBetween (P.tells × P.D.tells) P.D.sight trade home left found
         → Passes trade (held (P.tells × P.D.tells) P.D.sight home) (held (P.tells × P.D.tells) P.D.sight found) }
     ensures opening { P.tells × P.D.tells → (asked : Asked) (status : Status)
         (unread before after : Option Bytes) (home left found : ℕ → Option P.D) (old new : Counts)
         (ran : RanThrough (P.tells × P.D.tells) P.D.sight asked status unread before after home left old new)
         (form : Form) (script : Script)
-        → stage_of asked ran.ran.happened.early ran.ran.happened.parts ≡ Begun form script
+        → stage_of asked ran.ran.happened.hands ran.ran.happened.early ran.ran.happened.parts ≡ Begun form script
         → ran.ran.happened.opening.next ≢ NoMore
         → AreFoundBetween (P.tells × P.D.tells) P.D.sight (world ran.ran.happened) home left found
         → Passes (world ran.ran.happened) (held (P.tells × P.D.tells) P.D.sight home)
@@ -124,7 +125,7 @@ pub fn a_run_passes_its_disks_on<P: Depot>()
         (unread before after : Option Bytes) (home left found : ℕ → Option P.D) (old new : Counts)
         (ran : RanThrough (P.tells × P.D.tells) P.D.sight asked status unread before after home left old new)
         (form : Form) (script : Script)
-        (begun : stage_of asked ran.ran.happened.early ran.ran.happened.parts ≡ Begun form script)
+        (begun : stage_of asked ran.ran.happened.hands ran.ran.happened.early ran.ran.happened.parts ≡ Begun form script)
         (all : ran.ran.happened.opening.next ≡ NoMore)
         → AreFoundBetween (P.tells × P.D.tells) P.D.sight (world ran.ran.happened) home
         (disks_in (ran.through.played form script begun all).goes.first) found
@@ -134,7 +135,7 @@ pub fn a_run_passes_its_disks_on<P: Depot>()
         (unread before after : Option Bytes) (home left found : ℕ → Option P.D) (old new : Counts)
         (ran : RanThrough (P.tells × P.D.tells) P.D.sight asked status unread before after home left old new)
         (form : Form) (script : Script)
-        (begun : stage_of asked ran.ran.happened.early ran.ran.happened.parts ≡ Begun form script)
+        (begun : stage_of asked ran.ran.happened.hands ran.ran.happened.early ran.ran.happened.parts ≡ Begun form script)
         (all : ran.ran.happened.opening.next ≡ NoMore)
         → AreAtHome (world ran.ran.happened) home
         → AllHonest (world ran.ran.happened) ran.ran.happened.lucks (beginning ran.ran.happened) script.commands
@@ -160,7 +161,7 @@ pub fn runs_go_on_from_one_another<P: Depot>()
     ensures opened { P.tells × P.D.tells → (trade : Trade) (run : OneRun P.D)
         → AreFitting trade (held (P.tells × P.D.tells) P.D.sight run.home)
         → (honest : RanHonestly (P.tells × P.D.tells) P.D.sight trade run) (script : Script)
-        → stage_of run.asked honest.ran.ran.happened.early honest.ran.ran.happened.parts ≡ Begun Resume script
+        → stage_of run.asked honest.ran.ran.happened.hands honest.ran.ran.happened.early honest.ran.ran.happened.parts ≡ Begun Resume script
         → honest.ran.ran.happened.opening.next ≡ NoMore
         → Fit trade (journals_in honest.ran.ran.happened.opening.journals) }
 {

@@ -10,7 +10,8 @@ ghost use Rattle.pec_runs.specs.Happened.{Asked, Begun, outcome_of, providers_in
 ghost use Rattle.pec_runs.specs.Headline.{AllHonest, IsBook, IsHonest};
 ghost use Rattle.pec_runs.specs.Openings.{disks_at, Form, NoMore, Resume};
 ghost use Rattle.pec_runs.specs.Ran.{Counts, RanOver, beginning, command_in_hand, world};
-ghost use Rattle.pec_runs.specs.Resuming.{IsAtRest, IsFoundSo, resumed};
+ghost use Rattle.pec_screen.specs.Verdicts.{Patterns};
+ghost use Rattle.pec_runs.specs.Resuming.{IsAtRest, IsFoundSo, resumed, screens_left};
 ghost use Rattle.pec_runs.specs.ScriptLines.{Script};
 ghost use Rattle.pec_runs.specs.Statuses.{Status};
 
@@ -22,8 +23,9 @@ use pec_plays::{a_network_stays_sound, a_round_is_its_turns};
 use pec_script::a_line_has_one_reading;
 
 /// A script may be cut in two: what it answers is what its first part answers, and then what the second does in the
-/// state behind it. Where that state is at rest it is the one with which a run that resumes begins, so that the
-/// second part answers the same in a run of its own. A run that resumes always begins with the same books.
+/// state behind it. Where that state is at rest it is the one with which a run that resumes begins, with the same
+/// screens, so that the second part answers the same in a run of its own. A run that resumes always begins with the same
+/// books, whatever its screens are.
 pub fn a_script_may_be_cut()
     ensures answers { (trade : Trade) (lucks more : List Luck) (sites : List Site) (commands others : List Command)
         → length lucks ≡ length commands
@@ -38,10 +40,13 @@ pub fn a_script_may_be_cut()
         → length lucks ≡ length commands → IsAtRest trade (script trade lucks sites commands).after
         → (script trade (lucks ++ more) sites (commands ++ others)).answers
         ≡ (script trade lucks sites commands).answers
-        ++ (script trade more (resumed trade (script trade lucks sites commands).after) others).answers }
-    ensures at_rest { (trade : Trade) (sites : List Site) → IsAtRest trade sites → resumed trade sites ≡ sites }
-    ensures books { (trade : Trade) (sites : List Site) (address : Bytes) (lines : List BookLine)
-        → IsBook trade sites address lines → IsBook trade (resumed trade sites) address lines }
+        ++ (script trade more (resumed trade (screens_left (script trade lucks sites commands).after)
+        (script trade lucks sites commands).after) others).answers }
+    ensures at_rest { (trade : Trade) (sites : List Site) → IsAtRest trade sites
+        → resumed trade (screens_left sites) sites ≡ sites }
+    ensures books { (trade : Trade) (screens : List (List Patterns)) (sites : List Site) (address : Bytes)
+        (lines : List BookLine) → IsBook trade sites address lines
+        → IsBook trade (resumed trade screens sites) address lines }
 {}
 
 /// A run that resumes on the disks that another left, as they read then or as a crash left them, in a directory of the
@@ -56,8 +61,8 @@ pub fn a_resumed_run_begins_where_the_last_left<P: Depot>()
         (again : RanOver (P.tells × P.D.tells) P.D.sight others other other_unread other_before other_after
         (P.home found) (P.home last) behind new)
         (form : Form) (script rest : Script)
-        → stage_of asked ran.happened.early ran.happened.parts ≡ Begun form script → ran.happened.opening.next ≡ NoMore
-        → stage_of others again.happened.early again.happened.parts ≡ Begun Resume rest
+        → stage_of asked ran.happened.hands ran.happened.early ran.happened.parts ≡ Begun form script → ran.happened.opening.next ≡ NoMore
+        → stage_of others again.happened.hands again.happened.early again.happened.parts ≡ Begun Resume rest
         → again.happened.opening.next ≡ NoMore
         → providers_in again.happened.setting ≡ providers_in ran.happened.setting
         → ((provider : ℕ) → provider < (world ran.happened).providers

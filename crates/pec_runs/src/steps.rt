@@ -8,7 +8,7 @@ ghost use Rattle.pec_runs.specs.AnswerLines.{answer_text};
 ghost use Rattle.pec_runs.specs.Plays.{MayStray};
 ghost use Rattle.pec_runs.specs.Ran.{LeavesOff};
 ghost use Rattle.pec_runs.specs.ScriptLines.{Script};
-ghost use Rattle.pec_runs.specs.Steps.{Act, Climbs, Goes, IsCall, IsMoment, IsScriptPlayed, IsWritten, NoMemory, NoneFell, Plays};
+ghost use Rattle.pec_runs.specs.Steps.{Act, Climbs, Goes, IsCall, IsHanded, IsMoment, IsScriptPlayed, IsWritten, NoMemory, NoneFell, Plays};
 ghost use Rattle.pec_runs.specs.Steps.{Point, Stop, WriteFault, Writes, acts_of_script, status_by};
 
 use pec_outside::Depot;
@@ -51,6 +51,7 @@ pub fn an_act_is_done<P: Depot>()
         (here there : Point P.D) (stop : Option Stop)
         → IsCall trade (P.tells × P.D.tells) here.state.sites here.state.counts there.state.counts command luck
         there.state.sites
+        → IsHanded trade here.state.spares here.state.sites command luck there.state.spares
         → (P.tells × P.D.tells → IsMoment trade P.D.sight here.state there.state) → NoneFell here there
         → IsWritten (answer_text providers (played trade luck here.state.sites command).answer) here there stop
         → Goes trade providers (P.tells × P.D.tells) P.D.sight (Plays command ∷ []) here there stop }

@@ -101,6 +101,8 @@ refusal_are_rows refusals.NoAccount is = (record { some = omega arith; words = (
 refusal_are_rows refusals.Full is = (record { some = omega arith; words = (text_word (codes "full") refl, tt) }, tt)
 refusal_are_rows refusals.NoItem is = (record { some = omega arith; words = (text_word (codes "no-item") refl, tt) }, tt)
 refusal_are_rows refusals.JournalFull is = (record { some = omega arith; words = (text_word (codes "journal-full") refl, tt) }, tt)
+refusal_are_rows refusals.OldJournal is = (record { some = omega arith; words = (text_word (codes "old-journal") refl, tt) }, tt)
+refusal_are_rows refusals.NoNeed is = (record { some = omega arith; words = (text_word (codes "no-need") refl, tt) }, tt)
 refusal_are_rows refusals.NoMemory is = tt
 refusal_are_rows (refusals.Changed entry) is = (record { some = omega arith; words = (text_word (codes "changed") refl, (decimal_word entry is, tt)) }, tt)
 
@@ -121,6 +123,10 @@ one_refusal_row refusals.NoItem refusals.NoItem is also e = refl
 one_refusal_row refusals.NoItem other is also e = absurd (rows_apart _ _ e refl)
 one_refusal_row refusals.JournalFull refusals.JournalFull is also e = refl
 one_refusal_row refusals.JournalFull other is also e = absurd (rows_apart _ _ e refl)
+one_refusal_row refusals.OldJournal refusals.OldJournal is also e = refl
+one_refusal_row refusals.OldJournal other is also e = absurd (rows_apart _ _ e refl)
+one_refusal_row refusals.NoNeed refusals.NoNeed is also e = refl
+one_refusal_row refusals.NoNeed other is also e = absurd (rows_apart _ _ e refl)
 one_refusal_row refusals.NoMemory refusals.NoMemory is also e = refl
 one_refusal_row refusals.NoMemory other is also e = absurd (rows_apart _ _ e refl)
 one_refusal_row (refusals.Changed entry) (refusals.Changed other) is also e =

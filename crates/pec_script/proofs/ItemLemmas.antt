@@ -17,7 +17,7 @@ use Rattle.pec_types.specs.Address.{IsLowerAddress, is_atom_byte}
 use Rattle.pec_types.specs.Words.{id_text}
 use Rattle.pec_script.specs.Printed.{AreAlike, IsAddressOrNone, IsItemLine, IsNamedOrNone}
 use Rattle.pec_script.specs.Rows.{AreRows, IsRow, IsWord}
-use Rattle.pec_script.specs.Texts.{Row, id_of, id_word, item_row, item_rows, items_text, kind_word, recipient_word}
+use Rattle.pec_script.specs.Texts.{Row, id_of, id_word, item_row, item_rows, items_text, kind_word, recipient_word, text_of, vault_text}
 use Rattle.pec_script.proofs.BookLemmas.{count_is_row}
 use Rattle.pec_script.proofs.RowLemmas.{CutsTold, one_text, same_front}
 use Rattle.pec_script.proofs.WordLemmas.{NamesTold, address_word, decimal_word, id_of_word, one_id, text_word}
@@ -32,6 +32,7 @@ kind_is_word (items.Receipt (kinds.NonAcceptance cause)) = text_word (codes "non
 kind_is_word (items.Receipt kinds.Charge) = text_word (codes "charge") refl
 kind_is_word (items.Receipt kinds.Delivery) = text_word (codes "delivery") refl
 kind_is_word (items.Receipt (kinds.DeliveryError refusal)) = text_word (codes "delivery-error") refl
+kind_is_word (items.Receipt kinds.VirusFound) = text_word (codes "virus-found") refl
 kind_is_word (items.Receipt kinds.Warning) = text_word (codes "warning") refl
 kind_is_word (items.Receipt kinds.Notice) = text_word (codes "notice") refl
 kind_is_word (items.Receipt kinds.LateNotice) = text_word (codes "late-notice") refl
@@ -99,13 +100,27 @@ alike_rows told providers lawful place (line ∷ lines) (other ∷ others) all a
       alike_rows told providers lawful (place + 1) lines others all.1 alls.1 rest,
     )
 
+-- lines of items, behind which a word and their number stand
+alike_counted : CutsTold → NamesTold → (providers : List Provider) → IsLawful providers → (word : Bytes) → IsWord word → (lines others : List ItemLine)
+    → AllByRecursion (IsItemLine providers) lines → AllByRecursion (IsItemLine providers) others → length lines < 2 ^ 64 → length others < 2 ^ 64
+    → text_of (item_rows providers 0 lines ++ (word ∷ decimal (length lines) ∷ []) ∷ []) ≡ text_of (item_rows providers 0 others ++ (word ∷ decimal (length others) ∷ []) ∷ [])
+    → AreAlike lines others
+alike_counted cuts told providers lawful word is_word lines others all alls few less e =
+    let row : (ls : List ItemLine) → Row = λ ls. word ∷ decimal (length ls) ∷ [] in
+    alike_rows told providers lawful 0 lines others all alls
+    (same_front (item_rows providers 0 lines) (item_rows providers 0 others) (row lines) (row others)
+    (one_text cuts (item_rows providers 0 lines ++ row lines ∷ []) (item_rows providers 0 others ++ row others ∷ [])
+    (items_are_rows told providers lawful 0 lines (omega arith) all (row lines) (count_is_row word is_word (length lines) few))
+    (items_are_rows told providers lawful 0 others (omega arith) alls (row others) (count_is_row word is_word (length others) less)) e))
+
 pub alike_items : CutsTold → NamesTold → (providers : List Provider) → IsLawful providers → (lines others : List ItemLine) → AllByRecursion (IsItemLine providers) lines
     → AllByRecursion (IsItemLine providers) others → length lines < 2 ^ 64 → length others < 2 ^ 64 → items_text providers lines ≡ items_text providers others → AreAlike lines others
 unfolding items_text
 alike_items cuts told providers lawful lines others all alls few less e =
-    let row : (ls : List ItemLine) → Row = λ ls. codes "mailbox" ∷ decimal (length ls) ∷ [] in
-    alike_rows told providers lawful 0 lines others all alls
-    (same_front (item_rows providers 0 lines) (item_rows providers 0 others) (row lines) (row others)
-    (one_text cuts (item_rows providers 0 lines ++ row lines ∷ []) (item_rows providers 0 others ++ row others ∷ [])
-    (items_are_rows told providers lawful 0 lines (omega arith) all (row lines) (count_is_row (codes "mailbox") (text_word (codes "mailbox") refl) (length lines) few))
-    (items_are_rows told providers lawful 0 others (omega arith) alls (row others) (count_is_row (codes "mailbox") (text_word (codes "mailbox") refl) (length others) less)) e))
+    alike_counted cuts told providers lawful (codes "mailbox") (text_word (codes "mailbox") refl) lines others all alls few less e
+
+pub alike_vaults : CutsTold → NamesTold → (providers : List Provider) → IsLawful providers → (lines others : List ItemLine) → AllByRecursion (IsItemLine providers) lines
+    → AllByRecursion (IsItemLine providers) others → length lines < 2 ^ 64 → length others < 2 ^ 64 → vault_text providers lines ≡ vault_text providers others → AreAlike lines others
+unfolding vault_text
+alike_vaults cuts told providers lawful lines others all alls few less e =
+    alike_counted cuts told providers lawful (codes "vault") (text_word (codes "vault") refl) lines others all alls few less e

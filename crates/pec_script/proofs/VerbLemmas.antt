@@ -8,7 +8,7 @@ use Rattle.pec_types.specs.Bytes.{Bytes}
 use Rattle.pec_script.specs.Forms.{form_of, verbs}
 use Rattle.pec_script.specs.LinesReading.{verb_of, word_of}
 use Rattle.pec_script.specs.declared.verbs.Verb.{Verb}
-use Rattle.pec_script.specs.declared.verbs.Verb.TheVariants.{Submit, Tick, Round, Lose, Repeat, Swap, Inject, Crash, Restart, Book, Mailbox, Show}
+use Rattle.pec_script.specs.declared.verbs.Verb.TheVariants.{Submit, Tick, Round, Lose, Repeat, Swap, Inject, Crash, Restart, Book, Mailbox, Show, Archive, Upgrade, Vault, VaultShow, Screen}
 
 found_in : (word : Bytes) (next : Verb) (rest : List Verb) (verb : Verb) (x : Bool) → bytes_eq word (word_of next) ≡ x
     → (find (λ v. bytes_eq word (word_of v)) rest ≡ Some verb → word ≡ word_of verb)
@@ -40,6 +40,11 @@ verb_again Restart = refl
 verb_again Book = refl
 verb_again Mailbox = refl
 verb_again Show = refl
+verb_again Archive = refl
+verb_again Upgrade = refl
+verb_again Vault = refl
+verb_again VaultShow = refl
+verb_again Screen = refl
 
 pub no_verb_is : (word : Bytes) → verb_of word ≡ None → (verb : Verb) → word ≢ (form_of verb).word
 no_verb_is word none verb e = none-some verb (sym none ∙ (ap verb_of e ∙ verb_again verb))

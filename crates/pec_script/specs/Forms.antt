@@ -5,7 +5,7 @@ use Rattle.pec_types.specs.Bytes.{Bytes, Path}
 use Rattle.pec_script.specs.declared.commands.Command.{Command}
 use Rattle.pec_script.specs.declared.commands.Command.TheVariants as commands
 use Rattle.pec_script.specs.declared.verbs.Verb.{Verb}
-use Rattle.pec_script.specs.declared.verbs.Verb.TheVariants.{Submit, Tick, Round, Lose, Repeat, Swap, Inject, Crash, Restart, Book, Mailbox, Show}
+use Rattle.pec_script.specs.declared.verbs.Verb.TheVariants.{Submit, Tick, Round, Lose, Repeat, Swap, Inject, Crash, Restart, Book, Mailbox, Show, Archive, Upgrade, Vault, VaultShow, Screen}
 
 -- What an argument is.
 pub data Kind : Type 0 where
@@ -55,6 +55,11 @@ form_of Restart = record { word = codes "restart"; kinds = provider ∷ [] }
 form_of Book = record { word = codes "book"; kinds = address ∷ [] }
 form_of Mailbox = record { word = codes "mailbox"; kinds = address ∷ [] }
 form_of Show = record { word = codes "show"; kinds = address ∷ place ∷ [] }
+form_of Archive = record { word = codes "archive"; kinds = address ∷ moment ∷ place ∷ [] }
+form_of Upgrade = record { word = codes "upgrade"; kinds = provider ∷ moment ∷ [] }
+form_of Vault = record { word = codes "vault"; kinds = address ∷ [] }
+form_of VaultShow = record { word = codes "vault-show"; kinds = address ∷ place ∷ [] }
+form_of Screen = record { word = codes "screen"; kinds = provider ∷ place ∷ [] }
 
 -- the kinds of a verb's arguments
 abbrev pub kinds_of : Verb → List Kind
@@ -74,7 +79,14 @@ made Restart said = commands.Restart said.0
 made Book said = commands.Book said.0
 made Mailbox said = commands.Mailbox said.0
 made Show said = commands.Show said.0 said.1.0
+made Archive said = commands.Archive said.0 said.1.0 said.1.1.0
+made Upgrade said = commands.Upgrade said.0 said.1.0
+made Vault said = commands.Vault said.0
+made VaultShow said = commands.VaultShow said.0 said.1.0
+made Screen said = commands.Screen said.0 said.1.0
 
 -- all verbs
 abbrev pub verbs : List Verb
-verbs = Submit ∷ Tick ∷ Round ∷ Lose ∷ Repeat ∷ Swap ∷ Inject ∷ Crash ∷ Restart ∷ Book ∷ Mailbox ∷ Show ∷ []
+verbs =
+    Submit ∷ Tick ∷ Round ∷ Lose ∷ Repeat ∷ Swap ∷ Inject ∷ Crash ∷ Restart ∷ Book ∷ Mailbox ∷ Show ∷ Archive ∷ Upgrade
+    ∷ Vault ∷ VaultShow ∷ Screen ∷ []

@@ -85,6 +85,8 @@ IsRefusal refusals.NoAccount = Unit {0}
 IsRefusal refusals.Full = Unit {0}
 IsRefusal refusals.NoItem = Unit {0}
 IsRefusal refusals.JournalFull = Unit {0}
+IsRefusal refusals.OldJournal = Unit {0}
+IsRefusal refusals.NoNeed = Unit {0}
 IsRefusal refusals.NoMemory = Unit {0}
 IsRefusal (refusals.Changed entry) = entry < 2 ^ 64
 

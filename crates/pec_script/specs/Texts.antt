@@ -98,6 +98,7 @@ receipt_word (kinds.NonAcceptance cause) = codes "non-acceptance"
 receipt_word kinds.Charge = codes "charge"
 receipt_word kinds.Delivery = codes "delivery"
 receipt_word (kinds.DeliveryError refusal) = codes "delivery-error"
+receipt_word kinds.VirusFound = codes "virus-found"
 receipt_word kinds.Warning = codes "warning"
 receipt_word kinds.Notice = codes "notice"
 receipt_word kinds.LateNotice = codes "late-notice"
@@ -118,6 +119,10 @@ item_rows providers place (line ∷ lines) = item_row providers place line ∷ i
 
 unfoldable pub items_text : List Provider → List ItemLine → Bytes
 items_text providers lines = text_of (item_rows providers 0 lines ++ (codes "mailbox" ∷ decimal (length lines) ∷ []) ∷ [])
+
+-- an archive: the lines of its items, and `vault COUNT`
+unfoldable pub vault_text : List Provider → List ItemLine → Bytes
+vault_text providers lines = text_of (item_rows providers 0 lines ++ (codes "vault" ∷ decimal (length lines) ∷ []) ∷ [])
 
 -- ---- clock calls: `warned ID RECIPIENT`, `noticed ID RECIPIENT` or `noticed-late ID RECIPIENT`, and `ticked`
 
@@ -149,6 +154,8 @@ refusal_word refusals.NoAccount = Some (codes "no-account")
 refusal_word refusals.Full = Some (codes "full")
 refusal_word refusals.NoItem = Some (codes "no-item")
 refusal_word refusals.JournalFull = Some (codes "journal-full")
+refusal_word refusals.OldJournal = Some (codes "old-journal")
+refusal_word refusals.NoNeed = Some (codes "no-need")
 refusal_word refusals.NoMemory = None
 refusal_word (refusals.Changed entry) = Some (codes "changed")
 
@@ -161,6 +168,8 @@ refusal_rest refusals.NoAccount = []
 refusal_rest refusals.Full = []
 refusal_rest refusals.NoItem = []
 refusal_rest refusals.JournalFull = []
+refusal_rest refusals.OldJournal = []
+refusal_rest refusals.NoNeed = []
 refusal_rest refusals.NoMemory = []
 refusal_rest (refusals.Changed entry) = decimal entry ∷ []
 
@@ -242,6 +251,11 @@ answer_word answers.Repeated = codes "repeated"
 answer_word answers.Swapped = codes "swapped"
 answer_word answers.Injected = codes "injected"
 answer_word answers.Crashed = codes "crashed"
+answer_word answers.Archived = codes "archived"
+answer_word answers.Upgraded = codes "upgraded"
+answer_word answers.Screened = codes "screened"
+answer_word answers.NoSpare = codes "no-spare"
+answer_word answers.NoScreen = codes "no-screen"
 answer_word (answers.Restarted entries) = codes "restarted"
 answer_word answers.NoFrame = codes "no-frame"
 answer_word answers.LinkFull = codes "link-full"
@@ -255,6 +269,11 @@ answer_rest answers.Repeated = []
 answer_rest answers.Swapped = []
 answer_rest answers.Injected = []
 answer_rest answers.Crashed = []
+answer_rest answers.Archived = []
+answer_rest answers.Upgraded = []
+answer_rest answers.Screened = []
+answer_rest answers.NoSpare = []
+answer_rest answers.NoScreen = []
 answer_rest (answers.Restarted entries) = decimal entries ∷ []
 answer_rest answers.NoFrame = []
 answer_rest answers.LinkFull = []

@@ -27,6 +27,13 @@ pub enum Answer {
     Swapped,
     Injected,
     Crashed,
+    Archived,
+    Upgraded,
+    Screened,
+    /// No spare screen is left.
+    NoSpare,
+    /// The provider has no screen at this place.
+    NoScreen,
     /// The provider is up again, over this many entries.
     Restarted(u64),
     NoFrame,
@@ -109,6 +116,11 @@ fn answer_word(answer: &Answer) -> &'static [u8]
         Answer::Swapped => b"swapped",
         Answer::Injected => b"injected",
         Answer::Crashed => b"crashed",
+        Answer::Archived => b"archived",
+        Answer::Upgraded => b"upgraded",
+        Answer::Screened => b"screened",
+        Answer::NoSpare => b"no-spare",
+        Answer::NoScreen => b"no-screen",
         Answer::Restarted(_) => b"restarted",
         Answer::NoFrame => b"no-frame",
         Answer::LinkFull => b"link-full",

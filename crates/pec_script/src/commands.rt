@@ -73,6 +73,26 @@ pub enum Command {
         address: Address,
         place: u32,
     },
+    Archive {
+        address: Address,
+        moment: Moment,
+        place: u32,
+    },
+    Upgrade {
+        provider: u32,
+        moment: Moment,
+    },
+    Vault {
+        address: Address,
+    },
+    VaultShow {
+        address: Address,
+        place: u32,
+    },
+    Screen {
+        provider: u32,
+        place: u32,
+    },
 }
 
 impl Command {
@@ -127,6 +147,11 @@ fn read_arguments(
         Verb::Book => read_book(alloc, rest),
         Verb::Mailbox => read_mailbox(alloc, rest),
         Verb::Show => read_show(alloc, rest),
+        Verb::Archive => read_archive(alloc, rest),
+        Verb::Upgrade => read_upgrade(directory, rest),
+        Verb::Vault => read_vault(alloc, rest),
+        Verb::VaultShow => read_vault_show(alloc, rest),
+        Verb::Screen => read_screen(directory, rest),
     }
 }
 
@@ -278,4 +303,63 @@ fn read_show(alloc: Global, rest: Option<&[u8]>) -> Result<Command, LineFault>
     let (word, _) = next_word(rest)?;
     let place = read_place(word, 2)?;
     Ok(Command::Show { address, place })
+}
+
+fn read_archive(alloc: Global, rest: Option<&[u8]>) -> Result<Command, LineFault>
+    ensures { (providers : List Provider) → OrNoMemory faults.NoMemory result
+        (made_of providers verbs.Archive (parts_behind space (option_map (λ text. text.now) rest.entry))) }
+{
+    let (word, rest) = next_word(rest)?;
+    let address = read_address(alloc, word, 1)?;
+    let (word, rest) = next_word(rest)?;
+    let moment = read_moment(word, 2)?;
+    let (word, _) = next_word(rest)?;
+    let place = read_place(word, 3)?;
+    Ok(Command::Archive {
+        address,
+        moment,
+        place,
+    })
+}
+
+fn read_upgrade(directory: &Directory, rest: Option<&[u8]>) -> Result<Command, LineFault>
+    ensures { OrNoMemory faults.NoMemory result
+        (made_of (providers_of directory.now) verbs.Upgrade (parts_behind space (option_map (λ text. text.now) rest.entry))) }
+{
+    let (word, rest) = next_word(rest)?;
+    let provider = read_provider(directory, word, 1)?;
+    let (word, _) = next_word(rest)?;
+    let moment = read_moment(word, 2)?;
+    Ok(Command::Upgrade { provider, moment })
+}
+
+fn read_vault(alloc: Global, rest: Option<&[u8]>) -> Result<Command, LineFault>
+    ensures { (providers : List Provider) → OrNoMemory faults.NoMemory result
+        (made_of providers verbs.Vault (parts_behind space (option_map (λ text. text.now) rest.entry))) }
+{
+    let (word, _) = next_word(rest)?;
+    let address = read_address(alloc, word, 1)?;
+    Ok(Command::Vault { address })
+}
+
+fn read_vault_show(alloc: Global, rest: Option<&[u8]>) -> Result<Command, LineFault>
+    ensures { (providers : List Provider) → OrNoMemory faults.NoMemory result
+        (made_of providers verbs.VaultShow (parts_behind space (option_map (λ text. text.now) rest.entry))) }
+{
+    let (word, rest) = next_word(rest)?;
+    let address = read_address(alloc, word, 1)?;
+    let (word, _) = next_word(rest)?;
+    let place = read_place(word, 2)?;
+    Ok(Command::VaultShow { address, place })
+}
+
+fn read_screen(directory: &Directory, rest: Option<&[u8]>) -> Result<Command, LineFault>
+    ensures { OrNoMemory faults.NoMemory result
+        (made_of (providers_of directory.now) verbs.Screen (parts_behind space (option_map (λ text. text.now) rest.entry))) }
+{
+    let (word, rest) = next_word(rest)?;
+    let provider = read_provider(directory, word, 1)?;
+    let (word, _) = next_word(rest)?;
+    let place = read_place(word, 2)?;
+    Ok(Command::Screen { provider, place })
 }

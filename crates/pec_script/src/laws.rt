@@ -17,7 +17,7 @@ ghost use Rattle.pec_script.specs.LinesReading.{command_of};
 ghost use Rattle.pec_script.specs.Pages.{text_after};
 ghost use Rattle.pec_script.specs.Printed.{AreAlike, AreSameEvents, IsBookLine, IsEvent, IsItemLine, IsLineRefusal, IsMark, IsNamed, IsRefusal, IsSubmitted};
 ghost use Rattle.pec_script.specs.Rows.{AreRows};
-ghost use Rattle.pec_script.specs.Texts.{Row, book_text, event_words, fault_text, id_of, items_text, marks_text, refused_text, submitted_text, text_of};
+ghost use Rattle.pec_script.specs.Texts.{Row, book_text, event_words, fault_text, id_of, items_text, marks_text, refused_text, submitted_text, text_of, vault_text};
 
 use pec_directory::{a_first_domain_is_one_providers, a_text_names_one_message};
 use pec_types::{an_address_is_told_exactly, each_cause_is_one_of_all, lower_addresses_pass};
@@ -76,6 +76,19 @@ pub fn a_text_has_one_mailbox()
         → AllByRecursion (IsItemLine providers) lines → AllByRecursion (IsItemLine providers) others
         → length lines < 2 ^ 64 → length others < 2 ^ 64
         → items_text providers lines ≡ items_text providers others → AreAlike lines others }
+{
+    lower_addresses_pass();
+    a_first_domain_is_one_providers();
+    a_text_names_one_message();
+    a_text_is_cut_in_one_way();
+}
+
+/// No text belongs to two archives that differ in more than the causes that aren't printed.
+pub fn a_text_has_one_archive()
+    ensures { (providers : List Provider) (lines others : List ItemLine) → IsLawful providers
+        → AllByRecursion (IsItemLine providers) lines → AllByRecursion (IsItemLine providers) others
+        → length lines < 2 ^ 64 → length others < 2 ^ 64
+        → vault_text providers lines ≡ vault_text providers others → AreAlike lines others }
 {
     lower_addresses_pass();
     a_first_domain_is_one_providers();

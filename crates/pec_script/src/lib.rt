@@ -21,12 +21,12 @@ pub use books::book_text;
 pub use commands::Command;
 pub use faults::LineFault;
 pub use laws::{
-    a_line_has_one_reading, a_name_has_one_message, a_text_has_one_book, a_text_has_one_clock_call,
-    a_text_has_one_list_of_lines, a_text_has_one_mailbox, a_text_has_one_refusal,
-    a_text_has_one_refused_line, a_text_has_one_submission, lines_are_put_in_their_order,
-    words_have_one_event,
+    a_line_has_one_reading, a_name_has_one_message, a_text_has_one_archive, a_text_has_one_book,
+    a_text_has_one_clock_call, a_text_has_one_list_of_lines, a_text_has_one_mailbox,
+    a_text_has_one_refusal, a_text_has_one_refused_line, a_text_has_one_submission,
+    lines_are_put_in_their_order, words_have_one_event,
 };
-pub use mailboxes::{item_text, items_text};
+pub use mailboxes::{item_text, items_text, vault_text};
 pub use marks::marks_text;
 pub use pages::Page;
 pub use refusals::{fault_text, refused_text};

@@ -1,7 +1,7 @@
-ghost use Rattle.std.specs.Prelude.{◌≡◌, IfOk};
+ghost use Rattle.std.specs.Prelude.{◌≡◌, [], IfOk};
 ghost use Rattle.pec_directory.specs.Directory.{providers_of};
-ghost use Rattle.pec_script.specs.Pages.{line_after};
-ghost use Rattle.pec_script.specs.Texts.{item_row, item_text, items_text, kind_word, receipt_word};
+ghost use Rattle.pec_script.specs.Pages.{line_after, text_after};
+ghost use Rattle.pec_script.specs.Texts.{item_row, item_rows, item_text, items_text, kind_word, receipt_word, vault_text};
 
 use crate::pages::Page;
 use base64::engine::general_purpose::STANDARD;
@@ -19,12 +19,34 @@ pub fn items_text(
 ) -> Result<Vec<u8>, NoMemory>
     ensures { IfOk result (λ text. text.items ≡ items_text (providers_of directory.now) lines.now) }
 {
+    let page = item_lines(alloc, directory, lines)?;
+    let page = page.count_line(b"mailbox", lines.len())?;
+    Ok(page.text)
+}
+
+/// The lines of an archive: those of its items as in a mailbox, and `vault COUNT`. This project's profile.
+#[tactic(auto, unfolding(crate::specs::Texts::vault_text))]
+pub fn vault_text(
+    alloc: Global,
+    directory: &Directory,
+    lines: &[ItemLine],
+) -> Result<Vec<u8>, NoMemory>
+    ensures { IfOk result (λ text. text.items ≡ vault_text (providers_of directory.now) lines.now) }
+{
+    let page = item_lines(alloc, directory, lines)?;
+    let page = page.count_line(b"vault", lines.len())?;
+    Ok(page.text)
+}
+
+/// A line for each item, with places from 0.
+fn item_lines(alloc: Global, directory: &Directory, lines: &[ItemLine]) -> Result<Page, NoMemory>
+    ensures { IfOk result (λ page. page.text.items ≡ text_after [] (item_rows (providers_of directory.now) 0 lines.now)) }
+{
     let mut page = Page::new(alloc);
     for (place, line) in lines.iter().enumerate() {
         page = add_line(alloc, directory, page, place as u64, line)?;
     }
-    let page = page.count_line(b"mailbox", lines.len())?;
-    Ok(page.text)
+    Ok(page)
 }
 
 /// An item's bytes, in base64 on one line (RFC 4648, section 4).
@@ -68,7 +90,7 @@ fn kind_word(kind: ItemKind) -> &'static [u8]
     }
 }
 
-/// A receipt's word. A take-charge receipt and an acknowledgement are in no mailbox.
+/// A receipt's word. A take-charge receipt, a virus notice and an acknowledgement are in no mailbox.
 fn receipt_word(kind: Kind) -> &'static [u8]
     ensures { result.now ≡ receipt_word kind }
 {
@@ -78,6 +100,7 @@ fn receipt_word(kind: Kind) -> &'static [u8]
         Kind::Charge => b"charge",
         Kind::Delivery => b"delivery",
         Kind::DeliveryError(_) => b"delivery-error",
+        Kind::VirusFound => b"virus-found",
         Kind::Warning => b"warning",
         Kind::Notice => b"notice",
         Kind::LateNotice => b"late-notice",

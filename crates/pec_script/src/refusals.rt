@@ -9,7 +9,7 @@ use pec_types::{NoMemory, ProviderFault};
 use std::alloc::Global;
 
 /// The line of what a provider refuses: `no-account`, `down`, `clock-back LAST`, `full`, `no-item`, `journal-full`,
-/// `fault disk` or `changed ENTRY`. Want of memory has no line. This project's profile.
+/// `old-journal`, `no-need`, `fault disk` or `changed ENTRY`. Want of memory has no line. This project's profile.
 #[tactic(auto, unfolding(crate::specs::Texts::fault_text))]
 pub fn fault_text(
     alloc: Global,
@@ -59,6 +59,8 @@ fn refusal_word(fault: ProviderFault) -> Option<&'static [u8]>
         ProviderFault::Full => Some(b"full"),
         ProviderFault::NoItem => Some(b"no-item"),
         ProviderFault::JournalFull => Some(b"journal-full"),
+        ProviderFault::OldJournal => Some(b"old-journal"),
+        ProviderFault::NoNeed => Some(b"no-need"),
         ProviderFault::NoMemory => None,
         ProviderFault::Changed(_) => Some(b"changed"),
     }

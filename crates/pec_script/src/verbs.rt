@@ -19,10 +19,15 @@ pub enum Verb {
     Book,
     Mailbox,
     Show,
+    Archive,
+    Upgrade,
+    Vault,
+    VaultShow,
+    Screen,
 }
 
 /// All verbs.
-const VERBS: [Verb; 12] = [
+const VERBS: [Verb; 17] = [
     Verb::Submit,
     Verb::Tick,
     Verb::Round,
@@ -35,6 +40,11 @@ const VERBS: [Verb; 12] = [
     Verb::Book,
     Verb::Mailbox,
     Verb::Show,
+    Verb::Archive,
+    Verb::Upgrade,
+    Verb::Vault,
+    Verb::VaultShow,
+    Verb::Screen,
 ];
 
 impl Verb {
@@ -53,9 +63,10 @@ impl Verb {
     {
         match self {
             Verb::Submit => 5,
-            Verb::Lose | Verb::Repeat | Verb::Swap | Verb::Inject => 3,
-            Verb::Tick | Verb::Show => 2,
-            Verb::Round | Verb::Crash | Verb::Restart | Verb::Book | Verb::Mailbox => 1,
+            Verb::Lose | Verb::Repeat | Verb::Swap | Verb::Inject | Verb::Archive => 3,
+            Verb::Tick | Verb::Show | Verb::Upgrade | Verb::VaultShow | Verb::Screen => 2,
+            Verb::Round | Verb::Crash | Verb::Restart | Verb::Book | Verb::Mailbox | Verb::Vault =>
+                1,
         }
     }
 
@@ -77,6 +88,11 @@ impl Verb {
             Verb::Book => b"book",
             Verb::Mailbox => b"mailbox",
             Verb::Show => b"show",
+            Verb::Archive => b"archive",
+            Verb::Upgrade => b"upgrade",
+            Verb::Vault => b"vault",
+            Verb::VaultShow => b"vault-show",
+            Verb::Screen => b"screen",
         }
     }
 }

@@ -59,6 +59,11 @@ static MAILBOXES: &[Row] = &[
         text: "0 delivery-error - -\n1 delivery-error pec.0999999@beta.example bob@beta.example\nmailbox 2\n",
     },
     Row {
+        printed: Printed::Mailbox(ItemKind::Receipt(Kind::VirusFound)),
+        form: Some(Form::Mailbox),
+        text: "0 virus-found - -\n1 virus-found pec.0999999@beta.example bob@beta.example\nmailbox 2\n",
+    },
+    Row {
         printed: Printed::Mailbox(ItemKind::Receipt(Kind::Warning)),
         form: Some(Form::Mailbox),
         text: "0 warning - -\n1 warning pec.0999999@beta.example bob@beta.example\nmailbox 2\n",
@@ -77,6 +82,16 @@ static MAILBOXES: &[Row] = &[
         printed: Printed::Mailbox(ItemKind::Receipt(Kind::Ack)),
         form: Some(Form::Mailbox),
         text: "0 ack - -\n1 ack pec.0999999@beta.example bob@beta.example\nmailbox 2\n",
+    },
+    Row {
+        printed: Printed::Vault(ItemKind::Envelope),
+        form: None,
+        text: "0 envelope - -\n1 envelope pec.0999999@beta.example bob@beta.example\nvault 2\n",
+    },
+    Row {
+        printed: Printed::NoVault,
+        form: None,
+        text: "vault 0\n",
     },
 ];
 
@@ -258,6 +273,16 @@ static REFUSALS: &[Row] = &[
         text: "journal-full\n",
     },
     Row {
+        printed: Printed::Refusal(Fault::OldJournal),
+        form: None,
+        text: "old-journal\n",
+    },
+    Row {
+        printed: Printed::Refusal(Fault::NoNeed),
+        form: None,
+        text: "no-need\n",
+    },
+    Row {
         printed: Printed::Refusal(Fault::Changed(18_446_744_073_709_551_615)),
         form: None,
         text: "changed 18446744073709551615\n",
@@ -309,6 +334,31 @@ static ANSWERS: &[Row] = &[
         printed: Printed::Answer(Answer::Crashed),
         form: None,
         text: "crashed\n",
+    },
+    Row {
+        printed: Printed::Answer(Answer::Archived),
+        form: None,
+        text: "archived\n",
+    },
+    Row {
+        printed: Printed::Answer(Answer::Upgraded),
+        form: None,
+        text: "upgraded\n",
+    },
+    Row {
+        printed: Printed::Answer(Answer::Screened),
+        form: None,
+        text: "screened\n",
+    },
+    Row {
+        printed: Printed::Answer(Answer::NoSpare),
+        form: None,
+        text: "no-spare\n",
+    },
+    Row {
+        printed: Printed::Answer(Answer::NoScreen),
+        form: None,
+        text: "no-screen\n",
     },
     Row {
         printed: Printed::Answer(Answer::Restarted(0)),

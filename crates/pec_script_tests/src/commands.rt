@@ -23,6 +23,11 @@ static COMMANDS: &[Row] = &[
     ("book a@b", "book a@b"),
     ("mailbox BOB@beta.example", "mailbox bob@beta.example"),
     ("show a@b 12", "show 12 a@b"),
+    ("archive A@b 1704186000 3", "archive 1704186000 3 a@b"),
+    ("upgrade beta 1704186004", "upgrade 1 1704186004"),
+    ("vault carl@BETA.example", "vault carl@beta.example"),
+    ("vault-show a@b 0", "vault-show 0 a@b"),
+    ("screen beta 4294967295", "screen 1 4294967295"),
 ];
 
 // One word too few, one too many, and a last word that is empty: whatever stands in the others.
@@ -84,6 +89,8 @@ static REFUSED: &[Row] = &[
     ("boo a@b", "refused line 7 unknown-word\n"),
     ("book\ta@b", "refused line 7 unknown-word\n"),
     ("#", "refused line 7 unknown-word\n"),
+    ("vault_show a@b 1", "refused line 7 unknown-word\n"),
+    ("vaults a@b", "refused line 7 unknown-word\n"),
     ("submit,alfa", "refused line 7 unknown-word\n"),
     ("show", "refused line 7 arity\n"),
     ("book  a@b", "refused line 7 arity\n"),
@@ -125,6 +132,19 @@ static REFUSED: &[Row] = &[
     ("show a@ x", "refused line 7 bad-address 1\n"),
     ("show a@b x", "refused line 7 bad-number 2\n"),
     ("show a@b,a@b 1", "refused line 7 bad-address 1\n"),
+    ("archive a x x", "refused line 7 bad-address 1\n"),
+    ("archive a@b 4102444800 x", "refused line 7 bad-number 2\n"),
+    ("archive a@b 1 x", "refused line 7 bad-number 3\n"),
+    (
+        "upgrade alfa.example x",
+        "refused line 7 unknown-provider 1\n",
+    ),
+    ("upgrade alfa x", "refused line 7 bad-number 2\n"),
+    ("vault a", "refused line 7 bad-address 1\n"),
+    ("vault-show a x", "refused line 7 bad-address 1\n"),
+    ("vault-show a@b 4294967296", "refused line 7 bad-number 2\n"),
+    ("screen gamma x", "refused line 7 unknown-provider 1\n"),
+    ("screen alfa 4294967296", "refused line 7 bad-number 2\n"),
 ];
 
 // Arguments as they are written, and others that are near.

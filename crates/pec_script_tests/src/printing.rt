@@ -8,10 +8,11 @@ use crate::values::{
 use pec_directory::Directory;
 use pec_script::{
     Answer, LineFault, answer_text, book_text, fault_text, item_text, items_text, marks_text,
-    refused_text, submitted_text, turns_text,
+    refused_text, submitted_text, turns_text, vault_text,
 };
 use pec_types::{
-    Cause, Class, Decision, Due, ItemKind, Moment, MsgId, ProviderFault, Refusal, Submitted,
+    Cause, Class, Decision, Due, ItemKind, ItemLine, Moment, MsgId, ProviderFault, Refusal,
+    Submitted,
 };
 use std::alloc::Global;
 use std::slice::from_ref;
@@ -25,6 +26,8 @@ pub enum Fault {
     Full,
     NoItem,
     JournalFull,
+    OldJournal,
+    NoNeed,
     NoMemory,
     Changed(u64),
 }
@@ -36,6 +39,10 @@ pub enum Printed {
     Book,
     /// A mailbox with an item of this kind that names nothing, and one that names a message and a recipient.
     Mailbox(ItemKind),
+    /// An archive with the same two items.
+    Vault(ItemKind),
+    /// An archive without items.
+    NoVault,
     /// What a clock call does of each kind, and a mark of nothing.
     Marks,
     /// What a clock call does that finds nothing due.
@@ -102,7 +109,9 @@ fn is_printed(alloc: Global, directory: &Directory, printed: Printed, wanted: &[
 fn text_of(alloc: Global, directory: &Directory, printed: Printed) -> Option<Vec<u8>> {
     match printed {
         Printed::Book => book(alloc, directory),
-        Printed::Mailbox(kind) => mailbox(alloc, directory, kind),
+        Printed::Mailbox(kind) => items_text(alloc, directory, &items(alloc, kind)).ok(),
+        Printed::Vault(kind) => vault_text(alloc, directory, &items(alloc, kind)).ok(),
+        Printed::NoVault => vault_text(alloc, directory, &[]).ok(),
         Printed::Marks => marks(alloc, directory),
         Printed::NoMark => marks_text(alloc, directory, &[]).ok(),
         Printed::Event(number) => round_of(alloc, directory, number),
@@ -124,6 +133,8 @@ fn fault_of(fault: Fault) -> ProviderFault {
         Fault::Full => ProviderFault::Full,
         Fault::NoItem => ProviderFault::NoItem,
         Fault::JournalFull => ProviderFault::JournalFull,
+        Fault::OldJournal => ProviderFault::OldJournal,
+        Fault::NoNeed => ProviderFault::NoNeed,
         Fault::NoMemory => ProviderFault::NoMemory,
         Fault::Changed(entry) => ProviderFault::Changed(entry),
     }
@@ -159,11 +170,12 @@ fn add<T: Drop>(lines: &mut Vec<T>, line: Option<T>) {
     }
 }
 
-fn mailbox(alloc: Global, directory: &Directory, kind: ItemKind) -> Option<Vec<u8>> {
+/// An item of this kind that names nothing, and one that names a message and a recipient.
+fn items(alloc: Global, kind: ItemKind) -> Vec<ItemLine> {
     let mut items = Vec::new(alloc);
     add(&mut items, Some(nameless_item(kind)));
     add(&mut items, named_item(alloc, kind));
-    items_text(alloc, directory, &items).ok()
+    items
 }
 
 static DUES: &[Due] = &[Due::Warning, Due::Nothing, Due::Notice, Due::LateNotice];

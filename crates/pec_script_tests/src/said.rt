@@ -80,10 +80,32 @@ fn put(alloc: Global, text: &mut Vec<u8>, command: &Command) {
         }
         Command::Book { address } => put_address(text, b"book", address),
         Command::Mailbox { address } => put_address(text, b"mailbox", address),
-        Command::Show { address, place } => {
-            put_numbers(alloc, text, b"show", &[u64::from(*place)]);
+        Command::Show { address, place } => { put_item(alloc, text, b"show", address, *place) }
+        Command::Archive {
+            address,
+            moment,
+            place,
+        } => {
+            put_numbers(alloc, text, b"archive", &[moment.seconds()]);
+            put_number(alloc, text, u64::from(*place));
             put_word(text, address.bytes());
         }
+        Command::Upgrade { provider, moment } => put_numbers(
+            alloc,
+            text,
+            b"upgrade",
+            &[u64::from(*provider), moment.seconds()],
+        ),
+        Command::Vault { address } => put_address(text, b"vault", address),
+        Command::VaultShow { address, place } => {
+            put_item(alloc, text, b"vault-show", address, *place)
+        }
+        Command::Screen { provider, place } => put_numbers(
+            alloc,
+            text,
+            b"screen",
+            &[u64::from(*provider), u64::from(*place)],
+        ),
     }
 }
 
@@ -98,6 +120,11 @@ fn put_numbers(alloc: Global, text: &mut Vec<u8>, word: &[u8], numbers: &[u64]) 
 fn put_place(alloc: Global, text: &mut Vec<u8>, word: &[u8], from: u32, to: u32, place: u32) {
     let numbers = [u64::from(from), u64::from(to), u64::from(place)];
     put_numbers(alloc, text, word, &numbers);
+}
+
+fn put_item(alloc: Global, text: &mut Vec<u8>, word: &[u8], address: &Address, place: u32) {
+    put_numbers(alloc, text, word, &[u64::from(place)]);
+    put_word(text, address.bytes());
 }
 
 fn put_address(text: &mut Vec<u8>, word: &[u8], address: &Address) {

@@ -229,6 +229,7 @@ static KINDS: &[(ItemKind, &str)] = &[
         ItemKind::Receipt(Kind::DeliveryError(Refusal::Virus)),
         "delivery-error",
     ),
+    (ItemKind::Receipt(Kind::VirusFound), "virus-found"),
     (ItemKind::Receipt(Kind::Warning), "warning"),
     (ItemKind::Receipt(Kind::Notice), "notice"),
     (ItemKind::Receipt(Kind::LateNotice), "late-notice"),

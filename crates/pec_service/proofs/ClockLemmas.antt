@@ -1,6 +1,7 @@
 -- A run that goes by clock calls: its steps are calls, and it can't stray.
 use Rattle.std.proofs.Common.{◌≡◌, ◌≢◌, ℕ, zero, suc, ◌+◌, ◌<◌, ◌≤◌, inl, inr, List, [], ◌∷◌, ◌++◌, map, refl, ap, sym, subst, ◌∙◌, Option, Some, None}
 use Rattle.std.specs.Prelude.{slice_get}
+use Rattle.std.proofs.lemmas.Option.{none-some}
 use Rattle.pec_types.specs.Bytes.{Bytes}
 use Rattle.pec_outside.specs.DiskModel.{Sight}
 use Rattle.pec_outside.specs.Flow.{WrotePart, followed_by}
@@ -11,11 +12,13 @@ use Rattle.pec_ledger.specs.Trade.{Trade}
 use Rattle.pec_ledger.specs.TradeLaws.{IsTrade}
 use Rattle.pec_plays.specs.Commands.{Command, Luck, Restart, played}
 use Rattle.pec_plays.specs.Possible.{GaveWhatWasKept, IsOfKept}
-use Rattle.pec_plays.specs.Scripts.{IsUnforged}
+use Rattle.pec_plays.specs.Scripts.{IsUnforged, put_instead}
+use Rattle.pec_plays.specs.Turns.{Cut}
+use Rattle.pec_plays.specs.Turns as cuts
 use Rattle.pec_runs.specs.AnswerLines.{answer_text}
 use Rattle.pec_runs.specs.Moves.{KeepSound, Moves, MovesOn}
 use Rattle.pec_runs.specs.Ran.{LeavesOff}
-use Rattle.pec_runs.specs.Steps.{Act, AreSteps, EndsSo, Goes, GoesAstray, Hands, IsStep, Plays, Point, Step, Stop, Writes}
+use Rattle.pec_runs.specs.Steps.{Act, AreSteps, EndsSo, Goes, GoesAstray, IsStep, Plays, Point, Step, Stop}
 use Rattle.pec_runs.specs.Steps.{acts_of, next_of, text_of}
 use Rattle.pec_runs.specs.Steps as steps
 use Rattle.pec_service.specs.Calls.{AllMayCome, AreCalls, CallsEnd, ClockWent, State, calls_by, calls_text}
@@ -45,7 +48,7 @@ module _ (trade : Trade) (providers : List Provider) (tells : Type 0) {D : Type 
     unplayed = front.unplayed;
     left_is = front.left_is;
     plays = ap (λ (l : List Command). command ∷ l) front.plays;
-    are = (is, front.are);
+    are = (is.0, front.are);
     behind = front.behind;
     text = ap (λ (t : Bytes). answer_text providers (played trade luck here.sites command).answer ++ t) front.text;
   }
@@ -143,8 +146,8 @@ module _ (trade : Trade) (providers : List Provider) (tells : Type 0) {D : Type 
         → IsTrade trade → Sound trade at.sites → Sound trade behind.sites
     step_sound at behind act luck command same is may told is_trade sound =
         let call = subst (λ (a : Act). IsStep trade tells at a luck behind) same is
-        in subst (λ (s : List Site). Sound trade s) (sym call.state)
-        (stays is_trade luck at.sites command sound (may luck at.sites (call.kept told)))
+        in subst (λ (s : List Site). Sound trade s) (sym call.0.state)
+        (stays is_trade luck at.sites command sound (may luck at.sites (call.0.kept told)))
 
     keep_sound : (at : steps.State D) (some : List (Step D)) (left : List Act) (commands : List Command)
         → acts_of some ++ left ≡ map Plays commands → AreSteps trade tells at some → AllMayCome trade commands
@@ -209,10 +212,20 @@ pub clock_went : (trade : Trade) (providers : List Provider) (tells : Type 0) {D
 clock_went trade providers tells sight more from moment here there stop stays goes =
     went trade providers tells sight (clock_from more from moment) (clock_is more from moment) here there stays stop goes
 
+-- a turn whose disk gave back what was kept puts no frame in place of a due one
+none_put : (cut : Cut) (out : List (List Bytes)) → IsOfKept cut → put_instead cut ≡ Some out → ⊥
+none_put cuts.Whole out kept is = none-some out is
+none_put (cuts.Fails number fault) out kept is = none-some out is
+none_put (cuts.Full number) out kept is = none-some out is
+none_put (cuts.Stops number) out kept is = none-some out is
+none_put (cuts.Unread number fault) out kept is = none-some out is
+none_put (cuts.Other other) out kept is = kept
+none_put (cuts.Sees looks cut) out kept is = kept
+
 -- clock calls and a round at a moment that a clock tells may come in any state
 pub clock_may_come : (trade : Trade) (more from moment : ℕ) → moment < END_OF_TIME
     → AllMayCome trade (clock_from more from moment)
 clock_may_come trade zero from moment in_time =
-    (λ luck sites kept. (in_time, λ p out within other. absurd (subst IsOfKept other (kept p))), tt)
+    (λ luck sites kept. (in_time, λ p out within other. absurd (none_put (luck.cuts p) out (kept p) other)), tt)
 clock_may_come trade (suc more) from moment in_time =
     (λ luck sites kept. in_time, clock_may_come trade more (from + 1) moment in_time)

@@ -7,7 +7,6 @@ use Rattle.pec_types.specs.Bytes.{Bytes}
 use Rattle.pec_types.specs.declared.moments.TheConstants.{END_OF_TIME}
 use Rattle.pec_outside.specs.Doors.{Reply}
 use Rattle.pec_directory.specs.Directory.{Kept}
-use Rattle.pec_screen.specs.Screened.{Finds}
 use Rattle.pec_ledger.specs.Network.{Site, Sound}
 use Rattle.pec_ledger.specs.Trade.{Trade}
 use Rattle.pec_plays.specs.Commands.{Command, Luck, played}
@@ -38,15 +37,15 @@ module _ (trade : Trade) (kept : List Kept) where
       ∙ sym (append_assoc (connection_text trade kept here.network first) (connections_text trade kept first.behind all)
       (connection_text trade kept (place_behind first.behind all).network one))
 
-module _ (trade : Trade) (tells : Type 0) (kept : List Kept) (finds : Finds) where
-  pub connection_append : (here : Place) (all : List Connection) (one : Connection) → AreConnections trade tells kept finds here all
-      → IsConnection trade tells kept finds (place_behind here all) one → AreConnections trade tells kept finds here (all ++ one ∷ [])
+module _ (trade : Trade) (tells : Type 0) (kept : List Kept) where
+  pub connection_append : (here : Place) (all : List Connection) (one : Connection) → AreConnections trade tells kept here all
+      → IsConnection trade tells kept (place_behind here all) one → AreConnections trade tells kept here (all ++ one ∷ [])
   connection_append here [] one are is = (is, tt)
   connection_append here (first ∷ all) one are is = (are.0, connection_append first.behind all one are.1 is)
 
   -- ---- replies
 
-  pub replies_are : (here : Place) (all : List Connection) (replies : List Reply) → AreConnections trade tells kept finds here all
+  pub replies_are : (here : Place) (all : List Connection) (replies : List Reply) → AreConnections trade tells kept here all
       → here.replies ≡ Some replies
       → (place_behind here all).replies ≡ Some (replies ++ map (λ (one : Connection). one.reply) all)
   replies_are here [] replies are told = told ∙ ap (λ (l : List Reply). Some l) (sym (append-nil replies))
@@ -63,7 +62,7 @@ module _ (trade : Trade) (tells : Type 0) (kept : List Kept) (finds : Finds) whe
     pub state : (state_behind here.network (calls_in all)).sites ≡ (place_behind here all).network.sites
     pub later : (p : ℕ) → (state_behind here.network (calls_in all)).counts p ≤ (place_behind here all).network.counts p
 
-  pub are_played : (here : Place) (all : List Connection) → AreConnections trade tells kept finds here all → Played here all
+  pub are_played : (here : Place) (all : List Connection) → AreConnections trade tells kept here all → Played here all
   are_played here [] are = record { calls = tt; state = refl; later = λ p. omega arith }
   are_played here (first ∷ all) are =
       let more = are_played first.behind all are.1
@@ -82,7 +81,7 @@ module _ (trade : Trade) (tells : Type 0) (kept : List Kept) (finds : Finds) whe
         );
       }
 
-  pub states_are : (here : Place) (all : List Connection) → AreConnections trade tells kept finds here all
+  pub states_are : (here : Place) (all : List Connection) → AreConnections trade tells kept here all
       → (script trade (lucks_of (calls_in all)) here.network.sites (commands_of (calls_in all))).after
       ≡ (place_behind here all).network.sites
   states_are here all are =
@@ -114,7 +113,7 @@ module _ (trade : Trade) (tells : Type 0) (kept : List Kept) (finds : Finds) whe
       ((λ sites. tt, λ luck sites puts. in_time), clock_may more (from + 1) moment in_time)
 
   answer_may : (moment : ℕ) (input : Bytes) (answering : Answering) → moment < END_OF_TIME
-      → connections.AsksSo kept input answering → AllMayCome (handed_by finds moment answering)
+      → connections.AsksSo kept input answering → AllMayCome (handed_by moment answering)
   answer_may moment input connections.Lacks in_time asks = tt
   answer_may moment input (connections.Stops stop) in_time asks = tt
   answer_may moment input (connections.Sees address looks.Book) in_time asks = tt
@@ -125,12 +124,12 @@ module _ (trade : Trade) (tells : Type 0) (kept : List Kept) (finds : Finds) whe
       ((λ sites. tt, λ luck sites puts. (asks.2, asks.3, in_time)), tt)
 
   heard_may : (moment : ℕ) (input : Bytes) (hearing : Hearing) → moment < END_OF_TIME → IsHeardSo kept input hearing
-      → AllMayCome (handed_in finds moment hearing)
+      → AllMayCome (handed_in moment hearing)
   heard_may moment input connections.Unheard in_time heard = tt
   heard_may moment input (connections.Heard answering) in_time heard = answer_may moment input answering in_time heard
   heard_may moment input (connections.Broken answering) in_time heard = answer_may moment input answering in_time heard
 
-  one_may : (here : Place) (one : Connection) → IsConnection trade tells kept finds here one → AllMayCome (commands_of (calls_of one))
+  one_may : (here : Place) (one : Connection) → IsConnection trade tells kept here one → AllMayCome (commands_of (calls_of one))
   one_may here one is =
       subst AllMayCome (sym (commands_append one.handed one.clock))
       (all_append (commands_of one.handed) (commands_of one.clock)
@@ -138,7 +137,7 @@ module _ (trade : Trade) (tells : Type 0) (kept : List Kept) (finds : Finds) whe
       (all_front (commands_of one.clock) is.unplayed
       (subst AllMayCome (sym is.plays) (clock_may (length kept) 0 one.moment is.in_time))))
 
-  pub all_may : (here : Place) (all : List Connection) → AreConnections trade tells kept finds here all
+  pub all_may : (here : Place) (all : List Connection) → AreConnections trade tells kept here all
       → AllMayCome (commands_of (calls_in all))
   all_may here [] are = tt
   all_may here (first ∷ all) are =
@@ -165,7 +164,7 @@ module _ (trade : Trade) (tells : Type 0) (kept : List Kept) (finds : Finds) whe
   abbrev Honest : Place → List Connection → Type 0
   Honest here all = AllHonest trade (lucks_of (calls_in all)) here.network.sites (commands_of (calls_in all))
 
-  pub are_unforged : (here : Place) (all : List Connection) → AreConnections trade tells kept finds here all
+  pub are_unforged : (here : Place) (all : List Connection) → AreConnections trade tells kept here all
       → Honest here all
       → AllUnforged trade (lucks_of (calls_in all)) here.network.sites (commands_of (calls_in all))
   are_unforged here all are honest =
@@ -175,7 +174,7 @@ module _ (trade : Trade) (tells : Type 0) (kept : List Kept) (finds : Finds) whe
   pub are_honest : ((lucks : List Luck) (sites : List Site) (commands : List Command)
       → AllByRecursion GaveWhatWasKept lucks → NoneInjected trade lucks sites commands
       → AllHonest trade lucks sites commands)
-      → tells → (here : Place) (all : List Connection) → AreConnections trade tells kept finds here all
+      → tells → (here : Place) (all : List Connection) → AreConnections trade tells kept here all
       → Honest here all
   are_honest due told here all are =
       due (lucks_of (calls_in all)) here.network.sites (commands_of (calls_in all))
@@ -199,7 +198,7 @@ module _ (trade : Trade) (tells : Type 0) (kept : List Kept) (finds : Finds) whe
       (subst (λ (s : List Site). Sound trade s) (sym are.0.state)
       (stays call.luck here.sites call.command sound given.0))
 
-  pub sound_behind : StaysSound → (here : Place) (all : List Connection) → AreConnections trade tells kept finds here all
+  pub sound_behind : StaysSound → (here : Place) (all : List Connection) → AreConnections trade tells kept here all
       → Honest here all → Sound trade here.network.sites → Sound trade (place_behind here all).network.sites
   sound_behind stays here all are honest sound =
       let played = are_played here all are

@@ -1,8 +1,8 @@
 -- What the caller of a connection is answered is its own, unless a device fails.
-use Rattle.std.proofs.Common.{◌≡◌, ◌≢◌, inl, inr, ℕ, ◌+◌, ◌-◌, ◌^◌, ◌≤◌, ◌<◌, ◌==◌, Bool, true, List, [], ◌∷◌, ◌++◌, refl, ap, sym, ◌∙◌, subst, Option, Some, None, Result, Ok, Err, arith}
+use Rattle.std.proofs.Common.{◌≡◌, ◌≢◌, inl, inr, ℕ, ◌+◌, ◌-◌, ◌^◌, ◌≤◌, Bool, List, [], ◌∷◌, ◌++◌, refl, ap, sym, ◌∙◌, subst, Option, Some, None, Result, Ok, Err, arith}
 use Rattle.std.specs.Prelude.{◌⊎◌, if◌then◌else◌}
 use Rattle.std.specs.List.{AllByRecursion}
-use Rattle.std.specs.Option.{option_and_then, option_map}
+use Rattle.std.specs.Option.{option_map}
 use Rattle.std.proofs.lemmas.Bool.{cases_lt, eq-eqb}
 use Rattle.std.proofs.lemmas.Option.{none-some}
 use Rattle.pec_types.specs.Bytes.{Bytes, Path}
@@ -11,27 +11,25 @@ use Rattle.pec_types.specs.declared.turns.ProviderFault.TheVariants as faults
 use Rattle.pec_types.specs.declared.turns.Submitted.{Submitted}
 use Rattle.pec_outside.specs.Flow.{HasRisen}
 use Rattle.pec_directory.specs.Directory.{Kept, Provider, account_home, first_domain, providers_of}
-use Rattle.pec_screen.specs.Screened.{Finds, finds_in}
-use Rattle.pec_screen.specs.Verdicts.{Patterns}
 use Rattle.pec_seal.specs.Seals.{Seals}
 use Rattle.pec_ledger.specs.Network.{Site}
 use Rattle.pec_ledger.specs.Trade.{Trade}
-use Rattle.pec_plays.specs.Commands.{Answer, Command, Luck, Refuses, Show, Submit, played}
+use Rattle.pec_plays.specs.Commands.{Answer, Command, Refuses, Show, Submit, played}
 use Rattle.pec_plays.specs.Possible.{MayMeet}
 use Rattle.pec_runs.specs.OfTrades.{trade_of}
 use Rattle.pec_runs.specs.Plays.{RoseBy, ShowsItsOwn, faults_at_home, faults_by}
 use Rattle.pec_http.specs.Asking.{Asks, Question, See, Submit as Submission}
-use Rattle.pec_http.specs.Replies.{Reply, memory_reply, shown_reply, stop_reply, submitted_reply}
+use Rattle.pec_http.specs.Replies.{Reply, shown_reply, stop_reply, submitted_reply}
 use Rattle.pec_http.specs.Serving.{kind_of}
 use Rattle.pec_http.specs.declared.demands.Look.{Look}
 use Rattle.pec_http.specs.declared.demands.Look.TheVariants as looks
 use Rattle.pec_http.specs.declared.passes.Pass.{Pass}
 use Rattle.pec_http.specs.declared.stops.Stop.{Stop}
 use Rattle.pec_service.specs.Calls.{AreCalls, Call, State, answer_of, commands_of, lucks_of, state_behind}
-use Rattle.pec_service.specs.Connections.{Answering, AsksSo, Connection, Hearing, IsConnection, IsHeardSo, Place, answered_by, handed_by, handed_in, heard_from, item_from, said_in, seen_in}
+use Rattle.pec_service.specs.Connections.{Answering, AsksSo, Connection, Hearing, IsConnection, IsHeardSo, Place, handed_by, handed_in, heard_from, item_from, said_in, seen_in}
 use Rattle.pec_service.specs.Connections as connections
 use Rattle.pec_service.specs.Isolation.{GaveItsOwn, IsDeviceReply, IsOwn, answered, answering_of, asking_share, own_answer}
-use Rattle.pec_service.specs.Own.{Share, patterns_at, reply_to, said_by, share_at, shown_in, shown_with, submission_reply}
+use Rattle.pec_service.specs.Own.{Share, reply_to, said_by, share_at, shown_in, shown_with, submission_reply}
 use Rattle.pec_service.specs.Passes.{pass_of}
 use Rattle.pec_service.specs.Services.{AreConnections, place_behind}
 use Rattle.pec_service.proofs.CallLemmas.{calls_shown}
@@ -58,12 +56,12 @@ module _ (kept : List Kept) (input : Bytes) (answering : Answering) where
   asks_so (connections.Heard other) is so = subst (AsksSo kept input) (some_is other answering is) so
   asks_so (connections.Broken other) is so = subst (AsksSo kept input) (some_is other answering is) so
 
-module _ (found : Finds) (moment : ℕ) (answering : Answering) where
+module _ (moment : ℕ) (answering : Answering) where
   handed_so : (hearing : Hearing) → answering_of hearing ≡ Some answering
-      → handed_in found moment hearing ≡ handed_by found moment answering
+      → handed_in moment hearing ≡ handed_by moment answering
   handed_so connections.Unheard is = absurd (none-some answering is)
-  handed_so (connections.Heard other) is = ap (handed_by found moment) (some_is other answering is)
-  handed_so (connections.Broken other) is = ap (handed_by found moment) (some_is other answering is)
+  handed_so (connections.Heard other) is = ap (handed_by moment) (some_is other answering is)
+  handed_so (connections.Broken other) is = ap (handed_by moment) (some_is other answering is)
 
 -- the first of some commands
 abbrev first_or : Command → List Command → Command
@@ -87,20 +85,9 @@ never_falls trade tells here (call ∷ calls) are provider =
     let rose = (are.0.counts provider).0
     in let more = never_falls trade tells call.behind calls are.1 provider in omega arith
 
--- ---- what it looks at
-
--- what is shown hangs on no screens
-shown_same : (trade : Trade) (providers : List Provider) (screens : List (List Patterns)) (state : List Site) (address : Bytes)
-    (looked : Look) (home : Option ℕ)
-    → shown_with providers (option_map (share_at trade [] state address) home) looked
-    ≡ shown_with providers (option_map (share_at trade screens state address) home) looked
-shown_same trade providers screens state address looked None = refl
-shown_same trade providers screens state address looked (Some number) = refl
-
 -- ---- all of it
 
-module _ (tells : Type 0) (kept : List Kept) (seals : Seals) (screens : List (List Patterns)) (here : Place)
-    (connection : Connection) where
+module _ (tells : Type 0) (kept : List Kept) (seals : Seals) (here : Place) (connection : Connection) where
   abbrev trade : Trade
   trade = trade_of kept seals
 
@@ -111,27 +98,27 @@ module _ (tells : Type 0) (kept : List Kept) (seals : Seals) (screens : List (Li
   sites = here.network.sites
 
   abbrev IsIts : Result Question Stop → Reply → Type 0
-  IsIts asked reply = IsOwn kept seals screens here connection asked reply
+  IsIts asked reply = IsOwn kept seals here connection asked reply
 
   module _ (number : ℕ) (address : Bytes) (path : Path) (message : Bytes)
       (home : account_home providers address ≡ Some number) where
     abbrev command : Command
-    command = Submit number connection.moment address path message (finds_in screens number message)
+    command = Submit number connection.moment address path message
 
     abbrev question : Result Question Stop
     question = Ok (Submission address path message)
 
     abbrev said : Result Submitted ProviderFault
-    said = said_by providers connection.moment number (share_at trade screens sites address number).figures
-        (patterns_at screens number) address path message
+    said = said_by providers connection.moment number (share_at trade sites address number).figures
+        (share_at trade sites address number).patterns address path message
 
     abbrev reply_by : Result Submitted ProviderFault → Reply
     reply_by heard = submitted_reply (first_domain providers number) heard
 
-    own_is : own_answer kept seals screens here connection question ≡ reply_by said
+    own_is : own_answer kept seals here connection question ≡ reply_by said
     own_is =
         ap (λ (found : Option ℕ). submission_reply providers connection.moment
-        (option_map (share_at trade screens sites address) found) address path message) home
+        (option_map (share_at trade sites address) found) address path message) home
 
     told_once : (told : Command) (answer : Answer) → told ≡ command → answer ≡ Refuses faults.DiskFault
         → faults_by trade number told answer ≡ 1
@@ -165,7 +152,7 @@ module _ (tells : Type 0) (kept : List Kept) (seals : Seals) (screens : List (Li
         by_call call (ap (first_or command) is) (are.0.counts number)
         (let k = never_falls trade tells call.behind (calls ++ clock) are.1 number in omega arith)
         (subst (λ (c : Command). Says said (played trade call.luck sites c).answer) (sym (ap (first_or command) is))
-        (submission_is kept seals screens sites address number home connection.moment path message call.luck))
+        (submission_is kept seals sites address number home connection.moment path message call.luck))
 
   -- a look at an item
   module _ (address : Bytes) (place : ℕ) where
@@ -179,7 +166,7 @@ module _ (tells : Type 0) (kept : List Kept) (seals : Seals) (screens : List (Li
     look_reply seen = shown_reply (kind_of (looks.Item place)) seen
 
     abbrev look_says : Result Bytes ProviderFault
-    look_says = shown_with providers (option_map (share_at trade screens sites address) (account_home providers address))
+    look_says = shown_with providers (option_map (share_at trade sites address) (account_home providers address))
         (looks.Item place)
 
     look_once : (number : ℕ) → account_home providers address ≡ Some number → (told : Command) (answer : Answer)
@@ -222,12 +209,12 @@ module _ (tells : Type 0) (kept : List Kept) (seals : Seals) (screens : List (Li
         in let may = subst (λ (c : Command). MayMeet trade call.luck sites c) same are.0.meet
         in look_call call same are.0.counts
         (λ p. let k = never_falls trade tells call.behind (calls ++ clock) are.1 p in let l = later p in omega (arith, k, l))
-        (λ fault told other. look_home kept seals screens sites address place call.luck gave.0 may fault
+        (λ fault told other. look_home kept seals sites address place call.luck gave.0 may fault
         (sym (ap (λ (c : Command). (played trade call.luck sites c).answer) same) ∙ told) other)
         (subst (λ (c : Command). ShowsSo look_says (played trade call.luck sites c).answer) (sym same)
-        (look_is kept seals screens sites address place call.luck gave.0 may))
+        (look_is kept seals sites address place call.luck gave.0 may))
 
-  module _ (is : IsConnection trade tells kept (finds_in screens) here connection) (one : AsksOne)
+  module _ (is : IsConnection trade tells kept here connection) (one : AsksOne)
       (asked : Result Question Stop) (asks : Asks (pass_of kept) connection.input asked)
       (gave : GaveItsOwn asked connection) where
     -- it asks what it was heard to ask
@@ -241,11 +228,10 @@ module _ (tells : Type 0) (kept : List Kept) (seals : Seals) (screens : List (Li
         subst (λ (a : Result Question Stop).
         IsIts a (shown_reply (kind_of looked) (shown_in trade providers sites address looked)))
         (is_asked (Ok (See address looked)) so)
-        (inl (ap (λ (shown : Result Bytes ProviderFault). shown_reply (kind_of looked) shown)
-        (shown_same trade providers screens sites address looked (account_home providers address))))
+        (inl refl)
 
     by_answering : (answering : Answering) → AsksSo kept connection.input answering
-        → commands_of connection.handed ≡ handed_by (finds_in screens) connection.moment answering
+        → commands_of connection.handed ≡ handed_by connection.moment answering
         → IsIts asked (answered kept seals here connection answering)
     by_answering connections.Lacks so hands = inr (inl refl)
     by_answering (connections.Stops stop) so hands =
@@ -268,28 +254,27 @@ module _ (tells : Type 0) (kept : List Kept) (seals : Seals) (screens : List (Li
         → IsIts asked (answered kept seals here connection answering)
     own answering heard =
         by_answering answering (asks_so kept connection.input answering connection.hearing heard is.heard)
-        (is.hands ∙ handed_so (finds_in screens) connection.moment answering connection.hearing heard)
+        (is.hands ∙ handed_so connection.moment answering connection.hearing heard)
 
 -- ---- two of them
 
-module _ (tells : Type 0) (kept : List Kept) (seals keys : Seals) (screens boxes : List (List Patterns))
-    (here there : Place) (one other : Connection) (asks_one : AsksOne) where
-  pub apart : IsConnection (trade_of kept seals) tells kept (finds_in screens) here one
-      → IsConnection (trade_of kept keys) tells kept (finds_in boxes) there other
+module _ (tells : Type 0) (kept : List Kept) (seals keys : Seals) (here there : Place) (one other : Connection) (asks_one : AsksOne) where
+  pub apart : IsConnection (trade_of kept seals) tells kept here one
+      → IsConnection (trade_of kept keys) tells kept there other
       → one.moment ≡ other.moment → one.input ≡ other.input
       → (asked : Result Question Stop) → Asks (pass_of kept) one.input asked
       → GaveItsOwn asked one → GaveItsOwn asked other
-      → asking_share kept seals screens here.network.sites asked ≡ asking_share kept keys boxes there.network.sites asked
+      → asking_share kept seals here.network.sites asked ≡ asking_share kept keys there.network.sites asked
       → (answering again : Answering) → answering_of one.hearing ≡ Some answering → answering_of other.hearing ≡ Some again
       → (answered kept seals here one answering ≡ answered kept keys there other again)
       ⊎ IsDeviceReply kept here one asked (answered kept seals here one answering)
       ⊎ IsDeviceReply kept there other asked (answered kept keys there other again)
   apart is be at input asked asks gave gives same answering again heard hears =
-      elim (own tells kept seals screens here one is asks_one asked asks gave answering heard) [
-        | inl first ↦ elim (own tells kept keys boxes there other be asks_one asked
+      elim (own tells kept seals here one is asks_one asked asks gave answering heard) [
+        | inl first ↦ elim (own tells kept keys there other be asks_one asked
             (subst (λ (i : Bytes). Asks (pass_of kept) i asked) input asks) gives again hears) [
               | inl second ↦ inl (first
-                  ∙ ap (λ (m : ℕ). reply_to (providers_of kept) m (asking_share kept seals screens here.network.sites asked) asked) at
+                  ∙ ap (λ (m : ℕ). reply_to (providers_of kept) m (asking_share kept seals here.network.sites asked) asked) at
                   ∙ ap (λ (share : Option Share). reply_to (providers_of kept) other.moment share asked) same
                   ∙ sym second)
               | inr fault ↦ inr (inr fault)
@@ -300,21 +285,21 @@ module _ (tells : Type 0) (kept : List Kept) (seals keys : Seals) (screens boxes
 -- ---- those of a service
 
 -- a connection among others is one, from the place behind those before it
-pub connection_at : (trade : Trade) (tells : Type 0) (kept : List Kept) (found : Finds) (here : Place)
+pub connection_at : (trade : Trade) (tells : Type 0) (kept : List Kept) (here : Place)
     (front rest : List Connection) (connection : Connection)
-    → AreConnections trade tells kept found here (front ++ connection ∷ rest)
-    → IsConnection trade tells kept found (place_behind here front) connection
-connection_at trade tells kept found here [] rest connection are = are.0
-connection_at trade tells kept found here (one ∷ front) rest connection are =
-    connection_at trade tells kept found one.behind front rest connection are.1
+    → AreConnections trade tells kept here (front ++ connection ∷ rest)
+    → IsConnection trade tells kept (place_behind here front) connection
+connection_at trade tells kept here [] rest connection are = are.0
+connection_at trade tells kept here (one ∷ front) rest connection are =
+    connection_at trade tells kept one.behind front rest connection are.1
 
 -- where disks tell what they hold, a look at an item was shown the item's own bytes
-pub gave_own : (trade : Trade) (tells : Type 0) (kept : List Kept) (found : Finds) (here : Place) (connection : Connection)
-    → tells → IsConnection trade tells kept found here connection → (asked : Result Question Stop)
+pub gave_own : (trade : Trade) (tells : Type 0) (kept : List Kept) (here : Place) (connection : Connection)
+    → tells → IsConnection trade tells kept here connection → (asked : Result Question Stop)
     → GaveItsOwn asked connection
-gave_own trade tells kept found here connection told is (Ok (Submission address path message)) = tt
-gave_own trade tells kept found here connection told is (Ok (See address looks.Book)) = tt
-gave_own trade tells kept found here connection told is (Ok (See address looks.Items)) = tt
-gave_own trade tells kept found here connection told is (Ok (See address (looks.Item place))) =
+gave_own trade tells kept here connection told is (Ok (Submission address path message)) = tt
+gave_own trade tells kept here connection told is (Ok (See address looks.Book)) = tt
+gave_own trade tells kept here connection told is (Ok (See address looks.Items)) = tt
+gave_own trade tells kept here connection told is (Ok (See address (looks.Item place))) =
     calls_shown trade tells told here.network connection.handed connection.clock is.calls
-gave_own trade tells kept found here connection told is (Err stop) = tt
+gave_own trade tells kept here connection told is (Err stop) = tt

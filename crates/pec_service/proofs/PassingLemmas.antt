@@ -3,6 +3,7 @@ use Rattle.std.proofs.Common.{◌≡◌, ◌≢◌, ℕ, ◌⊎◌, inl, inr, Li
 use Rattle.pec_types.specs.Bytes.{Bytes}
 use Rattle.pec_outside.specs.DiskModel.{Sight}
 use Rattle.pec_ledger.specs.Trade.{Trade}
+use Rattle.pec_screen.specs.Verdicts.{Patterns}
 use Rattle.pec_ledger.specs.TradeLaws.{IsTrade}
 use Rattle.pec_runs.specs.Endings.{End}
 use Rattle.pec_runs.specs.Openings.{Fails, Form, Holds, IsOpening, Next, NoMore, Opening, Resume, Stops, Unfits, disks_at}
@@ -65,8 +66,8 @@ module _ {D : Type 0} (tells : Type 0) (sight : D → Sight) (asked : Asked) (st
       → AreHadFrom sight tells form trade home left → AreFoundAs tells sight trade left found
       → Passes trade (held tells sight home) (held tells sight found))
       (ended : (trade : Trade) → IsTrade trade → (home left found : ℕ → Option D) (from upto : ℕ → ℕ) (form : Form)
-      (opening : Opening) → IsOpening trade (disks_at tells sight home) form opening → opening.next ≡ NoMore
-      → AreAtHome trade home → MovesThrough tells sight home left from upto trade form opening.journals
+      (screens : List (List Patterns)) (opening : Opening) → IsOpening trade (disks_at tells sight home) form opening → opening.next ≡ NoMore
+      → AreAtHome trade home → MovesThrough tells sight home left from upto trade form screens opening.journals
       → AreFoundAs tells sight trade left found → Passes trade (held tells sight home) (held tells sight found))
       (found : ℕ → Option D) where
     abbrev Passed : Trade → Type 0
@@ -77,7 +78,7 @@ module _ {D : Type 0} (tells : Type 0) (sight : D → Sight) (asked : Asked) (st
         → (happened.course.opening.next ≡ NoMore) ⊎ (happened.course.opening.next ≢ NoMore) → Passed (world happened)
     by_next begins form is at_home left_as (inl all) =
         ended (world happened) (world_is begins form is) home left found old.devices.disks new.devices.disks form
-        happened.course.opening (opening_is begins form is) all at_home (ran.through.served begins form is all) left_as
+        asked.screens happened.course.opening (opening_is begins form is) all at_home (ran.through.served begins form is all) left_as
     by_next begins form is at_home left_as (inr some) =
         stopped (world happened) form home left found at_home (ran.through.stopped begins form is some) left_as
 

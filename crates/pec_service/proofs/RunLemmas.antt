@@ -119,6 +119,15 @@ blames_none statuses.ClockFault old new none blames before after text ending tol
     absurd (not_risen old.clock new.clock blames none.clock)
 blames_none statuses.DoorFault old new none blames before after text ending told =
     absurd (not_risen old.door new.door blames none.door)
+blames_none statuses.DiskFault old new none blames before after text ending told =
+    absurd (not_risen (old.devices.disks blames.0) (new.devices.disks blames.0) blames.1 (none.devices.disks blames.0))
+blames_none statuses.Changed old new none blames before after text ending told = absurd (so ending told.0)
+  where
+    so : (e : Ending) → status_at e ≡ Some statuses.Changed → ⊥
+    so AllServed x = cc
+    so NoConnection x = cc
+    so NoMoment x = cc
+    so Halted x = cc
 blames_none statuses.InputTooLong old new none blames before after text ending told = absurd (so ending told.0)
   where
     so : (e : Ending) → status_at e ≡ Some statuses.InputTooLong → ⊥
@@ -148,7 +157,7 @@ module _ (asked : Asked) (status : Status) (unread before after : Option Bytes) 
           → (status ≡ statuses.NoMemory) ⊎ ((status ≡ statuses.Done)
           × (ran.happened.course.service.ending ≡ AllServed)
           × (after ≡ followed_by before (service_text (world ran.happened) ran.happened.setting.kept
-          (first_place (world ran.happened) ran.happened.course.opening.journals serves.counts here)
+          (first_place (world ran.happened) asked.screens ran.happened.course.opening.journals serves.counts here)
           ran.happened.course.service)))
           → (status ≡ statuses.NoMemory) ⊎ ServesAll asked status before after here ran.happened
       by_end serves (inl e) = inl e

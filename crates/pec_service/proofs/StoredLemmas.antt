@@ -9,14 +9,13 @@ use Rattle.pec_types.specs.declared.turns.ProviderFault.{ProviderFault}
 use Rattle.pec_types.specs.declared.turns.ProviderFault.TheVariants as faults
 use Rattle.pec_types.specs.declared.turns.Submitted.{Submitted}
 use Rattle.pec_directory.specs.Directory.{Kept}
-use Rattle.pec_screen.specs.Screened.{Finds}
 use Rattle.pec_ledger.specs.Half.{Half, Posted}
 use Rattle.pec_ledger.specs.Items.{item_text}
 use Rattle.pec_ledger.specs.Lookups.{mailbox}
 use Rattle.pec_ledger.specs.Network.{Site, journal_at, site_at}
 use Rattle.pec_ledger.specs.Steps.{half}
 use Rattle.pec_ledger.specs.Trade.{Trade}
-use Rattle.pec_plays.specs.Commands.{Command, Luck, Played, Refuses, Show, Submit, Submits, account_home, answers, appended, asked, entry_by, messages_at, played}
+use Rattle.pec_plays.specs.Commands.{Command, Luck, Played, Refuses, Show, Submit, Submits, account_home, answers, appended, asked, entry_by, finds_at, messages_at, played}
 use Rattle.pec_plays.specs.Commands.{read_back, screened_cause, shown, shown_bytes, told_by}
 use Rattle.pec_plays.specs.Possible.{IsOfRead, MayMeet}
 use Rattle.pec_plays.specs.Steps.{has_no_room}
@@ -46,13 +45,15 @@ tells_if : (b : Bool) (x y : Played) → Tells x → Tells y → Tells (if b the
 tells_if true x y one other = one
 tells_if false x y one other = other
 
-module _ (trade : Trade) (luck : Luck) (sites : List Site) (number moment : ℕ) (address : Bytes) (path : Path) (message : Bytes)
-    (found : Bool) where
+module _ (trade : Trade) (luck : Luck) (sites : List Site) (number moment : ℕ) (address : Bytes) (path : Path) (message : Bytes) where
+  abbrev found : Bool
+  found = finds_at sites number message
+
   appends : (fails : Bool) (entry : _) (submitted : Submitted) → Tells (appended fails sites number entry (Submits submitted))
   appends true entry submitted = tt
   appends false entry submitted = tt
 
-  pub submission_tells : Tells (played trade luck sites (Submit number moment address path message found))
+  pub submission_tells : Tells (played trade luck sites (Submit number moment address path message))
   unfolding played
   submission_tells =
       tells_if (trade.is_account number address) _ _
@@ -91,6 +92,8 @@ module _ (trade : Trade) (luck : Luck) (sites : List Site) (may : IfSome luck.re
   read_sees number bytes (Some faults.Full) of = tt
   read_sees number bytes (Some faults.NoItem) of = tt
   read_sees number bytes (Some faults.JournalFull) of = tt
+  read_sees number bytes (Some faults.OldJournal) of = tt
+  read_sees number bytes (Some faults.NoNeed) of = tt
   read_sees number bytes (Some (faults.Changed entry)) of = tt
 
   bytes_see : (number : ℕ) (text : Option Bytes) → Sees (shown_bytes luck sites number text)
@@ -121,16 +124,16 @@ or_else : Answering → Option Answering → Answering
 or_else other None = other
 or_else other (Some answering) = answering
 
-module _ (finds : Finds) (moment : ℕ) (answering : Answering) where
+module _ (moment : ℕ) (answering : Answering) where
   handed_so : (hearing : Hearing) → answering_of hearing ≡ Some answering
-      → handed_in finds moment hearing ≡ handed_by finds moment answering
+      → handed_in moment hearing ≡ handed_by moment answering
   unfolding or_else
   handed_so connections.Unheard is = absurd (none-some answering is)
-  handed_so (connections.Heard other) is = ap (handed_by finds moment) (ap (or_else other) is)
-  handed_so (connections.Broken other) is = ap (handed_by finds moment) (ap (or_else other) is)
+  handed_so (connections.Heard other) is = ap (handed_by moment) (ap (or_else other) is)
+  handed_so (connections.Broken other) is = ap (handed_by moment) (ap (or_else other) is)
 
-module _ (trade : Trade) (tells : Type 0) (kept : List Kept) (finds : Finds) (here : Place) (connection : Connection)
-    (is : IsConnection trade tells kept finds here connection) where
+module _ (trade : Trade) (tells : Type 0) (kept : List Kept) (here : Place) (connection : Connection)
+    (is : IsConnection trade tells kept here connection) where
   abbrev sites : List Site
   sites = here.network.sites
 
@@ -142,20 +145,20 @@ module _ (trade : Trade) (tells : Type 0) (kept : List Kept) (finds : Finds) (he
 
   module _ (number : ℕ) (address : Bytes) (path : Path) (message : Bytes) where
     abbrev submission : Command
-    submission = Submit number connection.moment address path message (finds number message)
+    submission = Submit number connection.moment address path message
 
     said_by : (calls : List Call) → commands_of calls ≡ submission ∷ [] → IsSaid (heard_from trade kept sites calls)
     said_by [] e = cc
     said_by (call ∷ calls) e =
         subst (λ (c : Command). Tells (played trade call.luck sites c)) (sym (ap (first_or submission) e))
-        (submission_tells trade call.luck sites number connection.moment address path message (finds number message))
+        (submission_tells trade call.luck sites number connection.moment address path message)
 
     pub stored_is_said : answering_of connection.hearing ≡ Some (connections.HandsIn number address path message)
         → heard_from trade kept sites connection.handed ≡ Err faults.NoMemory → ⊥
     stored_is_said heard lack =
         not_said (heard_from trade kept sites connection.handed)
         (said_by connection.handed
-        (is.hands ∙ handed_so finds connection.moment (connections.HandsIn number address path message) connection.hearing heard))
+        (is.hands ∙ handed_so connection.moment (connections.HandsIn number address path message) connection.hearing heard))
         lack
 
   module _ (address : Bytes) (place : ℕ) where
@@ -173,5 +176,5 @@ module _ (trade : Trade) (tells : Type 0) (kept : List Kept) (finds : Finds) (he
     shown_is_seen heard lack =
         not_seen (item_from trade kept sites connection.handed)
         (seen_by connection.handed connection.clock
-        (is.hands ∙ handed_so finds connection.moment (connections.Sees address (looks.Item place)) connection.hearing heard)
+        (is.hands ∙ handed_so connection.moment (connections.Sees address (looks.Item place)) connection.hearing heard)
         is.calls) lack

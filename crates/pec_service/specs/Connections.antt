@@ -12,7 +12,6 @@ use Rattle.pec_outside.specs.Clocks.{Gives}
 use Rattle.pec_outside.specs.Doors.{Reply as ToldReply, in_front}
 use Rattle.pec_directory.specs.Directory.{Kept, account_home, first_domain, providers_of}
 use Rattle.pec_records.specs.Entry.{most_addresses}
-use Rattle.pec_screen.specs.Screened.{Finds}
 use Rattle.pec_ledger.specs.Network.{Site}
 use Rattle.pec_ledger.specs.Trade.{Trade}
 use Rattle.pec_plays.specs.Commands.{Answer, Command, Refuses, Show, Shown, Submit, Submits}
@@ -65,18 +64,17 @@ looked_by address looks.Book = []
 looked_by address looks.Items = []
 looked_by address (looks.Item place) = Show address place ∷ []
 
--- the command by which a message is handed in, where one is and screens find this, or an item is looked at
-abbrev pub handed_by : Finds → ℕ → Answering → List Command
-handed_by finds moment Lacks = []
-handed_by finds moment (Stops stop) = []
-handed_by finds moment (Sees address looked) = looked_by address looked
-handed_by finds moment (HandsIn number address path message) =
-    Submit number moment address path message (finds number message) ∷ []
+-- the command by which a message is handed in, where one is, or an item is looked at
+abbrev pub handed_by : ℕ → Answering → List Command
+handed_by moment Lacks = []
+handed_by moment (Stops stop) = []
+handed_by moment (Sees address looked) = looked_by address looked
+handed_by moment (HandsIn number address path message) = Submit number moment address path message ∷ []
 
-abbrev pub handed_in : Finds → ℕ → Hearing → List Command
-handed_in finds moment Unheard = []
-handed_in finds moment (Heard answering) = handed_by finds moment answering
-handed_in finds moment (Broken answering) = handed_by finds moment answering
+abbrev pub handed_in : ℕ → Hearing → List Command
+handed_in moment Unheard = []
+handed_in moment (Heard answering) = handed_by moment answering
+handed_in moment (Broken answering) = handed_by moment answering
 
 -- ---- a connection
 
@@ -165,8 +163,8 @@ module _ (trade : Trade) (kept : List Kept) where
       outcome_line here.sites connection.handed connection.hearing
       ++ calls_text trade (providers_of kept) (state_behind here connection.handed) connection.clock
 
-module _ (trade : Trade) (tells : Type 0) (kept : List Kept) (finds : Finds) where
-  -- It was served from this place on, where screens find this. Where all wasn't played, these commands were left.
+module _ (trade : Trade) (tells : Type 0) (kept : List Kept) where
+  -- It was served from this place on. Where all wasn't played, these commands were left.
   pub record IsConnection (here : Place) (connection : Connection) : Type 0 where
     pub moment : Gives here.moments connection.moment connection.behind.moments
     pub in_time : connection.moment < END_OF_TIME
@@ -176,7 +174,7 @@ module _ (trade : Trade) (tells : Type 0) (kept : List Kept) (finds : Finds) whe
     pub heard : IsHeardSo kept connection.input connection.hearing
     pub replied : IsReplied trade kept here.network.sites connection.handed connection.hearing connection.reply
     pub replies : IfSome here.replies (λ replies. connection.behind.replies ≡ Some (replies ++ connection.reply ∷ []))
-    pub hands : commands_of connection.handed ≡ handed_in finds connection.moment connection.hearing
+    pub hands : commands_of connection.handed ≡ handed_in connection.moment connection.hearing
     pub unplayed : List Command
     pub plays : commands_of connection.clock ++ unplayed ≡ clock_from (length kept) 0 connection.moment
     pub calls : AreCalls trade tells here.network (calls_of connection)

@@ -15,7 +15,6 @@ use Rattle.pec_runs.specs.OfTrades.{trade_of}
 use Rattle.pec_runs.specs.Plays.{ShowsItsOwn}
 use Rattle.pec_http.specs.Asking.{Question, Submit, See}
 use Rattle.pec_http.specs.Replies.{Reply, fault_reply, memory_reply}
-use Rattle.pec_http.specs.declared.demands.Look.{Look}
 use Rattle.pec_http.specs.declared.demands.Look.TheVariants as looks
 use Rattle.pec_http.specs.declared.stops.Stop.{Stop}
 use Rattle.pec_service.specs.Calls.{lucks_of}
@@ -32,9 +31,9 @@ answering_of (Broken answering) = Some answering
 
 module _ (kept : List Kept) (seals : Seals) where
   -- The share of whoever asks; only accounts have one.
-  abbrev pub asking_share : List (List Patterns) → List Site → Result Question Stop → Option Share
-  asking_share screens sites asked =
-      option_and_then (share_in (trade_of kept seals) (providers_of kept) screens sites) (asker asked)
+  abbrev pub asking_share : List Site → Result Question Stop → Option Share
+  asking_share sites asked =
+      option_and_then (share_in (trade_of kept seals) (providers_of kept) sites) (asker asked)
 
   -- what was answered: by `IsReplied`, its text is what was written, or begins with it
   abbrev pub answered : Place → Connection → Answering → Reply
@@ -42,9 +41,9 @@ module _ (kept : List Kept) (seals : Seals) where
       answered_by (trade_of kept seals) kept here.network.sites connection.handed answering
 
   -- what is the caller's own, as the connection was accepted
-  abbrev pub own_answer : List (List Patterns) → Place → Connection → Result Question Stop → Reply
-  own_answer screens here connection asked =
-      reply_to (providers_of kept) connection.moment (asking_share screens here.network.sites asked) asked
+  abbrev pub own_answer : Place → Connection → Result Question Stop → Reply
+  own_answer here connection asked =
+      reply_to (providers_of kept) connection.moment (asking_share here.network.sites asked) asked
 
 -- The fault of a disk is answered to an account, and the count of faults of the disk of its provider rose while the
 -- connection was served.
@@ -87,17 +86,17 @@ GaveItsOwn (Ok (See address (looks.Item place))) connection = AllByRecursion Sho
 GaveItsOwn (Err stop) connection = Unit {0}
 
 -- What was asked is answered its own, or by what a device did.
-abbrev pub IsOwn : List Kept → Seals → List (List Patterns) → Place → Connection → Result Question Stop → Reply → Type 0
-IsOwn kept seals screens here connection asked reply =
-    (reply ≡ own_answer kept seals screens here connection asked) ⊎ IsDeviceReply kept here connection asked reply
+abbrev pub IsOwn : List Kept → Seals → Place → Connection → Result Question Stop → Reply → Type 0
+IsOwn kept seals here connection asked reply =
+    (reply ≡ own_answer kept seals here connection asked) ⊎ IsDeviceReply kept here connection asked reply
 
--- Of a run that serves: the caller of a connection behind these is answered its own, by what was there as the connection
--- was accepted.
+-- Of a run that serves, with these screens: the caller of a connection behind these is answered its own, by what was there
+-- as the connection was accepted.
 pub record IsOwnInRun (happened : Happened) (from : ℕ → ℕ) (outside : Outside) (screens : List (List Patterns))
     (front : List Connection) (connection : Connection) (answering : Answering) (asked : Result Question Stop) : Type 0 where
   pub counts : ℕ → ℕ  -- of faults of disks, as the service began
   pub sooner : (provider : ℕ) → from provider ≤ counts provider
   pub here : Place
-  pub behind : here ≡ place_behind (first_place (world happened) happened.course.opening.journals counts outside) front
-  pub own : IsOwn happened.setting.kept happened.setting.seals screens here connection asked
+  pub behind : here ≡ place_behind (first_place (world happened) screens happened.course.opening.journals counts outside) front
+  pub own : IsOwn happened.setting.kept happened.setting.seals here connection asked
       (answered happened.setting.kept happened.setting.seals here connection answering)

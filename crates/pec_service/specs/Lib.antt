@@ -2,6 +2,7 @@ pub mod Calling
 pub mod Calls
 pub mod Connections
 pub mod Isolation
+pub mod OfRuns
 pub mod OfTrades
 pub mod Own
 pub mod Passes

@@ -1,7 +1,7 @@
 -- What an account is answered is its own: `reply_to` is the answer of HTTP as a function of the question, the moment, the
 -- directory, and the account's share of the desk (`Share`): its own book and items, what its provider comes to, and what
 -- that provider's screens look for. This project's profile.
-use Rattle.std.specs.Prelude.{◌≡◌, ◌⊎◌, ℕ, ◌+◌, nat_lt, Bool, true, List, [], length, map, Option, None, Some, Result, Ok, Err, slice_get, if◌then◌else◌}
+use Rattle.std.specs.Prelude.{◌≡◌, ◌⊎◌, ℕ, ◌+◌, nat_lt, Bool, true, List, length, map, Option, None, Some, Result, Ok, Err, slice_get, if◌then◌else◌}
 use Rattle.std.specs.Option.{option_and_then, option_map}
 use Rattle.pec_types.specs.Bytes.{Bytes, Path}
 use Rattle.pec_types.specs.declared.mailboxes.ItemLine.{ItemLine}
@@ -61,32 +61,24 @@ own_of trade number journal half address = record {
 abbrev pub figures_of : Bool → Half → Figures
 figures_of up half = record { up = up; last = half.last; messages = length half.messages; end = half.end }
 
--- The patterns of the boxes of a provider: none where it has no list.
-abbrev pub patterns_by : Option (List Patterns) → List Patterns
-patterns_by None = []
-patterns_by (Some boxes) = boxes
-
-abbrev pub patterns_at : List (List Patterns) → ℕ → List Patterns
-patterns_at screens number = patterns_by (slice_get screens number)
-
 pub record Share : Type 0 where
   pub number : ℕ  -- of its provider
   pub own : Own
   pub figures : Figures
   pub patterns : List Patterns  -- of its provider's boxes
 
-abbrev pub share_at : Trade → List (List Patterns) → List Site → Bytes → ℕ → Share
-share_at trade screens state address number = record {
+abbrev pub share_at : Trade → List Site → Bytes → ℕ → Share
+share_at trade state address number = record {
   number = number;
   own = own_of trade number (journal_at state number) (half trade number (journal_at state number)) address;
   figures = figures_of (site_at state number).up (half trade number (journal_at state number));
-  patterns = patterns_at screens number;
+  patterns = (site_at state number).screens;
 }
 
 -- The share of an address, which has one where it is an account.
-abbrev pub share_in : Trade → List Provider → List (List Patterns) → List Site → Bytes → Option Share
-share_in trade providers screens state address =
-    option_map (share_at trade screens state address) (account_home providers address)
+abbrev pub share_in : Trade → List Provider → List Site → Bytes → Option Share
+share_in trade providers state address =
+    option_map (share_at trade state address) (account_home providers address)
 
 -- ---- what is answered to it
 
@@ -136,9 +128,9 @@ abbrev pub shown_with : List Provider → Option Share → Look → Result Bytes
 shown_with providers None looked = Err faults.NoAccount
 shown_with providers (Some share) looked = shown_to providers share looked
 
--- What an address is shown in a state. It hangs on no screens, so there are none here.
+-- What an address is shown in a state.
 abbrev pub shown_in : Trade → List Provider → List Site → Bytes → Look → Result Bytes ProviderFault
-shown_in trade providers state address looked = shown_with providers (share_in trade providers [] state address) looked
+shown_in trade providers state address looked = shown_with providers (share_in trade providers state address) looked
 
 abbrev pub submission_reply : List Provider → ℕ → Option Share → Bytes → Path → Bytes → Reply
 submission_reply providers moment None address path message = fault_reply faults.NoAccount

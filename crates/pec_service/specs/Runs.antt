@@ -16,7 +16,7 @@ use Rattle.pec_input.specs.declared.opening.TheConstants.{LONGEST_DIRECTORY}
 use Rattle.pec_records.specs.declared.entries.Entry.{Entry}
 use Rattle.pec_ledger.specs.Network.{Site}
 use Rattle.pec_ledger.specs.Trade.{Trade}
-use Rattle.pec_screen.specs.Screened.{Finds}
+use Rattle.pec_screen.specs.Verdicts.{Patterns}
 use Rattle.pec_script.specs.declared.answers.Unfit.{Unfit}
 use Rattle.pec_script.specs.declared.answers.Unfit.TheVariants as unfits
 use Rattle.pec_runs.specs.Endings.{End, end_text}
@@ -55,10 +55,11 @@ wanted_in _ = None
 
 -- ---- what happened
 
--- What a run that serves is asked beside its input: how many connections; and what the screens of its providers find.
+-- What a run that serves is asked beside its input: how many connections; and the patterns of the screens of its providers,
+-- a list of boxes for each from 0 on. A provider past the lists has no screens.
 pub record Asked : Type 0 where
   pub wanted : ℕ
-  pub finds : Finds
+  pub screens : List (List Patterns)
 
 -- What came of the disks, and who was served.
 pub record Course : Type 0 where
@@ -174,17 +175,18 @@ abbrev pub world : Happened → Trade
 world happened = trade_in happened.setting
 
 -- its state as its service begins
-abbrev pub beginning : Happened → List Site
-beginning happened = opened_all (world happened) happened.course.opening.journals
+abbrev pub beginning : Asked → Happened → List Site
+beginning asked happened = opened_all (world happened) asked.screens happened.course.opening.journals
 
 -- a service over this network, with clock and door
 abbrev pub place_with : State → Outside → Place
 place_with network outside =
     record { network = network; moments = outside.moments; requests = outside.requests; replies = outside.replies }
 
--- the place from which a service begins, over these journals
-abbrev pub first_place : Trade → List (List Entry) → (ℕ → ℕ) → Outside → Place
-first_place trade journals counts here = place_with (record { sites = opened_all trade journals; counts = counts }) here
+-- the place from which a service begins, with these screens and over these journals
+abbrev pub first_place : Trade → List (List Patterns) → List (List Entry) → (ℕ → ℕ) → Outside → Place
+first_place trade screens journals counts here =
+    place_with (record { sites = opened_all trade screens journals; counts = counts }) here
 
 module _ (asked : Asked) (status : Status) (before after : Option Bytes) (tells : Type 0) (old_disks new_disks : Disks)
     (here there : Outside) (from upto : ℕ → ℕ) where
@@ -194,10 +196,10 @@ module _ (asked : Asked) (status : Status) (before after : Option Bytes) (tells 
       pub counts : ℕ → ℕ
       pub sooner : (provider : ℕ) → from provider ≤ counts provider
       pub network : State  -- as the service left it
-      pub is : IsService (trade_in setting) tells setting.kept asked.finds asked.wanted
-          (first_place (trade_in setting) course.opening.journals counts here) (place_with network there) course.service
+      pub is : IsService (trade_in setting) tells setting.kept asked.wanted
+          (first_place (trade_in setting) asked.screens course.opening.journals counts here) (place_with network there) course.service
       pub told : TellsService status before after
-          (service_text (trade_in setting) setting.kept (first_place (trade_in setting) course.opening.journals counts here)
+          (service_text (trade_in setting) setting.kept (first_place (trade_in setting) asked.screens course.opening.journals counts here)
           course.service)
           course.service.ending
       pub later : (provider : ℕ) → network.counts provider ≤ upto provider
@@ -209,7 +211,7 @@ module _ (asked : Asked) (status : Status) (before after : Option Bytes) (tells 
           (finish_text (providers_in setting) (finish_at course.holds (next_of course.opening) course.opening.next))
           (finish_at course.holds (next_of course.opening) course.opening.next)
       pub outside : there ≡ here
-      pub disks : AreLeft old_disks new_disks form course.opening (opened_all (trade_in setting) course.opening.journals)
+      pub disks : AreLeft old_disks new_disks form course.opening (opened_all (trade_in setting) asked.screens course.opening.journals)
 
     abbrev pub GoesOn : Form → Next → Type 0
     GoesOn form NoMore = Serves form
@@ -283,4 +285,4 @@ pub record ServesAll (asked : Asked) (status : Status) (before after : Option By
   pub all : length happened.course.service.whole ≡ asked.wanted
   pub counts : ℕ → ℕ
   pub written : after ≡ followed_by before (service_text (world happened) happened.setting.kept
-      (first_place (world happened) happened.course.opening.journals counts here) happened.course.service)
+      (first_place (world happened) asked.screens happened.course.opening.journals counts here) happened.course.service)

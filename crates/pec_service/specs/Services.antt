@@ -6,7 +6,6 @@ use Rattle.std.specs.Option.{option_and_then, option_to_list}
 use Rattle.pec_types.specs.Bytes.{Bytes}
 use Rattle.pec_outside.specs.Doors.{replied}
 use Rattle.pec_directory.specs.Directory.{Kept}
-use Rattle.pec_screen.specs.Screened.{Finds}
 use Rattle.pec_ledger.specs.Trade.{Trade}
 use Rattle.pec_plays.specs.Commands.{Command}
 use Rattle.pec_runs.specs.Ran.{LeavesOff}
@@ -22,12 +21,12 @@ place_behind here (connection ∷ more) = place_behind connection.behind more
 abbrev pub calls_in : List Connection → List Call
 calls_in connections = flat_map calls_of connections
 
-module _ (trade : Trade) (tells : Type 0) (kept : List Kept) (finds : Finds) where
-  -- Each was served from the place behind those before it, where screens find this.
+module _ (trade : Trade) (tells : Type 0) (kept : List Kept) where
+  -- Each was served from the place behind those before it.
   abbrev pub AreConnections : Place → List Connection → Type 0
   AreConnections here [] = Unit {0}
   AreConnections here (connection ∷ more) =
-      IsConnection trade tells kept finds here connection × AreConnections connection.behind more
+      IsConnection trade tells kept here connection × AreConnections connection.behind more
 
 module _ (trade : Trade) (kept : List Kept) where
   -- the lines of them
@@ -76,11 +75,10 @@ Leaves trade kept Halted part last left =
 Leaves trade kept _ part last left =
     (left.network.sites ≡ last.network.sites) × (left.replies ≡ last.replies)
 
--- A service of so many connections went so, from one place to another, where screens find this. No count of a disk's
--- faults fell.
-pub record IsService (trade : Trade) (tells : Type 0) (kept : List Kept) (finds : Finds) (wanted : ℕ) (here left : Place)
+-- A service of so many connections went so, from one place to another. No count of a disk's faults fell.
+pub record IsService (trade : Trade) (tells : Type 0) (kept : List Kept) (wanted : ℕ) (here left : Place)
     (service : Service) : Type 0 where
-  pub each : AreConnections trade tells kept finds here (connections_of service)
+  pub each : AreConnections trade tells kept here (connections_of service)
   pub whole : All (IsWhole kept) service.whole
   pub ends : EndsSo wanted (length service.whole) service.ending service.part
   pub leaves : Leaves trade kept service.ending service.part (place_behind here (connections_of service)) left

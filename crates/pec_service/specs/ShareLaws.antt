@@ -1,9 +1,9 @@
 -- What a provider says to a submission of its account, and to a look at an item, is what the account's share says,
 -- unless the disk fails, or, of an item, gives back another entry. Each declaration here is a law.
-use Rattle.std.proofs.Common.{◌≡◌, ◌≢◌, inl, inr, ℕ, ◌+◌, ◌==◌, Bool, true, false, List, [], ◌∷◌, length, refl, ap, sym, ◌∙◌, subst, Option, Some, None, Result, Ok, Err}
+use Rattle.std.proofs.Common.{◌≡◌, ◌≢◌, inl, inr, ℕ, ◌+◌, ◌==◌, Bool, true, false, List, length, refl, ap, sym, ◌∙◌, subst, Option, Some, None, Result, Ok, Err}
 use Rattle.std.specs.Prelude.{◌⊎◌, IfSome, if◌then◌else◌, nat_lt, slice_get}
 use Rattle.std.specs.Option.{option_and_then, option_map, unwrap_or}
-use Rattle.std.proofs.lemmas.Bool.{eq-eqb, false≢true}
+use Rattle.std.proofs.lemmas.Bool.{eq-eqb}
 use Rattle.std.proofs.lemmas.Option.{none-some, slice_get-map}
 use Rattle.pec_types.specs.Bytes.{Bytes, Path}
 use Rattle.pec_types.specs.declared.messages.TheConstants.{MESSAGES}
@@ -12,8 +12,6 @@ use Rattle.pec_types.specs.declared.turns.ProviderFault.TheVariants as faults
 use Rattle.pec_types.specs.declared.turns.Submitted.{Submitted}
 use Rattle.pec_directory.specs.Directory.{Kept, account_home, is_account_of, is_number, providers_of}
 use Rattle.pec_records.specs.declared.entries.Entry.{Entry}
-use Rattle.pec_screen.specs.Screened.{finds_by, finds_in}
-use Rattle.pec_screen.specs.VerdictReading.{finds}
 use Rattle.pec_screen.specs.Verdicts.{Patterns}
 use Rattle.pec_seal.specs.Seals.{Seals}
 use Rattle.pec_ledger.specs.Half.{Half, Posted}
@@ -30,19 +28,7 @@ use Rattle.pec_http.specs.declared.demands.Look.TheVariants as looks
 use Rattle.pec_runs.specs.OfTrades.{trade_of}
 use Rattle.pec_runs.specs.Plays.{ShowsItsOwn, is_change}
 use Rattle.pec_service.specs.Connections.{said_in, seen_in}
-use Rattle.pec_service.specs.Own.{Share, entry_for, numbered, patterns_at, patterns_by, said_by, share_at, shown_with, text_or_none}
-
--- what the screens of a provider find is what those of its patterns do
-module _ (message : Bytes) where
-  found_by : (boxes : Option (List Patterns)) → finds_by boxes message ≡ finds (patterns_by boxes) message
-  unfolding finds
-  found_by None = refl
-  found_by (Some boxes) = refl
-
-  pub found_at : (screens : List (List Patterns)) (number : ℕ)
-      → finds_in screens number message ≡ finds (patterns_at screens number) message
-  unfolding finds_in
-  found_at screens number = found_by (slice_get screens number)
+use Rattle.pec_service.specs.Own.{Share, entry_for, numbered, said_by, share_at, shown_with, text_or_none}
 
 same_number : (n : ℕ) → (n == n) ≡ true
 same_number n = eq-eqb n n refl
@@ -51,7 +37,7 @@ same_number n = eq-eqb n n refl
 abbrev pub Says : Result Submitted ProviderFault → Answer → Type 0
 Says said answer = (said_in answer ≡ said) ⊎ (answer ≡ Refuses faults.DiskFault)
 
-module _ (kept : List Kept) (seals : Seals) (screens : List (List Patterns)) (state : List Site) (address : Bytes)
+module _ (kept : List Kept) (seals : Seals) (state : List Site) (address : Bytes)
     (number : ℕ) (home : account_home (providers_of kept) address ≡ Some number) (moment : ℕ) (path : Path)
     (message : Bytes) (luck : Luck) where
   abbrev trade : Trade
@@ -60,21 +46,24 @@ module _ (kept : List Kept) (seals : Seals) (screens : List (List Patterns)) (st
   abbrev ledger : Half
   ledger = half trade number (journal_at state number)
 
+  abbrev patterns : List Patterns
+  patterns = (site_at state number).screens
+
   abbrev share : Share
-  share = share_at trade screens state address number
+  share = share_at trade state address number
 
   is_ours : trade.is_account number address ≡ true
   unfolding is_account_of
   is_ours = ap (is_number number) home ∙ same_number number
 
   abbrev said : Result Submitted ProviderFault
-  said = said_by (providers_of kept) moment number share.figures (patterns_at screens number) address path message
+  said = said_by (providers_of kept) moment number share.figures patterns address path message
 
   abbrev entry : Entry
-  entry = entry_for (providers_of kept) number (patterns_at screens number) moment address path message
+  entry = entry_for (providers_of kept) number patterns moment address path message
 
   abbrev done : Submitted
-  done = numbered (providers_of kept) number (patterns_at screens number) share.figures.messages address path message
+  done = numbered (providers_of kept) number patterns share.figures.messages address path message
 
   by_tests : (account works back few full fails : Bool) (last : ℕ) → account ≡ true
       → Says (if works then (if back then Err (faults.ClockBack last)
@@ -95,19 +84,12 @@ module _ (kept : List Kept) (seals : Seals) (screens : List (List Patterns)) (st
   by_tests true false back few full fails last e = inl refl
   by_tests false works back few full fails last e = absurd (cc)
 
-  said_where : Says said (played trade luck state (Submit number moment address path message
-      (finds (patterns_at screens number) message))).answer
+  pub submission_is : Says said (played trade luck state (Submit number moment address path message)).answer
   unfolding played has_no_room
-  said_where =
+  submission_is =
       by_tests (trade.is_account number address) (site_at state number).up (nat_lt moment ledger.last)
       (nat_lt (length ledger.messages) MESSAGES) (nat_lt longest_journal (ledger.end + size_of entry)) luck.fails
       ledger.last is_ours
-
-  pub submission_is : Says said (played trade luck state (Submit number moment address path message
-      (finds_in screens number message))).answer
-  submission_is =
-      subst (λ (found : Bool). Says said (played trade luck state (Submit number moment address path message found)).answer)
-      (sym (found_at message screens number)) said_where
 
 -- ---- looks at items
 
@@ -148,11 +130,11 @@ module _ (kept : List Kept) (seals : Seals) (address : Bytes) where
       by_home None = refl
       by_home (Some number) = ap (λ (b : Bool). if b then Some number else None) (ap (is_number number) none)
 
-module _ (kept : List Kept) (seals : Seals) (screens : List (List Patterns)) (state : List Site) (address : Bytes)
+module _ (kept : List Kept) (seals : Seals) (state : List Site) (address : Bytes)
     (place : ℕ) (luck : Luck) (own : ShowsItsOwn luck) (may : IfSome luck.read IsOfRead) where
   abbrev look_said : Result Bytes ProviderFault
   look_said = shown_with (providers_of kept)
-      (option_map (share_at (trade_of kept seals) screens state address) (account_home (providers_of kept) address))
+      (option_map (share_at (trade_of kept seals) state address) (account_home (providers_of kept) address))
       (looks.Item place)
 
   abbrev look_with : ℕ → Half → Played
@@ -170,6 +152,8 @@ module _ (kept : List Kept) (seals : Seals) (screens : List (List Patterns)) (st
   read_so number bytes (Some faults.NoItem) of = absurd of
   read_so number bytes (Some faults.JournalFull) of = absurd of
   read_so number bytes (Some (faults.Changed entry)) of = inr (inr (faults.Changed entry, refl, refl))
+  read_so number bytes (Some faults.OldJournal) of = absurd of
+  read_so number bytes (Some faults.NoNeed) of = absurd of
 
   bytes_so : (number : ℕ) (text : Option Bytes)
       → ShowsSo (text_or_none text) (shown_bytes luck state number text).answer
@@ -200,7 +184,7 @@ module _ (kept : List Kept) (seals : Seals) (screens : List (List Patterns)) (st
     through (Some posted) = refl
 
     text_at : option_and_then (λ (text : Option Bytes). text)
-        (slice_get (share_at (trade_of kept seals) screens state address number).own.texts place)
+        (slice_get (share_at (trade_of kept seals) state address number).own.texts place)
         ≡ option_and_then (item_text (trade_of kept seals) number entries) (slice_get (mailbox kept_half address) place)
     text_at =
         ap (λ (o : Option (Option Bytes)). option_and_then (λ (text : Option Bytes). text) o)
@@ -210,7 +194,7 @@ module _ (kept : List Kept) (seals : Seals) (screens : List (List Patterns)) (st
 
     by_up : (up : Bool)
         → ShowsSo (if up then text_or_none (option_and_then (λ (text : Option Bytes). text)
-        (slice_get (share_at (trade_of kept seals) screens state address number).own.texts place)) else Err faults.Down)
+        (slice_get (share_at (trade_of kept seals) state address number).own.texts place)) else Err faults.Down)
         (if up then look_with number kept_half else answers state (Refuses faults.Down)).answer
     by_up true =
         subst (λ (text : Option Bytes). ShowsSo (text_or_none text) (look_with number kept_half).answer) (sym text_at)
@@ -224,7 +208,7 @@ module _ (kept : List Kept) (seals : Seals) (screens : List (List Patterns)) (st
         subst (λ (h : Option ℕ). ShowsSo look_said (asked state look_with (trade_of kept seals) h).answer)
         (sym (home_is kept seals address number home))
         (subst (λ (h : Option ℕ). ShowsSo (shown_with (providers_of kept)
-        (option_map (share_at (trade_of kept seals) screens state address) h) (looks.Item place))
+        (option_map (share_at (trade_of kept seals) state address) h) (looks.Item place))
         (asked state look_with (trade_of kept seals) (Some number)).answer) (sym home) (by_up (site_at state number).up))
 
   nowhere : account_home (providers_of kept) address ≡ None
@@ -234,7 +218,7 @@ module _ (kept : List Kept) (seals : Seals) (screens : List (List Patterns)) (st
       subst (λ (h : Option ℕ). ShowsSo look_said (asked state look_with (trade_of kept seals) h).answer)
       (sym (no_home kept seals address none))
       (subst (λ (h : Option ℕ). ShowsSo (shown_with (providers_of kept)
-      (option_map (share_at (trade_of kept seals) screens state address) h) (looks.Item place))
+      (option_map (share_at (trade_of kept seals) state address) h) (looks.Item place))
       (Refuses faults.NoAccount)) (sym none) (inl refl))
 
   pub look_is : ShowsSo look_said (played (trade_of kept seals) luck state (Show address place)).answer

@@ -11,7 +11,7 @@ use Rattle.pec_service.specs.Runs.{AllCounts, Asked, Begins, Happened, Outside, 
 -- So the disks went, by how far the run came: none was asked for, or they were looked at alone; not all journals were had; or
 -- connections were served.
 pub record DisksWent {D : Type 0} (tells : Type 0) (sight : D → Sight) (home left : ℕ → Option D) (from upto : ℕ → ℕ)
-    (happened : Happened) : Type 0 where
+    (asked : Asked) (happened : Happened) : Type 0 where
   pub unasked : (stage_of happened.early happened.directory ≡ Begins → ⊥)
       → AreHadFrom sight tells Resume (world happened) home left
   pub unlooked : stage_of happened.early happened.directory ≡ Begins → happened.form ≡ None
@@ -20,11 +20,11 @@ pub record DisksWent {D : Type 0} (tells : Type 0) (sight : D → Sight) (home l
       → happened.course.opening.next ≢ NoMore → AreHadFrom sight tells form (world happened) home left
   pub served : stage_of happened.early happened.directory ≡ Begins → (form : Form) → happened.form ≡ Some form
       → happened.course.opening.next ≡ NoMore
-      → MovesThrough tells sight home left from upto (world happened) form happened.course.opening.journals
+      → MovesThrough tells sight home left from upto (world happened) form asked.screens happened.course.opening.journals
 
 -- The program served so, and its disks went through this.
 pub record ServiceRanThrough {D : Type 0} (tells : Type 0) (sight : D → Sight) (asked : Asked) (status : Status)
     (unread before after : Option Bytes) (home left : ℕ → Option D) (here there : Outside) (old new : AllCounts)
     : Type 0 where
   pub ran : ServiceRanOver tells sight asked status unread before after home left here there old new
-  pub through : DisksWent tells sight home left old.devices.disks new.devices.disks ran.served.happened
+  pub through : DisksWent tells sight home left old.devices.disks new.devices.disks asked ran.served.happened

@@ -1,6 +1,5 @@
 ghost use Rattle.std.specs.Prelude.{◌≡◌, List};
 ghost use Rattle.pec_directory.specs.Directory.{Kept};
-ghost use Rattle.pec_screen.specs.Screened.{Finds};
 ghost use Rattle.pec_ledger.specs.Network.{Sound};
 ghost use Rattle.pec_ledger.specs.Trade.{Trade};
 ghost use Rattle.pec_ledger.specs.TradeLaws.{IsTrade};
@@ -20,22 +19,22 @@ use pec_runs::{the_books_belong_to_the_ledger, what_is_due_is_no_forged_frame};
 /// gives back what makes a turn put a forged frame. No command of a connection can forge one, so over disks that tell
 /// what they hold there is none. The state behind each connection is that script's, and Sound.
 pub fn a_services_books_belong_to_the_ledger<P: Depot>()
-    ensures headline { (trade : Trade) → IsTrade trade → (kept : List Kept) (finds : Finds) (here : Place)
+    ensures headline { (trade : Trade) → IsTrade trade → (kept : List Kept) (here : Place)
         (connections : List Connection) → Sound trade here.network.sites → NoneInterrupted here.network.sites
-        → AreConnections trade (P.tells × P.D.tells) kept finds here connections
+        → AreConnections trade (P.tells × P.D.tells) kept here connections
         → AllHonest trade (lucks_of (calls_in connections)) here.network.sites (commands_of (calls_in connections))
         → Headline trade here.network.sites (lucks_of (calls_in connections)) (commands_of (calls_in connections)) }
-    ensures states { (trade : Trade) (kept : List Kept) (finds : Finds) (here : Place) (connections : List Connection)
-        → AreConnections trade (P.tells × P.D.tells) kept finds here connections
+    ensures states { (trade : Trade) (kept : List Kept) (here : Place) (connections : List Connection)
+        → AreConnections trade (P.tells × P.D.tells) kept here connections
         → (script trade (lucks_of (calls_in connections)) here.network.sites (commands_of (calls_in connections))).after
         ≡ (place_behind here connections).network.sites }
-    ensures sound { (trade : Trade) → IsTrade trade → (kept : List Kept) (finds : Finds) (here : Place)
+    ensures sound { (trade : Trade) → IsTrade trade → (kept : List Kept) (here : Place)
         (connections : List Connection) → Sound trade here.network.sites
-        → AreConnections trade (P.tells × P.D.tells) kept finds here connections
+        → AreConnections trade (P.tells × P.D.tells) kept here connections
         → AllHonest trade (lucks_of (calls_in connections)) here.network.sites (commands_of (calls_in connections))
         → Sound trade (place_behind here connections).network.sites }
-    ensures honest { (trade : Trade) (kept : List Kept) (finds : Finds) (here : Place) (connections : List Connection)
-        → P.tells × P.D.tells → AreConnections trade (P.tells × P.D.tells) kept finds here connections
+    ensures honest { (trade : Trade) (kept : List Kept) (here : Place) (connections : List Connection)
+        → P.tells × P.D.tells → AreConnections trade (P.tells × P.D.tells) kept here connections
         → AllHonest trade (lucks_of (calls_in connections)) here.network.sites (commands_of (calls_in connections)) }
 {
     the_books_belong_to_the_ledger();

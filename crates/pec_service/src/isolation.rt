@@ -6,8 +6,6 @@ ghost use Rattle.pec_http.specs.declared.stops.Stop.{Stop};
 ghost use Rattle.pec_runs.specs.Openings.{Form, NoMore};
 ghost use Rattle.pec_runs.specs.Statuses.{Status};
 ghost use Rattle.pec_ledger.specs.Trade.{Trade};
-ghost use Rattle.pec_screen.specs.Screened.{Finds, finds_in};
-ghost use Rattle.pec_screen.specs.Verdicts.{Patterns};
 ghost use Rattle.pec_seal.specs.Seals.{Seals};
 ghost use Rattle.pec_service.specs.Connections.{Answering, Connection, IsConnection, Place};
 ghost use Rattle.pec_service.specs.Isolation.{GaveItsOwn, IsDeviceReply, IsOwn, IsOwnInRun, answered, answering_of, asking_share};
@@ -27,27 +25,27 @@ use pec_outside::Depot;
 /// same share, are answered the same, or one of them by such a fault. Of a look at an item it is said where the disk
 /// gave back the item's own bytes, and where disks tell what they hold it does.
 pub fn a_caller_is_answered_its_own<P: Depot>()
-    ensures own { (kept : List Kept) (seals : Seals) (screens : List (List Patterns)) (here : Place)
+    ensures own { (kept : List Kept) (seals : Seals) (here : Place)
         (connection : Connection)
-        → IsConnection (trade_of kept seals) (P.tells × P.D.tells) kept (finds_in screens) here connection
+        → IsConnection (trade_of kept seals) (P.tells × P.D.tells) kept here connection
         → (answering : Answering) → answering_of connection.hearing ≡ Some answering
         → (asked : Result Question Stop) → Asks (pass_of kept) connection.input asked → GaveItsOwn asked connection
-        → IsOwn kept seals screens here connection asked (answered kept seals here connection answering) }
-    ensures apart { (kept : List Kept) (seals keys : Seals) (screens boxes : List (List Patterns)) (here there : Place)
+        → IsOwn kept seals here connection asked (answered kept seals here connection answering) }
+    ensures apart { (kept : List Kept) (seals keys : Seals) (here there : Place)
         (one other : Connection)
-        → IsConnection (trade_of kept seals) (P.tells × P.D.tells) kept (finds_in screens) here one
-        → IsConnection (trade_of kept keys) (P.tells × P.D.tells) kept (finds_in boxes) there other
+        → IsConnection (trade_of kept seals) (P.tells × P.D.tells) kept here one
+        → IsConnection (trade_of kept keys) (P.tells × P.D.tells) kept there other
         → one.moment ≡ other.moment → one.input ≡ other.input
         → (asked : Result Question Stop) → Asks (pass_of kept) one.input asked
         → GaveItsOwn asked one → GaveItsOwn asked other
-        → asking_share kept seals screens here.network.sites asked ≡ asking_share kept keys boxes there.network.sites asked
+        → asking_share kept seals here.network.sites asked ≡ asking_share kept keys there.network.sites asked
         → (answering again : Answering) → answering_of one.hearing ≡ Some answering
         → answering_of other.hearing ≡ Some again
         → (answered kept seals here one answering ≡ answered kept keys there other again)
         ⊎ IsDeviceReply kept here one asked (answered kept seals here one answering)
         ⊎ IsDeviceReply kept there other asked (answered kept keys there other again) }
-    ensures gave { P.tells × P.D.tells → (trade : Trade) (kept : List Kept) (finds : Finds) (here : Place)
-        (connection : Connection) → IsConnection trade (P.tells × P.D.tells) kept finds here connection
+    ensures gave { P.tells × P.D.tells → (trade : Trade) (kept : List Kept) (here : Place)
+        (connection : Connection) → IsConnection trade (P.tells × P.D.tells) kept here connection
         → (asked : Result Question Stop) → GaveItsOwn asked connection }
 {
     a_request_asks_one_thing();
@@ -62,14 +60,13 @@ pub fn a_runs_callers_are_answered_their_own<P: Depot>()
         here there old new)
         (form : Form) → stage_of ran.served.happened.early ran.served.happened.directory ≡ Begins
         → ran.served.happened.form ≡ Some form → ran.served.happened.course.opening.next ≡ NoMore
-        → (screens : List (List Patterns)) → asked.finds ≡ finds_in screens
         → (front rest : List Connection) (connection : Connection)
         → connections_of ran.served.happened.course.service ≡ front ++ connection ∷ rest
         → (answering : Answering) → answering_of connection.hearing ≡ Some answering
         → (question : Result Question Stop)
         → Asks (pass_of ran.served.happened.setting.kept) connection.input question
         → (P.tells × P.D.tells) ⊎ GaveItsOwn question connection
-        → IsOwnInRun ran.served.happened old.devices.disks here screens front connection answering question }
+        → IsOwnInRun ran.served.happened old.devices.disks here asked.screens front connection answering question }
 {
     a_caller_is_answered_its_own::<P>();
 }

@@ -1,7 +1,6 @@
 ghost use Rattle.std.specs.Prelude.{◌≡◌, ◌<◌, ◌≤◌, ℕ, List, [], ◌∷◌, ◌++◌, map, Option};
 ghost use Rattle.pec_types.specs.declared.moments.TheConstants.{END_OF_TIME};
 ghost use Rattle.pec_directory.specs.Directory.{Kept, Provider};
-ghost use Rattle.pec_screen.specs.Screened.{Finds};
 ghost use Rattle.pec_ledger.specs.Trade.{Trade};
 ghost use Rattle.pec_runs.specs.AnswerLines.{answer_text};
 ghost use Rattle.pec_runs.specs.Steps.{Goes, Plays, Point, Stop};
@@ -61,10 +60,10 @@ pub fn acts_are_calls<P: Depot>()
 
 /// How a loop over connections climbs.
 pub fn connections_are_joined<P: Depot>()
-    ensures one { (trade : Trade) (kept : List Kept) (finds : Finds) (here : Place) (connections : List Connection)
-        (connection : Connection) → AreConnections trade (P.tells × P.D.tells) kept finds here connections
-        → IsConnection trade (P.tells × P.D.tells) kept finds (place_behind here connections) connection
-        → AreConnections trade (P.tells × P.D.tells) kept finds here (connections ++ connection ∷ []) }
+    ensures one { (trade : Trade) (kept : List Kept) (here : Place) (connections : List Connection)
+        (connection : Connection) → AreConnections trade (P.tells × P.D.tells) kept here connections
+        → IsConnection trade (P.tells × P.D.tells) kept (place_behind here connections) connection
+        → AreConnections trade (P.tells × P.D.tells) kept here (connections ++ connection ∷ []) }
     ensures behind { (here : Place) (connections : List Connection) (connection : Connection)
         → place_behind here (connections ++ connection ∷ []) ≡ connection.behind }
     ensures text { (trade : Trade) (kept : List Kept) (here : Place) (connections : List Connection)

@@ -27,9 +27,9 @@ pub fn a_serving_runs_books_belong_to_the_ledger<P: Depot>()
         → ran.served.happened.form ≡ Some form → ran.served.happened.course.opening.next ≡ NoMore
         → (form ≡ Resume → Fit (world ran.served.happened) (journals_in ran.served.happened.course.opening.journals))
         → AllHonest (world ran.served.happened)
-        (lucks_of (calls_in (connections_of ran.served.happened.course.service))) (beginning ran.served.happened)
+        (lucks_of (calls_in (connections_of ran.served.happened.course.service))) (beginning asked ran.served.happened)
         (commands_of (calls_in (connections_of ran.served.happened.course.service)))
-        → Headline (world ran.served.happened) (beginning ran.served.happened)
+        → Headline (world ran.served.happened) (beginning asked ran.served.happened)
         (lucks_of (calls_in (connections_of ran.served.happened.course.service)))
         (commands_of (calls_in (connections_of ran.served.happened.course.service))) }
     ensures honest { (asked : Asked) (status : Status) (unread before after : Option Bytes) (depot left : P)
@@ -39,7 +39,7 @@ pub fn a_serving_runs_books_belong_to_the_ledger<P: Depot>()
         (form : Form) → stage_of ran.served.happened.early ran.served.happened.directory ≡ Begins
         → ran.served.happened.form ≡ Some form → ran.served.happened.course.opening.next ≡ NoMore
         → AllHonest (world ran.served.happened)
-        (lucks_of (calls_in (connections_of ran.served.happened.course.service))) (beginning ran.served.happened)
+        (lucks_of (calls_in (connections_of ran.served.happened.course.service))) (beginning asked ran.served.happened)
         (commands_of (calls_in (connections_of ran.served.happened.course.service))) }
 {
     a_services_books_belong_to_the_ledger::<P>();

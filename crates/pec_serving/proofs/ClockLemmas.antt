@@ -1,8 +1,9 @@
 -- The clock calls and the round behind an answer, one after another.
-use Rattle.std.proofs.Common.{◌≡◌, ℕ, zero, suc, ◌+◌, ◌-◌, ◌<◌, List, [], ◌∷◌, ◌++◌, map, ap, arith, Option, None, Some, Result, Ok, Err}
+use Rattle.std.proofs.Common.{◌≡◌, ◌∙◌, ℕ, zero, suc, ◌+◌, ◌-◌, ◌<◌, List, [], ◌∷◌, ◌++◌, map, ap, arith, subst, Option, None, Some, Result, Ok, Err, Vec, Global}
 use Rattle.pec_plays.specs.Commands.{Round, Tick}
-use Rattle.pec_runs.specs.Steps.{Act, NoMemory, Plays, WriteFault}
-use Rattle.pec_runs.specs.Steps as runs
+use Rattle.pec_screen.specs.Verdicts.{Patterns}
+use Rattle.pec_service.specs.OfRuns.{Act, NoMemory, Plays, WriteFault}
+use Rattle.pec_service.specs.OfRuns as runs
 use Rattle.pec_service.specs.Calls.{clock_from}
 use Rattle.pec_playing.specs.Points.{stop_in}
 use Rattle.pec_playing.specs.declared.stops.Stop.{Stop}
@@ -40,3 +41,12 @@ pub by_result : (some all : Option runs.Stop → Type 0) → (some None → all 
     → (result : Result (Unit {0}) Stop) → some (stop_in result) → all (stop_in result)
 by_result some all whole each (Ok done) one = whole one
 by_result some all whole each (Err stop) one = by_stop some all each stop one
+
+-- no spares are handed in, and none are left
+pub no_spares : {X : Type 0} (patterns : X → Patterns) (old new : Vec X Global) → old.items ≡ [] → new ≡ old
+    → (Holds : List Patterns → List Patterns → Type 0) → Holds (map patterns old.items) (map patterns new.items)
+    → Holds [] []
+no_spares {X} patterns old new none same Holds holds =
+    subst (λ (behind : List Patterns). Holds [] behind)
+    (ap (map patterns) (ap (λ (v : Vec X Global). v.items) same ∙ none))
+    (subst (λ (before : List Patterns). Holds before (map patterns new.items)) (ap (map patterns) none) holds)

@@ -1,20 +1,18 @@
 -- How a loop over connections goes on and ends, from the network with which the service began.
-use Rattle.std.proofs.Common.{◌≡◌, ◌+◌, ◌<◌, ◌≤◌, ◌-◌, ◌^◌, ℕ, List, length, arith, inl, inr, subst, Option, None, Some}
+use Rattle.std.proofs.Common.{◌≡◌, ◌+◌, ◌<◌, ◌≤◌, ◌-◌, ◌^◌, ℕ, List, [], length, arith, inl, inr, Option, None, Some}
 use Rattle.std.proofs.lemmas.Bool.{cases_lt}
 use Rattle.pec_types.specs.Bytes.{Bytes}
 use Rattle.pec_outside.specs.DiskModel.{Sight}
 use Rattle.pec_outside.specs.Doors.{Reply}
 use Rattle.pec_outside.specs.Flow.{HasRisen, WrotePart, followed_by}
 use Rattle.pec_directory.specs.Directory.{Kept, providers_of}
-use Rattle.pec_screen.specs.Screened.{finds_in}
-use Rattle.pec_screen.specs.Verdicts.{Patterns}
 use Rattle.pec_seal.specs.Seals.{Seals}
 use Rattle.pec_ledger.specs.Trade.{Trade}
 use Rattle.pec_playing.specs.OfNetworks.{AllStand, NetworkState, world_of}
 use Rattle.pec_http.specs.declared.serving.Served.{Served}
 use Rattle.pec_playing.specs.Doing.{Keeps}
 use Rattle.pec_playing.specs.Points.{point_of}
-use Rattle.pec_runs.specs.Steps.{NoMemory, Stop, WriteFault}
+use Rattle.pec_service.specs.OfRuns.{NoMemory, Stop, WriteFault}
 use Rattle.pec_service.specs.Calls.{ClockWent, State, calls_text, clock_from}
 use Rattle.pec_service.specs.Connections.{Place}
 use Rattle.pec_serving.specs.Playing.{state_of}
@@ -28,12 +26,12 @@ use Rattle.pec_serving.proofs.ServiceLemmas.{CallLaws, ConnectionLaws, Going, br
 use Rattle.pec_serving.proofs.WritingLemmas.{part_behind}
 
 module _ {D S : Type 0} (sight : D → Sight) (count : D → ℕ) (disks all : Type 0) (seals : S → Seals)
-    (start : NetworkState D S) (screens : List (List Patterns)) (laws : CallLaws (world_of seals start) all)
-    (joins : ConnectionLaws (world_of seals start) all start.kept (finds_in screens)) (elsewhere : ℕ → ℕ) (here : Place)
-    (now again : NetworkState D S) (stood : all → disks × AllStand sight now.providers) (screens_now : List (List Patterns)) (look_so : screens_now ≡ screens)
+    (start : NetworkState D S) (laws : CallLaws (world_of seals start) all)
+    (joins : ConnectionLaws (world_of seals start) all start.kept) (elsewhere : ℕ → ℕ) (here : Place)
+    (now again : NetworkState D S) (stood : all → disks × AllStand sight now.providers)
     (keeps : Keeps sight count disks start now) (moments : Option (List ℕ))
     (requests : Option (List Bytes)) (replies : Option (List Reply)) (served : ℕ) (before mid : Option Bytes)
-    (going : Going (world_of seals start) all start.kept (finds_in screens) here
+    (going : Going (world_of seals start) all start.kept here
     (place_of count elsewhere now moments requests replies) served before mid)
     (moments_then : Option (List ℕ)) (requests_then : Option (List Bytes)) (replies_then : Option (List Reply))
     (wanted : ℕ) (few : served < wanted) where
@@ -47,35 +45,33 @@ module _ {D S : Type 0} (sight : D → Sight) (count : D → ℕ) (disks all : T
   left = place_of count elsewhere again moments_then requests_then replies_then
 
   abbrev Comes : Came → Type 0
-  Comes came = ComesNext (world_of seals now) (disks × AllStand sight now.providers) now.kept (finds_in screens_now) at left came
+  Comes came = ComesNext (world_of seals now) (disks × AllStand sight now.providers) now.kept at left came
 
   -- what came next, in the world of the beginning
-  comes_so : (came : Came) → Comes came → ComesNext trade all start.kept (finds_in screens) at left came
+  comes_so : (came : Came) → Comes came → ComesNext trade all start.kept at left came
   comes_so came comes =
       as_begun sight count disks seals start now keeps
-      (λ (t : Trade) (k : List Kept). ComesNext t all k (finds_in screens) at left came)
-      (subst (λ (s : List (List Patterns)). ComesNext (world_of seals now) all now.kept (finds_in s) at left came) look_so
-      (comes_told (world_of seals now) (disks × AllStand sight now.providers) all stood now.kept (finds_in screens_now) at left
-      came comes))
+      (λ (t : Trade) (k : List Kept). ComesNext t all k at left came)
+      (comes_told (world_of seals now) (disks × AllStand sight now.providers) all stood now.kept at left came comes)
 
   pub ends_unmet : Comes came.NoConnection
-      → ServesSo trade all start.kept (finds_in screens) wanted here left before mid endings.NoConnection
+      → ServesSo trade all start.kept wanted here left before mid endings.NoConnection
   ends_unmet comes =
       let is = comes_so came.NoConnection comes
-      in none_met trade all start.kept (finds_in screens) laws joins here at served before mid going wanted few left is.network is.replies
+      in none_met trade all start.kept laws joins here at served before mid going wanted few left is.network is.replies
 
   pub ends_untold : Comes came.NoMoment
-      → ServesSo trade all start.kept (finds_in screens) wanted here left before mid endings.NoMoment
+      → ServesSo trade all start.kept wanted here left before mid endings.NoMoment
   ends_untold comes =
       let is = comes_so came.NoMoment comes
-      in none_told trade all start.kept (finds_in screens) laws joins here at served before mid going wanted few left is.network is.replies
+      in none_told trade all start.kept laws joins here at served before mid going wanted few left is.network is.replies
 
   module _ (moment : ℕ) (told : Served)
       (comes : Comes (came.Served moment told)) where
     pub ends_broken : (after : Option Bytes) → WrotePart mid after (served_line told)
-        → ServesSo trade all start.kept (finds_in screens) wanted here left before after endings.WriteFault
+        → ServesSo trade all start.kept wanted here left before after endings.WriteFault
     ends_broken after part =
-        line_broke trade all start.kept (finds_in screens) laws joins here at served before mid going left moment told
+        line_broke trade all start.kept laws joins here at served before mid going left moment told
         (comes_so (came.Served moment told) comes) wanted (omega (arith, few)) after part
 
     module _ (keeps_again : Keeps sight count disks start again) (last : NetworkState D S) (line_held after : Option Bytes)
@@ -85,7 +81,7 @@ module _ {D S : Type 0} (sight : D → Sight) (count : D → ℕ) (disks all : T
 
       abbrev Went : Trade → List Kept → Option Stop → Type 0
       Went t k stop = ClockWent t (providers_of k) all sight (clock_from (length k) 0 moment)
-          (point_of count elsewhere again line_held from) (point_of count elsewhere last after upto) stop
+          (point_of count elsewhere [] again line_held from) (point_of count elsewhere [] last after upto) stop
 
       -- the clock calls, in the world of the beginning
       went_so : (stop : Option Stop) → Went (world_of seals again) again.kept stop → Went trade start.kept stop
@@ -93,31 +89,31 @@ module _ {D S : Type 0} (sight : D → Sight) (count : D → ℕ) (disks all : T
           as_begun sight count disks seals start again keeps_again (λ (t : Trade) (k : List Kept). Went t k stop) went
 
       pub ends_written : Went (world_of seals again) again.kept None
-          → Going trade all start.kept (finds_in screens) here (place_of count elsewhere last moments_then requests_then replies_then) (served + 1)
+          → Going trade all start.kept here (place_of count elsewhere last moments_then requests_then replies_then) (served + 1)
           before after
       ends_written clock =
           let went = went_so None clock
-          in goes trade all start.kept (finds_in screens) laws joins here at served before mid going left moment told
+          in goes trade all start.kept laws joins here at served before mid going left moment told
           (comes_so (came.Served moment told) comes) line_held line network_left went.calls went.unplayed went.plays went.are
           went.ends.0 went.ends.1 after went.ends.2
 
       pub ends_stopped : Went (world_of seals again) again.kept (Some WriteFault)
-          → ServesSo trade all start.kept (finds_in screens) wanted here (place_of count elsewhere last moments_then requests_then replies_then)
+          → ServesSo trade all start.kept wanted here (place_of count elsewhere last moments_then requests_then replies_then)
           before after endings.WriteFault
       ends_stopped clock =
           let went = went_so (Some WriteFault) clock
-          in broke trade all start.kept (finds_in screens) laws joins here at served before mid going left moment told
+          in broke trade all start.kept laws joins here at served before mid going left moment told
           (comes_so (came.Served moment told) comes) line_held line network_left went.calls went.unplayed went.plays went.are
           wanted (omega (arith, few)) went.ends.0 after
           (part_behind mid line_held after (served_line told)
           (calls_text trade (providers_of start.kept) left.network went.calls) line went.ends.1)
 
       pub ends_lacking : Went (world_of seals again) again.kept (Some NoMemory)
-          → ServesSo trade all start.kept (finds_in screens) wanted here (place_of count elsewhere last moments_then requests_then replies_then)
+          → ServesSo trade all start.kept wanted here (place_of count elsewhere last moments_then requests_then replies_then)
           before after endings.NoMemory
       ends_lacking clock =
           let went = went_so (Some NoMemory) clock
-          in lacks trade all start.kept (finds_in screens) laws joins here at served before mid going left moment told
+          in lacks trade all start.kept laws joins here at served before mid going left moment told
           (comes_so (came.Served moment told) comes) line_held line network_left went.calls went.unplayed went.plays went.are
           wanted (omega (arith, few)) went.ends.0 went.ends.2 after went.ends.1
 

@@ -1,7 +1,6 @@
 -- What became of a connection at the desk, from what `serve_one` says of it.
-use Rattle.std.proofs.Common.{◌≡◌, inl, inr, ℕ, ◌+◌, ◌<◌, ◌≤◌, Bool, true, false, List, [], ◌∷◌, length, refl, ap, sym, subst, ◌∙◌, arith, Option, Some, None, Result, Ok, Err}
+use Rattle.std.proofs.Common.{◌≡◌, inl, inr, ℕ, ◌<◌, ◌≤◌, Bool, true, false, List, [], ◌∷◌, length, refl, ap, sym, subst, ◌∙◌, arith, Option, Some, None, Result, Ok, Err}
 use Rattle.std.specs.Prelude.{◌⊎◌, IfSome, IsErrOf, if◌then◌else◌, nat_lt, unwrap_or}
-use Rattle.std.specs.Option.{option_map}
 use Rattle.pec_types.specs.Bytes.{Bytes, Path}
 use Rattle.pec_types.specs.declared.turns.ProviderFault.{ProviderFault}
 use Rattle.pec_types.specs.declared.turns.ProviderFault.TheVariants as faults
@@ -10,14 +9,12 @@ use Rattle.pec_types.specs.declared.messages.Cause.{Cause}
 use Rattle.pec_types.specs.declared.messages.TheConstants.{MESSAGES}
 use Rattle.pec_outside.specs.DiskModel.{Sight}
 use Rattle.pec_outside.specs.Flow.{WrotePart, followed_by}
-use Rattle.pec_directory.specs.Directory.{account_home, first_domain, providers_of}
-use Rattle.pec_screen.specs.Screened.{finds_in}
-use Rattle.pec_screen.specs.Verdicts.{Patterns}
+use Rattle.pec_directory.specs.Directory.{first_domain, providers_of}
 use Rattle.pec_seal.specs.Seals.{Seals}
 use Rattle.pec_ledger.specs.Network.{Site, journal_at, site_at}
 use Rattle.pec_ledger.specs.Pairs.{id_of}
 use Rattle.pec_ledger.specs.Trade.{Trade}
-use Rattle.pec_plays.specs.Commands.{Answer, Command, Luck, Played, Refuses, Show, Shown, Submit, Submits, answers, appended, entry_by, messages_at, played, screened_cause, told_by}
+use Rattle.pec_plays.specs.Commands.{Answer, Command, Luck, Played, Refuses, Show, Shown, Submit, Submits, answers, appended, entry_by, finds_at, messages_at, played, screened_cause, told_by}
 use Rattle.pec_plays.specs.Commands as plays
 use Rattle.pec_plays.specs.Possible.{GaveWhatWasKept, IsOfRead}
 use Rattle.pec_plays.specs.Steps.{has_no_room}
@@ -31,16 +28,15 @@ use Rattle.pec_http.specs.Replies.{Reply, memory_reply, reply_text, shown_reply,
 use Rattle.pec_http.specs.Serving.{HasRested, IsAnswer, IsAnswered, Sends, Serves, kind_of}
 use Rattle.pec_http.specs.Serving as serving
 use Rattle.pec_http.specs.Statuses.{number_of}
-use Rattle.pec_http.specs.declared.demands.Look.{Look}
 use Rattle.pec_http.specs.declared.demands.Look.TheVariants as looks
 use Rattle.pec_http.specs.declared.serving.Served.{Served}
 use Rattle.pec_http.specs.declared.serving.Served.TheVariants as served
 use Rattle.pec_http.specs.declared.stops.Stop.{Stop}
-use Rattle.pec_runs.specs.Plays.{HasMemory, IsUnchanged, RoseBy, faults_at, faults_at_home, is_change}
+use Rattle.pec_service.specs.OfRuns.{HasMemory, IsUnchanged, RoseBy, faults_at, faults_at_home}
 use Rattle.pec_desk.specs.Desks.{DeskState, HandsIn, LooksAt, answers_of, domain_at}
 use Rattle.pec_desk.specs.OfNetworks.{IsReadSo, luck_of_read}
 use Rattle.pec_service.specs.Passes.{pass_of}
-use Rattle.pec_service.specs.Own.{IsFaultOf, reply_to, share_at, shown_with}
+use Rattle.pec_service.specs.Own.{IsFaultOf, reply_to}
 use Rattle.pec_service.specs.ShareLaws.{home_is}
 use Rattle.pec_desk.specs.Shares.{ReadsItsOwn, asking_share}
 use Rattle.pec_playing.specs.Playing.{counts_in}
@@ -101,6 +97,8 @@ module _ (play : Luck → Played) (old new : List Site) where
   called_or (Err faults.Full) is = inl (refused_as faults.Full is)
   called_or (Err faults.NoItem) is = inl (refused_as faults.NoItem is)
   called_or (Err faults.JournalFull) is = inl (refused_as faults.JournalFull is)
+  called_or (Err faults.OldJournal) is = inl (refused_as faults.OldJournal is)
+  called_or (Err faults.NoNeed) is = inl (refused_as faults.NoNeed is)
   called_or (Err (faults.Changed number)) is = inl (refused_as (faults.Changed number) is)
 
   module _ (shown_so : Option Bytes) where
@@ -142,6 +140,8 @@ module _ (play : Luck → Played) (old new : List Site) where
     looked_or (Err faults.Full) is = inl (looked_as (Refuses faults.Full) is)
     looked_or (Err faults.NoItem) is = inl (looked_as (Refuses faults.NoItem) is)
     looked_or (Err faults.JournalFull) is = inl (looked_as (Refuses faults.JournalFull) is)
+    looked_or (Err faults.OldJournal) is = inl (looked_as (Refuses faults.OldJournal) is)
+    looked_or (Err faults.NoNeed) is = inl (looked_as (Refuses faults.NoNeed) is)
 
 submitted_memory : (said : Result Submitted ProviderFault) → HasMemory (told Submits said)
 submitted_memory (Ok submitted) = tt
@@ -174,6 +174,8 @@ unchanged_shown (Err faults.NoAccount) never = refl
 unchanged_shown (Err faults.Full) never = refl
 unchanged_shown (Err faults.NoItem) never = refl
 unchanged_shown (Err faults.JournalFull) never = refl
+unchanged_shown (Err faults.OldJournal) never = refl
+unchanged_shown (Err faults.NoNeed) never = refl
 
 -- a submission reads nothing
 unchanged_by : (account works back few full : Bool) (state : List Site) (last : ℕ) (done : Played) → IsUnchanged done.answer
@@ -200,11 +202,11 @@ module _ (trade : Trade) (luck : Luck) (state : List Site) (number moment : ℕ)
   unchanged_appended true cause = refl
   unchanged_appended false cause = tt
 
-  unchanged_handed : (found : Bool)
-      → IsUnchanged (played trade luck state (Submit number moment address path message found)).answer
+  unchanged_handed : IsUnchanged (played trade luck state (Submit number moment address path message)).answer
   unfolding played
-  unchanged_handed found =
-      let cause : Option Cause = screened_cause found (trade.cause number address path message)
+  unchanged_handed =
+      let cause : Option Cause =
+      screened_cause (finds_at state number message) (trade.cause number address path message)
       in unchanged_by (trade.is_account number address) (site_at state number).up
       (nat_lt moment (last_of trade number (journal_at state number))) (nat_lt (messages_at trade state number) MESSAGES)
       (has_no_room trade number (journal_at state number) (entry_by cause moment address path message)) state
@@ -233,13 +235,13 @@ OwnAnswers {D} {S} sight tells desk_answers seals = (desk after : DeskState D S)
 
 module _ {D S : Type 0} (sight : D → Sight) (count : D → ℕ) (tells : Type 0) (seals : S → Seals) (counted : Counted count)
     (own : OwnAnswers sight tells (answers_of sight count tells seals) seals) (network : NetworkState D S) (moment : ℕ)
-    (screens : List (List Patterns)) (after : DeskState D S) (elsewhere : ℕ → ℕ) (many : length after.network.providers ≡ length network.providers)
+    (after : DeskState D S) (elsewhere : ℕ → ℕ) (many : length after.network.providers ≡ length network.providers)
     (whole : length network.providers ≡ length network.kept) where
   abbrev desk_answers : Answers (DeskState D S)
   desk_answers = answers_of sight count tells seals
 
   abbrev desk : DeskState D S
-  desk = record { network = network; moment = moment; screens = screens }
+  desk = record { network = network; moment = moment }
 
   abbrev trade : Trade
   trade = world_of seals network
@@ -259,7 +261,7 @@ module _ {D S : Type 0} (sight : D → Sight) (count : D → ℕ) (tells : Type 
     pub answering : Answering
     pub handed : List Call
     pub asks : AsksSo network.kept input answering
-    pub hands : commands_of handed ≡ handed_by (finds_in screens) moment answering
+    pub hands : commands_of handed ≡ handed_by moment answering
     pub calls : AreCalls trade Stood here handed
     pub state : there.sites ≡ (state_behind here handed).sites
     pub later : (provider : ℕ) → (state_behind here handed).counts provider ≤ there.counts provider
@@ -270,7 +272,7 @@ module _ {D S : Type 0} (sight : D → Sight) (count : D → ℕ) (tells : Type 
 
   -- nothing was handed in
   idle : (input : Bytes) (reply : Reply) (answering : Answering) → AsksSo network.kept input answering
-      → [] ≡ handed_by (finds_in screens) moment answering → there.sites ≡ here.sites
+      → [] ≡ handed_by moment answering → there.sites ≡ here.sites
       → ((provider : ℕ) → here.counts provider ≤ there.counts provider)
       → reply ≡ answered_by trade network.kept here.sites [] answering → Comes input reply
   idle input reply answering asks none same rose is = record {
@@ -285,7 +287,7 @@ module _ {D S : Type 0} (sight : D → Sight) (count : D → ℕ) (tells : Type 
   }
 
   rests : (input : Bytes) (reply : Reply) (answering : Answering) → AsksSo network.kept input answering
-      → [] ≡ handed_by (finds_in screens) moment answering → after ≡ desk
+      → [] ≡ handed_by moment answering → after ≡ desk
       → reply ≡ answered_by trade network.kept here.sites [] answering → Comes input reply
   rests input reply answering asks none same is =
       idle input reply answering asks none (ap (λ (s : State). s.sites) (unchanged same))
@@ -317,7 +319,7 @@ module _ {D S : Type 0} (sight : D → Sight) (count : D → ℕ) (tells : Type 
     number = handed_in_so.number
 
     abbrev command : Command
-    command = Submit number moment address path message (finds_in screens number message)
+    command = Submit number moment address path message
 
     abbrev play : Luck → Played
     play luck = played trade luck here.sites command
@@ -342,8 +344,7 @@ module _ {D S : Type 0} (sight : D → Sight) (count : D → ℕ) (tells : Type 
         state = called.after;
         kept = λ stood. called.kept;
         shown = λ stood. called.shown;
-        unchanged = λ stood is_trade sound. unchanged_handed trade called.luck here.sites number moment address path message
-            (finds_in screens number message);
+        unchanged = λ stood is_trade sound. unchanged_handed trade called.luck here.sites number moment address path message;
       }
 
       stored : Comes input reply
@@ -427,13 +428,6 @@ module _ {D S : Type 0} (sight : D → Sight) (count : D → ℕ) (tells : Type 
           (answer ∙ ap (λ (r : Result Bytes ProviderFault). shown_reply (kind_of (looks.Item place)) r) lack.0)
     ]
 
-  -- what an address is shown hangs on no screens
-  shown_same : (address : Bytes) (looked : Look) (home : Option ℕ)
-      → shown_with (providers_of network.kept) (option_map (share_at trade screens here.sites address) home) looked
-      ≡ shown_with (providers_of network.kept) (option_map (share_at trade [] here.sites address) home) looked
-  shown_same address looked None = refl
-  shown_same address looked (Some number) = refl
-
   answered : (input : Bytes) (reply : Reply) (asked : Result Question Stop) → Asks (pass_of network.kept) input asked
       → IsAnswer desk_answers desk input after reply → IsAnswered desk_answers desk asked after reply → Comes input reply
   answered input reply (Err stop) asks whole stays = rests input reply (connections.Stops stop) asks refl stays.same stays.is
@@ -442,15 +436,13 @@ module _ {D S : Type 0} (sight : D → Sight) (count : D → ℕ) (tells : Type 
   answered input reply (Ok (See address looks.Book)) asks whole shows =
       elim (own desk after input reply whole (Ok (See address looks.Book)) asks tt) [
         | inl is ↦ rests input reply (connections.Sees address looks.Book) asks refl shows.may_say.1
-            (is ∙ ap (shown_reply (kind_of looks.Book))
-            (shown_same address looks.Book (account_home (providers_of network.kept) address)))
+            is
         | inr lack ↦ rests input reply connections.Lacks tt refl shows.may_say.1 lack
       ]
   answered input reply (Ok (See address looks.Items)) asks whole shows =
       elim (own desk after input reply whole (Ok (See address looks.Items)) asks tt) [
         | inl is ↦ rests input reply (connections.Sees address looks.Items) asks refl shows.may_say.1
-            (is ∙ ap (shown_reply (kind_of looks.Items))
-            (shown_same address looks.Items (account_home (providers_of network.kept) address)))
+            is
         | inr lack ↦ rests input reply connections.Lacks tt refl shows.may_say.1 lack
       ]
   answered input reply (Ok (See address (looks.Item place))) asks whole shows =
@@ -471,9 +463,9 @@ module _ {D S : Type 0} (sight : D → Sight) (count : D → ℕ) (tells : Type 
 
   heard_so : (left held held_then : Option Bytes) (told_status : Served) (input : Bytes) → IsInput left input
       → (hearing : Hearing) (reply : Reply) (come : Comes input reply)
-      → IsHeardSo network.kept input hearing → commands_of come.handed ≡ handed_in (finds_in screens) moment hearing
+      → IsHeardSo network.kept input hearing → commands_of come.handed ≡ handed_in moment hearing
       → IsServed trade network.kept here.sites come.handed hearing held held_then told_status
-      → Hears trade Stood network.kept (finds_in screens) moment here there left held held_then told_status
+      → Hears trade Stood network.kept moment here there left held held_then told_status
   heard_so left held held_then told_status input is_input hearing reply come heard hands is = record {
     input = input;
     is_input = is_input;
@@ -493,7 +485,7 @@ module _ {D S : Type 0} (sight : D → Sight) (count : D → ℕ) (tells : Type 
 
   replies_hear : (left held held_then : Option Bytes) (code : ℕ) (input : Bytes) (reply : Reply) → IsInput left input
       → (come : Comes input reply) → Sends held held_then (served.Answered code) reply.status (reply_text reply)
-      → Hears trade Stood network.kept (finds_in screens) moment here there left held held_then (served.Answered code)
+      → Hears trade Stood network.kept moment here there left held held_then (served.Answered code)
   replies_hear left held held_then code input reply is_input come sends =
       heard_so left held held_then (served.Answered code) input is_input (connections.Heard come.answering) reply come
       come.asks come.hands (
@@ -503,14 +495,14 @@ module _ {D S : Type 0} (sight : D → Sight) (count : D → ℕ) (tells : Type 
 
   breaks_hear : (left held held_then : Option Bytes) (input : Bytes) (reply : Reply) → IsInput left input
       → (come : Comes input reply) → Sends held held_then served.WriteFault reply.status (reply_text reply)
-      → Hears trade Stood network.kept (finds_in screens) moment here there left held held_then served.WriteFault
+      → Hears trade Stood network.kept moment here there left held held_then served.WriteFault
   breaks_hear left held held_then input reply is_input come sends =
       heard_so left held held_then served.WriteFault input is_input (connections.Broken come.answering) reply come
       come.asks come.hands (refl, subst (λ (r : Reply). WrotePart held held_then (reply_text r)) come.reply_is sends)
 
   pub serves_hear : (left held held_then : Option Bytes) (told_status : Served)
       → Serves desk_answers left held desk after held_then told_status
-      → Hears trade Stood network.kept (finds_in screens) moment here there left held held_then told_status
+      → Hears trade Stood network.kept moment here there left held held_then told_status
   serves_hear left held held_then (served.Answered code) replies =
       replies_hear left held held_then code replies.input replies.reply replies.is_input
       (comes replies.input replies.reply replies.is_answer) replies.sends
@@ -534,11 +526,7 @@ module _ {D S : Type 0} (sight : D → Sight) (count : D → ℕ) (tells : Type 
 -- ---- a desk as it was opened
 
 pub opened_is : {D S : Type 0} (desk : DeskState D S) (network : NetworkState D S) (moment : ℕ)
-    (screens : List (List Patterns)) → desk.network ≡ network → desk.moment ≡ moment → desk.screens ≡ screens
-    → desk ≡ record { network = network; moment = moment; screens = screens }
-opened_is {D} {S} desk network moment screens same_network same_moment same_screens =
-    ap (λ (n : NetworkState D S).
-    (let d : DeskState D S = record { network = n; moment = desk.moment; screens = desk.screens } in d)) same_network
-    ∙ ap (λ (m : ℕ). (let d : DeskState D S = record { network = network; moment = m; screens = desk.screens } in d)) same_moment
-    ∙ ap (λ (s : List (List Patterns)).
-    (let d : DeskState D S = record { network = network; moment = moment; screens = s } in d)) same_screens
+    → desk.network ≡ network → desk.moment ≡ moment → desk ≡ record { network = network; moment = moment }
+opened_is {D} {S} desk network moment same_network same_moment =
+    ap (λ (n : NetworkState D S). (let d : DeskState D S = record { network = n; moment = desk.moment } in d)) same_network
+    ∙ ap (λ (m : ℕ). (let d : DeskState D S = record { network = network; moment = m } in d)) same_moment

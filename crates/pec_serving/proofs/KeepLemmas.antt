@@ -1,6 +1,5 @@
 -- What the desk keeps of a network, whatever was asked of it.
-use Rattle.std.proofs.Common.{◌≡◌, inl, inr, ℕ, ◌<◌, List, [], ◌++◌, length, map, take, drop, refl, ap, sym, subst, ◌∙◌, arith, Option, Result, Ok, Err}
-use Rattle.std.proofs.lemmas.List.{append-nil, drop_all, length-map, take_all}
+use Rattle.std.proofs.Common.{◌≡◌, inl, inr, ℕ, ◌<◌, List, [], length, refl, ap, sym, subst, ◌∙◌, arith, Option, Result, Ok, Err}
 use Rattle.std.proofs.lemmas.Option.{slice_get_cases}
 use Rattle.pec_types.specs.Bytes.{Bytes}
 use Rattle.pec_types.specs.declared.turns.ProviderFault.{ProviderFault}
@@ -116,23 +115,6 @@ module _ {D S : Type 0} (sight : D → Sight) (count : D → ℕ) (disks : Type 
         (λ address path message said handed. concern_keeps whole whole_after handed.number handed.within said handed.concerns)
         (λ address place said looked. concern_keeps whole whole_after looked.number looked.within said looked.concerns)
         left held held_then told serves
-
-    -- the screens look for what they looked for
-    pub serves_look : (left held held_then : Option Bytes) (told : Served)
-        → Serves (answers_of sight count disks seals) left held desk after held_then told → after.screens ≡ desk.screens
-    serves_look left held held_then told serves =
-        holds_served seals desk after (λ (d : DeskState D S). d.screens ≡ desk.screens) refl
-        (λ address path message said handed. handed.screens) (λ address place said looked. looked.screens)
-        left held held_then told serves
-
--- a list that was lent whole, and came back with what is said of its items unchanged
-pub given_back : {X Z : Type 0} (items back : List X) (count : ℕ) (told : X → Z) → count ≡ length items
-    → map told back ≡ map told items → map told (take count (back ++ drop (length back) items)) ≡ map told items
-given_back items back count told whole same =
-    let size : length back ≡ length items = sym (length-map back told) ∙ ap length same ∙ length-map items told in
-    ap (map told) (ap (take count) (ap (λ rest. back ++ rest) (drop_all (length back) items (omega (arith, size)))
-    ∙ append-nil back) ∙ take_all count back (omega (arith, whole, size)))
-    ∙ same
 
 -- the world is the same as long as directory and seals are kept
 pub as_begun : {D S : Type 0} (sight : D → Sight) (count : D → ℕ) (disks : Type 0) (seals : S → Seals)

@@ -15,15 +15,14 @@ use Rattle.pec_plays.specs.Commands.{Answer, Command, Luck, Show, Shown, Submit,
 use Rattle.pec_plays.specs.Scripts.{IsUnforged}
 use Rattle.pec_plays.specs.Turns.{Whole}
 use Rattle.pec_directory.specs.Directory.{Kept}
-use Rattle.pec_screen.specs.Screened.{Finds, finds_in}
 use Rattle.pec_playing.specs.Doing.{Carries, Keeps}
 use Rattle.pec_playing.specs.OfNetworks.{NetworkState, sites, world_of}
 use Rattle.pec_playing.specs.Points.{state_in}
 use Rattle.pec_http.specs.Serving.{Serves}
 use Rattle.pec_http.specs.declared.serving.Served.{Served}
 use Rattle.pec_desk.specs.Desks.{DeskState, HandsIn, LooksAt, answers_of}
-use Rattle.pec_runs.specs.Moves.{Moves, MovesOn}
-use Rattle.pec_runs.specs.Steps.{IsMoment, State, Writes}
+use Rattle.pec_service.specs.OfRuns.{Moves, MovesOn}
+use Rattle.pec_service.specs.OfRuns.{IsMoment, State, Writes}
 use Rattle.pec_serving.proofs.HearingLemmas.{Called, called_or, looked_or, told}
 use Rattle.pec_service.specs.Connections.{Place}
 use Rattle.pec_serving.specs.Serving.{ComesNext}
@@ -57,13 +56,13 @@ module _ {D S : Type 0} (sight : D → Sight) (count : D → ℕ) (tells : Type 
     → Sound (world_of seals desk.network) state → IsUnforged (world_of seals desk.network) luck state command
     → Sound (world_of seals desk.network) (played (world_of seals desk.network) luck state command).after)
     (moment : tells → Carries sight tells (world_of seals desk.network) desk.network after.network
-    → IsMoment (world_of seals desk.network) sight (state_in count elsewhere desk.network)
-    (state_in count elsewhere after.network)) where
+    → IsMoment (world_of seals desk.network) sight (state_in count elsewhere [] desk.network)
+    (state_in count elsewhere [] after.network)) where
   abbrev trade : Trade
   trade = world_of seals desk.network
 
   abbrev MovesTo : DeskState D S → Type 0
-  MovesTo to = MovesOn trade tells sight (state_in count elsewhere desk.network) (state_in count elsewhere to.network)
+  MovesTo to = MovesOn trade tells sight (state_in count elsewhere [] desk.network) (state_in count elsewhere [] to.network)
 
   quiet : Luck
   quiet = record { cuts = λ provider. Whole; fails = false; found = false; read = None; shown = None }
@@ -84,8 +83,8 @@ module _ {D S : Type 0} (sight : D → Sight) (count : D → ℕ) (tells : Type 
       → HandsIn sight count tells seals desk address path message said after → MovesTo after
   handed_moves address path message said handed =
       let command : Command =
-      Submit handed.number desk.moment address path message (finds_in desk.screens handed.number message)
-      in moves_one sight tells trade quiet (state_in count elsewhere desk.network) (state_in count elsewhere after.network)
+      Submit handed.number desk.moment address path message
+      in moves_one sight tells trade quiet (state_in count elsewhere [] desk.network) (state_in count elsewhere [] after.network)
       (sound_by command (λ luck. (handed.path.0, handed.path.1, in_time)) None (told Submits said)
       (said ≡ Err faults.NoMemory)
       (called_or (λ luck. played trade luck (sites desk.network) command) (sites desk.network) (sites after.network) said
@@ -95,7 +94,7 @@ module _ {D S : Type 0} (sight : D → Sight) (count : D → ℕ) (tells : Type 
   looked_moves : (address : Bytes) (place : ℕ) (said : Result Bytes ProviderFault)
       → LooksAt sight count tells seals desk address place said after → MovesTo after
   looked_moves address place said looked =
-      moves_one sight tells trade quiet (state_in count elsewhere desk.network) (state_in count elsewhere after.network)
+      moves_one sight tells trade quiet (state_in count elsewhere [] desk.network) (state_in count elsewhere [] after.network)
       (sound_by (Show address place) (λ luck. tt) looked.reads.shown (told Shown said) (said ≡ Err faults.NoMemory)
       (looked_or (λ luck. played trade luck (sites desk.network) (Show address place)) (sites desk.network)
       (sites after.network) looked.reads.shown said looked.reads.is))
@@ -105,7 +104,7 @@ module _ {D S : Type 0} (sight : D → Sight) (count : D → ℕ) (tells : Type 
       → Serves (answers_of sight count tells seals) left held desk after held_then told → MovesTo after
   serves_move left held held_then told serves =
       holds_served sight count tells seals desk after MovesTo
-      (moves_none sight tells trade (state_in count elsewhere desk.network)) handed_moves looked_moves left held held_then told
+      (moves_none sight tells trade (state_in count elsewhere [] desk.network)) handed_moves looked_moves left held held_then told
       serves
 
 -- ---- a service
@@ -121,43 +120,43 @@ pub record MoveLaws {D : Type 0} (trade : Trade) (disks all : Type 0) (sight : D
 module _ {D S : Type 0} (sight : D → Sight) (count : D → ℕ) (disks all : Type 0) (seals : S → Seals)
     (start now again : NetworkState D S) (elsewhere : ℕ → ℕ) (laws : MoveLaws (world_of seals start) disks all sight)
     (keeps : Keeps sight count disks start now)
-    (going : MovesOn (world_of seals start) all sight (state_in count elsewhere start) (state_in count elsewhere now))
-    (next : MovesOn (world_of seals now) disks sight (state_in count elsewhere now) (state_in count elsewhere again)) where
+    (going : MovesOn (world_of seals start) all sight (state_in count elsewhere [] start) (state_in count elsewhere [] now))
+    (next : MovesOn (world_of seals now) disks sight (state_in count elsewhere [] now) (state_in count elsewhere [] again)) where
   -- the next connection
-  pub moves_again : MovesOn (world_of seals start) all sight (state_in count elsewhere start) (state_in count elsewhere again)
+  pub moves_again : MovesOn (world_of seals start) all sight (state_in count elsewhere [] start) (state_in count elsewhere [] again)
   moves_again =
-      laws.on (state_in count elsewhere start) (state_in count elsewhere now) (state_in count elsewhere again) going
-      (laws.told (state_in count elsewhere now) (state_in count elsewhere again)
+      laws.on (state_in count elsewhere [] start) (state_in count elsewhere [] now) (state_in count elsewhere [] again) going
+      (laws.told (state_in count elsewhere [] now) (state_in count elsewhere [] again)
       (as_begun sight count disks seals start now keeps
-      (λ (t : Trade) (k : List Kept). MovesOn t disks sight (state_in count elsewhere now) (state_in count elsewhere again))
+      (λ (t : Trade) (k : List Kept). MovesOn t disks sight (state_in count elsewhere [] now) (state_in count elsewhere [] again))
       next))
 
   module _ (keeps_again : Keeps sight count disks start again) (last : NetworkState D S) where
     -- and its clock calls, all of them
-    pub moves_last : MovesOn (world_of seals again) all sight (state_in count elsewhere again)
-        (state_in count elsewhere last)
-        → MovesOn (world_of seals start) all sight (state_in count elsewhere start) (state_in count elsewhere last)
+    pub moves_last : MovesOn (world_of seals again) all sight (state_in count elsewhere [] again)
+        (state_in count elsewhere [] last)
+        → MovesOn (world_of seals start) all sight (state_in count elsewhere [] start) (state_in count elsewhere [] last)
     moves_last clock =
-        laws.on (state_in count elsewhere start) (state_in count elsewhere again) (state_in count elsewhere last) moves_again
+        laws.on (state_in count elsewhere [] start) (state_in count elsewhere [] again) (state_in count elsewhere [] last) moves_again
         (as_begun sight count disks seals start again keeps_again
-        (λ (t : Trade) (k : List Kept). MovesOn t all sight (state_in count elsewhere again) (state_in count elsewhere last))
+        (λ (t : Trade) (k : List Kept). MovesOn t all sight (state_in count elsewhere [] again) (state_in count elsewhere [] last))
         clock)
 
     -- or some
-    pub moves_stopped : Moves (world_of seals again) all sight (state_in count elsewhere again)
-        (state_in count elsewhere last)
-        → Moves (world_of seals start) all sight (state_in count elsewhere start) (state_in count elsewhere last)
+    pub moves_stopped : Moves (world_of seals again) all sight (state_in count elsewhere [] again)
+        (state_in count elsewhere [] last)
+        → Moves (world_of seals start) all sight (state_in count elsewhere [] start) (state_in count elsewhere [] last)
     moves_stopped clock =
-        laws.part (state_in count elsewhere start) (state_in count elsewhere again) (state_in count elsewhere last)
+        laws.part (state_in count elsewhere [] start) (state_in count elsewhere [] again) (state_in count elsewhere [] last)
         moves_again
         (as_begun sight count disks seals start again keeps_again
-        (λ (t : Trade) (k : List Kept). Moves t all sight (state_in count elsewhere again) (state_in count elsewhere last))
+        (λ (t : Trade) (k : List Kept). Moves t all sight (state_in count elsewhere [] again) (state_in count elsewhere [] last))
         clock)
 
 -- a connection that was served came at a moment that a clock tells
-pub served_in_time : (trade : Trade) (tells : Type 0) (kept : List Kept) (finds : Finds) (here there : Place) (moment : ℕ) (told : Served)
-    (came : Came) → came ≡ came_variants.Served moment told → ComesNext trade tells kept finds here there came
+pub served_in_time : (trade : Trade) (tells : Type 0) (kept : List Kept) (here there : Place) (moment : ℕ) (told : Served)
+    (came : Came) → came ≡ came_variants.Served moment told → ComesNext trade tells kept here there came
     → moment < END_OF_TIME
-served_in_time trade tells kept finds here there moment told came is comes =
-    let next = subst (λ (c : Came). ComesNext trade tells kept finds here there c) is comes in
+served_in_time trade tells kept here there moment told came is comes =
+    let next = subst (λ (c : Came). ComesNext trade tells kept here there c) is comes in
     subst (λ (m : ℕ). m < END_OF_TIME) next.moment_is next.is.in_time

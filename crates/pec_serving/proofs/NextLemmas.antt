@@ -9,7 +9,6 @@ use Rattle.pec_outside.specs.Clocks.{Gives}
 use Rattle.pec_outside.specs.Doors.{Reply as ToldReply, in_front, replied}
 use Rattle.pec_outside.specs.Flow.{HasRisen, followed_by}
 use Rattle.pec_directory.specs.Directory.{Kept}
-use Rattle.pec_screen.specs.Screened.{Finds}
 use Rattle.pec_ledger.specs.Trade.{Trade}
 use Rattle.pec_http.specs.Replies.{reply_text}
 use Rattle.pec_http.specs.declared.serving.Served.{Served}
@@ -25,12 +24,12 @@ use Rattle.pec_serving.specs.declared.next.Came.TheVariants as came_variants
 rose_from : (faults : ℕ) → HasRisen 0 faults → nat_lt 0 faults ≡ true
 rose_from faults risen = lt-ltb 0 faults (risen (omega arith))
 
-module _ (trade : Trade) (tells : Type 0) (kept : List Kept) (finds : Finds) (moment : ℕ) (in_time : moment < END_OF_TIME) (here there : Place)
+module _ (trade : Trade) (tells : Type 0) (kept : List Kept) (moment : ℕ) (in_time : moment < END_OF_TIME) (here there : Place)
     (left held held_then : Option Bytes) (fresh faults : ℕ) (told : Served)
     (gives : Gives here.moments moment there.moments) (came : here.requests ≡ in_front left there.requests)
     (empty : IfSome here.replies (λ rs. held ≡ Some [])) (none_yet : fresh ≡ 0)
     (closed : there.replies ≡ replied here.replies held_then faults)
-    (hears : Hears trade tells kept finds moment here.network there.network left held held_then told)
+    (hears : Hears trade tells kept moment here.network there.network left held held_then told)
     (read_fault : told ≡ served.ReadFault → HasRisen fresh faults)
     (write_fault : told ≡ served.WriteFault → HasRisen fresh faults) where
   abbrev reply : Bytes → ToldReply
@@ -79,7 +78,7 @@ module _ (trade : Trade) (tells : Type 0) (kept : List Kept) (finds : Finds) (mo
       ∙ ap (λ (o : Option Bytes). replied (Some replies) o faults)
       (done.held_is (subst (λ (o : Option (List ToldReply)). IfSome o (λ rs. held ≡ Some [])) is empty))
 
-  pub served_next : IsServedNext trade tells kept finds here there moment told
+  pub served_next : IsServedNext trade tells kept here there moment told
   served_next = record {
     connection = record {
       moment = moment;
@@ -142,9 +141,9 @@ module _ (trade : Trade) (tells all : Type 0) (more : all → tells) where
     calls_told call.behind calls are.1,
   )
 
-  connection_told : (kept : List Kept) (finds : Finds) (here : Place) (connection : Connection)
-      → IsConnection trade tells kept finds here connection → IsConnection trade all kept finds here connection
-  connection_told kept finds here connection is = record {
+  connection_told : (kept : List Kept) (here : Place) (connection : Connection)
+      → IsConnection trade tells kept here connection → IsConnection trade all kept here connection
+  connection_told kept here connection is = record {
     moment = is.moment;
     in_time = is.in_time;
     left = is.left;
@@ -161,15 +160,15 @@ module _ (trade : Trade) (tells all : Type 0) (more : all → tells) where
     later = is.later;
   }
 
-  pub comes_told : (kept : List Kept) (finds : Finds) (here there : Place) (came : Came)
-      → ComesNext trade tells kept finds here there came → ComesNext trade all kept finds here there came
-  comes_told kept finds here there (came_variants.Served moment told) next = record {
+  pub comes_told : (kept : List Kept) (here there : Place) (came : Came)
+      → ComesNext trade tells kept here there came → ComesNext trade all kept here there came
+  comes_told kept here there (came_variants.Served moment told) next = record {
     connection = next.connection;
-    is = connection_told kept finds here next.connection next.is;
+    is = connection_told kept here next.connection next.is;
     moment_is = next.moment_is;
     unplayed = next.unplayed;
     behind_is = next.behind_is;
     line = next.line;
   }
-  comes_told kept finds here there came_variants.NoMoment next = next
-  comes_told kept finds here there came_variants.NoConnection next = next
+  comes_told kept here there came_variants.NoMoment next = next
+  comes_told kept here there came_variants.NoConnection next = next

@@ -8,11 +8,10 @@ use Rattle.pec_outside.specs.Clocks.{Gives}
 use Rattle.pec_outside.specs.Doors.{in_front, replied}
 use Rattle.pec_outside.specs.Flow.{WrotePart, followed_by}
 use Rattle.pec_directory.specs.Directory.{Kept, Provider, providers_of}
-use Rattle.pec_screen.specs.Screened.{Finds}
 use Rattle.pec_ledger.specs.Trade.{Trade}
 use Rattle.pec_plays.specs.Commands.{Command}
 use Rattle.pec_http.specs.declared.serving.Served.{Served}
-use Rattle.pec_runs.specs.Ran.{Behind, LeavesOff}
+use Rattle.pec_service.specs.OfRuns.{Behind, LeavesOff}
 use Rattle.pec_service.specs.Calls.{AreCalls, Call, State, calls_text, clock_from, commands_of, state_behind}
 use Rattle.pec_service.specs.Connections.{Connection, IsConnection, IsWhole, Place, connection_text}
 use Rattle.pec_service.specs.Services.{AllServed, AreConnections, Halted, NoConnection, NoMoment, Service, connections_text, next_in, place_behind}
@@ -39,11 +38,11 @@ pub record CallLaws (trade : Trade) (tells : Type 0) : Type 0 where
   pub behind : (here : State) (calls more : List Call)
       → state_behind here (calls ++ more) ≡ state_behind (state_behind here calls) more
 
-pub record ConnectionLaws (trade : Trade) (tells : Type 0) (kept : List Kept) (finds : Finds) : Type 0 where
+pub record ConnectionLaws (trade : Trade) (tells : Type 0) (kept : List Kept) : Type 0 where
   pub one : (here : Place) (connections : List Connection) (connection : Connection)
-      → AreConnections trade tells kept finds here connections
-      → IsConnection trade tells kept finds (place_behind here connections) connection
-      → AreConnections trade tells kept finds here (connections ++ connection ∷ [])
+      → AreConnections trade tells kept here connections
+      → IsConnection trade tells kept (place_behind here connections) connection
+      → AreConnections trade tells kept here (connections ++ connection ∷ [])
   pub behind : (here : Place) (connections : List Connection) (connection : Connection)
       → place_behind here (connections ++ connection ∷ []) ≡ connection.behind
   pub text : (here : Place) (connections : List Connection) (connection : Connection)
@@ -53,8 +52,8 @@ pub record ConnectionLaws (trade : Trade) (tells : Type 0) (kept : List Kept) (f
 
 -- ---- one connection, behind its line
 
-module _ (trade : Trade) (tells : Type 0) (kept : List Kept) (finds : Finds) (laws : CallLaws trade tells) (here there : Place) (moment : ℕ) (told : Served)
-    (next : IsServedNext trade tells kept finds here there moment told) where
+module _ (trade : Trade) (tells : Type 0) (kept : List Kept) (laws : CallLaws trade tells) (here there : Place) (moment : ℕ) (told : Served)
+    (next : IsServedNext trade tells kept here there moment told) where
   abbrev connection : Connection
   connection = next.connection
 
@@ -113,7 +112,7 @@ module _ (trade : Trade) (tells : Type 0) (kept : List Kept) (finds : Finds) (la
 
     pub with_calls_is : (now : State) → now.sites ≡ (state_behind here.network (handed ++ calls)).sites
         → ((provider : ℕ) → (state_behind here.network (handed ++ calls)).counts provider ≤ now.counts provider)
-        → IsConnection trade tells kept finds here (with_calls calls now)
+        → IsConnection trade tells kept here (with_calls calls now)
     with_calls_is now same later = record {
       moment = subst (λ (p : Place). Gives here.moments connection.moment p.moments) next.behind_is next.is.moment;
       in_time = next.is.in_time;
@@ -158,17 +157,17 @@ moved there state =
 -- ---- how far a service is
 
 -- So many connections were served whole, from here to now, and written.
-pub record Going (trade : Trade) (tells : Type 0) (kept : List Kept) (finds : Finds) (here now : Place) (served : ℕ) (before after : Option Bytes) : Type 0 where
+pub record Going (trade : Trade) (tells : Type 0) (kept : List Kept) (here now : Place) (served : ℕ) (before after : Option Bytes) : Type 0 where
   pub whole : List Connection
-  pub are : AreConnections trade tells kept finds here whole
+  pub are : AreConnections trade tells kept here whole
   pub all_whole : All (IsWhole kept) whole
   pub count : length whole ≡ served
   pub behind : place_behind here whole ≡ now
   pub held : after ≡ followed_by before (connections_text trade kept here whole)
 
-pub goes_none : (trade : Trade) (tells : Type 0) (kept : List Kept) (finds : Finds) (here : Place) (before : Option Bytes)
-    → Going trade tells kept finds here here 0 before before
-goes_none trade tells kept finds here before = record {
+pub goes_none : (trade : Trade) (tells : Type 0) (kept : List Kept) (here : Place) (before : Option Bytes)
+    → Going trade tells kept here here 0 before before
+goes_none trade tells kept here before = record {
   whole = [];
   are = tt;
   all_whole = All-nil (IsWhole kept);
@@ -177,11 +176,11 @@ goes_none trade tells kept finds here before = record {
   held = followed_nothing before;
 }
 
-module _ (trade : Trade) (tells : Type 0) (kept : List Kept) (finds : Finds) (laws : CallLaws trade tells) (joins : ConnectionLaws trade tells kept finds) (here now : Place)
-    (served : ℕ) (before mid : Option Bytes) (going : Going trade tells kept finds here now served before mid) where
+module _ (trade : Trade) (tells : Type 0) (kept : List Kept) (laws : CallLaws trade tells) (joins : ConnectionLaws trade tells kept) (here now : Place)
+    (served : ℕ) (before mid : Option Bytes) (going : Going trade tells kept here now served before mid) where
   -- ---- one more
 
-  module _ (there : Place) (moment : ℕ) (told : Served) (next : IsServedNext trade tells kept finds now there moment told)
+  module _ (there : Place) (moment : ℕ) (told : Served) (next : IsServedNext trade tells kept now there moment told)
       (line_held : Option Bytes) (line_written : line_held ≡ followed_by mid (served_line told)) where
     abbrev due : List Command
     due = clock_from (length kept) 0 moment
@@ -189,9 +188,9 @@ module _ (trade : Trade) (tells : Type 0) (kept : List Kept) (finds : Finds) (la
     abbrev whole_text : Bytes
     whole_text = connections_text trade kept here going.whole
 
-    is_behind : (c : Connection) → IsConnection trade tells kept finds now c
-        → IsConnection trade tells kept finds (place_behind here going.whole) c
-    is_behind c is = subst (λ (p : Place). IsConnection trade tells kept finds p c) (sym going.behind) is
+    is_behind : (c : Connection) → IsConnection trade tells kept now c
+        → IsConnection trade tells kept (place_behind here going.whole) c
+    is_behind c is = subst (λ (p : Place). IsConnection trade tells kept p c) (sym going.behind) is
 
     text_with : (c : Connection) (text : Bytes) → connection_text trade kept now.network c ≡ text
         → connections_text trade kept here (going.whole ++ c ∷ []) ≡ whole_text ++ text
@@ -212,35 +211,35 @@ module _ (trade : Trade) (tells : Type 0) (kept : List Kept) (finds : Finds) (la
     module _ (left : State) (calls : List Call) (unplayed : List Command)
         (plays : commands_of calls ++ unplayed ≡ due) (are : AreCalls trade tells there.network calls) where
       abbrev then_at : State → Connection
-      then_at state = with_calls trade tells kept finds laws now there moment told next calls state
+      then_at state = with_calls trade tells kept laws now there moment told next calls state
 
       one_is : (state : State)
           → state.sites ≡ (state_behind now.network (next.connection.handed ++ calls)).sites
           → ((provider : ℕ) → (state_behind now.network (next.connection.handed ++ calls)).counts provider ≤ state.counts provider)
-          → AreConnections trade tells kept finds here (going.whole ++ then_at state ∷ [])
+          → AreConnections trade tells kept here (going.whole ++ then_at state ∷ [])
       one_is state same later =
           joins.one here going.whole (then_at state) going.are
-          (is_behind (then_at state) (with_calls_is trade tells kept finds laws now there moment told next calls unplayed plays are state same later))
+          (is_behind (then_at state) (with_calls_is trade tells kept laws now there moment told next calls unplayed plays are state same later))
 
       all_text : (state : State) → connections_text trade kept here (going.whole ++ then_at state ∷ [])
           ≡ whole_text ++ (served_line told ++ calls_text trade (providers_of kept) there.network calls)
       all_text state =
           text_with (then_at state) (served_line told ++ calls_text trade (providers_of kept) there.network calls)
-          (with_calls_text trade tells kept finds laws now there moment told next calls unplayed plays are state)
+          (with_calls_text trade tells kept laws now there moment told next calls unplayed plays are state)
 
       -- the network is the one behind these calls
       at_same : state_behind there.network calls ≡ left
           → left.sites ≡ (state_behind now.network (next.connection.handed ++ calls)).sites
       at_same is =
           ap (λ (s : State). s.sites) (sym is)
-          ∙ sym (behind_same trade tells kept finds laws now there moment told next calls unplayed plays are)
+          ∙ sym (behind_same trade tells kept laws now there moment told next calls unplayed plays are)
 
       at_later : state_behind there.network calls ≡ left → (provider : ℕ)
           → (state_behind now.network (next.connection.handed ++ calls)).counts provider ≤ left.counts provider
       at_later is provider =
           let a : (state_behind there.network calls).counts provider ≡ left.counts provider =
           ap (λ (s : State). s.counts provider) is
-          in omega (arith, a, behind_later trade tells kept finds laws now there moment told next calls unplayed plays are provider)
+          in omega (arith, a, behind_later trade tells kept laws now there moment told next calls unplayed plays are provider)
 
       -- as many calls as are due
       as_many : unplayed ≡ [] → length calls ≡ length kept + 1
@@ -251,7 +250,7 @@ module _ (trade : Trade) (tells : Type 0) (kept : List Kept) (finds : Finds) (la
 
       pub goes : unplayed ≡ [] → state_behind there.network calls ≡ left → (after : Option Bytes)
           → after ≡ followed_by line_held (calls_text trade (providers_of kept) there.network calls)
-          → Going trade tells kept finds here (moved there left) (served + 1) before after
+          → Going trade tells kept here (moved there left) (served + 1) before after
       goes none is after written = record {
         whole = going.whole ++ then_at left ∷ [];
         are = one_is left (at_same is) (at_later is);
@@ -269,7 +268,7 @@ module _ (trade : Trade) (tells : Type 0) (kept : List Kept) (finds : Finds) (la
 
       pub broke : (wanted : ℕ) → served ≤ wanted → state_behind there.network calls ≡ left → (after : Option Bytes)
           → WrotePart mid after (served_line told ++ calls_text trade (providers_of kept) there.network calls)
-          → ServesSo trade tells kept finds wanted here (moved there left) before after endings.WriteFault
+          → ServesSo trade tells kept wanted here (moved there left) before after endings.WriteFault
       broke wanted few is after part = record {
         service = record { whole = going.whole; part = Some (then_at left); ending = Halted };
         is = record {
@@ -296,15 +295,15 @@ module _ (trade : Trade) (tells : Type 0) (kept : List Kept) (finds : Finds) (la
           → ((provider : ℕ) → (state_behind there.network calls).counts provider ≤ left.counts provider)
           → (after : Option Bytes)
           → after ≡ followed_by line_held (calls_text trade (providers_of kept) there.network calls)
-          → ServesSo trade tells kept finds wanted here (moved there left) before after endings.NoMemory
+          → ServesSo trade tells kept wanted here (moved there left) before after endings.NoMemory
       lacks wanted few leaves later after written =
           let at = state_behind there.network calls
-          in let same = sym (behind_same trade tells kept finds laws now there moment told next calls unplayed plays are)
+          in let same = sym (behind_same trade tells kept laws now there moment told next calls unplayed plays are)
           in let behind = joins.behind here going.whole (then_at at)
           in record {
             service = record { whole = going.whole; part = Some (then_at at); ending = Halted };
             is = record {
-              each = one_is at same (behind_later trade tells kept finds laws now there moment told next calls unplayed plays are);
+              each = one_is at same (behind_later trade tells kept laws now there moment told next calls unplayed plays are);
               whole = going.all_whole;
               ends = omega (arith, few, going.count);
               leaves = (
@@ -332,8 +331,8 @@ module _ (trade : Trade) (tells : Type 0) (kept : List Kept) (finds : Finds) (la
   abbrev between : services.Ending → Service
   between ending = record { whole = going.whole; part = None; ending = ending }
 
-  each_is : AreConnections trade tells kept finds here (going.whole ++ [])
-  each_is = subst (λ (l : List Connection). AreConnections trade tells kept finds here l) (sym (append-nil going.whole)) going.are
+  each_is : AreConnections trade tells kept here (going.whole ++ [])
+  each_is = subst (λ (l : List Connection). AreConnections trade tells kept here l) (sym (append-nil going.whole)) going.are
 
   place_is : place_behind here (going.whole ++ []) ≡ now
   place_is = ap (place_behind here) (append-nil going.whole) ∙ going.behind
@@ -356,7 +355,7 @@ module _ (trade : Trade) (tells : Type 0) (kept : List Kept) (finds : Finds) (la
       → left.network.sites ≡ (place_behind here (going.whole ++ [])).network.sites
   sites_is left same = ap (λ (s : State). s.sites) same ∙ ap (λ (p : Place). p.network.sites) (sym place_is)
 
-  pub all_served : (wanted : ℕ) → served ≡ wanted → ServesSo trade tells kept finds wanted here now before mid endings.AllServed
+  pub all_served : (wanted : ℕ) → served ≡ wanted → ServesSo trade tells kept wanted here now before mid endings.AllServed
   all_served wanted is = record {
     service = between AllServed;
     is = record {
@@ -371,7 +370,7 @@ module _ (trade : Trade) (tells : Type 0) (kept : List Kept) (finds : Finds) (la
   }
 
   pub none_met : (wanted : ℕ) → served < wanted → (left : Place) → left.network ≡ now.network → left.replies ≡ now.replies
-      → ServesSo trade tells kept finds wanted here left before mid endings.NoConnection
+      → ServesSo trade tells kept wanted here left before mid endings.NoConnection
   none_met wanted few left same replies = record {
     service = between NoConnection;
     is = record {
@@ -387,7 +386,7 @@ module _ (trade : Trade) (tells : Type 0) (kept : List Kept) (finds : Finds) (la
 
   pub none_told : (wanted : ℕ) → served < wanted → (left : Place) → left.network ≡ now.network
       → left.replies ≡ replied now.replies (Some []) 0
-      → ServesSo trade tells kept finds wanted here left before mid endings.NoMoment
+      → ServesSo trade tells kept wanted here left before mid endings.NoMoment
   none_told wanted few left same replies = record {
     service = between NoMoment;
     is = record {
@@ -405,9 +404,9 @@ module _ (trade : Trade) (tells : Type 0) (kept : List Kept) (finds : Finds) (la
   }
 
   -- the line of the connection wasn't written whole
-  module _ (there : Place) (moment : ℕ) (told : Served) (next : IsServedNext trade tells kept finds now there moment told) where
+  module _ (there : Place) (moment : ℕ) (told : Served) (next : IsServedNext trade tells kept now there moment told) where
     pub line_broke : (wanted : ℕ) → served ≤ wanted → (after : Option Bytes) → WrotePart mid after (served_line told)
-        → ServesSo trade tells kept finds wanted here there before after endings.WriteFault
+        → ServesSo trade tells kept wanted here there before after endings.WriteFault
     line_broke wanted few after part =
         broke there moment told next (followed_by mid (served_line told)) refl there.network []
         (clock_from (length kept) 0 moment) refl tt wanted few refl after

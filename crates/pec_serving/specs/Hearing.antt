@@ -3,7 +3,6 @@ use Rattle.std.specs.Prelude.{◌≡◌, ℕ, ◌≤◌, List, Option}
 use Rattle.pec_types.specs.Bytes.{Bytes}
 use Rattle.pec_outside.specs.Flow.{WrotePart, followed_by}
 use Rattle.pec_directory.specs.Directory.{Kept}
-use Rattle.pec_screen.specs.Screened.{Finds}
 use Rattle.pec_ledger.specs.Network.{Site}
 use Rattle.pec_ledger.specs.Trade.{Trade}
 use Rattle.pec_http.specs.Input.{IsInput}
@@ -24,16 +23,15 @@ module _ (trade : Trade) (kept : List Kept) where
   IsServed sites handed (Broken answering) held held_then told =
       (told ≡ served.WriteFault) × WrotePart held held_then (reply_text (answered_by trade kept sites handed answering))
 
-module _ (trade : Trade) (tells : Type 0) (kept : List Kept) (finds : Finds) where
-  -- A connection that had this to come and held that was answered at the desk at a moment, where screens find this, or
-  -- failed.
+module _ (trade : Trade) (tells : Type 0) (kept : List Kept) where
+  -- A connection that had this to come and held that was answered at the desk at a moment, or failed.
   pub record Hears (moment : ℕ) (here there : State) (left held held_then : Option Bytes) (told : Served) : Type 0 where
     pub input : Bytes
     pub is_input : IsInput left input
     pub hearing : Hearing
     pub handed : List Call
     pub heard : IsHeardSo kept input hearing
-    pub hands : commands_of handed ≡ handed_in finds moment hearing
+    pub hands : commands_of handed ≡ handed_in moment hearing
     pub calls : AreCalls trade tells here handed
     pub state : there.sites ≡ (state_behind here handed).sites
     pub later : (provider : ℕ) → (state_behind here handed).counts provider ≤ there.counts provider

@@ -5,7 +5,6 @@ use Rattle.pec_types.specs.Bytes.{Bytes}
 use Rattle.pec_outside.specs.Doors.{Reply as ToldReply, replied}
 use Rattle.pec_outside.specs.Flow.{WrotePart, followed_by}
 use Rattle.pec_directory.specs.Directory.{Kept}
-use Rattle.pec_screen.specs.Screened.{Finds}
 use Rattle.pec_ledger.specs.Trade.{Trade}
 use Rattle.pec_playing.specs.OfNetworks.{NetworkState}
 use Rattle.pec_http.specs.declared.serving.Served.{Served}
@@ -43,11 +42,11 @@ pub record IsUnmet (here there : Place) : Type 0 where
   pub network : there.network ≡ here.network
   pub replies : there.replies ≡ here.replies
 
-module _ (trade : Trade) (tells : Type 0) (kept : List Kept) (finds : Finds) where
+module _ (trade : Trade) (tells : Type 0) (kept : List Kept) where
   -- A connection was served, of which no clock call was played yet.
   pub record IsServedNext (here there : Place) (moment : ℕ) (told : Served) : Type 0 where
     pub connection : Connection
-    pub is : IsConnection trade tells kept finds here connection
+    pub is : IsConnection trade tells kept here connection
     pub moment_is : connection.moment ≡ moment
     pub unplayed : connection.clock ≡ []
     pub behind_is : connection.behind ≡ there
@@ -73,10 +72,10 @@ abbrev pub AreWritten : Ending → (before after : Option Bytes) → Bytes → T
 AreWritten endings.WriteFault before after text = WrotePart before after text
 AreWritten _ before after text = after ≡ followed_by before text
 
--- A service of so many connections went from here to there, where screens find this, and its lines were written.
-pub record ServesSo (trade : Trade) (tells : Type 0) (kept : List Kept) (finds : Finds) (wanted : ℕ) (here there : Place)
+-- A service of so many connections went from here to there, and its lines were written.
+pub record ServesSo (trade : Trade) (tells : Type 0) (kept : List Kept) (wanted : ℕ) (here there : Place)
     (before after : Option Bytes) (ending : Ending) : Type 0 where
   pub service : Service
-  pub is : IsService trade tells kept finds wanted here there service
+  pub is : IsService trade tells kept wanted here there service
   pub ending_is : service.ending ≡ ending_of ending
   pub written : AreWritten ending before after (service_text trade kept here service)

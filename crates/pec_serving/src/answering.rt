@@ -1,12 +1,11 @@
-ghost use Rattle.std.specs.Prelude.{◌≡◌, ℕ, ◌<◌, ◌≤◌, length, map};
+ghost use Rattle.std.specs.Prelude.{◌≡◌, ℕ, ◌<◌, ◌≤◌, [], length};
 ghost use Rattle.pec_types.specs.declared.moments.TheConstants.{END_OF_TIME};
 ghost use Rattle.pec_outside.specs.Flow.{HasRisen};
 ghost use Rattle.pec_http.specs.declared.serving.Served.TheVariants as served;
-ghost use Rattle.pec_screen.specs.Screened.{finds_in};
 ghost use Rattle.pec_playing.specs.Doing.{Keeps};
 ghost use Rattle.pec_playing.specs.OfNetworks.{AllStand, world_of};
 ghost use Rattle.pec_playing.specs.Points.{state_in};
-ghost use Rattle.pec_runs.specs.Moves.{MovesOn};
+ghost use Rattle.pec_service.specs.OfRuns.{MovesOn};
 ghost use Rattle.pec_serving.specs.Hearing.{Hears};
 ghost use Rattle.pec_serving.specs.Playing.{state_of};
 
@@ -20,45 +19,42 @@ use pec_seal::{HmacSealer, Sealer};
 use pec_types::Moment;
 use std::alloc::Global;
 
-/// Answers the request of a connection at the desk of a network, at a moment. The network and the screens are given
-/// back as the desk left them.
+/// Answers the request of a connection at the desk of a network, at a moment. The network is given back as the desk
+/// left it.
 pub(crate) fn answer<D: Disk, J: Judge, C: Source + Sink>(
     alloc: Global,
-    network: Network<D, HmacSealer>,
-    screens: Vec<J>,
+    network: Network<D, HmacSealer, J>,
     moment: Moment,
     connection: &mut C,
-) -> (Network<D, HmacSealer>, Vec<J>, Served)
+) -> (Network<D, HmacSealer, J>, Served)
     // What is read is what was kept, where disks tell what they hold, and what is kept stands on them.
     ensures hears { (elsewhere : ℕ → ℕ)
         → Hears (world_of (⟦<HmacSealer as Sealer>⟧.seals) network) (D.tells × AllStand D.sight network.providers)
-        network.kept (finds_in (map J.patterns screens.items)) moment
+        network.kept moment
         (state_of D.faults elsewhere network) (state_of D.faults elsewhere result.0)
-        (C.left connection.old) (C.held connection.old) (C.held connection.new) result.2 }
+        (C.left connection.old) (C.held connection.old) (C.held connection.new) result.1 }
     ensures keeps { Keeps D.sight D.faults D.tells network result.0 }
     // What a crash may leave at any moment of it.
     ensures moves { (elsewhere : ℕ → ℕ) → moment < END_OF_TIME
         → MovesOn (world_of (⟦<HmacSealer as Sealer>⟧.seals) network) D.tells D.sight
-        (state_in D.faults elsewhere network) (state_in D.faults elsewhere result.0) }
-    // Screens keep what they look for.
-    ensures patterns { map J.patterns result.1.items ≡ map J.patterns screens.items }
-    ensures read_fault { result.2 ≡ served.ReadFault → HasRisen (C.faults connection.old) (C.faults connection.new) }
-    ensures write_fault { result.2 ≡ served.WriteFault → HasRisen (C.faults connection.old) (C.faults connection.new) }
+        (state_in D.faults elsewhere [] network) (state_in D.faults elsewhere [] result.0) }
+    ensures read_fault { result.1 ≡ served.ReadFault → HasRisen (C.faults connection.old) (C.faults connection.new) }
+    ensures write_fault { result.1 ≡ served.WriteFault → HasRisen (C.faults connection.old) (C.faults connection.new) }
 {
     an_account_sees_its_own::<D, HmacSealer>();
     what_is_told_was_counted::<D>();
     what_carries_on_is_a_moment::<D, HmacSealer>();
     a_network_stays_sound();
     as_many_providers(&network);
-    let mut desk = NetworkDesk::open(network, moment, screens);
+    let mut desk = NetworkDesk::open(network, moment);
     let told = serve_one(alloc, connection, &mut desk);
-    let (network, screens) = desk.close();
+    let network = desk.close();
     as_many_providers(&network);
-    (network, screens, told)
+    (network, told)
 }
 
 /// A network has the providers of its directory.
-pub(crate) fn as_many_providers<D, S: Sealer>(network: &Network<D, S>)
+pub(crate) fn as_many_providers<D, S: Sealer, J: Judge>(network: &Network<D, S, J>)
     ensures { length network.now.providers ≡ length network.now.kept }
 {
     network.directory();

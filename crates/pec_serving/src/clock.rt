@@ -1,4 +1,4 @@
-ghost use Rattle.std.specs.Prelude.{◌≡◌, ℕ, ◌≤◌, length, map, IsErrOf};
+ghost use Rattle.std.specs.Prelude.{◌≡◌, ℕ, ◌≤◌, [], length, IsErrOf};
 ghost use Rattle.pec_outside.specs.Depots.{Alike};
 ghost use Rattle.pec_outside.specs.Flow.{HasRisen};
 ghost use Rattle.pec_directory.specs.Directory.{providers_of};
@@ -9,11 +9,10 @@ ghost use Rattle.pec_service.specs.Calls.{ClockWent, clock_from};
 
 use pec_outside::{Depot, Disk, Sink};
 use pec_playing::{Network, Stop, play_and_write, what_is_kept_is_kept_on};
-use pec_runs::acts_are_joined;
 use pec_screen::Judge;
 use pec_script::Command;
 use pec_seal::Sealer;
-use pec_service::acts_are_calls;
+use pec_service::{acts_are_calls, acts_are_joined};
 use pec_types::Moment;
 use std::alloc::Global;
 use std::thread::Threads;
@@ -25,40 +24,42 @@ pub(crate) fn play_clock<
     D: Disk + Send,
     S: Sealer + Sync,
     P: Depot<D = D>,
-    J: Judge,
+    J: Judge + Send,
     W: Sink,
 >(
     rt: &X,
     alloc: Global,
-    network: &mut Network<D, S>,
+    network: &mut Network<D, S, J>,
     depot: &mut P,
-    screens: &mut [J],
     moment: Moment,
     out: &mut W,
 ) -> Result<(), Stop>
+where
+    J::Spare: Send,
     // Where disks tell what they hold, what is kept stands on them as the first command is played.
     ensures clock { (P.tells × D.tells → AllStand D.sight network.old.providers) → (elsewhere : ℕ → ℕ)
         → ClockWent (world_of S.seals network.old) (providers_of network.old.kept)
         (P.tells × D.tells) D.sight (clock_from (length network.old.kept) 0 moment)
-        (point_of D.faults elsewhere network.old (W.held out.old) (W.faults out.old))
-        (point_of D.faults elsewhere network.new (W.held out.new) (W.faults out.new)) (stop_in result) }
+        (point_of D.faults elsewhere [] network.old (W.held out.old) (W.faults out.old))
+        (point_of D.faults elsewhere [] network.new (W.held out.new) (W.faults out.new)) (stop_in result) }
     ensures keeps { Keeps D.sight D.faults D.tells network.old network.new }
     ensures home { P.tells → Alike (P.home depot.old) (P.home depot.new) }
     ensures last { Alike (P.last depot.old) (P.last depot.new) }
     ensures later { (P.faults depot.old ≤ P.faults depot.new) × (W.faults out.old ≤ W.faults out.new) }
     ensures write_fault { IsErrOf result Stop.WriteFault → HasRisen (W.faults out.old) (W.faults out.new) }
-    ensures patterns { map J.patterns screens.new ≡ map J.patterns screens.old }
 {
     acts_are_joined::<P>();
     acts_are_calls::<P>();
     what_is_kept_is_kept_on::<D, S>();
+    // No clock call takes a spare.
+    let mut none: Vec<J::Spare> = Vec::new(alloc);
     for provider in 0..network.directory().count() {
         play_and_write(
             rt,
             alloc,
             network,
             depot,
-            screens,
+            &mut none,
             Command::Tick { provider, moment },
             out,
         )?;
@@ -68,7 +69,7 @@ pub(crate) fn play_clock<
         alloc,
         network,
         depot,
-        screens,
+        &mut none,
         Command::Round { moment },
         out,
     )

@@ -1,10 +1,9 @@
-ghost use Rattle.std.specs.Prelude.{◌≡◌, ℕ, ◌≤◌, map};
+ghost use Rattle.std.specs.Prelude.{◌≡◌, ℕ, ◌≤◌, []};
 ghost use Rattle.pec_outside.specs.Flow.{HasRisen};
-ghost use Rattle.pec_screen.specs.Screened.{finds_in};
 ghost use Rattle.pec_playing.specs.Doing.{Keeps};
 ghost use Rattle.pec_playing.specs.OfNetworks.{AllStand, world_of};
 ghost use Rattle.pec_playing.specs.Points.{state_in};
-ghost use Rattle.pec_runs.specs.Moves.{MovesOn};
+ghost use Rattle.pec_service.specs.OfRuns.{MovesOn};
 ghost use Rattle.pec_serving.specs.Serving.{ComesNext, place_of};
 
 use crate::answering::answer;
@@ -31,24 +30,23 @@ pub(crate) enum Came {
 /// and closes it. A connection for which there is no moment is closed unread.
 pub(crate) fn next<D: Disk, J: Judge, T: Ticks, R: Door>(
     alloc: Global,
-    network: Network<D, HmacSealer>,
-    screens: Vec<J>,
+    network: Network<D, HmacSealer, J>,
     ticks: &mut T,
     door: &mut R,
-) -> (Network<D, HmacSealer>, Vec<J>, Came)
+) -> (Network<D, HmacSealer, J>, Came)
     // What is read is what was kept, where disks tell what they hold, and what is kept stands on them.
     ensures comes { (elsewhere : ℕ → ℕ)
         → ComesNext (world_of (⟦<HmacSealer as Sealer>⟧.seals) network) (D.tells × AllStand D.sight network.providers)
-        network.kept (finds_in (map J.patterns screens.items))
+        network.kept
         (place_of D.faults elsewhere network (T.coming ticks.old) (R.requests door.old) (R.replies door.old))
-        (place_of D.faults elsewhere result.0 (T.coming ticks.new) (R.requests door.new) (R.replies door.new)) result.2 }
+        (place_of D.faults elsewhere result.0 (T.coming ticks.new) (R.requests door.new) (R.replies door.new))
+        result.1 }
     ensures keeps { Keeps D.sight D.faults D.tells network result.0 }
     // What a crash may leave at any moment of it.
     ensures moves { (elsewhere : ℕ → ℕ) → MovesOn (world_of (⟦<HmacSealer as Sealer>⟧.seals) network) D.tells D.sight
-        (state_in D.faults elsewhere network) (state_in D.faults elsewhere result.0) }
-    ensures patterns { map J.patterns result.1.items ≡ map J.patterns screens.items }
-    ensures no_moment { result.2 ≡ Came.NoMoment → HasRisen (T.faults ticks.old) (T.faults ticks.new) }
-    ensures no_connection { result.2 ≡ Came.NoConnection → HasRisen (R.faults door.old) (R.faults door.new) }
+        (state_in D.faults elsewhere [] network) (state_in D.faults elsewhere [] result.0) }
+    ensures no_moment { result.1 ≡ Came.NoMoment → HasRisen (T.faults ticks.old) (T.faults ticks.new) }
+    ensures no_connection { result.1 ≡ Came.NoConnection → HasRisen (R.faults door.old) (R.faults door.new) }
     // Each connection is given back.
     ensures out { R.out door.new ≡ R.out door.old }
     ensures clock_later { T.faults ticks.old ≤ T.faults ticks.new }
@@ -56,16 +54,16 @@ pub(crate) fn next<D: Disk, J: Judge, T: Ticks, R: Door>(
 {
     let mut connection = match door.accept() {
         Ok(connection) => connection,
-        Err(_) => return (network, screens, Came::NoConnection),
+        Err(_) => return (network, Came::NoConnection),
     };
     let moment = match ticks.now() {
         Ok(moment) => moment,
         Err(_) => {
             door.close(connection);
-            return (network, screens, Came::NoMoment);
+            return (network, Came::NoMoment);
         }
     };
-    let (network, screens, told) = answer(alloc, network, screens, moment, &mut connection);
+    let (network, told) = answer(alloc, network, moment, &mut connection);
     door.close(connection);
-    (network, screens, Came::Served(moment, told))
+    (network, Came::Served(moment, told))
 }

@@ -1,11 +1,10 @@
-ghost use Rattle.std.specs.Prelude.{◌≡◌, ℕ, ◌≤◌, map};
+ghost use Rattle.std.specs.Prelude.{◌≡◌, ℕ, ◌≤◌, []};
 ghost use Rattle.pec_outside.specs.Depots.{Alike};
 ghost use Rattle.pec_outside.specs.Flow.{HasRisen};
-ghost use Rattle.pec_screen.specs.Screened.{finds_in};
 ghost use Rattle.pec_playing.specs.Doing.{Keeps};
 ghost use Rattle.pec_playing.specs.OfNetworks.{AllStand, world_of};
 ghost use Rattle.pec_playing.specs.Points.{state_in};
-ghost use Rattle.pec_runs.specs.Moves.{Moves};
+ghost use Rattle.pec_service.specs.OfRuns.{Moves};
 ghost use Rattle.pec_serving.specs.Serving.{ServesSo, place_of};
 
 use crate::clock::play_clock;
@@ -13,10 +12,9 @@ use crate::lines::write_outcome;
 use crate::next::{Came, next};
 use pec_outside::{Depot, Disk, Door, Sink, Ticks};
 use pec_playing::{Network, Stop};
-use pec_runs::moves_are_joined;
 use pec_screen::Judge;
 use pec_seal::{HmacSealer, Sealer};
-use pec_service::{acts_are_calls, calls_are_joined, connections_are_joined};
+use pec_service::{acts_are_calls, calls_are_joined, connections_are_joined, moves_are_joined};
 use std::alloc::Global;
 use std::thread::Threads;
 
@@ -37,31 +35,30 @@ pub enum Ending {
 
 /// Serves so many connections, one after another, over a network whose journals are made or opened. Each is answered at
 /// the desk of the network at one moment, its line is written, and then every provider looks at the clock, in the order
-/// of the directory, and one round is played, all at that moment. The screens of a provider are those at its number; a
-/// provider past them has none. They are dropped in the end. This project's profile.
+/// of the directory, and one round is played, all at that moment. This project's profile.
 pub fn serve<
     X: Threads + Sync,
     D: Disk + Send,
     P: Depot<D = D>,
-    J: Judge,
+    J: Judge + Send,
     T: Ticks,
     R: Door,
     W: Sink,
 >(
     rt: &X,
     alloc: Global,
-    network: Network<D, HmacSealer>,
+    network: Network<D, HmacSealer, J>,
     depot: &mut P,
-    screens: Vec<J>,
     ticks: &mut T,
     door: &mut R,
     out: &mut W,
     wanted: u32,
-) -> (Network<D, HmacSealer>, Ending)
+) -> (Network<D, HmacSealer, J>, Ending)
+where
+    J::Spare: Send,
     // Where disks tell what they hold, what is kept stands on them as the service begins.
     ensures serves { (P.tells × D.tells → AllStand D.sight network.providers) → (elsewhere : ℕ → ℕ)
-        → ServesSo (world_of (⟦<HmacSealer as Sealer>⟧.seals) network) (P.tells × D.tells) network.kept
-        (finds_in (map J.patterns screens.items)) wanted
+        → ServesSo (world_of (⟦<HmacSealer as Sealer>⟧.seals) network) (P.tells × D.tells) network.kept wanted
         (place_of D.faults elsewhere network (T.coming ticks.old) (R.requests door.old) (R.replies door.old))
         (place_of D.faults elsewhere result.0 (T.coming ticks.new) (R.requests door.new) (R.replies door.new))
         (W.held out.old) (W.held out.new) result.1 }
@@ -69,7 +66,7 @@ pub fn serve<
     // What a crash may leave at any moment of it.
     ensures moves { (P.tells × D.tells → AllStand D.sight network.providers) → (elsewhere : ℕ → ℕ)
         → Moves (world_of (⟦<HmacSealer as Sealer>⟧.seals) network) (P.tells × D.tells) D.sight
-        (state_in D.faults elsewhere network) (state_in D.faults elsewhere result.0) }
+        (state_in D.faults elsewhere [] network) (state_in D.faults elsewhere [] result.0) }
     ensures home { P.tells → Alike (P.home depot.old) (P.home depot.new) }
     ensures last { Alike (P.last depot.old) (P.last depot.new) }
     ensures depot_later { P.faults depot.old ≤ P.faults depot.new }
@@ -87,11 +84,9 @@ pub fn serve<
     acts_are_calls::<P>();
     moves_are_joined::<P>();
     let mut network = network;
-    let mut screens = screens;
     for served in 0..wanted {
-        let (again, back, came) = next(alloc, network, screens, ticks, door);
+        let (again, came) = next(alloc, network, ticks, door);
         network = again;
-        screens = back;
         match came {
             Came::NoConnection => return (network, Ending::NoConnection),
             Came::NoMoment => return (network, Ending::NoMoment),
@@ -99,15 +94,7 @@ pub fn serve<
                 if let Err(_) = write_outcome(out, told) {
                     return (network, Ending::WriteFault);
                 }
-                match play_clock(
-                    rt,
-                    alloc,
-                    &mut network,
-                    depot,
-                    screens.as_mut_slice(),
-                    moment,
-                    out,
-                ) {
+                match play_clock(rt, alloc, &mut network, depot, moment, out) {
                     Ok(()) => (),
                     Err(Stop::WriteFault) => return (network, Ending::WriteFault),
                     Err(Stop::NoMemory) => return (network, Ending::NoMemory),

@@ -1,4 +1,4 @@
-use Rattle.std.proofs.Common.{[], Err, Global, Vec}
+use Rattle.std.proofs.Common.{Err, Global, Vec}
 use Rattle.pec_types.specs.declared.messages.BookLine.{BookLine}
 use Rattle.pec_directory.specs.Directory.{providers_of}
 use Rattle.pec_plays.specs.Commands.{Book, played}
@@ -14,7 +14,7 @@ use Rattle.pec_desk.proofs.showing.book.Goals as goal
 pub returns-in-Err-clause-refusals : goal.returns-in-Err-clause-refusals
 returns-in-Err-clause-refusals g c =
     let network = c.args.network.now in
-    book_refuses network.kept (g.S.Sealer.seals network.sealer) (sites network) [] c.args.account.now c.args.number c.requires
+    book_refuses network.kept (g.S.Sealer.seals network.sealer) (sites network) c.args.account.now c.args.number c.requires
     (luck_of false) (Err c.in-Err.fault)
     (seen_refused (λ (v : Vec BookLine Global). v.items) lines_shown (book_text (providers_of network.kept))
     (played (world_of g.S.Sealer.seals network) (luck_of false) (sites network) (Book c.args.account.now)) (sites network)

@@ -1,4 +1,4 @@
-use Rattle.std.proofs.Common.{◌≡◌, ◌∙◌, ◌<◌, ℕ, List, [], length, ap, refl, sym, Global, Vec, arith}
+use Rattle.std.proofs.Common.{◌≡◌, ◌∙◌, ◌<◌, ℕ, List, length, ap, refl, sym, Global, Vec, arith}
 use Rattle.pec_types.specs.Answers.{seen_as}
 use Rattle.pec_directory.specs.Directory.{Kept}
 use Rattle.pec_plays.specs.Commands.{Show}
@@ -10,18 +10,17 @@ use Rattle.pec_desk.proofs.ShareLemmas.{at_home}
 use Rattle.pec_desk.proofs.showing.item.Goals as goal
 
 pub returns-clause-looks : goal.returns-clause-looks
-returns-clause-looks g c = λ moment screens. record {
+returns-clause-looks g c = λ moment. record {
   number = c.args.number;
   home = c.requires.home;
   within = c.requires.within;
   moment = refl;
-  screens = refl;
   reads = seen_over g.S.Sealer.seals c.args.network.now c.show-said.new.self (λ (v : Vec ℕ Global). v.items) c.show-said.result _
       (Show c.args.account.now c.args.place) c.show-said.ensures.shown;
   concerns = seen_concerns g.S.Sealer.seals c.args.network.now c.show-said.new.self (λ (v : Vec ℕ Global). v.items) c.show-said.result
       g.D.Disk.sight g.D.Counted.faults g.D.Disk.tells ((world_of g.S.Sealer.seals c.args.network.now).home c.args.account.now)
       c.args.number
-      (at_home c.args.network.now.kept (g.S.Sealer.seals c.args.network.now.sealer) (sites c.args.network.now) []
+      (at_home c.args.network.now.kept (g.S.Sealer.seals c.args.network.now.sealer) (sites c.args.network.now)
       c.args.account.now c.args.number c.requires.home) c.show-said.ensures.concerns;
 }
 
@@ -49,7 +48,7 @@ returns-clause-cause g c = λ is.
     let concerns = seen_concerns g.S.Sealer.seals c.args.network.now c.show-said.new.self (λ (v : Vec ℕ Global). v.items) c.show-said.result
     g.D.Disk.sight g.D.Counted.faults g.D.Disk.tells ((world_of g.S.Sealer.seals c.args.network.now).home c.args.account.now)
     c.args.number
-    (at_home c.args.network.now.kept (g.S.Sealer.seals c.args.network.now.sealer) (sites c.args.network.now) []
+    (at_home c.args.network.now.kept (g.S.Sealer.seals c.args.network.now.sealer) (sites c.args.network.now)
     c.args.account.now c.args.number c.requires.home) c.show-said.ensures.concerns in
     count_rises g.D.Counted.faults c.args.network.now.providers c.show-said.new.self.providers many c.args.number within
     (concerns.disk_fault (ap (seen_as (λ (v : Vec ℕ Global). v.items)) is))

@@ -18,9 +18,9 @@ returns g c =
       says = c.a_line_is_one_thing.ensures.says;
     } in
     record {
-      begun = λ finds count few. load_begins told finds count few (parts_of (raw_lines (load_input count))) refl;
-      ends = λ finds count status before after depot left old new few ran.
-          load_status told finds count status before after _ _ _ old new few ran;
-      stays = λ finds count status before after depot left old new few ran.
-          load_stays told finds count status before after _ _ _ old new few ran;
+      begun = λ screens hands count few. load_begins told screens hands count few (parts_of (raw_lines (load_input count))) refl;
+      ends = λ screens count status before after depot left old new few ran.
+          load_status told screens count status before after _ _ _ old new few ran;
+      stays = λ screens count status before after depot left old new few ran.
+          load_stays told screens count status before after _ _ _ old new few ran;
     }

@@ -14,10 +14,10 @@ returns g c =
       says = c.a_line_is_one_thing.ensures.says;
     } in
     record {
-      done = λ finds count before after depot left old new few load.
-          load_done told finds count before after (g.P.Depot.tells × g.P.D.Disk.tells) g.P.D.Disk.sight (g.P.Depot.home depot)
+      done = λ screens count before after depot left old new few load.
+          load_done told screens count before after (g.P.Depot.tells × g.P.D.Disk.tells) g.P.D.Disk.sight (g.P.Depot.home depot)
           (g.P.Depot.home left) old new few load;
-      quiet = λ finds count status before after depot left old new load none.
-          load_quiet count finds before after (g.P.Depot.tells × g.P.D.Disk.tells) g.P.D.Disk.sight (g.P.Depot.home depot)
+      quiet = λ screens count status before after depot left old new load none.
+          load_quiet count screens before after (g.P.Depot.tells × g.P.D.Disk.tells) g.P.D.Disk.sight (g.P.Depot.home depot)
           (g.P.Depot.home left) old new status load none;
     }

@@ -2,11 +2,12 @@ use Rattle.std.proofs.Common.{◌≡◌, ◌∙◌, List, length, ap, sym, Err}
 use Rattle.pec_types.specs.Bytes.{Bytes}
 use Rattle.pec_directory.specs.Directory.{Kept}
 use Rattle.pec_ledger.specs.Network.{journals_of}
+use Rattle.pec_plays.specs.Commands.{Show}
 use Rattle.pec_network.specs.Network.{sites, world_of}
 use Rattle.pec_script.specs.Texts.{item_text}
 use Rattle.pec_playing.specs.Doing.{Keeps}
 use Rattle.pec_playing.proofs.KeptLemmas.{keeps_same}
-use Rattle.pec_playing.proofs.ShowLemmas.{look_refuses, look_says, look_stops}
+use Rattle.pec_playing.proofs.ShowLemmas.{look_refuses, look_says, look_stops, show_at_home}
 use Rattle.pec_playing.proofs.accounts.show.Goals as goal
 
 pub returns-in-Ok-clause-does : goal.returns-in-Ok-clause-does
@@ -19,8 +20,8 @@ returns-in-Ok-clause-does g c =
     let keeps : Keeps g.D.Disk.sight g.D.Counted.faults g.D.Disk.tells network new =
     keeps_same g.D.Disk.sight g.D.Counted.faults g.D.Disk.tells (world_of g.S.Sealer.seals network) network new
     told.same.0 told.same.1 many told.concerns.carries told.concerns.later in
-    look_says g.D.Disk.sight g.D.Counted.faults g.D.Disk.tells g.S.Sealer.seals c.args.account.now c.args.place network new
-    keeps c.in-Ok.bytes c.in-Ok.ensures.shown c.in_ok-text-in-Ok.text
+    look_says g.D.Disk.sight g.D.Counted.faults g.D.Disk.tells g.S.Sealer.seals (Show c.args.account.now c.args.place) c.args.account.now
+    network new (show_at_home (world_of g.S.Sealer.seals network) c.args.account.now c.args.place) keeps c.in-Ok.bytes c.in-Ok.ensures.shown c.in_ok-text-in-Ok.text
     (c.in_ok-text-in-Ok.ensures ∙ ap (λ (l : Bytes). item_text l) c.as_slice.ensures.value)
 
 pub returns-in-Err-clause-does : goal.returns-in-Err-clause-does
@@ -33,8 +34,8 @@ returns-in-Err-clause-does g c =
     let keeps : Keeps g.D.Disk.sight g.D.Counted.faults g.D.Disk.tells network new =
     keeps_same g.D.Disk.sight g.D.Counted.faults g.D.Disk.tells (world_of g.S.Sealer.seals network) network new
     told.same.0 told.same.1 many told.concerns.carries told.concerns.later in
-    look_refuses g.D.Disk.sight g.D.Counted.faults g.D.Disk.tells g.S.Sealer.seals c.args.account.now c.args.place network new
-    keeps c.in-Err.fault c.in-Err.ensures.shown (λ e. c.in-Err.ensures.concerns.disk_fault (ap Err e))
+    look_refuses g.D.Disk.sight g.D.Counted.faults g.D.Disk.tells g.S.Sealer.seals (Show c.args.account.now c.args.place) c.args.account.now
+    network new (show_at_home (world_of g.S.Sealer.seals network) c.args.account.now c.args.place) keeps c.in-Err.fault c.in-Err.ensures.shown (λ e. c.in-Err.ensures.concerns.disk_fault (ap Err e))
     c.in_ok-text-in-Err.text c.in_ok-text-in-Err.ensures
 
 pub returns-in_err-text-in-Ok-clause-does : goal.returns-in_err-text-in-Ok-clause-does
@@ -47,8 +48,8 @@ returns-in_err-text-in-Ok-clause-does g c =
     let keeps : Keeps g.D.Disk.sight g.D.Counted.faults g.D.Disk.tells network new =
     keeps_same g.D.Disk.sight g.D.Counted.faults g.D.Disk.tells (world_of g.S.Sealer.seals network) network new
     told.same.0 told.same.1 many told.concerns.carries told.concerns.later in
-    look_stops g.D.Disk.sight g.D.Counted.faults g.D.Disk.tells g.S.Sealer.seals c.args.account.now c.args.place network new
-    keeps c.show-outcome.result told.shown c.from_residual.result c.from_residual.ensures.0
+    look_stops g.D.Disk.sight g.D.Counted.faults g.D.Disk.tells g.S.Sealer.seals (Show c.args.account.now c.args.place) c.args.account.now
+    network new (show_at_home (world_of g.S.Sealer.seals network) c.args.account.now c.args.place) keeps c.show-outcome.result told.shown c.from_residual.result c.from_residual.ensures.0
 
 pub returns-in_err-text-in-Err-clause-does : goal.returns-in_err-text-in-Err-clause-does
 returns-in_err-text-in-Err-clause-does g c =
@@ -60,8 +61,8 @@ returns-in_err-text-in-Err-clause-does g c =
     let keeps : Keeps g.D.Disk.sight g.D.Counted.faults g.D.Disk.tells network new =
     keeps_same g.D.Disk.sight g.D.Counted.faults g.D.Disk.tells (world_of g.S.Sealer.seals network) network new
     told.same.0 told.same.1 many told.concerns.carries told.concerns.later in
-    look_stops g.D.Disk.sight g.D.Counted.faults g.D.Disk.tells g.S.Sealer.seals c.args.account.now c.args.place network new
-    keeps c.show-outcome.result told.shown c.from_residual-in_err-text-in-Err.result
+    look_stops g.D.Disk.sight g.D.Counted.faults g.D.Disk.tells g.S.Sealer.seals (Show c.args.account.now c.args.place) c.args.account.now
+    network new (show_at_home (world_of g.S.Sealer.seals network) c.args.account.now c.args.place) keeps c.show-outcome.result told.shown c.from_residual-in_err-text-in-Err.result
     c.from_residual-in_err-text-in-Err.ensures.0
 
 pub returns-in-Ok-clause-carries : goal.returns-in-Ok-clause-carries

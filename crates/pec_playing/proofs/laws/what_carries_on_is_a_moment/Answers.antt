@@ -4,7 +4,7 @@ use Rattle.pec_playing.proofs.MomentLemmas.{is_moment}
 use Rattle.pec_playing.proofs.laws.what_carries_on_is_a_moment.Goals as goal
 
 pub returns : goal.returns
-returns g c = λ told trade old new many carries elsewhere.
+returns g c = λ told trade old new many carries elsewhere spares left.
     is_moment g.D.Disk.sight g.D.Disk.tells trade
     (record { follows = c.a_call_leaves_what_follows.ensures.follows trade; seen = c.a_call_leaves_what_follows.ensures.seen })
-    old new many carries told g.D.Counted.faults elsewhere None None 0 0
+    old new many carries told g.D.Counted.faults elsewhere spares left None None 0 0

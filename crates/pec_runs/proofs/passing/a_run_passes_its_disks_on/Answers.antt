@@ -12,7 +12,7 @@ returns-clause-ended g c =
     run_passes (g.P.Depot.tells × g.P.D.Disk.tells) g.P.D.Disk.sight asked status unread before after home left old new ran
     c.a_line_has_one_reading.ensures (c.disks_are_passed_on.ensures.stopped told) (c.disks_are_passed_on.ensures.ended told)
     (λ form goes honest_so is_trade. c.disks_are_passed_on.ensures.moves (world ran.ran.happened) is_trade home left old.disks
-    new.disks form ran.ran.happened.opening.journals goes honest_so)
+    new.disks form ran.ran.happened.screens ran.ran.happened.opening.journals goes honest_so)
     found trade same at_home honest left_as
 
 pub returns-clause-unasked : goal.returns-clause-unasked
@@ -45,12 +45,12 @@ returns-clause-killed g c =
     let played = ran.through.played form script begun all in
     let is_trade = world_is tells sight asked status unread before after home left old new ran form script begun in
     let keep = c.disks_are_passed_on.ensures.moves (world ran.ran.happened) is_trade home left old.disks new.disks form
-    ran.ran.happened.opening.journals played.goes
+    ran.ran.happened.screens ran.ran.happened.opening.journals played.goes
     (honest_steps tells sight asked status unread before after home left old new ran form script begun
     c.a_line_has_one_reading.ensures played honest) in
     c.disks_are_passed_on.ensures.killed told (world ran.ran.happened) is_trade
-    home left found old.disks new.disks form ran.ran.happened.opening
+    home left found old.disks new.disks form ran.ran.happened.screens ran.ran.happened.opening
     (opening_is tells sight asked status unread before after home left old new ran form script begun) all at_home
-    (as_moves tells sight home left old.disks new.disks (world ran.ran.happened) form ran.ran.happened.opening.journals
-    played.goes keep)
+    (as_moves tells sight home left old.disks new.disks (world ran.ran.happened) form ran.ran.happened.screens
+    ran.ran.happened.opening.journals played.goes keep)
     number within killed

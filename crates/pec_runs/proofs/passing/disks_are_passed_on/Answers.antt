@@ -14,21 +14,21 @@ returns-clause-opening g c = λ told trade form home new found had between.
 
 pub returns-clause-ended : goal.returns-clause-ended
 returns-clause-ended g c =
-    λ told trade is_trade home left found from upto form opening is all at_home goes left_as.
+    λ told trade is_trade home left found from upto form screens opening is all at_home goes left_as.
     ended_passes (g.P.Depot.tells × g.P.D.Disk.tells) g.P.D.Disk.sight trade told is_trade
     (c.licences_stand.ensures.conditions trade) (c.soundness.ensures.start trade) (c.a_disk_is_so.ensures.now told.1)
-    (c.a_disk_is_so.ensures.counts told.1) (c.a_disk_is_so.ensures.reads told.1) home left form opening is all at_home from
+    (c.a_disk_is_so.ensures.counts told.1) (c.a_disk_is_so.ensures.reads told.1) home left form screens opening is all at_home from
     upto goes found left_as
 
 pub returns-clause-killed : goal.returns-clause-killed
 returns-clause-killed g c =
-    λ told trade is_trade home left found from upto form opening is all at_home goes number within killed.
+    λ told trade is_trade home left found from upto form screens opening is all at_home goes number within killed.
     killed_passes (g.P.Depot.tells × g.P.D.Disk.tells) g.P.D.Disk.sight trade told is_trade
     (c.licences_stand.ensures.conditions trade) (c.soundness.ensures.start trade) (c.a_disk_is_so.ensures.now told.1)
-    (c.a_disk_is_so.ensures.counts told.1) (c.a_disk_is_so.ensures.reads told.1) home left form opening is all at_home from
+    (c.a_disk_is_so.ensures.counts told.1) (c.a_disk_is_so.ensures.reads told.1) home left form screens opening is all at_home from
     upto goes found number within killed
 
 pub returns-clause-moves : goal.returns-clause-moves
-returns-clause-moves g c = λ trade is_trade home left from upto form journals goes honest.
+returns-clause-moves g c = λ trade is_trade home left from upto form screens journals goes honest.
     steps_move trade (g.P.Depot.tells × g.P.D.Disk.tells) g.P.D.Disk.sight (c.a_network_stays_sound.ensures.commands trade)
     goes.first goes.steps goes.each honest

@@ -6,7 +6,6 @@ use Rattle.pec_runs.proofs.passing.what_is_passed_on_fits.Goals as goal
 pub returns-clause-empty : goal.returns-clause-empty
 returns-clause-empty g c = λ trade home none.
     empty_fitting trade (held (g.P.Depot.tells × g.P.D.Disk.tells) g.P.D.Disk.sight home) none
-    (c.licences_stand.ensures.conditions trade) (c.soundness.ensures.start trade)
 
 pub returns-clause-passed : goal.returns-clause-passed
 returns-clause-passed g c = λ trade old new passes fitting.
@@ -23,8 +22,7 @@ returns-clause-runs g c = λ trade first more none are.
     passes_fitting trade (held tells sight old) (held tells sight new) c.a_disk_holds_one_list.ensures
     (c.any_images.ensures.lists trade) passes fitting)
     first more are
-    (empty_fitting trade (held tells sight first) none (c.licences_stand.ensures.conditions trade)
-    (c.soundness.ensures.start trade))
+    (empty_fitting trade (held tells sight first) none)
 
 pub returns-clause-opened : goal.returns-clause-opened
 returns-clause-opened g c = λ told trade home opening at_home fitting is all.

@@ -1,7 +1,7 @@
 -- One way without faults: from the lemmas, and the law of plays.
 use Rattle.std.proofs.Common.{sym, ◌∙◌}
 use Rattle.pec_plays.specs.Possible.{quiet_lucks}
-use Rattle.pec_runs.proofs.QuietLemmas.{twins}
+use Rattle.pec_runs.proofs.TwinLemmas.{twins}
 use Rattle.pec_runs.proofs.quiet.a_script_without_faults_is_one.Goals as goal
 
 pub returns : goal.returns

@@ -5,16 +5,16 @@ use Rattle.pec_runs.proofs.reading.lines_are_climbed.Goals as goal
 
 pub returns : goal.returns
 returns g c = record {
-  starts = λ trade finds providers first. reads_start trade finds providers _ g.P.D.Disk.sight first;
-  on = λ trade finds providers first here there line what behind said on read tell goes reads.
-      reads_on trade finds providers _ g.P.D.Disk.sight first here there line what behind said on read tell goes reads;
-  over = λ trade finds providers first here over reads. reads_over trade finds providers _ g.P.D.Disk.sight first here
+  starts = λ trade providers first. reads_start trade providers _ g.P.D.Disk.sight first;
+  on = λ trade providers first here there spare line what behind said on read tell goes reads.
+      reads_on trade providers _ g.P.D.Disk.sight first here there spare line what behind said on read tell goes reads;
+  over = λ trade providers first here over reads. reads_over trade providers _ g.P.D.Disk.sight first here
       over reads;
-  ended = λ trade finds providers first here there lines end stop is left goes reads.
-      reads_ended trade finds providers _ g.P.D.Disk.sight first here there lines end stop is left goes reads;
-  stopped = λ trade finds providers first here there line what behind stop said on read tell goes reads.
-      reads_stopped trade finds providers _ g.P.D.Disk.sight first here there line what behind stop said on read tell
+  ended = λ trade providers first here there lines end stop is left goes reads.
+      reads_ended trade providers _ g.P.D.Disk.sight first here there lines end stop is left goes reads;
+  stopped = λ trade providers first here there spare line what behind stop said on read tell goes reads.
+      reads_stopped trade providers _ g.P.D.Disk.sight first here there spare line what behind stop said on read tell
       goes reads;
-  halted = λ trade finds providers first here stop other reads.
-      reads_halted trade finds providers _ g.P.D.Disk.sight first here stop other reads;
+  halted = λ trade providers first here stop other reads.
+      reads_halted trade providers _ g.P.D.Disk.sight first here stop other reads;
 }

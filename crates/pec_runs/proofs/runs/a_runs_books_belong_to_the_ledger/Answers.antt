@@ -14,10 +14,10 @@ returns g c =
     in c.the_books_belong_to_the_ledger.ensures trade
     (is_world words status unread before after _ _ _ old new ran form script begun)
     ran.happened.lucks start script.commands
-    (sound_beginning trade _ form ran.happened.opening (c.licences_stand.ensures.conditions trade)
+    (sound_beginning trade _ ran.happened.screens form ran.happened.opening (c.licences_stand.ensures.conditions trade)
     (c.soundness.ensures.start trade)
     is.opening at_hand fit)
-    (none_interrupted trade ran.happened.opening.journals)
+    (none_interrupted trade ran.happened.screens ran.happened.opening.journals)
     (all_unforged trade ran.happened.lucks start script.commands
     (commands_can words status unread before after _ _ _ old new ran form script begun
     c.a_line_has_one_reading.ensures) honest)

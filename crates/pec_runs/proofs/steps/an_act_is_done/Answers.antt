@@ -4,8 +4,8 @@ use Rattle.pec_runs.proofs.steps.an_act_is_done.Goals as goal
 
 pub returns : goal.returns
 returns g c = record {
-  played = λ trade providers command luck here there stop is moment later wrote.
-      one_played trade providers _ g.P.D.Disk.sight command luck here there stop is moment later wrote;
+  played = λ trade providers command luck here there stop is handed moment later wrote.
+      one_played trade providers _ g.P.D.Disk.sight command luck here there stop is handed moment later wrote;
   stopped = λ trade providers command here there left moment later same.
       one_stopped trade providers _ g.P.D.Disk.sight command here there left moment later same;
   strayed = λ trade providers command here there text stop strays later held blame.

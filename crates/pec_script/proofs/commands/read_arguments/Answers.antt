@@ -37,3 +37,18 @@ returns-in-Mailbox c = rw c.in-Mailbox.is (c.read_mailbox.ensures (providers_of 
 
 pub returns-in-Show : goal.returns-in-Show
 returns-in-Show c = rw c.in-Show.is (c.read_show.ensures (providers_of c.args.directory.now))
+
+pub returns-in-Archive : goal.returns-in-Archive
+returns-in-Archive c = rw c.in-Archive.is (c.read_archive.ensures (providers_of c.args.directory.now))
+
+pub returns-in-Upgrade : goal.returns-in-Upgrade
+returns-in-Upgrade c = rw c.in-Upgrade.is c.read_upgrade.ensures
+
+pub returns-in-Vault : goal.returns-in-Vault
+returns-in-Vault c = rw c.in-Vault.is (c.read_vault.ensures (providers_of c.args.directory.now))
+
+pub returns-in-VaultShow : goal.returns-in-VaultShow
+returns-in-VaultShow c = rw c.in-VaultShow.is (c.read_vault_show.ensures (providers_of c.args.directory.now))
+
+pub returns-in-Screen : goal.returns-in-Screen
+returns-in-Screen c = rw c.in-Screen.is c.read_screen.ensures

@@ -5,12 +5,12 @@ use Rattle.pec_service.proofs.headline.a_services_books_belong_to_the_ledger.Goa
 
 pub returns : goal.returns
 returns g c = record {
-  headline = λ trade world kept finds here all sound none are honest.
+  headline = λ trade world kept here all sound none are honest.
       c.the_books_belong_to_the_ledger.ensures trade world (lucks_of (calls_in all)) here.network.sites
-      (commands_of (calls_in all)) sound none (are_unforged trade _ kept finds here all are honest);
-  states = λ trade kept finds here all are. states_are trade _ kept finds here all are;
-  sound = λ trade world kept finds here all sound are honest.
-      sound_behind trade _ kept finds (c.a_network_stays_sound.ensures.commands trade world) here all are honest sound;
-  honest = λ trade kept finds here all told are.
-      are_honest trade _ kept finds (c.what_is_due_is_no_forged_frame.ensures.scripts trade) told here all are;
+      (commands_of (calls_in all)) sound none (are_unforged trade _ kept here all are honest);
+  states = λ trade kept here all are. states_are trade _ kept here all are;
+  sound = λ trade world kept here all sound are honest.
+      sound_behind trade _ kept (c.a_network_stays_sound.ensures.commands trade world) here all are honest sound;
+  honest = λ trade kept here all told are.
+      are_honest trade _ kept (c.what_is_due_is_no_forged_frame.ensures.scripts trade) told here all are;
 }

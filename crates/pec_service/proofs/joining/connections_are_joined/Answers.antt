@@ -3,7 +3,7 @@ use Rattle.pec_service.proofs.joining.connections_are_joined.Goals as goal
 
 pub returns : goal.returns
 returns g c = record {
-  one = λ trade kept finds here all one are is. connection_append trade _ kept finds here all one are is;
+  one = λ trade kept here all one are is. connection_append trade _ kept here all one are is;
   behind = place_append;
   text = λ trade kept here all one. lines_append trade kept here all one;
 }

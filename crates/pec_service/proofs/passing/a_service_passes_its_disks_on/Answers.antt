@@ -32,6 +32,6 @@ returns-clause-killed g c =
     let sight = g.P.D.Disk.sight in
     c.disks_are_passed_on.ensures.killed told (world ran.ran.served.happened)
     (world_is tells sight asked status unread before after home left here there old new ran begins form is)
-    home left found old.devices.disks new.devices.disks form ran.ran.served.happened.course.opening
+    home left found old.devices.disks new.devices.disks form asked.screens ran.ran.served.happened.course.opening
     (opening_is tells sight asked status unread before after home left here there old new ran begins form is) all at_home
     (ran.through.served begins form is all) number within killed

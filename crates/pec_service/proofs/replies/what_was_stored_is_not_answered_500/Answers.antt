@@ -3,8 +3,8 @@ use Rattle.pec_service.proofs.replies.what_was_stored_is_not_answered_500.Goals 
 
 pub returns : goal.returns
 returns g c = record {
-  submissions = λ trade kept finds here connection number address path message is heard lack.
-      stored_is_said trade _ kept finds here connection is number address path message heard lack;
-  looks = λ trade kept finds here connection address place is heard lack.
-      shown_is_seen trade _ kept finds here connection is address place heard lack;
+  submissions = λ trade kept here connection number address path message is heard lack.
+      stored_is_said trade _ kept here connection is number address path message heard lack;
+  looks = λ trade kept here connection address place is heard lack.
+      shown_is_seen trade _ kept here connection is address place heard lack;
 }

@@ -1,7 +1,5 @@
-use Rattle.std.proofs.Common.{◌≡◌, ◌∙◌, List, length, map, ap, sym, subst}
+use Rattle.std.proofs.Common.{◌≡◌, ◌∙◌, List, [], length, ap, sym, subst}
 use Rattle.pec_directory.specs.Directory.{Kept}
-use Rattle.pec_screen.specs.Screened.{finds_in}
-use Rattle.pec_screen.specs.Verdicts.{Patterns}
 use Rattle.pec_seal.specs.Hmac.{hmac_seals}
 use Rattle.pec_seal.specs.declared.hmac.HmacSealer.{HmacSealer}
 use Rattle.pec_seal.specs.Seals.{Seals}
@@ -13,8 +11,8 @@ use Rattle.pec_serving.specs.Hearing.{Hears}
 use Rattle.pec_serving.specs.Playing.{state_of}
 use Rattle.pec_serving.proofs.HearingLemmas.{opened_is, serves_hear}
 use Rattle.pec_playing.specs.Points.{state_in}
-use Rattle.pec_runs.specs.Moves.{MovesOn}
-use Rattle.pec_serving.proofs.KeepLemmas.{serves_keep, serves_look}
+use Rattle.pec_service.specs.OfRuns.{MovesOn}
+use Rattle.pec_serving.proofs.KeepLemmas.{serves_keep}
 use Rattle.pec_serving.proofs.MoveLemmas.{serves_move}
 use Rattle.pec_serving.proofs.answering.answer.Goals as goal
 
@@ -24,8 +22,7 @@ seals_of sealer = hmac_seals sealer.names.items sealer.keys.items
 pub returns-clause-keeps : goal.returns-clause-keeps
 returns-clause-keeps g c =
     let X = DeskState g.row.D.Denot HmacSealer in
-    let screens : List (List Patterns) = map g.J.Judge.patterns c.args.screens.items in
-    let start : X = record { network = c.args.network; moment = c.args.moment; screens = screens } in
+    let start : X = record { network = c.args.network; moment = c.args.moment } in
     let after : X = c.serve_one-told.new.desk in
     let left = g.C.Stream.left c.args.connection.now in
     let held = g.C.Stream.held c.args.connection.now in
@@ -34,10 +31,9 @@ returns-clause-keeps g c =
     c.serve_one-told.result =
     subst (λ (d : X). Serves (answers_of g.D.Disk.sight g.D.Counted.faults g.D.Disk.tells seals_of) left held d after
     held_then c.serve_one-told.result)
-    (opened_is c.open-desk.result c.args.network c.args.moment screens c.open-desk.ensures.network c.open-desk.ensures.moment
-    c.open-desk.ensures.screens)
+    (opened_is c.open-desk.result c.args.network c.args.moment c.open-desk.ensures.network c.open-desk.ensures.moment)
     c.serve_one-told.ensures.serves in
-    let closed : c.close-network.result.0 ≡ after.network = c.close-network.ensures.is in
+    let closed : c.close-network.result ≡ after.network = c.close-network.ensures in
     let whole_after : length after.network.providers ≡ length after.network.kept =
     subst (λ (n : NetworkState g.row.D.Denot HmacSealer). length n.providers ≡ length n.kept) closed
     c.as_many_providers-2.ensures in
@@ -49,8 +45,7 @@ returns-clause-keeps g c =
 pub returns-clause-hears : goal.returns-clause-hears
 returns-clause-hears g c = λ elsewhere.
     let X = DeskState g.row.D.Denot HmacSealer in
-    let screens : List (List Patterns) = map g.J.Judge.patterns c.args.screens.items in
-    let start : X = record { network = c.args.network; moment = c.args.moment; screens = screens } in
+    let start : X = record { network = c.args.network; moment = c.args.moment } in
     let after : X = c.serve_one-told.new.desk in
     let left = g.C.Stream.left c.args.connection.now in
     let held = g.C.Stream.held c.args.connection.now in
@@ -59,47 +54,29 @@ returns-clause-hears g c = λ elsewhere.
     c.serve_one-told.result =
     subst (λ (d : X). Serves (answers_of g.D.Disk.sight g.D.Counted.faults g.D.Disk.tells seals_of) left held d after
     held_then c.serve_one-told.result)
-    (opened_is c.open-desk.result c.args.network c.args.moment screens c.open-desk.ensures.network c.open-desk.ensures.moment
-    c.open-desk.ensures.screens)
+    (opened_is c.open-desk.result c.args.network c.args.moment c.open-desk.ensures.network c.open-desk.ensures.moment)
     c.serve_one-told.ensures.serves in
-    let closed : c.close-network.result.0 ≡ after.network = c.close-network.ensures.is in
+    let closed : c.close-network.result ≡ after.network = c.close-network.ensures in
     let keeps = returns-clause-keeps g c in
     let many : length after.network.providers ≡ length c.args.network.providers =
     subst (λ (n : NetworkState g.row.D.Denot HmacSealer). length n.providers ≡ length c.args.network.providers) closed
     (c.as_many_providers-2.ensures ∙ ap (λ (k : List Kept). length k) keeps.directory ∙ sym c.as_many_providers.ensures) in
     subst (λ (n : NetworkState g.row.D.Denot HmacSealer).
     Hears (world_of seals_of c.args.network) (g.D.Disk.tells × AllStand g.D.Disk.sight c.args.network.providers)
-    c.args.network.kept (finds_in screens) c.args.moment
+    c.args.network.kept c.args.moment
     (state_of g.D.Counted.faults elsewhere c.args.network) (state_of g.D.Counted.faults elsewhere n) left held held_then
     c.serve_one-told.result) (sym closed)
     (serves_hear g.D.Disk.sight g.D.Counted.faults g.D.Disk.tells seals_of
     (record { refused = c.what_is_told_was_counted.ensures.refused; later = c.what_is_told_was_counted.ensures.later })
     (λ desk later input reply answer asked asks reads.
     c.an_account_sees_its_own.ensures.own desk later input reply answer asked asks reads)
-    c.args.network c.args.moment screens after elsewhere many c.as_many_providers.ensures left held held_then c.serve_one-told.result
+    c.args.network c.args.moment after elsewhere many c.as_many_providers.ensures left held held_then c.serve_one-told.result
     serves)
-
-pub returns-clause-patterns : goal.returns-clause-patterns
-returns-clause-patterns g c =
-    let X = DeskState g.row.D.Denot HmacSealer in
-    let screens : List (List Patterns) = map g.J.Judge.patterns c.args.screens.items in
-    let start : X = record { network = c.args.network; moment = c.args.moment; screens = screens } in
-    let left = g.C.Stream.left c.args.connection.now in
-    let held = g.C.Stream.held c.args.connection.now in
-    let held_then = g.C.Stream.held c.serve_one-told.new.connection in
-    c.close-network.ensures.screens
-    ∙ serves_look g.D.Disk.sight g.D.Counted.faults g.D.Disk.tells seals_of start c.serve_one-told.new.desk left held held_then
-    c.serve_one-told.result
-    (subst (λ (d : X). Serves (answers_of g.D.Disk.sight g.D.Counted.faults g.D.Disk.tells seals_of) left held d
-    c.serve_one-told.new.desk held_then c.serve_one-told.result)
-    (opened_is c.open-desk.result c.args.network c.args.moment screens c.open-desk.ensures.network c.open-desk.ensures.moment
-    c.open-desk.ensures.screens) c.serve_one-told.ensures.serves)
 
 pub returns-clause-moves : goal.returns-clause-moves
 returns-clause-moves g c = λ elsewhere in_time.
     let X = DeskState g.row.D.Denot HmacSealer in
-    let screens : List (List Patterns) = map g.J.Judge.patterns c.args.screens.items in
-    let start : X = record { network = c.args.network; moment = c.args.moment; screens = screens } in
+    let start : X = record { network = c.args.network; moment = c.args.moment } in
     let after : X = c.serve_one-told.new.desk in
     let left = g.C.Stream.left c.args.connection.now in
     let held = g.C.Stream.held c.args.connection.now in
@@ -109,17 +86,16 @@ returns-clause-moves g c = λ elsewhere in_time.
     c.serve_one-told.result =
     subst (λ (d : X). Serves (answers_of g.D.Disk.sight g.D.Counted.faults g.D.Disk.tells seals_of) left held d after
     held_then c.serve_one-told.result)
-    (opened_is c.open-desk.result c.args.network c.args.moment screens c.open-desk.ensures.network c.open-desk.ensures.moment
-    c.open-desk.ensures.screens)
+    (opened_is c.open-desk.result c.args.network c.args.moment c.open-desk.ensures.network c.open-desk.ensures.moment)
     c.serve_one-told.ensures.serves in
-    let closed : c.close-network.result.0 ≡ after.network = c.close-network.ensures.is in
+    let closed : c.close-network.result ≡ after.network = c.close-network.ensures in
     let keeps = returns-clause-keeps g c in
     let many : length after.network.providers ≡ length c.args.network.providers =
     subst (λ (n : NetworkState g.row.D.Denot HmacSealer). length n.providers ≡ length c.args.network.providers) closed
     keeps.many in
     subst (λ (n : NetworkState g.row.D.Denot HmacSealer). MovesOn trade g.D.Disk.tells g.D.Disk.sight
-    (state_in g.D.Counted.faults elsewhere c.args.network) (state_in g.D.Counted.faults elsewhere n)) (sym closed)
+    (state_in g.D.Counted.faults elsewhere [] c.args.network) (state_in g.D.Counted.faults elsewhere [] n)) (sym closed)
     (serves_move g.D.Disk.sight g.D.Counted.faults g.D.Disk.tells seals_of start after elsewhere in_time many
     (c.a_network_stays_sound.ensures.commands trade)
-    (λ told carries. c.what_carries_on_is_a_moment.ensures told trade c.args.network after.network many carries elsewhere)
+    (λ told carries. c.what_carries_on_is_a_moment.ensures told trade c.args.network after.network many carries elsewhere [] [])
     left held held_then c.serve_one-told.result serves)

@@ -1,10 +1,10 @@
-use Rattle.std.proofs.Common.{◌≡◌, ◌≤◌, ℕ, length, map}
+use Rattle.std.proofs.Common.{◌≡◌, ◌≤◌, ℕ, [], length, map}
 use Rattle.pec_outside.specs.Depots.{Alike}
 use Rattle.pec_directory.specs.Directory.{providers_of}
 use Rattle.pec_playing.specs.Doing.{Keeps}
 use Rattle.pec_playing.specs.OfNetworks.{AllStand, world_of}
 use Rattle.pec_playing.specs.Points.{point_of}
-use Rattle.pec_runs.specs.Steps.{Climbs, Plays}
+use Rattle.pec_service.specs.OfRuns.{Climbs, Plays}
 use Rattle.pec_service.specs.Calls.{clock_from}
 use Rattle.pec_serving.proofs.ClockLemmas.{due_from}
 use Rattle.pec_serving.proofs.clock.play_clock.Given as goal
@@ -20,13 +20,13 @@ invariant-loop-provider g l =
           → Climbs (world_of g.S.Sealer.seals l.fn.network) (providers_of l.fn.network.kept)
           (depot.tells × g.D.Disk.tells) g.D.Disk.sight (map Plays (clock_from (length l.fn.network.kept) 0 l.moment))
           (due_from (length l.fn.network.kept) l.moment l.provider)
-          (point_of faults elsewhere l.fn.network (sink.held l.fn.out) (g.W.Counted.faults l.fn.out))
-          (point_of faults elsewhere l.network (sink.held l.out) (g.W.Counted.faults l.out));
+          (point_of faults elsewhere [] l.fn.network (sink.held l.fn.out) (g.W.Counted.faults l.fn.out))
+          (point_of faults elsewhere [] l.network (sink.held l.out) (g.W.Counted.faults l.out));
       keeps : Keeps g.D.Disk.sight faults g.D.Disk.tells l.fn.network l.network;
       home : depot.tells → Alike (depot.home l.fn.depot) (depot.home l.depot);
       last : Alike (depot.last l.fn.depot) (depot.last l.depot);
       depot_later : g.P.Counted.faults l.fn.depot ≤ g.P.Counted.faults l.depot;
       later : g.W.Counted.faults l.fn.out ≤ g.W.Counted.faults l.out;
-      patterns : map g.J.Judge.patterns l.screens ≡ map g.J.Judge.patterns l.fn.screens;
+      spares : l.none.items ≡ [];
       within : l.provider ≤ length l.fn.network.kept;
     }

@@ -1,6 +1,5 @@
-use Rattle.std.proofs.Common.{◌∙◌, ap, sym, refl, map, ℕ, List, Option}
+use Rattle.std.proofs.Common.{◌∙◌, ap, sym, refl, ℕ, List, [], Option}
 use Rattle.pec_outside.specs.Doors.{Reply, in_front, replied}
-use Rattle.pec_screen.specs.Screened.{finds_in}
 use Rattle.pec_seal.specs.Hmac.{hmac_seals}
 use Rattle.pec_seal.specs.Seals.{Seals}
 use Rattle.pec_seal.specs.declared.hmac.HmacSealer.{HmacSealer}
@@ -18,13 +17,13 @@ returns-clause-comes g c = λ elsewhere.
     let faults = g.R.C.Counted.faults c.answer-network.new.connection in
     served_next
     (trade_of c.args.network.kept (hmac_seals c.args.network.sealer.names.items c.args.network.sealer.keys.items))
-    (g.D.Disk.tells × AllStand g.D.Disk.sight c.args.network.providers) c.args.network.kept (finds_in (map g.J.Judge.patterns c.args.screens.items)) c.in-Ok-now.moment c.in-Ok-now.ensures.bound
+    (g.D.Disk.tells × AllStand g.D.Disk.sight c.args.network.providers) c.args.network.kept c.in-Ok-now.moment c.in-Ok-now.ensures.bound
     (place_of g.D.Counted.faults elsewhere c.args.network (g.T.Ticks.coming c.args.ticks.now)
     (g.R.Door.requests c.args.door.now) (g.R.Door.replies c.args.door.now))
     (place_of g.D.Counted.faults elsewhere c.answer-network.result.0 (g.T.Ticks.coming c.now.new.self)
     (g.R.Door.requests c.close-2.new.self) (g.R.Door.replies c.close-2.new.self))
     left (g.R.C.Stream.held c.in-Ok.connection) held (g.R.C.Counted.faults c.in-Ok.connection) faults
-    c.answer-network.result.2 c.in-Ok-now.ensures.given
+    c.answer-network.result.1 c.in-Ok-now.ensures.given
     (c.in-Ok.ensures.came ∙ ap (λ (o : Option (List (List ℕ))). in_front left o) (sym c.close-2.ensures.requests))
     c.in-Ok.ensures.empty c.in-Ok.ensures.fresh
     (c.close-2.ensures.replies ∙ ap (λ (o : Option (List Reply)). replied o held faults) c.in-Ok.ensures.replies)
@@ -46,12 +45,12 @@ seals_of sealer = hmac_seals sealer.names.items sealer.keys.items
 pub returns-in-Err-clause-moves : goal.returns-in-Err-clause-moves
 returns-in-Err-clause-moves g c = λ elsewhere.
     moves_none g.D.Disk.sight g.D.Disk.tells (world_of seals_of c.args.network)
-    (state_in g.D.Counted.faults elsewhere c.args.network)
+    (state_in g.D.Counted.faults elsewhere [] c.args.network)
 
 pub returns-in-Err-now-clause-moves : goal.returns-in-Err-now-clause-moves
 returns-in-Err-now-clause-moves g c = λ elsewhere.
     moves_none g.D.Disk.sight g.D.Disk.tells (world_of seals_of c.args.network)
-    (state_in g.D.Counted.faults elsewhere c.args.network)
+    (state_in g.D.Counted.faults elsewhere [] c.args.network)
 
 pub returns-clause-moves : goal.returns-clause-moves
 returns-clause-moves g c = λ elsewhere. c.answer-network.ensures.moves elsewhere c.in-Ok-now.ensures.bound

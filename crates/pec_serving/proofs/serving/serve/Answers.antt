@@ -1,7 +1,5 @@
-use Rattle.std.proofs.Common.{◌≡◌, ◌∙◌, List, length, map, ap, subst, refl, arith, Err}
+use Rattle.std.proofs.Common.{◌≡◌, ◌∙◌, [], length, subst, refl, arith, Err}
 use Rattle.pec_directory.specs.Directory.{providers_of}
-use Rattle.pec_screen.specs.Screened.{finds_in}
-use Rattle.pec_screen.specs.Verdicts.{Patterns}
 use Rattle.pec_seal.specs.Hmac.{hmac_seals}
 use Rattle.pec_seal.specs.Seals.{Seals}
 use Rattle.pec_seal.specs.declared.hmac.HmacSealer.{HmacSealer}
@@ -12,7 +10,7 @@ use Rattle.pec_serving.specs.declared.next.Came.{Came}
 use Rattle.pec_playing.specs.declared.stops.Stop.{Stop}
 use Rattle.pec_serving.proofs.EndLemmas.{risen_since, ends_broken, ends_lacking, ends_stopped, ends_unmet, ends_untold, ends_written}
 use Rattle.pec_playing.specs.Points.{state_in}
-use Rattle.pec_serving.proofs.KeepLemmas.{given_back, keeps_all, keeps_on}
+use Rattle.pec_serving.proofs.KeepLemmas.{keeps_all, keeps_on}
 use Rattle.pec_serving.proofs.MoveLemmas.{MoveLaws, moves_again, moves_last, moves_stopped, served_in_time}
 use Rattle.pec_serving.proofs.ServiceLemmas.{CallLaws, ConnectionLaws, all_served, goes_none}
 use Rattle.pec_serving.proofs.serving.serve.Goals as goal
@@ -25,12 +23,10 @@ pub loop-served-init : goal.loop-served-init
 loop-served-init g c = record {
   going = λ stand elsewhere.
       goes_none (world_of seals_of c.args.network) (g.P.Depot.tells × g.D.Disk.tells) c.args.network.kept
-      (finds_in (map g.J.Judge.patterns c.args.screens.items))
       (place_of g.D.Counted.faults elsewhere c.args.network (g.T.Ticks.coming c.args.ticks.now)
       (g.R.Door.requests c.args.door.now) (g.R.Door.replies c.args.door.now)) (g.W.Stream.held c.args.out.now);
   moves = λ stand elsewhere. c.moves_are_joined.ensures.none (world_of seals_of c.args.network)
-      (state_in g.D.Counted.faults elsewhere c.args.network);
-  patterns = refl;
+      (state_in g.D.Counted.faults elsewhere [] c.args.network);
   keeps = keeps_all g.D.Disk.sight g.D.Counted.faults g.D.Disk.tells c.args.network;
   home = λ told k. refl;
   last = λ k. refl;
@@ -54,24 +50,22 @@ returns-in-NoConnection-clause-serves g c = λ stand elsewhere.
       same_text = c.calls_are_joined.ensures.same_text trade;
       behind = c.calls_are_joined.ensures.behind;
     } in
-    let screens : List (List Patterns) = map g.J.Judge.patterns c.args.screens.items in
-    let joins : ConnectionLaws trade (g.P.Depot.tells × g.D.Disk.tells) start.kept (finds_in screens) = record {
-      one = c.connections_are_joined.ensures.one trade start.kept (finds_in screens);
+    let joins : ConnectionLaws trade (g.P.Depot.tells × g.D.Disk.tells) start.kept = record {
+      one = c.connections_are_joined.ensures.one trade start.kept;
       behind = c.connections_are_joined.ensures.behind;
       text = c.connections_are_joined.ensures.text trade start.kept;
     } in
     let now = c.loop-served.network in
-    let screens_now : List (List Patterns) = map g.J.Judge.patterns c.loop-served.screens.items in
     let again = c.next-again.result.0 in
     let here = place_of g.D.Counted.faults elsewhere start (g.T.Ticks.coming c.args.ticks.now)
     (g.R.Door.requests c.args.door.now) (g.R.Door.replies c.args.door.now) in
-    ends_unmet g.D.Disk.sight g.D.Counted.faults g.D.Disk.tells (g.P.Depot.tells × g.D.Disk.tells) seals_of start screens laws joins elsewhere here now again
-    (λ told. (told.1, c.loop-served.invariant.keeps.stands told.1 (stand told))) screens_now
-    c.loop-served.invariant.patterns c.loop-served.invariant.keeps (g.T.Ticks.coming c.loop-served.ticks) (g.R.Door.requests c.loop-served.door)
+    ends_unmet g.D.Disk.sight g.D.Counted.faults g.D.Disk.tells (g.P.Depot.tells × g.D.Disk.tells) seals_of start laws joins elsewhere here now again
+    (λ told. (told.1, c.loop-served.invariant.keeps.stands told.1 (stand told)))
+    c.loop-served.invariant.keeps (g.T.Ticks.coming c.loop-served.ticks) (g.R.Door.requests c.loop-served.door)
     (g.R.Door.replies c.loop-served.door) c.loop-served.served (g.W.Stream.held c.args.out.now)
     (g.W.Stream.held c.loop-served.out) (c.loop-served.invariant.going stand elsewhere) (g.T.Ticks.coming c.next-again.new.ticks)
     (g.R.Door.requests c.next-again.new.door) (g.R.Door.replies c.next-again.new.door) c.args.wanted c.loop-served-test.true
-    (subst (λ (came : Came). ComesNext (world_of seals_of now) (g.D.Disk.tells × AllStand g.D.Disk.sight now.providers) now.kept (finds_in screens_now)
+    (subst (λ (came : Came). ComesNext (world_of seals_of now) (g.D.Disk.tells × AllStand g.D.Disk.sight now.providers) now.kept
     (place_of g.D.Counted.faults elsewhere now (g.T.Ticks.coming c.loop-served.ticks) (g.R.Door.requests c.loop-served.door)
     (g.R.Door.replies c.loop-served.door))
     (place_of g.D.Counted.faults elsewhere again (g.T.Ticks.coming c.next-again.new.ticks)
@@ -102,24 +96,22 @@ returns-in-NoMoment-clause-serves g c = λ stand elsewhere.
       same_text = c.calls_are_joined.ensures.same_text trade;
       behind = c.calls_are_joined.ensures.behind;
     } in
-    let screens : List (List Patterns) = map g.J.Judge.patterns c.args.screens.items in
-    let joins : ConnectionLaws trade (g.P.Depot.tells × g.D.Disk.tells) start.kept (finds_in screens) = record {
-      one = c.connections_are_joined.ensures.one trade start.kept (finds_in screens);
+    let joins : ConnectionLaws trade (g.P.Depot.tells × g.D.Disk.tells) start.kept = record {
+      one = c.connections_are_joined.ensures.one trade start.kept;
       behind = c.connections_are_joined.ensures.behind;
       text = c.connections_are_joined.ensures.text trade start.kept;
     } in
     let now = c.loop-served.network in
-    let screens_now : List (List Patterns) = map g.J.Judge.patterns c.loop-served.screens.items in
     let again = c.next-again.result.0 in
     let here = place_of g.D.Counted.faults elsewhere start (g.T.Ticks.coming c.args.ticks.now)
     (g.R.Door.requests c.args.door.now) (g.R.Door.replies c.args.door.now) in
-    ends_untold g.D.Disk.sight g.D.Counted.faults g.D.Disk.tells (g.P.Depot.tells × g.D.Disk.tells) seals_of start screens laws joins elsewhere here now again
-    (λ told. (told.1, c.loop-served.invariant.keeps.stands told.1 (stand told))) screens_now
-    c.loop-served.invariant.patterns c.loop-served.invariant.keeps (g.T.Ticks.coming c.loop-served.ticks) (g.R.Door.requests c.loop-served.door)
+    ends_untold g.D.Disk.sight g.D.Counted.faults g.D.Disk.tells (g.P.Depot.tells × g.D.Disk.tells) seals_of start laws joins elsewhere here now again
+    (λ told. (told.1, c.loop-served.invariant.keeps.stands told.1 (stand told)))
+    c.loop-served.invariant.keeps (g.T.Ticks.coming c.loop-served.ticks) (g.R.Door.requests c.loop-served.door)
     (g.R.Door.replies c.loop-served.door) c.loop-served.served (g.W.Stream.held c.args.out.now)
     (g.W.Stream.held c.loop-served.out) (c.loop-served.invariant.going stand elsewhere) (g.T.Ticks.coming c.next-again.new.ticks)
     (g.R.Door.requests c.next-again.new.door) (g.R.Door.replies c.next-again.new.door) c.args.wanted c.loop-served-test.true
-    (subst (λ (came : Came). ComesNext (world_of seals_of now) (g.D.Disk.tells × AllStand g.D.Disk.sight now.providers) now.kept (finds_in screens_now)
+    (subst (λ (came : Came). ComesNext (world_of seals_of now) (g.D.Disk.tells × AllStand g.D.Disk.sight now.providers) now.kept
     (place_of g.D.Counted.faults elsewhere now (g.T.Ticks.coming c.loop-served.ticks) (g.R.Door.requests c.loop-served.door)
     (g.R.Door.replies c.loop-served.door))
     (place_of g.D.Counted.faults elsewhere again (g.T.Ticks.coming c.next-again.new.ticks)
@@ -150,25 +142,23 @@ returns-in-Err-clause-serves g c = λ stand elsewhere.
       same_text = c.calls_are_joined.ensures.same_text trade;
       behind = c.calls_are_joined.ensures.behind;
     } in
-    let screens : List (List Patterns) = map g.J.Judge.patterns c.args.screens.items in
-    let joins : ConnectionLaws trade (g.P.Depot.tells × g.D.Disk.tells) start.kept (finds_in screens) = record {
-      one = c.connections_are_joined.ensures.one trade start.kept (finds_in screens);
+    let joins : ConnectionLaws trade (g.P.Depot.tells × g.D.Disk.tells) start.kept = record {
+      one = c.connections_are_joined.ensures.one trade start.kept;
       behind = c.connections_are_joined.ensures.behind;
       text = c.connections_are_joined.ensures.text trade start.kept;
     } in
     let now = c.loop-served.network in
-    let screens_now : List (List Patterns) = map g.J.Judge.patterns c.loop-served.screens.items in
     let again = c.next-again.result.0 in
     let here = place_of g.D.Counted.faults elsewhere start (g.T.Ticks.coming c.args.ticks.now)
     (g.R.Door.requests c.args.door.now) (g.R.Door.replies c.args.door.now) in
-    ends_broken g.D.Disk.sight g.D.Counted.faults g.D.Disk.tells (g.P.Depot.tells × g.D.Disk.tells) seals_of start screens laws joins elsewhere here now again
-    (λ told. (told.1, c.loop-served.invariant.keeps.stands told.1 (stand told))) screens_now
-    c.loop-served.invariant.patterns c.loop-served.invariant.keeps (g.T.Ticks.coming c.loop-served.ticks) (g.R.Door.requests c.loop-served.door)
+    ends_broken g.D.Disk.sight g.D.Counted.faults g.D.Disk.tells (g.P.Depot.tells × g.D.Disk.tells) seals_of start laws joins elsewhere here now again
+    (λ told. (told.1, c.loop-served.invariant.keeps.stands told.1 (stand told)))
+    c.loop-served.invariant.keeps (g.T.Ticks.coming c.loop-served.ticks) (g.R.Door.requests c.loop-served.door)
     (g.R.Door.replies c.loop-served.door) c.loop-served.served (g.W.Stream.held c.args.out.now)
     (g.W.Stream.held c.loop-served.out) (c.loop-served.invariant.going stand elsewhere) (g.T.Ticks.coming c.next-again.new.ticks)
     (g.R.Door.requests c.next-again.new.door) (g.R.Door.replies c.next-again.new.door) c.args.wanted c.loop-served-test.true
     c.in-Served.moment c.in-Served.told
-    (subst (λ (came : Came). ComesNext (world_of seals_of now) (g.D.Disk.tells × AllStand g.D.Disk.sight now.providers) now.kept (finds_in screens_now)
+    (subst (λ (came : Came). ComesNext (world_of seals_of now) (g.D.Disk.tells × AllStand g.D.Disk.sight now.providers) now.kept
     (place_of g.D.Counted.faults elsewhere now (g.T.Ticks.coming c.loop-served.ticks) (g.R.Door.requests c.loop-served.door)
     (g.R.Door.replies c.loop-served.door))
     (place_of g.D.Counted.faults elsewhere again (g.T.Ticks.coming c.next-again.new.ticks)
@@ -194,25 +184,23 @@ returns-in-Err-WriteFault-clause-serves g c = λ stand elsewhere.
       same_text = c.calls_are_joined.ensures.same_text trade;
       behind = c.calls_are_joined.ensures.behind;
     } in
-    let screens : List (List Patterns) = map g.J.Judge.patterns c.args.screens.items in
-    let joins : ConnectionLaws trade (g.P.Depot.tells × g.D.Disk.tells) start.kept (finds_in screens) = record {
-      one = c.connections_are_joined.ensures.one trade start.kept (finds_in screens);
+    let joins : ConnectionLaws trade (g.P.Depot.tells × g.D.Disk.tells) start.kept = record {
+      one = c.connections_are_joined.ensures.one trade start.kept;
       behind = c.connections_are_joined.ensures.behind;
       text = c.connections_are_joined.ensures.text trade start.kept;
     } in
     let now = c.loop-served.network in
-    let screens_now : List (List Patterns) = map g.J.Judge.patterns c.loop-served.screens.items in
     let again = c.next-again.result.0 in
     let here = place_of g.D.Counted.faults elsewhere start (g.T.Ticks.coming c.args.ticks.now)
     (g.R.Door.requests c.args.door.now) (g.R.Door.replies c.args.door.now) in
-    ends_stopped g.D.Disk.sight g.D.Counted.faults g.D.Disk.tells (g.P.Depot.tells × g.D.Disk.tells) seals_of start screens laws joins elsewhere here now again
-    (λ told. (told.1, c.loop-served.invariant.keeps.stands told.1 (stand told))) screens_now
-    c.loop-served.invariant.patterns c.loop-served.invariant.keeps (g.T.Ticks.coming c.loop-served.ticks) (g.R.Door.requests c.loop-served.door)
+    ends_stopped g.D.Disk.sight g.D.Counted.faults g.D.Disk.tells (g.P.Depot.tells × g.D.Disk.tells) seals_of start laws joins elsewhere here now again
+    (λ told. (told.1, c.loop-served.invariant.keeps.stands told.1 (stand told)))
+    c.loop-served.invariant.keeps (g.T.Ticks.coming c.loop-served.ticks) (g.R.Door.requests c.loop-served.door)
     (g.R.Door.replies c.loop-served.door) c.loop-served.served (g.W.Stream.held c.args.out.now)
     (g.W.Stream.held c.loop-served.out) (c.loop-served.invariant.going stand elsewhere) (g.T.Ticks.coming c.next-again.new.ticks)
     (g.R.Door.requests c.next-again.new.door) (g.R.Door.replies c.next-again.new.door) c.args.wanted c.loop-served-test.true
     c.in-Served.moment c.in-Served.told
-    (subst (λ (came : Came). ComesNext (world_of seals_of now) (g.D.Disk.tells × AllStand g.D.Disk.sight now.providers) now.kept (finds_in screens_now)
+    (subst (λ (came : Came). ComesNext (world_of seals_of now) (g.D.Disk.tells × AllStand g.D.Disk.sight now.providers) now.kept
     (place_of g.D.Counted.faults elsewhere now (g.T.Ticks.coming c.loop-served.ticks) (g.R.Door.requests c.loop-served.door)
     (g.R.Door.replies c.loop-served.door))
     (place_of g.D.Counted.faults elsewhere again (g.T.Ticks.coming c.next-again.new.ticks)
@@ -224,8 +212,8 @@ returns-in-Err-WriteFault-clause-serves g c = λ stand elsewhere.
     (g.W.Counted.faults c.play_clock.new.out) c.in_default.ensures.ok
     (subst (λ (stop : Stop). ClockWent (world_of seals_of again) (providers_of again.kept)
     (g.P.Depot.tells × g.D.Disk.tells) g.D.Disk.sight (clock_from (length again.kept) 0 c.in-Served.moment)
-    (point_of g.D.Counted.faults elsewhere again (g.W.Stream.held c.write_outcome.new.out) (g.W.Counted.faults c.write_outcome.new.out))
-    (point_of g.D.Counted.faults elsewhere c.play_clock.new.network (g.W.Stream.held c.play_clock.new.out)
+    (point_of g.D.Counted.faults elsewhere [] again (g.W.Stream.held c.write_outcome.new.out) (g.W.Counted.faults c.write_outcome.new.out))
+    (point_of g.D.Counted.faults elsewhere [] c.play_clock.new.network (g.W.Stream.held c.play_clock.new.out)
     (g.W.Counted.faults c.play_clock.new.out)) (stop_in {T = Unit {0}} (Err stop))) c.in-Err-WriteFault.field-0-is (c.in-Err-WriteFault.ensures.clock
     (λ told. c.next-again.ensures.keeps.stands told.1 (c.loop-served.invariant.keeps.stands told.1 (stand told))) elsewhere))
 
@@ -248,25 +236,23 @@ returns-in-Err-NoMemory-clause-serves g c = λ stand elsewhere.
       same_text = c.calls_are_joined.ensures.same_text trade;
       behind = c.calls_are_joined.ensures.behind;
     } in
-    let screens : List (List Patterns) = map g.J.Judge.patterns c.args.screens.items in
-    let joins : ConnectionLaws trade (g.P.Depot.tells × g.D.Disk.tells) start.kept (finds_in screens) = record {
-      one = c.connections_are_joined.ensures.one trade start.kept (finds_in screens);
+    let joins : ConnectionLaws trade (g.P.Depot.tells × g.D.Disk.tells) start.kept = record {
+      one = c.connections_are_joined.ensures.one trade start.kept;
       behind = c.connections_are_joined.ensures.behind;
       text = c.connections_are_joined.ensures.text trade start.kept;
     } in
     let now = c.loop-served.network in
-    let screens_now : List (List Patterns) = map g.J.Judge.patterns c.loop-served.screens.items in
     let again = c.next-again.result.0 in
     let here = place_of g.D.Counted.faults elsewhere start (g.T.Ticks.coming c.args.ticks.now)
     (g.R.Door.requests c.args.door.now) (g.R.Door.replies c.args.door.now) in
-    ends_lacking g.D.Disk.sight g.D.Counted.faults g.D.Disk.tells (g.P.Depot.tells × g.D.Disk.tells) seals_of start screens laws joins elsewhere here now again
-    (λ told. (told.1, c.loop-served.invariant.keeps.stands told.1 (stand told))) screens_now
-    c.loop-served.invariant.patterns c.loop-served.invariant.keeps (g.T.Ticks.coming c.loop-served.ticks) (g.R.Door.requests c.loop-served.door)
+    ends_lacking g.D.Disk.sight g.D.Counted.faults g.D.Disk.tells (g.P.Depot.tells × g.D.Disk.tells) seals_of start laws joins elsewhere here now again
+    (λ told. (told.1, c.loop-served.invariant.keeps.stands told.1 (stand told)))
+    c.loop-served.invariant.keeps (g.T.Ticks.coming c.loop-served.ticks) (g.R.Door.requests c.loop-served.door)
     (g.R.Door.replies c.loop-served.door) c.loop-served.served (g.W.Stream.held c.args.out.now)
     (g.W.Stream.held c.loop-served.out) (c.loop-served.invariant.going stand elsewhere) (g.T.Ticks.coming c.next-again.new.ticks)
     (g.R.Door.requests c.next-again.new.door) (g.R.Door.replies c.next-again.new.door) c.args.wanted c.loop-served-test.true
     c.in-Served.moment c.in-Served.told
-    (subst (λ (came : Came). ComesNext (world_of seals_of now) (g.D.Disk.tells × AllStand g.D.Disk.sight now.providers) now.kept (finds_in screens_now)
+    (subst (λ (came : Came). ComesNext (world_of seals_of now) (g.D.Disk.tells × AllStand g.D.Disk.sight now.providers) now.kept
     (place_of g.D.Counted.faults elsewhere now (g.T.Ticks.coming c.loop-served.ticks) (g.R.Door.requests c.loop-served.door)
     (g.R.Door.replies c.loop-served.door))
     (place_of g.D.Counted.faults elsewhere again (g.T.Ticks.coming c.next-again.new.ticks)
@@ -278,8 +264,8 @@ returns-in-Err-NoMemory-clause-serves g c = λ stand elsewhere.
     (g.W.Counted.faults c.play_clock.new.out) c.in_default.ensures.ok
     (subst (λ (stop : Stop). ClockWent (world_of seals_of again) (providers_of again.kept)
     (g.P.Depot.tells × g.D.Disk.tells) g.D.Disk.sight (clock_from (length again.kept) 0 c.in-Served.moment)
-    (point_of g.D.Counted.faults elsewhere again (g.W.Stream.held c.write_outcome.new.out) (g.W.Counted.faults c.write_outcome.new.out))
-    (point_of g.D.Counted.faults elsewhere c.play_clock.new.network (g.W.Stream.held c.play_clock.new.out)
+    (point_of g.D.Counted.faults elsewhere [] again (g.W.Stream.held c.write_outcome.new.out) (g.W.Counted.faults c.write_outcome.new.out))
+    (point_of g.D.Counted.faults elsewhere [] c.play_clock.new.network (g.W.Stream.held c.play_clock.new.out)
     (g.W.Counted.faults c.play_clock.new.out)) (stop_in {T = Unit {0}} (Err stop))) c.in-Err-NoMemory.field-0-is (c.in-Err-NoMemory.ensures.clock
     (λ told. c.next-again.ensures.keeps.stands told.1 (c.loop-served.invariant.keeps.stands told.1 (stand told))) elsewhere))
 
@@ -306,25 +292,23 @@ loop-served-preserved g c =
             same_text = c.calls_are_joined.ensures.same_text trade;
             behind = c.calls_are_joined.ensures.behind;
           } in
-          let screens : List (List Patterns) = map g.J.Judge.patterns c.args.screens.items in
-          let joins : ConnectionLaws trade (g.P.Depot.tells × g.D.Disk.tells) start.kept (finds_in screens) = record {
-            one = c.connections_are_joined.ensures.one trade start.kept (finds_in screens);
+          let joins : ConnectionLaws trade (g.P.Depot.tells × g.D.Disk.tells) start.kept = record {
+            one = c.connections_are_joined.ensures.one trade start.kept;
             behind = c.connections_are_joined.ensures.behind;
             text = c.connections_are_joined.ensures.text trade start.kept;
           } in
           let now = c.loop-served.network in
-          let screens_now : List (List Patterns) = map g.J.Judge.patterns c.loop-served.screens.items in
           let again = c.next-again.result.0 in
           let here = place_of g.D.Counted.faults elsewhere start (g.T.Ticks.coming c.args.ticks.now)
           (g.R.Door.requests c.args.door.now) (g.R.Door.replies c.args.door.now) in
-          ends_written g.D.Disk.sight g.D.Counted.faults g.D.Disk.tells (g.P.Depot.tells × g.D.Disk.tells) seals_of start screens laws joins elsewhere here now again
-          (λ told. (told.1, c.loop-served.invariant.keeps.stands told.1 (stand told))) screens_now
-          c.loop-served.invariant.patterns c.loop-served.invariant.keeps (g.T.Ticks.coming c.loop-served.ticks) (g.R.Door.requests c.loop-served.door)
+          ends_written g.D.Disk.sight g.D.Counted.faults g.D.Disk.tells (g.P.Depot.tells × g.D.Disk.tells) seals_of start laws joins elsewhere here now again
+          (λ told. (told.1, c.loop-served.invariant.keeps.stands told.1 (stand told)))
+          c.loop-served.invariant.keeps (g.T.Ticks.coming c.loop-served.ticks) (g.R.Door.requests c.loop-served.door)
           (g.R.Door.replies c.loop-served.door) c.loop-served.served (g.W.Stream.held c.args.out.now)
           (g.W.Stream.held c.loop-served.out) (c.loop-served.invariant.going stand elsewhere) (g.T.Ticks.coming c.next-again.new.ticks)
           (g.R.Door.requests c.next-again.new.door) (g.R.Door.replies c.next-again.new.door) c.args.wanted c.loop-served-test.true
           c.in-Served.moment c.in-Served.told
-          (subst (λ (came : Came). ComesNext (world_of seals_of now) (g.D.Disk.tells × AllStand g.D.Disk.sight now.providers) now.kept (finds_in screens_now)
+          (subst (λ (came : Came). ComesNext (world_of seals_of now) (g.D.Disk.tells × AllStand g.D.Disk.sight now.providers) now.kept
           (place_of g.D.Counted.faults elsewhere now (g.T.Ticks.coming c.loop-served.ticks) (g.R.Door.requests c.loop-served.door)
           (g.R.Door.replies c.loop-served.door))
           (place_of g.D.Counted.faults elsewhere again (g.T.Ticks.coming c.next-again.new.ticks)
@@ -345,12 +329,12 @@ loop-served-preserved g c =
           } in
           let again = c.next-again.result.0 in
           let now = c.loop-served.network in
-          let in_time = served_in_time (world_of seals_of now) (g.D.Disk.tells × AllStand g.D.Disk.sight now.providers) now.kept (finds_in (map g.J.Judge.patterns c.loop-served.screens.items))
+          let in_time = served_in_time (world_of seals_of now) (g.D.Disk.tells × AllStand g.D.Disk.sight now.providers) now.kept
           (place_of g.D.Counted.faults elsewhere now (g.T.Ticks.coming c.loop-served.ticks) (g.R.Door.requests c.loop-served.door)
           (g.R.Door.replies c.loop-served.door))
           (place_of g.D.Counted.faults elsewhere again (g.T.Ticks.coming c.next-again.new.ticks)
           (g.R.Door.requests c.next-again.new.door) (g.R.Door.replies c.next-again.new.door)) c.in-Served.moment c.in-Served.told
-          c.next-again.result.2 c.in-Served.is (c.next-again.ensures.comes elsewhere) in
+          c.next-again.result.1 c.in-Served.is (c.next-again.ensures.comes elsewhere) in
           let may = c.acts_are_calls.ensures.may_come (world_of seals_of again) (length again.kept) 0 c.in-Served.moment in_time in
           let keeps_again = keeps_on g.D.Disk.sight g.D.Counted.faults g.D.Disk.tells c.args.network now again
           c.loop-served.invariant.keeps c.next-again.ensures.keeps in
@@ -358,10 +342,6 @@ loop-served-preserved g c =
           c.loop-served.invariant.keeps (c.loop-served.invariant.moves stand elsewhere) (c.next-again.ensures.moves elsewhere)
           keeps_again c.play_clock.new.network ((c.in-Ok.ensures.clock
           (λ told. c.next-again.ensures.keeps.stands told.1 (c.loop-served.invariant.keeps.stands told.1 (stand told))) elsewhere).moves_on may refl);
-      patterns = given_back c.next-again.result.1.items c.play_clock.new.screens c.next-again.result.1.len
-          g.J.Judge.patterns c.next-again.result.1.ok.0
-          (c.play_clock.ensures.patterns ∙ ap (map g.J.Judge.patterns) c.as_mut_slice.ensures.value)
-          ∙ c.next-again.ensures.patterns ∙ c.loop-served.invariant.patterns;
       home = λ told k. c.play_clock.ensures.home told k ∙ c.loop-served.invariant.home told k;
       last = λ k. c.play_clock.ensures.last k ∙ c.loop-served.invariant.last k;
       depot_later = omega (arith, c.loop-served.invariant.depot_later, c.play_clock.ensures.later.0);
@@ -385,9 +365,8 @@ returns-clause-serves g c = λ stand elsewhere.
       same_text = c.calls_are_joined.ensures.same_text trade;
       behind = c.calls_are_joined.ensures.behind;
     } in
-    let screens : List (List Patterns) = map g.J.Judge.patterns c.args.screens.items in
-    let joins : ConnectionLaws trade (g.P.Depot.tells × g.D.Disk.tells) start.kept (finds_in screens) = record {
-      one = c.connections_are_joined.ensures.one trade start.kept (finds_in screens);
+    let joins : ConnectionLaws trade (g.P.Depot.tells × g.D.Disk.tells) start.kept = record {
+      one = c.connections_are_joined.ensures.one trade start.kept;
       behind = c.connections_are_joined.ensures.behind;
       text = c.connections_are_joined.ensures.text trade start.kept;
     } in
@@ -397,7 +376,7 @@ returns-clause-serves g c = λ stand elsewhere.
     (g.R.Door.requests c.loop-served.door) (g.R.Door.replies c.loop-served.door) in
     let all : c.loop-served.served ≡ c.args.wanted =
     omega (arith, c.loop-served-test.false, c.loop-served.auto.served-end) in
-    all_served trade (g.P.Depot.tells × g.D.Disk.tells) start.kept (finds_in screens) laws joins here there c.loop-served.served (g.W.Stream.held c.args.out.now)
+    all_served trade (g.P.Depot.tells × g.D.Disk.tells) start.kept laws joins here there c.loop-served.served (g.W.Stream.held c.args.out.now)
     (g.W.Stream.held c.loop-served.out) (c.loop-served.invariant.going stand elsewhere) c.args.wanted all
 
 pub returns-in-NoConnection-clause-moves : goal.returns-in-NoConnection-clause-moves
@@ -450,12 +429,12 @@ returns-in-Err-WriteFault-clause-moves g c = λ stand elsewhere.
     } in
     let again = c.next-again.result.0 in
     let now = c.loop-served.network in
-    let in_time = served_in_time (world_of seals_of now) (g.D.Disk.tells × AllStand g.D.Disk.sight now.providers) now.kept (finds_in (map g.J.Judge.patterns c.loop-served.screens.items))
+    let in_time = served_in_time (world_of seals_of now) (g.D.Disk.tells × AllStand g.D.Disk.sight now.providers) now.kept
     (place_of g.D.Counted.faults elsewhere now (g.T.Ticks.coming c.loop-served.ticks) (g.R.Door.requests c.loop-served.door)
     (g.R.Door.replies c.loop-served.door))
     (place_of g.D.Counted.faults elsewhere again (g.T.Ticks.coming c.next-again.new.ticks)
     (g.R.Door.requests c.next-again.new.door) (g.R.Door.replies c.next-again.new.door)) c.in-Served.moment c.in-Served.told
-    c.next-again.result.2 c.in-Served.is (c.next-again.ensures.comes elsewhere) in
+    c.next-again.result.1 c.in-Served.is (c.next-again.ensures.comes elsewhere) in
     let may = c.acts_are_calls.ensures.may_come (world_of seals_of again) (length again.kept) 0 c.in-Served.moment in_time in
     let keeps_again = keeps_on g.D.Disk.sight g.D.Counted.faults g.D.Disk.tells c.args.network now again
     c.loop-served.invariant.keeps c.next-again.ensures.keeps in
@@ -475,12 +454,12 @@ returns-in-Err-NoMemory-clause-moves g c = λ stand elsewhere.
     } in
     let again = c.next-again.result.0 in
     let now = c.loop-served.network in
-    let in_time = served_in_time (world_of seals_of now) (g.D.Disk.tells × AllStand g.D.Disk.sight now.providers) now.kept (finds_in (map g.J.Judge.patterns c.loop-served.screens.items))
+    let in_time = served_in_time (world_of seals_of now) (g.D.Disk.tells × AllStand g.D.Disk.sight now.providers) now.kept
     (place_of g.D.Counted.faults elsewhere now (g.T.Ticks.coming c.loop-served.ticks) (g.R.Door.requests c.loop-served.door)
     (g.R.Door.replies c.loop-served.door))
     (place_of g.D.Counted.faults elsewhere again (g.T.Ticks.coming c.next-again.new.ticks)
     (g.R.Door.requests c.next-again.new.door) (g.R.Door.replies c.next-again.new.door)) c.in-Served.moment c.in-Served.told
-    c.next-again.result.2 c.in-Served.is (c.next-again.ensures.comes elsewhere) in
+    c.next-again.result.1 c.in-Served.is (c.next-again.ensures.comes elsewhere) in
     let may = c.acts_are_calls.ensures.may_come (world_of seals_of again) (length again.kept) 0 c.in-Served.moment in_time in
     let keeps_again = keeps_on g.D.Disk.sight g.D.Counted.faults g.D.Disk.tells c.args.network now again
     c.loop-served.invariant.keeps c.next-again.ensures.keeps in
@@ -491,3 +470,17 @@ returns-in-Err-NoMemory-clause-moves g c = λ stand elsewhere.
 
 pub returns-clause-moves : goal.returns-clause-moves
 returns-clause-moves g c = λ stand elsewhere. (c.loop-served.invariant.moves stand elsewhere).moves
+
+pub returns-in-Err-WriteFault-clause-home : goal.returns-in-Err-WriteFault-clause-home
+returns-in-Err-WriteFault-clause-home g c = λ told k.
+    c.play_clock.ensures.home told k ∙ c.loop-served.invariant.home told k
+
+pub returns-in-Err-WriteFault-clause-last : goal.returns-in-Err-WriteFault-clause-last
+returns-in-Err-WriteFault-clause-last g c = λ k. c.play_clock.ensures.last k ∙ c.loop-served.invariant.last k
+
+pub returns-in-Err-NoMemory-clause-home : goal.returns-in-Err-NoMemory-clause-home
+returns-in-Err-NoMemory-clause-home g c = λ told k.
+    c.play_clock.ensures.home told k ∙ c.loop-served.invariant.home told k
+
+pub returns-in-Err-NoMemory-clause-last : goal.returns-in-Err-NoMemory-clause-last
+returns-in-Err-NoMemory-clause-last g c = λ k. c.play_clock.ensures.last k ∙ c.loop-served.invariant.last k

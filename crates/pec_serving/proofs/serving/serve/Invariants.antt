@@ -1,11 +1,10 @@
-use Rattle.std.proofs.Common.{◌≡◌, ◌≤◌, ℕ, map}
+use Rattle.std.proofs.Common.{◌≡◌, ◌≤◌, ℕ, []}
 use Rattle.pec_outside.specs.Depots.{Alike}
-use Rattle.pec_screen.specs.Screened.{finds_in}
 use Rattle.pec_seal.specs.Hmac.{hmac_seals}
 use Rattle.pec_playing.specs.OfNetworks.{AllStand, trade_of}
 use Rattle.pec_playing.specs.Doing.{Keeps}
 use Rattle.pec_playing.specs.Points.{state_in}
-use Rattle.pec_runs.specs.Moves.{MovesOn}
+use Rattle.pec_service.specs.OfRuns.{MovesOn}
 use Rattle.pec_serving.specs.Serving.{place_of}
 use Rattle.pec_serving.proofs.ServiceLemmas.{Going}
 use Rattle.pec_serving.proofs.serving.serve.Given as goal
@@ -15,7 +14,7 @@ abbrev pub invariant-loop-served : goal.invariant-loop-served
 invariant-loop-served g l = record {
   going : (g.P.Depot.tells × g.D.Disk.tells → AllStand g.D.Disk.sight l.fn.network.providers) → (elsewhere : ℕ → ℕ)
       → Going (trade_of l.fn.network.kept (hmac_seals l.fn.network.sealer.names.items l.fn.network.sealer.keys.items))
-      (g.P.Depot.tells × g.D.Disk.tells) l.fn.network.kept (finds_in (map g.J.Judge.patterns l.fn.screens.items))
+      (g.P.Depot.tells × g.D.Disk.tells) l.fn.network.kept
       (place_of g.D.Counted.faults elsewhere l.fn.network (g.T.Ticks.coming l.fn.ticks) (g.R.Door.requests l.fn.door)
       (g.R.Door.replies l.fn.door))
       (place_of g.D.Counted.faults elsewhere l.network (g.T.Ticks.coming l.ticks) (g.R.Door.requests l.door)
@@ -23,9 +22,8 @@ invariant-loop-served g l = record {
       l.served (g.W.Stream.held l.fn.out) (g.W.Stream.held l.out);
   moves : (g.P.Depot.tells × g.D.Disk.tells → AllStand g.D.Disk.sight l.fn.network.providers) → (elsewhere : ℕ → ℕ)
       → MovesOn (trade_of l.fn.network.kept (hmac_seals l.fn.network.sealer.names.items l.fn.network.sealer.keys.items))
-      (g.P.Depot.tells × g.D.Disk.tells) g.D.Disk.sight (state_in g.D.Counted.faults elsewhere l.fn.network)
-      (state_in g.D.Counted.faults elsewhere l.network);
-  patterns : map g.J.Judge.patterns l.screens.items ≡ map g.J.Judge.patterns l.fn.screens.items;
+      (g.P.Depot.tells × g.D.Disk.tells) g.D.Disk.sight (state_in g.D.Counted.faults elsewhere [] l.fn.network)
+      (state_in g.D.Counted.faults elsewhere [] l.network);
   keeps : Keeps g.D.Disk.sight g.D.Counted.faults g.D.Disk.tells l.fn.network l.network;
   home : g.P.Depot.tells → Alike (g.P.Depot.home l.fn.depot) (g.P.Depot.home l.depot);
   last : Alike (g.P.Depot.last l.fn.depot) (g.P.Depot.last l.depot);

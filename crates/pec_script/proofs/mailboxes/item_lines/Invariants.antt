@@ -2,7 +2,7 @@ use Rattle.std.proofs.Common.{◌≡◌, [], drop}
 use Rattle.pec_directory.specs.Directory.{providers_of}
 use Rattle.pec_script.specs.Pages.{text_after}
 use Rattle.pec_script.specs.Texts.{item_rows}
-use Rattle.pec_script.proofs.mailboxes.items_text.Given as goal
+use Rattle.pec_script.proofs.mailboxes.item_lines.Given as goal
 
 abbrev pub invariant-loop-place : goal.invariant-loop-place
 invariant-loop-place l =
